@@ -28,4 +28,3 @@ pub mod Drafts
 pub mod Named
 pub mod Patched
 pub mod Adding
-pub mod reader

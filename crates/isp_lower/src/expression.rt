@@ -1,5 +1,5 @@
 //! The code of expressions.
-ghost use Rattle.std.specs.Prelude.{◌≡◌, ◌<◌, ◌+◌, true, false, IsTrue, IfOk, OnOk};
+ghost use Rattle.std.specs.Prelude.{◌≡◌, ◌<◌, ◌+◌, true, false, IfOk, OnOk};
 ghost use Rattle.isp_base.specs.declared.types.Rate.TheVariants.{Uniform, Varying};
 ghost use Rattle.isp_typed.specs.Typed.{t_arguments, t_binary, t_choose, t_compare, t_convert, t_exprs, t_logic, t_place, t_unary, type_of};
 ghost use Rattle.isp_typed.specs.Views.{argument_of, arguments_of, call_of, expr_of, exprs_of, place_of};
@@ -9,7 +9,6 @@ ghost use Rattle.isp_lower.specs.Emitted.{Appends, Present, layout};
 ghost use Rattle.isp_lower.specs.Layout.{register};
 ghost use Rattle.isp_lower.specs.Library.{library_rates};
 ghost use Rattle.isp_lower.specs.Written.{Writes, argument_at, arguments_at, by_jump_at, by_masks_at, call_at, chosen_at, guarded_at, index_at, library_at, node_at, numbers, operand_at, short_at, side_at, skipped_at, to_at, value_at, values_at, whole_at};
-ghost use Rattle.isp_lower.specs.reader.Kinds.{compares_or_branches};
 
 use crate::elements::element_to;
 use crate::leaves::{
@@ -78,31 +77,6 @@ fn write_to(
             right,
             ..
         } => binary_to(b, on, *operator, left, right, target),
-        TypedExpr::Compare { .. }
-        | TypedExpr::Logic { .. }
-        | TypedExpr::Choose { .. }
-        | TypedExpr::Call { .. }
-        | TypedExpr::Library { .. }
-        | TypedExpr::PackedStore { .. }
-        | TypedExpr::PackedLoad { .. } => compare_or_branch(b, on, x, to, site),
-    }
-}
-
-/// The same of comparisons, of calls, of functions, of the library and packed ones, and of expressions that may leave out a part.
-#[cycle(expr)]
-fn compare_or_branch(
-    b: &mut Body,
-    on: &Scope,
-    x: &TypedExpr,
-    to: RegisterNumber,
-    site: Site,
-) -> Result<(), AllocError>
-    requires there { Present on.now (expr_asks (expr_of x.now) site.slot.number) }
-    requires branches { IsTrue (compares_or_branches (expr_of x.now)) }
-    ensures { OnOk result (Writes b.old b.new (to_at on.now (expr_of x.now) to site)) }
-{
-    let target = Target::new(to, x.ty(), x.span(), site);
-    match x {
         TypedExpr::Compare {
             comparison,
             left,
@@ -131,7 +105,6 @@ fn compare_or_branch(
         TypedExpr::PackedLoad { base, variable, .. } => packed_load_to(
             b, on, base, *variable, target,
         ),
-        _ => unreachable!(),
     }
 }
 

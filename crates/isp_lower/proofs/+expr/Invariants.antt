@@ -14,9 +14,6 @@ use Rattle.isp_lower.proofs.+expr.Given as goal
 abbrev pub decreases-expression::write_to : goal.decreases-expression::write_to
 decreases-expression::write_to l = 8 * typed_nodes (expr_of l.x.now) + 1
 
-abbrev pub decreases-expression::compare_or_branch : goal.decreases-expression::compare_or_branch
-decreases-expression::compare_or_branch l = 8 * typed_nodes (expr_of l.x.now)
-
 abbrev pub decreases-expression::expr : goal.decreases-expression::expr
 decreases-expression::expr l = 8 * typed_nodes (expr_of l.x.now) + 2
 
