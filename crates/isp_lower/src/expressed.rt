@@ -19,7 +19,7 @@ use std::alloc::AllocError;
 impl Emitter<'_> {
     /// The code of an expression for the lanes of a mask register, in the slots from one on; it gives the register of the
     /// value, scalar where the expression is uniform. The function at work has the variables that it names. 0 where memory is
-    /// refused, or a number would pass 4,294,967,295.
+    /// refused, or a table of code is full (docs/LOWERING.md).
     pub fn expr(&mut self, x: &TypedExpr, site: Site) -> Result<RegisterNumber, AllocError>
         requires begun { IsBegun (draft_of self.old) }
         requires fine { IsFineExpr (draft_of self.old).callees (expr_of x.now) }

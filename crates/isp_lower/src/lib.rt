@@ -1,4 +1,4 @@
-//! Code of expressions and of assignments: what is emitted, and that it does what they mean.
+//! Code of expressions, declarations and assignments: what is emitted, and that it does what they mean.
 #![tactic(auto)]
 
 mod apart;

@@ -12,7 +12,7 @@ use std::fmt;
 pub enum Rule {
     /// A register, array, place or text that is not there.
     BadRegister,
-    /// Another class, element type, kind of array or constant than the table of instructions asks.
+    /// Another class, element type, kind of array or constant than the table of instructions asks, or a `ret` of another result.
     BadKind,
     /// A jump to a number that is no instruction.
     BadJump,
@@ -20,7 +20,7 @@ pub enum Rule {
     BadCall,
     /// A name that stands twice, an exported function with a vector, or no mask.
     BadEntry,
-    /// A last instruction that control falls off.
+    /// A last instruction that control falls off, or no instruction.
     FallsOff,
 }
 
