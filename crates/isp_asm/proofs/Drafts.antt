@@ -18,7 +18,7 @@ use Rattle.isp_asm.specs.declared.order.Kind.TheVariants as kind
 use Rattle.isp_asm.specs.Faults.{after_kind}
 use Rattle.isp_asm.specs.Order.{may_follow}
 use Rattle.isp_asm.specs.Spelling as says
-use Rattle.isp_asm.specs.Spelling.{Line, lines_of, routine_lines, head_lines, if_any, place_line, text_line, param_line, local_line, instr_line, scalars_line, vectors_line}
+use Rattle.isp_asm.specs.Spelling.{Line, lines_of, head_lines, if_any, place_line, text_line, param_line, local_line, instr_line, scalars_line}
 use Rattle.isp_asm.specs.reader.Drafting.{Drafted, blank, taken, front_lines, body_lines, drafted_lines, seen_of, NoVectors, NoScalars, NoLocals, NoParams, Ordered, IsDraft}
 use Rattle.isp_asm.specs.reader.Reading.{line_fits, line_kind}
 use Rattle.isp_asm.proofs.Chains.{instr_kind}

@@ -9,7 +9,7 @@ use Rattle.std.proofs.lemmas.Option.{slice_get_within, get_or_from_slice_get}
 use Rattle.isp_base.specs.Types.{gang_width}
 use Rattle.isp_code.specs.Listing.{Listing, Routine}
 use Rattle.isp_asm.specs.Spelling as says
-use Rattle.isp_asm.specs.Spelling.{Line, spaced, line_words, line_text, lines_text, lines_of, routine_lines, head_lines, if_any, header_words, place_line, text_line, param_line, local_line, instr_line, scalars_line, vectors_line, text_of}
+use Rattle.isp_asm.specs.Spelling.{Line, spaced, line_words, line_text, lines_text, routine_lines, head_lines, if_any, header_words, place_line, text_line, param_line, local_line, instr_line, scalars_line, vectors_line, text_of}
 
 lines-append : (xs ys : List Line) → lines_text (xs ++ ys) ≡ lines_text xs ++ lines_text ys
 lines-append xs ys = flat_map-append (λ l. line_text (line_words l)) xs ys

@@ -1,8 +1,9 @@
 //! How each instruction is written: one row for each.
-ghost use Rattle.std.specs.Prelude.{◌≡◌, ◌++◌, OnOk};
+ghost use Rattle.std.specs.Prelude.{◌≡◌, ◌++◌, IsTrue, OnOk};
 ghost use Rattle.isp_asm.specs.Rows as rows;
 ghost use Rattle.isp_asm.specs.Rows.{line, instr_words, mask_row, row_words, scalar_row, vector_row};
 ghost use Rattle.isp_asm.specs.Spelling.{line_text};
+ghost use Rattle.isp_asm.specs.reader.Kinds.{is_access, is_across};
 
 use crate::head::{Head, Op};
 use crate::page::Page;
@@ -26,44 +27,59 @@ impl Page {
                 divisor,
                 mask,
                 place,
-            } => self.row(
+            } => self.at_place(
                 Op::Divide(*op),
                 &[*result, *dividend, *divisor, *mask],
-                Tail::Place(*place),
+                *place,
             ),
+            Instr::Store { .. }
+            | Instr::Scatter { .. }
+            | Instr::StoreRun { .. }
+            | Instr::PackedStore { .. }
+            | Instr::PackedLoad { .. } => self.access(instr),
+            Instr::Clear { array, mask } => self.bare(Op::Clear, &[*array, *mask]),
+            Instr::Jump { target } => self.row(Op::Jump, &[], Tail::Label(*target)),
+            Instr::JumpIf {
+                test,
+                register,
+                target,
+            } => self.row(Op::JumpIf(*test), &[*register], Tail::Label(*target)),
+            Instr::Say { text } => self.row(Op::Say, &[], Tail::Text(*text)),
+            Instr::PrintScalar(x) => self.bare(Op::PrintScalar, &[*x]),
+            Instr::PrintVector { vector, mask } => self.bare(Op::PrintVector, &[*vector, *mask]),
+            Instr::Fail { mask, place } => self.at_place(Op::Fail, &[*mask], *place),
+            Instr::Call(call) => self.call(call.get()),
+            Instr::Return(x) => self.row(Op::Return, &[], Tail::Back(*x)),
+        }
+    }
+
+    // What stores, and what stores or loads lanes one behind the other.
+    fn access(&mut self, instr: &Instr) -> Result<(), AllocError>
+        requires { IsTrue (is_access instr.now) }
+        ensures { OnOk result (self.new ≡ self.old ++ line_text (instr_words instr.now)) }
+    {
+        match instr {
             Instr::Store {
                 array,
                 index,
                 value,
                 mask,
                 place,
-            } => self.row(
-                Op::Store,
-                &[*array, *index, *value, *mask],
-                Tail::Place(*place),
-            ),
+            } => self.at_place(Op::Store, &[*array, *index, *value, *mask], *place),
             Instr::Scatter {
                 array,
                 indices,
                 value,
                 mask,
                 place,
-            } => self.row(
-                Op::Scatter,
-                &[*array, *indices, *value, *mask],
-                Tail::Place(*place),
-            ),
+            } => self.at_place(Op::Scatter, &[*array, *indices, *value, *mask], *place),
             Instr::StoreRun {
                 array,
                 index,
                 value,
                 mask,
                 place,
-            } => self.row(
-                Op::StoreRun,
-                &[*array, *index, *value, *mask],
-                Tail::Place(*place),
-            ),
+            } => self.at_place(Op::StoreRun, &[*array, *index, *value, *mask], *place),
             Instr::PackedStore {
                 count,
                 array,
@@ -71,10 +87,10 @@ impl Page {
                 value,
                 mask,
                 place,
-            } => self.row(
+            } => self.at_place(
                 Op::PackedStore,
                 &[*count, *array, *index, *value, *mask],
-                Tail::Place(*place),
+                *place,
             ),
             Instr::PackedLoad {
                 count,
@@ -83,74 +99,47 @@ impl Page {
                 result,
                 mask,
                 place,
-            } => self.row(
+            } => self.at_place(
                 Op::PackedLoad,
                 &[*count, *array, *index, *result, *mask],
-                Tail::Place(*place),
+                *place,
             ),
-            Instr::Clear { array, mask } => self.row(Op::Clear, &[*array, *mask], Tail::Nothing),
-            Instr::Jump { target } => self.row(Op::Jump, &[], Tail::Label(*target)),
-            Instr::JumpIf {
-                test,
-                register,
-                target,
-            } => self.row(Op::JumpIf(*test), &[*register], Tail::Label(*target)),
-            Instr::Say { text } => self.row(Op::Say, &[], Tail::Text(*text)),
-            Instr::PrintScalar(x) => self.row(Op::PrintScalar, &[*x], Tail::Nothing),
-            Instr::PrintVector { vector, mask } => self.row(
-                Op::PrintVector,
-                &[*vector, *mask],
-                Tail::Nothing,
-            ),
-            Instr::Fail { mask, place } => self.row(Op::Fail, &[*mask], Tail::Place(*place)),
-            Instr::Call(call) => self.call(call.get()),
-            Instr::Return(x) => self.row(Op::Return, &[], Tail::Back(*x)),
+            _ => unreachable!(),
         }
     }
 
     fn scalar(&mut self, d: Register, instr: &ScalarInstr) -> Result<(), AllocError>
         ensures { OnOk result (self.new ≡ self.old ++ line_text (row_words (scalar_row d instr.now))) }
     {
-        match instr {
-            ScalarInstr::Constant(n) => self.row(Op::Const, &[d], Tail::Number(*n)),
-            ScalarInstr::Copy(x) => self.row(Op::Copy, &[d, *x], Tail::Nothing),
-            ScalarInstr::Convert(x) => self.row(Op::Convert, &[d, *x], Tail::Nothing),
-            ScalarInstr::Unary { op, value } => self.row(
-                Op::Unary(*op),
-                &[d, *value],
-                Tail::Nothing,
-            ),
-            ScalarInstr::Binary { op, left, right } => self.row(
-                Op::Plain(*op),
-                &[d, *left, *right],
-                Tail::Nothing,
-            ),
-            ScalarInstr::Compare { op, left, right } => self.row(
-                Op::Compare(*op),
-                &[d, *left, *right],
-                Tail::Nothing,
+        match *instr {
+            ScalarInstr::Constant(n) => self.row(Op::Const, &[d], Tail::Number(n)),
+            ScalarInstr::Copy(x) => self.bare(Op::Copy, &[d, x]),
+            ScalarInstr::Convert(x) => self.bare(Op::Convert, &[d, x]),
+            ScalarInstr::Unary { op, value } => self.bare(Op::Unary(op), &[d, value]),
+            ScalarInstr::Binary { op, left, right } => self.bare(Op::Plain(op), &[d, left, right]),
+            ScalarInstr::Compare { op, left, right } => self.bare(
+                Op::Compare(op),
+                &[d, left, right],
             ),
             ScalarInstr::Select {
                 test,
                 if_true,
                 if_false,
-            } => self.row(Op::Select, &[d, *test, *if_true, *if_false], Tail::Nothing),
-            ScalarInstr::First(x) => self.row(Op::First, &[d, *x], Tail::Nothing),
+            } => self.bare(Op::Select, &[d, test, if_true, if_false]),
+            ScalarInstr::First(x) => self.bare(Op::First, &[d, x]),
             ScalarInstr::Load {
                 array,
                 index,
                 mask,
                 place,
-            } => self.row(Op::Load, &[d, *array, *index, *mask], Tail::Place(*place)),
-            ScalarInstr::Reduce { op, vector, mask } => self.row(
-                Op::Reduce(*op),
-                &[d, *vector, *mask],
-                Tail::Nothing,
+            } => self.at_place(Op::Load, &[d, array, index, mask], place),
+            ScalarInstr::Reduce { op, vector, mask } => self.bare(
+                Op::Reduce(op),
+                &[d, vector, mask],
             ),
-            ScalarInstr::Extract { vector, lane, mask } => self.row(
+            ScalarInstr::Extract { vector, lane, mask } => self.bare(
                 Op::Extract,
-                &[d, *vector, *lane, *mask],
-                Tail::Nothing,
+                &[d, vector, lane, mask],
             ),
         }
     }
@@ -158,133 +147,113 @@ impl Page {
     fn vector(&mut self, d: Register, instr: &VectorInstr) -> Result<(), AllocError>
         ensures { OnOk result (self.new ≡ self.old ++ line_text (row_words (vector_row d instr.now))) }
     {
-        match instr {
-            VectorInstr::Copy { value, mask } => self.row(
-                Op::Copy,
-                &[d, *value, *mask],
-                Tail::Nothing,
-            ),
-            VectorInstr::Convert { value, mask } => self.row(
-                Op::Convert,
-                &[d, *value, *mask],
-                Tail::Nothing,
-            ),
-            VectorInstr::Unary { op, value, mask } => self.row(
-                Op::Unary(*op),
-                &[d, *value, *mask],
-                Tail::Nothing,
-            ),
+        match *instr {
+            VectorInstr::Copy { value, mask } => self.bare(Op::Copy, &[d, value, mask]),
+            VectorInstr::Convert { value, mask } => self.bare(Op::Convert, &[d, value, mask]),
+            VectorInstr::Unary { op, value, mask } => self.bare(Op::Unary(op), &[d, value, mask]),
             VectorInstr::Binary {
                 op,
                 left,
                 right,
                 mask,
-            } => self.row(Op::Plain(*op), &[d, *left, *right, *mask], Tail::Nothing),
+            } => self.bare(Op::Plain(op), &[d, left, right, mask]),
             VectorInstr::Compare {
                 op,
                 left,
                 right,
                 mask,
-            } => self.row(Op::Compare(*op), &[d, *left, *right, *mask], Tail::Nothing),
+            } => self.bare(Op::Compare(op), &[d, left, right, mask]),
             VectorInstr::Select {
                 test,
                 if_true,
                 if_false,
                 mask,
-            } => self.row(
-                Op::Select,
-                &[d, *test, *if_true, *if_false, *mask],
-                Tail::Nothing,
-            ),
-            VectorInstr::Splat { value, mask } => self.row(
-                Op::Splat,
-                &[d, *value, *mask],
-                Tail::Nothing,
-            ),
-            VectorInstr::Index(k) => self.row(Op::Index, &[d, *k], Tail::Nothing),
+            } => self.bare(Op::Select, &[d, test, if_true, if_false, mask]),
+            VectorInstr::Splat { value, mask } => self.bare(Op::Splat, &[d, value, mask]),
+            VectorInstr::Index(k) => self.bare(Op::Index, &[d, k]),
             VectorInstr::Gather {
                 array,
                 indices,
                 mask,
                 place,
-            } => self.row(
-                Op::Gather,
-                &[d, *array, *indices, *mask],
-                Tail::Place(*place),
-            ),
+            } => self.at_place(Op::Gather, &[d, array, indices, mask], place),
             VectorInstr::LoadRun {
                 array,
                 index,
                 mask,
                 place,
-            } => self.row(
-                Op::LoadRun,
-                &[d, *array, *index, *mask],
-                Tail::Place(*place),
-            ),
-            VectorInstr::Scan { op, value, mask } => self.row(
-                Op::Scan(*op),
-                &[d, *value, *mask],
-                Tail::Nothing,
-            ),
+            } => self.at_place(Op::LoadRun, &[d, array, index, mask], place),
+            VectorInstr::Scan { .. }
+            | VectorInstr::Exchange { .. }
+            | VectorInstr::Shuffle { .. }
+            | VectorInstr::ShuffleTwo { .. }
+            | VectorInstr::Insert { .. } => self.across(d, *instr),
+        }
+    }
+
+    // What is written across lanes.
+    fn across(&mut self, d: Register, instr: VectorInstr) -> Result<(), AllocError>
+        requires { IsTrue (is_across instr) }
+        ensures { OnOk result (self.new ≡ self.old ++ line_text (row_words (vector_row d instr))) }
+    {
+        match instr {
+            VectorInstr::Scan { op, value, mask } => self.bare(Op::Scan(op), &[d, value, mask]),
             VectorInstr::Exchange {
                 op,
                 vector,
                 by,
                 mask,
-            } => self.row(Op::Exchange(*op), &[d, *vector, *by, *mask], Tail::Nothing),
+            } => self.bare(Op::Exchange(op), &[d, vector, by, mask]),
             VectorInstr::Shuffle {
                 vector,
                 lanes,
                 mask,
-            } => self.row(Op::Shuffle, &[d, *vector, *lanes, *mask], Tail::Nothing),
+            } => self.bare(Op::Shuffle, &[d, vector, lanes, mask]),
             VectorInstr::ShuffleTwo {
                 first,
                 second,
                 lanes,
                 mask,
-            } => self.row(
-                Op::ShuffleTwo,
-                &[d, *first, *second, *lanes, *mask],
-                Tail::Nothing,
-            ),
+            } => self.bare(Op::ShuffleTwo, &[d, first, second, lanes, mask]),
             VectorInstr::Insert {
                 vector,
                 lane,
                 value,
                 mask,
-            } => self.row(
-                Op::Insert,
-                &[d, *vector, *lane, *value, *mask],
-                Tail::Nothing,
-            ),
+            } => self.bare(Op::Insert, &[d, vector, lane, value, mask]),
+            _ => unreachable!(),
         }
     }
 
     fn mask(&mut self, d: Register, instr: &MaskInstr) -> Result<(), AllocError>
         ensures { OnOk result (self.new ≡ self.old ++ line_text (row_words (mask_row d instr.now))) }
     {
-        match instr {
-            MaskInstr::Copy(x) => self.row(Op::MaskCopy, &[d, *x], Tail::Nothing),
-            MaskInstr::Binary { op, left, right } => self.row(
-                Op::MaskBinary(*op),
-                &[d, *left, *right],
-                Tail::Nothing,
+        match *instr {
+            MaskInstr::Copy(x) => self.bare(Op::MaskCopy, &[d, x]),
+            MaskInstr::Binary { op, left, right } => self.bare(
+                Op::MaskBinary(op),
+                &[d, left, right],
             ),
-            MaskInstr::Full => self.row(Op::Full, &[d], Tail::Nothing),
-            MaskInstr::Off => self.row(Op::Off, &[d], Tail::Nothing),
-            MaskInstr::Test { vector, mask } => self.row(
-                Op::Test,
-                &[d, *vector, *mask],
-                Tail::Nothing,
-            ),
-            MaskInstr::Lowest(x) => self.row(Op::Lowest, &[d, *x], Tail::Nothing),
-            MaskInstr::Range { first, end } => self.row(
-                Op::Range,
-                &[d, *first, *end],
-                Tail::Nothing,
-            ),
+            MaskInstr::Full => self.bare(Op::Full, &[d]),
+            MaskInstr::Off => self.bare(Op::Off, &[d]),
+            MaskInstr::Test { vector, mask } => self.bare(Op::Test, &[d, vector, mask]),
+            MaskInstr::Lowest(x) => self.bare(Op::Lowest, &[d, x]),
+            MaskInstr::Range { first, end } => self.bare(Op::Range, &[d, first, end]),
         }
+    }
+
+    // A word and its registers.
+    fn bare(&mut self, op: Op, registers: &[Register]) -> Result<(), AllocError>
+        ensures { OnOk result (self.new ≡ self.old ++ line_text (row_words (line op registers.now Tail.Nothing))) }
+    {
+        self.row(op, registers, Tail::Nothing)
+    }
+
+    // A word, its registers, and the place of a trap.
+    fn at_place(&mut self, op: Op, registers: &[Register], place: u32) -> Result<(), AllocError>
+        ensures { OnOk result (self.new ≡ self.old ++ line_text (row_words (line op registers.now (Tail.Place place)))) }
+    {
+        self.row(op, registers, Tail::Place(place))
     }
 
     // A word, its registers, and what ends the line.

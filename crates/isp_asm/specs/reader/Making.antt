@@ -3,7 +3,9 @@ use Rattle.std.specs.Prelude.{ℕ, ℤ, pos, ◌==◌, if◌then◌else◌, get_
 use Rattle.isp_code.specs.declared.instr.Instr.{Instr}
 use Rattle.isp_code.specs.declared.instr.Instr.TheVariants as instr
 use Rattle.isp_code.specs.declared.instr.MaskInstr.TheVariants as mask
+use Rattle.isp_code.specs.declared.instr.ScalarInstr.{ScalarInstr}
 use Rattle.isp_code.specs.declared.instr.ScalarInstr.TheVariants as scalar
+use Rattle.isp_code.specs.declared.instr.VectorInstr.{VectorInstr}
 use Rattle.isp_code.specs.declared.instr.VectorInstr.TheVariants as vector
 use Rattle.isp_code.specs.declared.register.Class.TheVariants as class
 use Rattle.isp_code.specs.declared.register.Register.{Register}
@@ -11,6 +13,7 @@ use Rattle.isp_asm.specs.declared.head.Op.{Op}
 use Rattle.isp_asm.specs.declared.head.Op.TheVariants as op
 use Rattle.isp_asm.specs.declared.row.Tail.{Tail}
 use Rattle.isp_asm.specs.declared.row.Tail.TheVariants.{Place, Label, Text, Number, Back}
+use Rattle.isp_asm.specs.Shapes.{shape_of}
 
 -- the register that stands where none does
 abbrev pub none : Register
@@ -33,14 +36,35 @@ abbrev pub result_of : Tail → Option Register
 result_of (Back x) = x
 result_of t = None
 
+-- a word that scalars and lanes have: what it sets a scalar register to, and lanes under a mask
+abbrev pub scalar_made : Op → List Register → ScalarInstr
+scalar_made op.Convert rs = scalar.Convert (nth rs 1)
+scalar_made (op.Unary o) rs = scalar.Unary o (nth rs 1)
+scalar_made (op.Plain o) rs = scalar.Binary o (nth rs 1) (nth rs 2)
+scalar_made (op.Compare o) rs = scalar.Compare o (nth rs 1) (nth rs 2)
+scalar_made op.Select rs = scalar.Select (nth rs 1) (nth rs 2) (nth rs 3)
+scalar_made o rs = scalar.Copy (nth rs 1)
+
+abbrev pub vector_made : Op → List Register → VectorInstr
+vector_made op.Convert rs = vector.Convert (nth rs 1) (nth rs 2)
+vector_made (op.Unary o) rs = vector.Unary o (nth rs 1) (nth rs 2)
+vector_made (op.Plain o) rs = vector.Binary o (nth rs 1) (nth rs 2) (nth rs 3)
+vector_made (op.Compare o) rs = vector.Compare o (nth rs 1) (nth rs 2) (nth rs 3)
+vector_made op.Select rs = vector.Select (nth rs 1) (nth rs 2) (nth rs 3) (nth rs 4)
+vector_made o rs = vector.Copy (nth rs 1) (nth rs 2)
+
+-- with the fewest registers such a word is of scalars
+abbrev pub operator_made : Op → List Register → Instr
+operator_made o rs = if length rs == (shape_of o).fewest then instr.Scalar (nth rs 0) (scalar_made o rs) else instr.Vector (nth rs 0) (vector_made o rs)
+
 abbrev pub made : Op → List Register → Tail → Instr
 made op.Const rs t = instr.Scalar (nth rs 0) (scalar.Constant (constant_of t))
-made op.Copy rs t = if length rs == 2 then instr.Scalar (nth rs 0) (scalar.Copy (nth rs 1)) else instr.Vector (nth rs 0) (vector.Copy (nth rs 1) (nth rs 2))
-made op.Convert rs t = if length rs == 2 then instr.Scalar (nth rs 0) (scalar.Convert (nth rs 1)) else instr.Vector (nth rs 0) (vector.Convert (nth rs 1) (nth rs 2))
-made (op.Unary o) rs t = if length rs == 2 then instr.Scalar (nth rs 0) (scalar.Unary o (nth rs 1)) else instr.Vector (nth rs 0) (vector.Unary o (nth rs 1) (nth rs 2))
-made (op.Plain o) rs t = if length rs == 3 then instr.Scalar (nth rs 0) (scalar.Binary o (nth rs 1) (nth rs 2)) else instr.Vector (nth rs 0) (vector.Binary o (nth rs 1) (nth rs 2) (nth rs 3))
-made (op.Compare o) rs t = if length rs == 3 then instr.Scalar (nth rs 0) (scalar.Compare o (nth rs 1) (nth rs 2)) else instr.Vector (nth rs 0) (vector.Compare o (nth rs 1) (nth rs 2) (nth rs 3))
-made op.Select rs t = if length rs == 4 then instr.Scalar (nth rs 0) (scalar.Select (nth rs 1) (nth rs 2) (nth rs 3)) else instr.Vector (nth rs 0) (vector.Select (nth rs 1) (nth rs 2) (nth rs 3) (nth rs 4))
+made op.Copy rs t = operator_made op.Copy rs
+made op.Convert rs t = operator_made op.Convert rs
+made (op.Unary o) rs t = operator_made (op.Unary o) rs
+made (op.Plain o) rs t = operator_made (op.Plain o) rs
+made (op.Compare o) rs t = operator_made (op.Compare o) rs
+made op.Select rs t = operator_made op.Select rs
 made (op.Divide o) rs t = instr.Divide o (nth rs 0) (nth rs 1) (nth rs 2) (nth rs 3) (number_of t)
 made op.First rs t = instr.Scalar (nth rs 0) (scalar.First (nth rs 1))
 made (op.Reduce o) rs t = instr.Scalar (nth rs 0) (scalar.Reduce o (nth rs 1) (nth rs 2))
