@@ -1,12 +1,10 @@
 //! The arrays of a call.
 ghost use Rattle.std.specs.Prelude.{◌≡◌, ◌<◌, length, slice_set, None, Some, IfOk, IfErr, if◌then◌else◌};
-ghost use Rattle.isp_base.specs.Access.{is_outside, element, scatter};
-ghost use Rattle.isp_base.specs.Maps.{lane_of, on, over, each1, map1, lowest_failing};
+ghost use Rattle.isp_base.specs.Maps.{lane_of, over};
 ghost use Rattle.isp_base.specs.Sets.{flag_of};
-ghost use Rattle.isp_base.specs.Stores.{own_put};
 ghost use Rattle.isp_base.specs.declared.types.Elem.TheVariants.{I64};
 ghost use Rattle.isp_lanes.specs.Lanes.{vector};
-ghost use Rattle.isp_machine.specs.Arrays.{ArrayThere, Rewritten, array_count, array_elem, array_found};
+ghost use Rattle.isp_machine.specs.Arrays.{ArrayThere, Rewritten, Scattered, array_elem, first_outside, gathered};
 
 use isp_lanes::{LaneMask, Lanes};
 use isp_store::{Arrays, IndexTrap, LaneArray};
@@ -61,11 +59,11 @@ impl<const N: usize> FrameArray<N> {
         requires index { index < length vectors.old }
         requires index_elem { (vector vectors.old index).elem ≡ I64 }
         requires elem { (vector vectors.old out).elem ≡ array_elem stores.now self.now }
-        ensures inside { IfOk result (λ _. lowest_failing N (is_outside I64 (array_count stores.now self.now)) (on (flag_of mask.now) (lane_of (vector vectors.old index).bits)) ≡ None) }
-        ensures lanes { IfOk result (λ _. lane_of (vector vectors.new out).bits ≡ over (λ p. each1 (λ x. array_found stores.now self.now (element I64 x) p) (on (flag_of mask.now) (lane_of (vector vectors.old index).bits) p)) (lane_of (vector vectors.old out).bits)) }
+        ensures inside { IfOk result (λ _. first_outside N stores.now self.now (flag_of mask.now) (lane_of (vector vectors.old index).bits) ≡ None) }
+        ensures lanes { IfOk result (λ _. lane_of (vector vectors.new out).bits ≡ over (gathered stores.now self.now (flag_of mask.now) (lane_of (vector vectors.old index).bits)) (lane_of (vector vectors.old out).bits)) }
         ensures elem { (vector vectors.new out).elem ≡ (vector vectors.old out).elem }
         ensures others { vectors.new ≡ slice_set vectors.old out (vector vectors.new out) }
-        ensures lowest { IfErr result (λ t. lowest_failing N (is_outside I64 (array_count stores.now self.now)) (on (flag_of mask.now) (lane_of (vector vectors.old index).bits)) ≡ Some t.instance) }
+        ensures lowest { IfErr result (λ t. first_outside N stores.now self.now (flag_of mask.now) (lane_of (vector vectors.old index).bits) ≡ Some t.instance) }
         ensures same { IfErr result (λ t. vectors.new ≡ vectors.old) }
     {
         match &self.own {
@@ -88,9 +86,9 @@ impl<const N: usize> FrameArray<N> {
         requires there { ArrayThere stores.old self.old }
         requires index { index.now.elem ≡ I64 }
         requires elem { value.now.elem ≡ array_elem stores.old self.old }
-        ensures inside { IfOk result (λ _. lowest_failing N (is_outside I64 (array_count stores.old self.old)) (on (flag_of mask.now) (lane_of index.now.bits)) ≡ None) }
-        ensures written { IfOk result (λ _. let places = map1 (element I64) (on (flag_of mask.now) (lane_of index.now.bits)) in Rewritten stores.old self.old stores.new self.new (scatter N places (on (flag_of mask.now) (lane_of value.now.bits))) (own_put places (lane_of value.now.bits))) }
-        ensures lowest { IfErr result (λ t. lowest_failing N (is_outside I64 (array_count stores.old self.old)) (on (flag_of mask.now) (lane_of index.now.bits)) ≡ Some t.instance) }
+        ensures inside { IfOk result (λ _. first_outside N stores.old self.old (flag_of mask.now) (lane_of index.now.bits) ≡ None) }
+        ensures written { IfOk result (λ _. Scattered N stores.old self.old stores.new self.new (flag_of mask.now) (lane_of index.now.bits) (lane_of value.now.bits)) }
+        ensures lowest { IfErr result (λ t. first_outside N stores.old self.old (flag_of mask.now) (lane_of index.now.bits) ≡ Some t.instance) }
         ensures same { IfErr result (λ t. self.new ≡ self.old) }
         ensures same_stores { IfErr result (λ t. stores.new ≡ stores.old) }
     {

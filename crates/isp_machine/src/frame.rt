@@ -1,21 +1,19 @@
 //! A call: where it stands, and its registers.
 ghost use Rattle.std.specs.Prelude.{◌≡◌, ◌<◌, ◌≤◌, ◌+◌, ◌^◌, ◌++◌, [], length, get_or, slice_set, map, replicate, None, Some, IfOk, IfErr, OnOk, OnErr, if◌then◌else◌};
-ghost use Rattle.isp_base.specs.Access.{is_outside, element, scatter};
 ghost use Rattle.isp_base.specs.Arguments.{rows};
 ghost use Rattle.isp_base.specs.Sets.{flag_of};
 ghost use Rattle.isp_code.specs.Listing.{routine_of};
 ghost use Rattle.isp_code.specs.Registers.{arrays_of};
 ghost use Rattle.isp_machine.specs.Begun.{AreThere, Begun, by_call, by_run, given, new_stores, no_frame};
 ghost use Rattle.isp_machine.specs.Shapes.{Shaped};
-ghost use Rattle.isp_base.specs.Maps.{on, over, each1, map1, lowest_failing};
-ghost use Rattle.isp_base.specs.Stores.{own_put};
+ghost use Rattle.isp_base.specs.Maps.{over};
 ghost use Rattle.isp_base.specs.declared.types.Elem.TheVariants.{Bool as Truth, I32, I64};
 ghost use Rattle.std.specs.List.{range_with_len};
 ghost use Rattle.std.specs.Simd.Lanes.{zip2, sel_l};
 ghost use Rattle.isp_base.specs.Values.{width, number, op_bits, compare_bits, convert_bits};
 ghost use Rattle.isp_base.specs.Unary.{unary_bits};
 ghost use Rattle.isp_lanes.specs.Lanes.{is_on, first_zero, written, no_row};
-ghost use Rattle.isp_machine.specs.Arrays.{ArrayThere, Rewritten, array_count, array_elem, array_found, array_in, vector_in, mask_in};
+ghost use Rattle.isp_machine.specs.Arrays.{ArrayThere, Rewritten, Scattered, array_elem, array_in, bits_in, elem_in, gathered_at, lanes_set, mask_in, outside_at, vector_in};
 ghost use Rattle.isp_machine.specs.Views.{no_array, vectors_at, masks_at};
 
 use crate::array::FrameArray;
@@ -309,11 +307,11 @@ impl<const N: usize> Frame<N> {
         requires x { x < length self.old.vectors }
         requires y { y < length self.old.vectors }
         requires k { k < length self.old.masks }
-        requires x_elem { (vector_in self.old x).elem ≡ (vector_in self.old d).elem }
-        requires y_elem { (vector_in self.old y).elem ≡ (vector_in self.old d).elem }
-        ensures divided { IfOk result (λ _. first_zero op (mask_in self.old k) (vector_in self.old y).bits ≡ None) }
-        ensures value { IfOk result (λ _. self.new ≡ record self.old { vectors = slice_set self.old.vectors d (written (mask_in self.old k) (zip2 (op_bits op (vector_in self.old d).elem) (vector_in self.old x).bits (vector_in self.old y).bits) (vector_in self.old d)) }) }
-        ensures lowest { IfErr result (λ lane. first_zero op (mask_in self.old k) (vector_in self.old y).bits ≡ Some lane) }
+        requires x_elem { elem_in self.old x ≡ elem_in self.old d }
+        requires y_elem { elem_in self.old y ≡ elem_in self.old d }
+        ensures divided { IfOk result (λ _. first_zero op (mask_in self.old k) (bits_in self.old y) ≡ None) }
+        ensures value { IfOk result (λ _. self.new ≡ lanes_set self.old d k (zip2 (op_bits op (elem_in self.old d)) (bits_in self.old x) (bits_in self.old y))) }
+        ensures lowest { IfErr result (λ lane. first_zero op (mask_in self.old k) (bits_in self.old y) ≡ Some lane) }
         ensures same { IfErr result (λ _. self.new ≡ self.old) }
     {
         Lanes::binary_at(
@@ -331,8 +329,8 @@ impl<const N: usize> Frame<N> {
         requires d { d < length self.old.vectors }
         requires x { x < length self.old.vectors }
         requires k { k < length self.old.masks }
-        requires elem { (vector_in self.old x).elem ≡ (vector_in self.old d).elem }
-        ensures { self.new ≡ record self.old { vectors = slice_set self.old.vectors d (written (mask_in self.old k) (map (unary_bits op (vector_in self.old d).elem) (vector_in self.old x).bits) (vector_in self.old d)) } }
+        requires elem { elem_in self.old x ≡ elem_in self.old d }
+        ensures { self.new ≡ lanes_set self.old d k (map (unary_bits op (elem_in self.old d)) (bits_in self.old x)) }
     {
         Lanes::unary_at(
             &mut self.vectors,
@@ -349,9 +347,9 @@ impl<const N: usize> Frame<N> {
         requires x { x < length self.old.vectors }
         requires y { y < length self.old.vectors }
         requires k { k < length self.old.masks }
-        requires elem { (vector_in self.old d).elem ≡ Truth }
-        requires y_elem { (vector_in self.old y).elem ≡ (vector_in self.old x).elem }
-        ensures { self.new ≡ record self.old { vectors = slice_set self.old.vectors d (written (mask_in self.old k) (zip2 (compare_bits op (vector_in self.old x).elem) (vector_in self.old x).bits (vector_in self.old y).bits) (vector_in self.old d)) } }
+        requires elem { elem_in self.old d ≡ Truth }
+        requires y_elem { elem_in self.old y ≡ elem_in self.old x }
+        ensures { self.new ≡ lanes_set self.old d k (zip2 (compare_bits op (elem_in self.old x)) (bits_in self.old x) (bits_in self.old y)) }
     {
         Lanes::compare_at(
             &mut self.vectors,
@@ -368,7 +366,7 @@ impl<const N: usize> Frame<N> {
         requires d { d < length self.old.vectors }
         requires x { x < length self.old.vectors }
         requires k { k < length self.old.masks }
-        ensures { self.new ≡ record self.old { vectors = slice_set self.old.vectors d (written (mask_in self.old k) (map (λ b. convert_bits (vector_in self.old d).elem (number (vector_in self.old x).elem b)) (vector_in self.old x).bits) (vector_in self.old d)) } }
+        ensures { self.new ≡ lanes_set self.old d k (map (λ b. convert_bits (elem_in self.old d) (number (elem_in self.old x) b)) (bits_in self.old x)) }
     {
         Lanes::convert_at(
             &mut self.vectors,
@@ -385,10 +383,10 @@ impl<const N: usize> Frame<N> {
         requires x { x < length self.old.vectors }
         requires y { y < length self.old.vectors }
         requires k { k < length self.old.masks }
-        requires truth { (vector_in self.old test).elem ≡ Truth }
-        requires x_elem { (vector_in self.old x).elem ≡ (vector_in self.old d).elem }
-        requires y_elem { (vector_in self.old y).elem ≡ (vector_in self.old d).elem }
-        ensures { self.new ≡ record self.old { vectors = slice_set self.old.vectors d (written (mask_in self.old k) (sel_l (map is_on (vector_in self.old test).bits) (vector_in self.old x).bits (vector_in self.old y).bits) (vector_in self.old d)) } }
+        requires truth { elem_in self.old test ≡ Truth }
+        requires x_elem { elem_in self.old x ≡ elem_in self.old d }
+        requires y_elem { elem_in self.old y ≡ elem_in self.old d }
+        ensures { self.new ≡ lanes_set self.old d k (sel_l (map is_on (bits_in self.old test)) (bits_in self.old x) (bits_in self.old y)) }
     {
         Lanes::select_at(
             &mut self.vectors,
@@ -405,8 +403,8 @@ impl<const N: usize> Frame<N> {
         requires d { d < length self.old.vectors }
         requires x { x < length self.old.vectors }
         requires k { k < length self.old.masks }
-        requires elem { (vector_in self.old x).elem ≡ (vector_in self.old d).elem }
-        ensures { self.new ≡ record self.old { vectors = slice_set self.old.vectors d (written (mask_in self.old k) (vector_in self.old x).bits (vector_in self.old d)) } }
+        requires elem { elem_in self.old x ≡ elem_in self.old d }
+        ensures { self.new ≡ lanes_set self.old d k (bits_in self.old x) }
     {
         Lanes::copy_at(
             &mut self.vectors,
@@ -419,7 +417,7 @@ impl<const N: usize> Frame<N> {
     /// The lanes of a vector of another call, in the lanes that made that call.
     pub(crate) fn receive(&mut self, d: u32, x: &Lanes<N>)
         requires there { d < length self.old.vectors }
-        requires elem { x.now.elem ≡ (vector_in self.old d).elem }
+        requires elem { x.now.elem ≡ elem_in self.old d }
         ensures { self.new ≡ record self.old { vectors = slice_set self.old.vectors d (written self.old.under x.now.bits (vector_in self.old d)) } }
     {
         self.vectors[d as usize].copy(x, &self.under);
@@ -429,8 +427,8 @@ impl<const N: usize> Frame<N> {
     pub(crate) fn splat(&mut self, d: u32, bits: u64, k: u32)
         requires d { d < length self.old.vectors }
         requires k { k < length self.old.masks }
-        requires fits { bits < 2 ^ width (vector_in self.old d).elem }
-        ensures { self.new ≡ record self.old { vectors = slice_set self.old.vectors d (written (mask_in self.old k) (replicate N bits) (vector_in self.old d)) } }
+        requires fits { bits < 2 ^ width (elem_in self.old d) }
+        ensures { self.new ≡ lanes_set self.old d k (replicate N bits) }
     {
         let mask = &self.masks[k as usize];
         mask.told();
@@ -441,8 +439,8 @@ impl<const N: usize> Frame<N> {
     pub(crate) fn index(&mut self, d: u32, k: u32)
         requires d { d < length self.old.vectors }
         requires k { k < length self.old.masks }
-        requires elem { (vector_in self.old d).elem ≡ I32 }
-        ensures { self.new ≡ record self.old { vectors = slice_set self.old.vectors d (written (mask_in self.old k) (range_with_len 0 N) (vector_in self.old d)) } }
+        requires elem { elem_in self.old d ≡ I32 }
+        ensures { self.new ≡ lanes_set self.old d k (range_with_len 0 N) }
     {
         let mask = &self.masks[k as usize];
         mask.told();
@@ -469,13 +467,13 @@ impl<const N: usize> Frame<N> {
         requires i { i < length self.old.vectors }
         requires k { k < length self.old.masks }
         requires there { ArrayThere stores.now (array_in self.old a) }
-        requires index { (vector_in self.old i).elem ≡ I64 }
-        requires elem { (vector_in self.old d).elem ≡ array_elem stores.now (array_in self.old a) }
-        ensures inside { IfOk result (λ _. lowest_failing N (is_outside I64 (array_count stores.now (array_in self.old a))) (on (masks_at self.old k) (vectors_at self.old i)) ≡ None) }
-        ensures lanes { IfOk result (λ _. vectors_at self.new d ≡ over (λ p. each1 (λ x. array_found stores.now (array_in self.old a) (element I64 x) p) (on (masks_at self.old k) (vectors_at self.old i) p)) (vectors_at self.old d)) }
-        ensures elem { (vector_in self.new d).elem ≡ (vector_in self.old d).elem }
+        requires index { elem_in self.old i ≡ I64 }
+        requires elem { elem_in self.old d ≡ array_elem stores.now (array_in self.old a) }
+        ensures inside { IfOk result (λ _. outside_at N stores.now self.old a k i ≡ None) }
+        ensures lanes { IfOk result (λ _. vectors_at self.new d ≡ over (gathered_at stores.now self.old a k i) (vectors_at self.old d)) }
+        ensures elem { elem_in self.new d ≡ elem_in self.old d }
         ensures others { self.new ≡ record self.old { vectors = slice_set self.old.vectors d (vector_in self.new d) } }
-        ensures lowest { IfErr result (λ t. lowest_failing N (is_outside I64 (array_count stores.now (array_in self.old a))) (on (masks_at self.old k) (vectors_at self.old i)) ≡ Some t.instance) }
+        ensures lowest { IfErr result (λ t. outside_at N stores.now self.old a k i ≡ Some t.instance) }
         ensures same { IfErr result (λ t. self.new ≡ self.old) }
     {
         let array = &self.arrays[a as usize];
@@ -499,12 +497,12 @@ impl<const N: usize> Frame<N> {
         requires y { y < length self.old.vectors }
         requires k { k < length self.old.masks }
         requires there { ArrayThere stores.old (array_in self.old a) }
-        requires index { (vector_in self.old i).elem ≡ I64 }
-        requires elem { (vector_in self.old y).elem ≡ array_elem stores.old (array_in self.old a) }
-        ensures inside { IfOk result (λ _. lowest_failing N (is_outside I64 (array_count stores.old (array_in self.old a))) (on (masks_at self.old k) (vectors_at self.old i)) ≡ None) }
-        ensures written { IfOk result (λ _. let places = map1 (element I64) (on (masks_at self.old k) (vectors_at self.old i)) in Rewritten stores.old (array_in self.old a) stores.new (array_in self.new a) (scatter N places (on (masks_at self.old k) (vectors_at self.old y))) (own_put places (vectors_at self.old y))) }
+        requires index { elem_in self.old i ≡ I64 }
+        requires elem { elem_in self.old y ≡ array_elem stores.old (array_in self.old a) }
+        ensures inside { IfOk result (λ _. outside_at N stores.old self.old a k i ≡ None) }
+        ensures written { IfOk result (λ _. Scattered N stores.old (array_in self.old a) stores.new (array_in self.new a) (masks_at self.old k) (vectors_at self.old i) (vectors_at self.old y)) }
         ensures others { IfOk result (λ _. self.new ≡ record self.old { arrays = slice_set self.old.arrays a (array_in self.new a) }) }
-        ensures lowest { IfErr result (λ t. lowest_failing N (is_outside I64 (array_count stores.old (array_in self.old a))) (on (masks_at self.old k) (vectors_at self.old i)) ≡ Some t.instance) }
+        ensures lowest { IfErr result (λ t. outside_at N stores.old self.old a k i ≡ Some t.instance) }
         ensures same { IfErr result (λ t. self.new ≡ self.old) }
         ensures same_stores { IfErr result (λ t. stores.new ≡ stores.old) }
     {

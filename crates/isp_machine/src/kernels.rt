@@ -8,7 +8,7 @@ ghost use Rattle.isp_base.specs.Values.{op_bits};
 ghost use Rattle.isp_code.specs.Lines.{plain_of, division_of};
 ghost use Rattle.isp_machine.specs.Arrays.{vector_in};
 ghost use Rattle.isp_machine.specs.Moves.{LanesAre};
-ghost use Rattle.isp_machine.specs.Views.{vectors_at, masks_at};
+ghost use Rattle.isp_machine.specs.Views.{masked_at};
 
 use crate::frame::Frame;
 use isp_base::BinOp;
@@ -96,10 +96,10 @@ pub(crate) fn divided<const N: usize>(
     requires k { k < length frame.old.masks }
     requires x_elem { (vector_in frame.old x).elem ≡ (vector_in frame.old d).elem }
     requires y_elem { (vector_in frame.old y).elem ≡ (vector_in frame.old d).elem }
-    ensures none { IfOk result (λ _. lowest_failing N (is_zero (division_of op) (vector_in frame.old d).elem) (on (masks_at frame.old k) (vectors_at frame.old y)) ≡ None) }
-    ensures lanes { IfOk result (λ _. LanesAre frame.old d (map2 (op_bits (division_of op) (vector_in frame.old d).elem) (on (masks_at frame.old k) (vectors_at frame.old x)) (on (masks_at frame.old k) (vectors_at frame.old y))) frame.new) }
+    ensures none { IfOk result (λ _. lowest_failing N (is_zero (division_of op) (vector_in frame.old d).elem) (masked_at frame.old k y) ≡ None) }
+    ensures lanes { IfOk result (λ _. LanesAre frame.old d (map2 (op_bits (division_of op) (vector_in frame.old d).elem) (masked_at frame.old k x) (masked_at frame.old k y)) frame.new) }
     ensures pc { IfOk result (λ _. frame.new.pc ≡ frame.old.pc) }
-    ensures lowest { IfErr result (λ lane. lowest_failing N (is_zero (division_of op) (vector_in frame.old d).elem) (on (masks_at frame.old k) (vectors_at frame.old y)) ≡ Some lane) }
+    ensures lowest { IfErr result (λ lane. lowest_failing N (is_zero (division_of op) (vector_in frame.old d).elem) (masked_at frame.old k y) ≡ Some lane) }
     ensures same { IfErr result (λ _. frame.new ≡ frame.old) }
 {
     frame.mask(k).told();

@@ -1,13 +1,12 @@
 //! Instructions that write to the output.
 ghost use Rattle.std.specs.Prelude.{◌≡◌, ◌+◌, ◌<◌, ◌++◌, [], length, slice_index_or, OnOk, OnErr};
-ghost use Rattle.isp_base.specs.Maps.{on};
-ghost use Rattle.isp_base.specs.Prints.{value_text, list_text};
+ghost use Rattle.isp_base.specs.Prints.{value_text};
 ghost use Rattle.isp_base.specs.Types.{gang_width};
 ghost use Rattle.isp_code.specs.Fine.{IsThere};
 ghost use Rattle.isp_code.specs.Registers.{elem_of};
-ghost use Rattle.isp_machine.specs.Moves.{Speaks};
+ghost use Rattle.isp_machine.specs.Moves.{Speaks, lanes_text};
 ghost use Rattle.isp_machine.specs.Shapes.{Shaped};
-ghost use Rattle.isp_machine.specs.Views.{scalars_at, vectors_at, masks_at};
+ghost use Rattle.isp_machine.specs.Views.{scalars_at};
 
 use crate::frame::Frame;
 use crate::here::Here;
@@ -75,8 +74,8 @@ pub(crate) fn print_vector<const N: usize>(
     requires x { IsThere here.now.routine Class.Vector x }
     requires k { IsThere here.now.routine Class.Mask k }
     requires next { frame.old.pc + 1 < length here.now.routine.code }
-    ensures ok { OnOk result (Speaks here.now (Instr.PrintVector x k) frame.old frame.new (list_text (elem_of here.now.routine x) (gang_width here.now.code.gang) (on (masks_at frame.old k.number) (vectors_at frame.old x.number)))) }
-    ensures written { OnOk result (out.new.items ≡ out.old.items ++ list_text (elem_of here.now.routine x) (gang_width here.now.code.gang) (on (masks_at frame.old k.number) (vectors_at frame.old x.number))) }
+    ensures ok { OnOk result (Speaks here.now (Instr.PrintVector x k) frame.old frame.new (lanes_text here.now frame.old x k)) }
+    ensures written { OnOk result (out.new.items ≡ out.old.items ++ lanes_text here.now frame.old x k) }
     ensures same { OnErr result (frame.new ≡ frame.old) }
     ensures same_out { OnErr result (out.new.items ≡ out.old.items) }
 {
