@@ -11,3 +11,4 @@ pub mod Runs
 pub mod Starts
 pub mod StartTexts
 pub mod Crossing
+pub mod reader

@@ -1,5 +1,5 @@
 //! Instructions across the lanes of a mask.
-ghost use Rattle.std.specs.Prelude.{◌≡◌, ◌<◌, ◌^◌, Ok};
+ghost use Rattle.std.specs.Prelude.{◌≡◌, ◌<◌, ◌^◌, Ok, IsTrue};
 ghost use Rattle.isp_base.specs.Maps.{lane_of, on, over};
 ghost use Rattle.isp_base.specs.Sets.{flag_of};
 ghost use Rattle.isp_base.specs.Types.{gang_width};
@@ -12,10 +12,12 @@ ghost use Rattle.isp_code.specs.Registers.{elem_of};
 ghost use Rattle.isp_machine.specs.Crossing.{reduced_elem};
 ghost use Rattle.isp_machine.specs.Moves.{InPlace, ScalarIs};
 ghost use Rattle.isp_machine.specs.Shapes.{Shaped};
+ghost use Rattle.isp_machine.specs.reader.Kinds.{is_across};
 ghost use Rattle.isp_store.specs.Held.{Held};
 
 use crate::frame::Frame;
 use crate::here::Here;
+use crate::operands::Target;
 use isp_base::BinOp;
 use isp_code::{Class, Exchange, Reduction, Register, ScalarInstr, Scan, VectorInstr};
 use isp_lanes::{LaneMask, Lanes};
@@ -86,26 +88,19 @@ pub(crate) fn extract<const N: usize>(
     isp_cross::extract(here.vector(frame, x), lane, here.mask(frame, k))
 }
 
-/// The result of an operator on the values of the lower lanes.
-pub(crate) fn scan<const N: usize>(
-    here: &Here,
-    frame: &mut Frame<N>,
-    d: Register,
-    scan: Scan,
-    x: Register,
-    k: Register,
-)
+// The result of an operator on the values of the lower lanes.
+fn scan<const N: usize>(here: &Here, frame: &mut Frame<N>, target: Target, scan: Scan, x: Register)
     requires gang { N ≡ gang_width here.now.code.gang }
     requires shaped { Shaped here.now.routine frame.old }
-    requires operands { AllFine here.now.code here.now.routine (vector_operands d (VectorInstr.Scan scan x k)) }
+    requires operands { AllFine here.now.code here.now.routine (vector_operands target.register (VectorInstr.Scan scan x target.mask)) }
     ensures pc { frame.new.pc ≡ frame.old.pc }
-    ensures written { (s : Held) → InPlace here.now s frame.old d (VectorInstr.Scan scan x k) frame.new }
+    ensures written { (s : Held) → InPlace here.now s frame.old target.register (VectorInstr.Scan scan x target.mask) frame.new }
 {
-    let mut value = *here.vector(frame, d);
+    let mut value = *here.vector(frame, target.register);
     let from = here.vector(frame, x);
-    let mask = here.mask(frame, k);
+    let mask = here.mask(frame, target.mask);
     isp_cross::exclusive_scan(scan_operator(scan), &mut value, from, mask);
-    frame.set_vector(d.number, &value);
+    frame.set_vector(target.register.number, &value);
 }
 
 // What the lanes of a mask get from one another by a number, which has the bits of an int32.
@@ -129,99 +124,140 @@ fn exchanged<const N: usize>(
     }
 }
 
-/// What another lane has, by one number.
-pub(crate) fn exchange<const N: usize>(
+// What another lane has, by one number.
+fn exchange<const N: usize>(
     here: &Here,
     frame: &mut Frame<N>,
-    d: Register,
+    target: Target,
     exchange: Exchange,
     x: Register,
     i: Register,
-    k: Register,
 )
     requires gang { N ≡ gang_width here.now.code.gang }
     requires shaped { Shaped here.now.routine frame.old }
-    requires operands { AllFine here.now.code here.now.routine (vector_operands d (VectorInstr.Exchange exchange x i k)) }
+    requires operands { AllFine here.now.code here.now.routine (vector_operands target.register (VectorInstr.Exchange exchange x i target.mask)) }
     ensures pc { frame.new.pc ≡ frame.old.pc }
-    ensures written { (s : Held) → InPlace here.now s frame.old d (VectorInstr.Exchange exchange x i k) frame.new }
+    ensures written { (s : Held) → InPlace here.now s frame.old target.register (VectorInstr.Exchange exchange x i target.mask) frame.new }
 {
-    let mut value = *here.vector(frame, d);
+    let mut value = *here.vector(frame, target.register);
     let from = here.vector(frame, x);
     let count = here.scalar(frame, i);
-    let mask = here.mask(frame, k);
+    let mask = here.mask(frame, target.mask);
     exchanged(exchange, &mut value, from, count, mask);
-    frame.set_vector(d.number, &value);
+    frame.set_vector(target.register.number, &value);
 }
 
-/// What the lane has that each lane's number names.
-pub(crate) fn shuffle<const N: usize>(
+// What the lane has that each lane's number names.
+fn shuffle<const N: usize>(
     here: &Here,
     frame: &mut Frame<N>,
-    d: Register,
+    target: Target,
     x: Register,
     i: Register,
-    k: Register,
 )
     requires gang { N ≡ gang_width here.now.code.gang }
     requires shaped { Shaped here.now.routine frame.old }
-    requires operands { AllFine here.now.code here.now.routine (vector_operands d (VectorInstr.Shuffle x i k)) }
+    requires operands { AllFine here.now.code here.now.routine (vector_operands target.register (VectorInstr.Shuffle x i target.mask)) }
     ensures pc { frame.new.pc ≡ frame.old.pc }
-    ensures written { (s : Held) → InPlace here.now s frame.old d (VectorInstr.Shuffle x i k) frame.new }
+    ensures written { (s : Held) → InPlace here.now s frame.old target.register (VectorInstr.Shuffle x i target.mask) frame.new }
 {
-    let mut value = *here.vector(frame, d);
+    let mut value = *here.vector(frame, target.register);
     let from = here.vector(frame, x);
     let lanes = here.vector(frame, i);
-    let mask = here.mask(frame, k);
+    let mask = here.mask(frame, target.mask);
     isp_cross::shuffle(&mut value, from, lanes, mask);
-    frame.set_vector(d.number, &value);
+    frame.set_vector(target.register.number, &value);
 }
 
-/// The same of two vectors side by side.
-pub(crate) fn shuffle_two<const N: usize>(
+// The same of two vectors side by side.
+fn shuffle_two<const N: usize>(
     here: &Here,
     frame: &mut Frame<N>,
-    d: Register,
+    target: Target,
     x: Register,
     y: Register,
     i: Register,
-    k: Register,
 )
     requires gang { N ≡ gang_width here.now.code.gang }
     requires shaped { Shaped here.now.routine frame.old }
-    requires operands { AllFine here.now.code here.now.routine (vector_operands d (VectorInstr.ShuffleTwo x y i k)) }
+    requires operands { AllFine here.now.code here.now.routine (vector_operands target.register (VectorInstr.ShuffleTwo x y i target.mask)) }
     ensures pc { frame.new.pc ≡ frame.old.pc }
-    ensures written { (s : Held) → InPlace here.now s frame.old d (VectorInstr.ShuffleTwo x y i k) frame.new }
+    ensures written { (s : Held) → InPlace here.now s frame.old target.register (VectorInstr.ShuffleTwo x y i target.mask) frame.new }
 {
-    let mut value = *here.vector(frame, d);
+    let mut value = *here.vector(frame, target.register);
     let first = here.vector(frame, x);
     let second = here.vector(frame, y);
     let lanes = here.vector(frame, i);
-    let mask = here.mask(frame, k);
+    let mask = here.mask(frame, target.mask);
     isp_cross::shuffle_two(&mut value, first, second, lanes, mask);
-    frame.set_vector(d.number, &value);
+    frame.set_vector(target.register.number, &value);
 }
 
-/// The vector with another value in one lane.
-pub(crate) fn insert<const N: usize>(
+// The vector with another value in one lane.
+fn insert<const N: usize>(
     here: &Here,
     frame: &mut Frame<N>,
-    d: Register,
+    target: Target,
     x: Register,
     i: Register,
     y: Register,
-    k: Register,
 )
     requires gang { N ≡ gang_width here.now.code.gang }
     requires shaped { Shaped here.now.routine frame.old }
-    requires operands { AllFine here.now.code here.now.routine (vector_operands d (VectorInstr.Insert x i y k)) }
+    requires operands { AllFine here.now.code here.now.routine (vector_operands target.register (VectorInstr.Insert x i y target.mask)) }
     ensures pc { frame.new.pc ≡ frame.old.pc }
-    ensures written { (s : Held) → InPlace here.now s frame.old d (VectorInstr.Insert x i y k) frame.new }
+    ensures written { (s : Held) → InPlace here.now s frame.old target.register (VectorInstr.Insert x i y target.mask) frame.new }
 {
-    let mut value = *here.vector(frame, d);
+    let mut value = *here.vector(frame, target.register);
     let from = here.vector(frame, x);
     let lane = here.scalar(frame, i);
     let bits = here.scalar(frame, y);
-    let mask = here.mask(frame, k);
+    let mask = here.mask(frame, target.mask);
     isp_cross::insert(&mut value, from, lane, bits, mask);
-    frame.set_vector(d.number, &value);
+    frame.set_vector(target.register.number, &value);
+}
+
+/// What an instruction across lanes leaves in the lanes of the register, which is written where it stands.
+pub(crate) fn across<const N: usize>(
+    here: &Here,
+    frame: &mut Frame<N>,
+    register: Register,
+    instr: VectorInstr,
+)
+    requires gang { N ≡ gang_width here.now.code.gang }
+    requires shaped { Shaped here.now.routine frame.old }
+    requires operands { AllFine here.now.code here.now.routine (vector_operands register instr) }
+    requires across { IsTrue (is_across instr) }
+    ensures pc { frame.new.pc ≡ frame.old.pc }
+    ensures written { (s : Held) → InPlace here.now s frame.old register instr frame.new }
+{
+    match instr {
+        VectorInstr::Scan { op, value, mask } => {
+            scan(here, frame, Target { register, mask }, op, value)
+        }
+        VectorInstr::Exchange {
+            op,
+            vector,
+            by,
+            mask,
+        } => exchange(here, frame, Target { register, mask }, op, vector, by),
+        VectorInstr::Shuffle {
+            vector,
+            lanes,
+            mask,
+        } => shuffle(here, frame, Target { register, mask }, vector, lanes),
+        VectorInstr::ShuffleTwo {
+            first,
+            second,
+            lanes,
+            mask,
+        } => shuffle_two(here, frame, Target { register, mask }, first, second, lanes),
+        VectorInstr::Insert {
+            vector,
+            lane,
+            value,
+            mask,
+        } => insert(here, frame, Target { register, mask }, vector, lane, value),
+        _ => unreachable!(),
+    }
 }

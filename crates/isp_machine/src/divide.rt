@@ -1,18 +1,21 @@
 //! Divisions, of scalars and of lanes.
-ghost use Rattle.std.specs.Prelude.{◌≡◌, ◌+◌, ◌<◌, ◌^◌, length, IfOk, IfErr};
+ghost use Rattle.std.specs.Prelude.{◌≡◌, ◌+◌, ◌<◌, ◌^◌, length, IfOk, IfErr, IsTrue};
 ghost use Rattle.isp_base.specs.Types.{gang_width};
 ghost use Rattle.isp_base.specs.Values.{width, op_bits};
-ghost use Rattle.isp_code.specs.Fine.{AllFine, IsThere};
+ghost use Rattle.isp_code.specs.Fine.{AllFine, GoesOn, IsThere};
 ghost use Rattle.isp_code.specs.Lines.{division_of};
 ghost use Rattle.isp_code.specs.Operands.{operands};
 ghost use Rattle.isp_code.specs.Registers.{elem_of};
 ghost use Rattle.isp_machine.specs.Moves.{Goes, Fails};
 ghost use Rattle.isp_machine.specs.Shapes.{Shaped, Opened};
+ghost use Rattle.isp_machine.specs.reader.Instructions.{divide_of};
+ghost use Rattle.isp_machine.specs.reader.Kinds.{is_division};
 ghost use Rattle.isp_store.specs.Held.{Held, shapes};
 
 use crate::frame::Frame;
 use crate::here::Here;
 use crate::kernels::{divided, division_operator, first_lane};
+use crate::operands::Ratio;
 use isp_base::{Elem, Trap, TrapKind, apply_nonzero};
 use isp_code::{Class, Division, Instr, Register};
 
@@ -30,33 +33,34 @@ fn quotient(op: Division, elem: Elem, x: u64, y: u64) -> u64
 fn divide_scalars<const N: usize>(
     here: &Here,
     frame: &mut Frame<N>,
-    op: Division,
     d: Register,
-    x: Register,
-    y: Register,
-    k: Register,
-    place: u32,
+    ratio: Ratio,
 ) -> Result<(), Trap>
     requires gang { N ≡ gang_width here.now.code.gang }
     requires shaped { Shaped here.now.routine frame.old }
     requires next { frame.old.pc + 1 < length here.now.routine.code }
-    requires place { place < length here.now.code.places }
+    requires place { ratio.place < length here.now.code.places }
     requires d { IsThere here.now.routine Class.Scalar d }
-    requires x { IsThere here.now.routine Class.Scalar x }
-    requires y { IsThere here.now.routine Class.Scalar y }
-    requires like_x { elem_of here.now.routine x ≡ elem_of here.now.routine d }
-    requires like_y { elem_of here.now.routine y ≡ elem_of here.now.routine d }
-    requires k { IsThere here.now.routine Class.Mask k }
-    ensures ok { IfOk result (λ _. (s : Held) → Opened here.now.routine (shapes s) frame.old → Goes here.now (Instr.Divide op d x y k place) s frame.old s frame.new) }
-    ensures err { IfErr result (λ t. (s : Held) → Fails here.now (Instr.Divide op d x y k place) s frame.old t) }
+    requires x { IsThere here.now.routine Class.Scalar ratio.dividend }
+    requires y { IsThere here.now.routine Class.Scalar ratio.divisor }
+    requires like_x { elem_of here.now.routine ratio.dividend ≡ elem_of here.now.routine d }
+    requires like_y { elem_of here.now.routine ratio.divisor ≡ elem_of here.now.routine d }
+    requires k { IsThere here.now.routine Class.Mask ratio.mask }
+    ensures ok { IfOk result (λ _. (s : Held) → Opened here.now.routine (shapes s) frame.old → Goes here.now (divide_of d ratio) s frame.old s frame.new) }
+    ensures err { IfErr result (λ t. (s : Held) → Fails here.now (divide_of d ratio) s frame.old t) }
     ensures same { IfErr result (λ t. frame.new ≡ frame.old) }
 {
-    let divisor = here.scalar(frame, y);
+    let divisor = here.scalar(frame, ratio.divisor);
     if divisor == 0 {
-        let lane = first_lane(here.mask(frame, k));
-        return Err(here.trap(TrapKind::Divide, place, lane));
+        let lane = first_lane(here.mask(frame, ratio.mask));
+        return Err(here.trap(TrapKind::Divide, ratio.place, lane));
     }
-    let bits = quotient(op, here.elem(d), here.scalar(frame, x), divisor);
+    let bits = quotient(
+        ratio.op,
+        here.elem(d),
+        here.scalar(frame, ratio.dividend),
+        divisor,
+    );
     let _count = here.count();
     frame.set_scalar(d.number, bits);
     frame.next();
@@ -67,38 +71,41 @@ fn divide_scalars<const N: usize>(
 fn divide_lanes<const N: usize>(
     here: &Here,
     frame: &mut Frame<N>,
-    op: Division,
     d: Register,
-    x: Register,
-    y: Register,
-    k: Register,
-    place: u32,
+    ratio: Ratio,
 ) -> Result<(), Trap>
     requires gang { N ≡ gang_width here.now.code.gang }
     requires shaped { Shaped here.now.routine frame.old }
     requires next { frame.old.pc + 1 < length here.now.routine.code }
-    requires place { place < length here.now.code.places }
+    requires place { ratio.place < length here.now.code.places }
     requires d { IsThere here.now.routine Class.Vector d }
-    requires x { IsThere here.now.routine Class.Vector x }
-    requires y { IsThere here.now.routine Class.Vector y }
-    requires like_x { elem_of here.now.routine x ≡ elem_of here.now.routine d }
-    requires like_y { elem_of here.now.routine y ≡ elem_of here.now.routine d }
-    requires k { IsThere here.now.routine Class.Mask k }
-    ensures ok { IfOk result (λ _. (s : Held) → Opened here.now.routine (shapes s) frame.old → Goes here.now (Instr.Divide op d x y k place) s frame.old s frame.new) }
-    ensures err { IfErr result (λ t. (s : Held) → Fails here.now (Instr.Divide op d x y k place) s frame.old t) }
+    requires x { IsThere here.now.routine Class.Vector ratio.dividend }
+    requires y { IsThere here.now.routine Class.Vector ratio.divisor }
+    requires like_x { elem_of here.now.routine ratio.dividend ≡ elem_of here.now.routine d }
+    requires like_y { elem_of here.now.routine ratio.divisor ≡ elem_of here.now.routine d }
+    requires k { IsThere here.now.routine Class.Mask ratio.mask }
+    ensures ok { IfOk result (λ _. (s : Held) → Opened here.now.routine (shapes s) frame.old → Goes here.now (divide_of d ratio) s frame.old s frame.new) }
+    ensures err { IfErr result (λ t. (s : Held) → Fails here.now (divide_of d ratio) s frame.old t) }
     ensures same { IfErr result (λ t. frame.new ≡ frame.old) }
 {
-    here.mask_told(frame, k);
+    here.mask_told(frame, ratio.mask);
     here.vector_told(frame, d);
-    here.vector_told(frame, x);
-    here.vector_told(frame, y);
-    match divided(frame, op, d.number, x.number, y.number, k.number) {
+    here.vector_told(frame, ratio.dividend);
+    here.vector_told(frame, ratio.divisor);
+    match divided(
+        frame,
+        ratio.op,
+        d.number,
+        ratio.dividend.number,
+        ratio.divisor.number,
+        ratio.mask.number,
+    ) {
         Ok(()) => {
             let _count = here.count();
             frame.next();
             Ok(())
         }
-        Err(lane) => Err(here.trap(TrapKind::Divide, place, lane)),
+        Err(lane) => Err(here.trap(TrapKind::Divide, ratio.place, lane)),
     }
 }
 
@@ -107,23 +114,38 @@ fn divide_lanes<const N: usize>(
 pub(crate) fn divide<const N: usize>(
     here: &Here,
     frame: &mut Frame<N>,
-    op: Division,
-    d: Register,
-    x: Register,
-    y: Register,
-    k: Register,
-    place: u32,
+    instr: &Instr,
 ) -> Result<(), Trap>
     requires gang { N ≡ gang_width here.now.code.gang }
     requires shaped { Shaped here.now.routine frame.old }
-    requires operands { AllFine here.now.code here.now.routine (operands (Instr.Divide op d x y k place)) }
-    requires next { frame.old.pc + 1 < length here.now.routine.code }
-    ensures ok { IfOk result (λ _. (s : Held) → Opened here.now.routine (shapes s) frame.old → Goes here.now (Instr.Divide op d x y k place) s frame.old s frame.new) }
-    ensures err { IfErr result (λ t. (s : Held) → Fails here.now (Instr.Divide op d x y k place) s frame.old t) }
+    requires operands { AllFine here.now.code here.now.routine (operands instr.now) }
+    requires next { GoesOn here.now.routine frame.old.pc instr.now }
+    requires divides { IsTrue (is_division instr.now) }
+    ensures ok { IfOk result (λ _. (s : Held) → Opened here.now.routine (shapes s) frame.old → Goes here.now instr.now s frame.old s frame.new) }
+    ensures err { IfErr result (λ t. (s : Held) → Fails here.now instr.now s frame.old t) }
     ensures same { IfErr result (λ t. frame.new ≡ frame.old) }
 {
-    match d.class {
-        Class::Vector => divide_lanes(here, frame, op, d, x, y, k, place),
-        _ => divide_scalars(here, frame, op, d, x, y, k, place),
+    match instr {
+        Instr::Divide {
+            op,
+            result,
+            dividend,
+            divisor,
+            mask,
+            place,
+        } => {
+            let ratio = Ratio {
+                op: *op,
+                dividend: *dividend,
+                divisor: *divisor,
+                mask: *mask,
+                place: *place,
+            };
+            match result.class {
+                Class::Vector => divide_lanes(here, frame, *result, ratio),
+                _ => divide_scalars(here, frame, *result, ratio),
+            }
+        }
+        _ => unreachable!(),
     }
 }

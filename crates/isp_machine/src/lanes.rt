@@ -10,100 +10,98 @@ ghost use Rattle.isp_store.specs.Held.{Held};
 use crate::frame::Frame;
 use crate::here::Here;
 use crate::kernels::plain_operator;
+use crate::operands::Target;
 use isp_base::{Compare, UnaryOp};
 use isp_code::{Class, Plain, Register, VectorInstr};
 
 /// The lanes of another register.
-pub(crate) fn copy<const N: usize>(
-    here: &Here,
-    frame: &mut Frame<N>,
-    d: Register,
-    x: Register,
-    k: Register,
-)
+pub(crate) fn copy<const N: usize>(here: &Here, frame: &mut Frame<N>, target: Target, x: Register)
     requires shaped { Shaped here.now.routine frame.old }
-    requires d { IsThere here.now.routine Class.Vector d }
-    requires k { IsThere here.now.routine Class.Mask k }
+    requires d { IsThere here.now.routine Class.Vector target.register }
+    requires k { IsThere here.now.routine Class.Mask target.mask }
     requires x { IsThere here.now.routine Class.Vector x }
-    requires like_x { elem_of here.now.routine x ≡ elem_of here.now.routine d }
+    requires like_x { elem_of here.now.routine x ≡ elem_of here.now.routine target.register }
     ensures pc { frame.new.pc ≡ frame.old.pc }
-    ensures written { (s : Held) → InPlace here.now s frame.old d (VectorInstr.Copy x k) frame.new }
+    ensures written { (s : Held) → InPlace here.now s frame.old target.register (VectorInstr.Copy x target.mask) frame.new }
 {
-    here.mask_told(frame, k);
-    here.vector_told(frame, d);
+    here.mask_told(frame, target.mask);
+    here.vector_told(frame, target.register);
     here.vector_told(frame, x);
-    frame.copy(d.number, x.number, k.number);
+    frame.copy(target.register.number, x.number, target.mask.number);
 }
 
 /// What another register has, as values of this type.
 pub(crate) fn convert<const N: usize>(
     here: &Here,
     frame: &mut Frame<N>,
-    d: Register,
+    target: Target,
     x: Register,
-    k: Register,
 )
     requires shaped { Shaped here.now.routine frame.old }
-    requires d { IsThere here.now.routine Class.Vector d }
-    requires k { IsThere here.now.routine Class.Mask k }
+    requires d { IsThere here.now.routine Class.Vector target.register }
+    requires k { IsThere here.now.routine Class.Mask target.mask }
     requires x { IsThere here.now.routine Class.Vector x }
     ensures pc { frame.new.pc ≡ frame.old.pc }
-    ensures written { (s : Held) → InPlace here.now s frame.old d (VectorInstr.Convert x k) frame.new }
+    ensures written { (s : Held) → InPlace here.now s frame.old target.register (VectorInstr.Convert x target.mask) frame.new }
 {
-    here.mask_told(frame, k);
-    here.vector_told(frame, d);
+    here.mask_told(frame, target.mask);
+    here.vector_told(frame, target.register);
     here.vector_told(frame, x);
-    frame.convert(d.number, x.number, k.number);
+    frame.convert(target.register.number, x.number, target.mask.number);
 }
 
 /// An operator on one value.
 pub(crate) fn apply<const N: usize>(
     here: &Here,
     frame: &mut Frame<N>,
-    d: Register,
+    target: Target,
     op: UnaryOp,
     x: Register,
-    k: Register,
 )
     requires shaped { Shaped here.now.routine frame.old }
-    requires d { IsThere here.now.routine Class.Vector d }
-    requires k { IsThere here.now.routine Class.Mask k }
+    requires d { IsThere here.now.routine Class.Vector target.register }
+    requires k { IsThere here.now.routine Class.Mask target.mask }
     requires x { IsThere here.now.routine Class.Vector x }
-    requires like_x { elem_of here.now.routine x ≡ elem_of here.now.routine d }
+    requires like_x { elem_of here.now.routine x ≡ elem_of here.now.routine target.register }
     ensures pc { frame.new.pc ≡ frame.old.pc }
-    ensures written { (s : Held) → InPlace here.now s frame.old d (VectorInstr.Unary op x k) frame.new }
+    ensures written { (s : Held) → InPlace here.now s frame.old target.register (VectorInstr.Unary op x target.mask) frame.new }
 {
-    here.mask_told(frame, k);
-    here.vector_told(frame, d);
+    here.mask_told(frame, target.mask);
+    here.vector_told(frame, target.register);
     here.vector_told(frame, x);
-    frame.unary(op, d.number, x.number, k.number);
+    frame.unary(op, target.register.number, x.number, target.mask.number);
 }
 
 /// An operator on two values.
 pub(crate) fn combine<const N: usize>(
     here: &Here,
     frame: &mut Frame<N>,
-    d: Register,
+    target: Target,
     op: Plain,
     x: Register,
     y: Register,
-    k: Register,
 )
     requires shaped { Shaped here.now.routine frame.old }
-    requires d { IsThere here.now.routine Class.Vector d }
-    requires k { IsThere here.now.routine Class.Mask k }
+    requires d { IsThere here.now.routine Class.Vector target.register }
+    requires k { IsThere here.now.routine Class.Mask target.mask }
     requires x { IsThere here.now.routine Class.Vector x }
-    requires like_x { elem_of here.now.routine x ≡ elem_of here.now.routine d }
+    requires like_x { elem_of here.now.routine x ≡ elem_of here.now.routine target.register }
     requires y { IsThere here.now.routine Class.Vector y }
-    requires like_y { elem_of here.now.routine y ≡ elem_of here.now.routine d }
+    requires like_y { elem_of here.now.routine y ≡ elem_of here.now.routine target.register }
     ensures pc { frame.new.pc ≡ frame.old.pc }
-    ensures written { (s : Held) → InPlace here.now s frame.old d (VectorInstr.Binary op x y k) frame.new }
+    ensures written { (s : Held) → InPlace here.now s frame.old target.register (VectorInstr.Binary op x y target.mask) frame.new }
 {
-    here.mask_told(frame, k);
-    here.vector_told(frame, d);
+    here.mask_told(frame, target.mask);
+    here.vector_told(frame, target.register);
     here.vector_told(frame, x);
     here.vector_told(frame, y);
-    match frame.binary(plain_operator(op), d.number, x.number, y.number, k.number) {
+    match frame.binary(
+        plain_operator(op),
+        target.register.number,
+        x.number,
+        y.number,
+        target.mask.number,
+    ) {
         Ok(()) => {}
         Err(_lane) => unreachable!(),
     }
@@ -113,91 +111,95 @@ pub(crate) fn combine<const N: usize>(
 pub(crate) fn compare<const N: usize>(
     here: &Here,
     frame: &mut Frame<N>,
-    d: Register,
+    target: Target,
     op: Compare,
     x: Register,
     y: Register,
-    k: Register,
 )
     requires shaped { Shaped here.now.routine frame.old }
-    requires d { IsThere here.now.routine Class.Vector d }
-    requires k { IsThere here.now.routine Class.Mask k }
+    requires d { IsThere here.now.routine Class.Vector target.register }
+    requires k { IsThere here.now.routine Class.Mask target.mask }
     requires x { IsThere here.now.routine Class.Vector x }
     requires y { IsThere here.now.routine Class.Vector y }
     requires like_y { elem_of here.now.routine y ≡ elem_of here.now.routine x }
-    requires truth { elem_of here.now.routine d ≡ Truth }
+    requires truth { elem_of here.now.routine target.register ≡ Truth }
     ensures pc { frame.new.pc ≡ frame.old.pc }
-    ensures written { (s : Held) → InPlace here.now s frame.old d (VectorInstr.Compare op x y k) frame.new }
+    ensures written { (s : Held) → InPlace here.now s frame.old target.register (VectorInstr.Compare op x y target.mask) frame.new }
 {
-    here.mask_told(frame, k);
-    here.vector_told(frame, d);
+    here.mask_told(frame, target.mask);
+    here.vector_told(frame, target.register);
     here.vector_told(frame, x);
     here.vector_told(frame, y);
-    frame.compare(op, d.number, x.number, y.number, k.number);
+    frame.compare(
+        op,
+        target.register.number,
+        x.number,
+        y.number,
+        target.mask.number,
+    );
 }
 
 /// One of two values, as a third says.
 pub(crate) fn select<const N: usize>(
     here: &Here,
     frame: &mut Frame<N>,
-    d: Register,
+    target: Target,
     test: Register,
     x: Register,
     y: Register,
-    k: Register,
 )
     requires shaped { Shaped here.now.routine frame.old }
-    requires d { IsThere here.now.routine Class.Vector d }
-    requires k { IsThere here.now.routine Class.Mask k }
+    requires d { IsThere here.now.routine Class.Vector target.register }
+    requires k { IsThere here.now.routine Class.Mask target.mask }
     requires test { IsThere here.now.routine Class.Vector test }
     requires truth { elem_of here.now.routine test ≡ Truth }
     requires x { IsThere here.now.routine Class.Vector x }
-    requires like_x { elem_of here.now.routine x ≡ elem_of here.now.routine d }
+    requires like_x { elem_of here.now.routine x ≡ elem_of here.now.routine target.register }
     requires y { IsThere here.now.routine Class.Vector y }
-    requires like_y { elem_of here.now.routine y ≡ elem_of here.now.routine d }
+    requires like_y { elem_of here.now.routine y ≡ elem_of here.now.routine target.register }
     ensures pc { frame.new.pc ≡ frame.old.pc }
-    ensures written { (s : Held) → InPlace here.now s frame.old d (VectorInstr.Select test x y k) frame.new }
+    ensures written { (s : Held) → InPlace here.now s frame.old target.register (VectorInstr.Select test x y target.mask) frame.new }
 {
-    here.mask_told(frame, k);
-    here.vector_told(frame, d);
+    here.mask_told(frame, target.mask);
+    here.vector_told(frame, target.register);
     here.vector_told(frame, test);
     here.vector_told(frame, x);
     here.vector_told(frame, y);
-    frame.select(d.number, test.number, x.number, y.number, k.number);
+    frame.select(
+        target.register.number,
+        test.number,
+        x.number,
+        y.number,
+        target.mask.number,
+    );
 }
 
 /// One value in each lane.
-pub(crate) fn splat<const N: usize>(
-    here: &Here,
-    frame: &mut Frame<N>,
-    d: Register,
-    x: Register,
-    k: Register,
-)
+pub(crate) fn splat<const N: usize>(here: &Here, frame: &mut Frame<N>, target: Target, x: Register)
     requires shaped { Shaped here.now.routine frame.old }
-    requires d { IsThere here.now.routine Class.Vector d }
-    requires k { IsThere here.now.routine Class.Mask k }
+    requires d { IsThere here.now.routine Class.Vector target.register }
+    requires k { IsThere here.now.routine Class.Mask target.mask }
     requires x { IsThere here.now.routine Class.Scalar x }
-    requires like_x { elem_of here.now.routine x ≡ elem_of here.now.routine d }
+    requires like_x { elem_of here.now.routine x ≡ elem_of here.now.routine target.register }
     ensures pc { frame.new.pc ≡ frame.old.pc }
-    ensures written { (s : Held) → InPlace here.now s frame.old d (VectorInstr.Splat x k) frame.new }
+    ensures written { (s : Held) → InPlace here.now s frame.old target.register (VectorInstr.Splat x target.mask) frame.new }
 {
-    here.mask_told(frame, k);
-    here.vector_told(frame, d);
+    here.mask_told(frame, target.mask);
+    here.vector_told(frame, target.register);
     let bits = here.scalar(frame, x);
-    frame.splat(d.number, bits, k.number);
+    frame.splat(target.register.number, bits, target.mask.number);
 }
 
 /// The lanes' numbers.
-pub(crate) fn number<const N: usize>(here: &Here, frame: &mut Frame<N>, d: Register, k: Register)
+pub(crate) fn number<const N: usize>(here: &Here, frame: &mut Frame<N>, target: Target)
     requires shaped { Shaped here.now.routine frame.old }
-    requires d { IsThere here.now.routine Class.Vector d }
-    requires k { IsThere here.now.routine Class.Mask k }
-    requires int32 { elem_of here.now.routine d ≡ I32 }
+    requires d { IsThere here.now.routine Class.Vector target.register }
+    requires k { IsThere here.now.routine Class.Mask target.mask }
+    requires int32 { elem_of here.now.routine target.register ≡ I32 }
     ensures pc { frame.new.pc ≡ frame.old.pc }
-    ensures written { (s : Held) → InPlace here.now s frame.old d (VectorInstr.Index k) frame.new }
+    ensures written { (s : Held) → InPlace here.now s frame.old target.register (VectorInstr.Index target.mask) frame.new }
 {
-    here.mask_told(frame, k);
-    here.vector_told(frame, d);
-    frame.index(d.number, k.number);
+    here.mask_told(frame, target.mask);
+    here.vector_told(frame, target.register);
+    frame.index(target.register.number, target.mask.number);
 }

@@ -5,19 +5,19 @@ ghost use Rattle.isp_code.specs.Fine.{IsGiven, IsThere};
 ghost use Rattle.isp_code.specs.Listing.{Routine};
 ghost use Rattle.isp_code.specs.Registers.{elem_of};
 ghost use Rattle.isp_machine.specs.Receives.{Takes, TakesLanes, Receives};
-ghost use Rattle.isp_machine.specs.Rows.{run_of, FrameRows};
-ghost use Rattle.isp_machine.specs.Shapes.{Shaped, GivesOne, Sound};
-ghost use Rattle.isp_machine.specs.Steps.{Done};
+ghost use Rattle.isp_machine.specs.Rows.{FrameRows};
+ghost use Rattle.isp_machine.specs.Shapes.{Shaped, GivesOne};
+ghost use Rattle.isp_machine.specs.Steps.{Done, Steady};
 ghost use Rattle.isp_machine.specs.declared.stop.Step.TheVariants.{Went};
 ghost use Rattle.isp_machine.specs.Views.{conf_of};
 ghost use Rattle.isp_store.specs.Held.{Held};
 
 use crate::frame::{Frame, FrameBox};
 use crate::here::Here;
+use crate::run::Run;
 use crate::stop::Step;
 use isp_base::Value;
 use isp_code::{Class, Instr, Register};
-use isp_store::Arrays;
 use std::mem;
 
 // The value that a run ends with.
@@ -93,27 +93,24 @@ fn keep<const N: usize>(rooms: &mut Vec<FrameBox<N>>, callee: FrameBox<N>)
 #[inline(never)]
 pub(crate) fn give_back<const N: usize>(
     here: &Here,
-    frame: &mut FrameBox<N>,
-    waiting: &mut Vec<FrameBox<N>>,
-    stores: &mut Arrays,
-    rooms: &mut Vec<FrameBox<N>>,
+    run: &mut Run<N>,
     ending: &mut Step,
     x: Option<Register>,
 )
-    requires found { slice_get here.now.code.routines frame.old.function ≡ Some here.now.routine }
-    requires sound { Sound N here.now.code stores.old frame.old waiting.old.items }
+    requires found { slice_get here.now.code.routines run.old.frame.function ≡ Some here.now.routine }
+    requires sound { Steady N here.now.code run.old }
     requires given { IsGiven here.now.routine here.now.routine.returns x }
     requires went { ending.old ≡ Went }
-    ensures { (out : List ℕ) → Done N here.now (Instr.Return x) (run_of stores.old frame.old waiting.old.items out) (run_of stores.new frame.new waiting.new.items out) ending.new }
+    ensures { Done N here.now (Instr.Return x) run.old run.new ending.new }
 {
-    match waiting.pop() {
-        None => *ending = Step::Ended(answer(here, &frame.at, x)),
+    match run.waiting.pop() {
+        None => *ending = Step::Ended(answer(here, &run.frame.at, x)),
         Some(caller) => {
-            let callee = mem::replace(frame, caller);
-            receive(here, &callee.at, x, &mut frame.at);
-            stores.close_locals(frame.at.locals());
+            let callee = mem::replace(&mut run.frame, caller);
+            receive(here, &callee.at, x, &mut run.frame.at);
+            run.stores.close_locals(run.frame.at.locals());
             callee.at.under().told();
-            keep(rooms, callee);
+            keep(&mut run.rooms, callee);
         }
     }
 }

@@ -11,6 +11,7 @@ ghost use Rattle.isp_code.specs.Registers.{elem_of};
 ghost use Rattle.isp_machine.specs.Moves.{ScalarIs, Goes, Fails};
 ghost use Rattle.isp_machine.specs.Shapes.{Shaped, Opened};
 ghost use Rattle.isp_machine.specs.Views.{conf_of, scalars_at};
+ghost use Rattle.isp_machine.specs.reader.Instructions.{load_of};
 ghost use Rattle.isp_store.specs.Held.{shapes};
 ghost use Rattle.isp_base.specs.declared.types.Elem.{Elem};
 
@@ -18,6 +19,7 @@ use crate::cross::{extract, reduce};
 use crate::frame::Frame;
 use crate::here::Here;
 use crate::kernels::{first_lane, plain_operator};
+use crate::operands::Access;
 use isp_base::{Elem, Trap, TrapKind, UnaryOp, apply_nonzero, apply_unary, compare, convert, wrap};
 use isp_code::{Class, Instr, Plain, Register, ScalarInstr};
 use isp_store::Arrays;
@@ -100,21 +102,14 @@ fn scalar_value<const N: usize>(
         ScalarInstr::Convert(x) => Ok(converted(here.elem(x), elem, here.scalar(frame, x))),
         ScalarInstr::Unary { op, value } => Ok(unary(op, elem, here.scalar(frame, value))),
         ScalarInstr::Binary { op, left, right } => {
-            Ok(binary(
-                op,
-                elem,
-                here.scalar(frame, left),
-                here.scalar(frame, right),
-            ))
+            let x = here.scalar(frame, left);
+            let y = here.scalar(frame, right);
+            Ok(binary(op, elem, x, y))
         }
         ScalarInstr::Compare { op, left, right } => {
-            let holds = compare(
-                op,
-                here.elem(left),
-                here.scalar(frame, left),
-                here.scalar(frame, right),
-            );
-            Ok(u64::from(holds))
+            let x = here.scalar(frame, left);
+            let y = here.scalar(frame, right);
+            Ok(u64::from(compare(op, here.elem(left), x, y)))
         }
         ScalarInstr::Select {
             test,
@@ -127,7 +122,15 @@ fn scalar_value<const N: usize>(
             index,
             mask,
             place,
-        } => load(here, frame, stores, d, array, index, mask, place),
+        } => {
+            let access = Access {
+                array,
+                index,
+                mask,
+                place,
+            };
+            load(here, frame, stores, d, access)
+        }
         ScalarInstr::Reduce { op, vector, mask } => Ok(reduce(here, frame, d, op, vector, mask)),
         ScalarInstr::Extract { vector, lane, mask } => Ok(extract(
             here, frame, d, vector, lane, mask,
@@ -141,22 +144,23 @@ fn load<const N: usize>(
     frame: &Frame<N>,
     stores: &Arrays,
     d: Register,
-    a: Register,
-    i: Register,
-    k: Register,
-    place: u32,
+    access: Access,
 ) -> Result<u64, Trap>
     requires gang { N ≡ gang_width here.now.code.gang }
     requires shaped { Shaped here.now.routine frame.now }
     requires arrays { Opened here.now.routine (shapes stores.now) frame.now }
-    requires operands { AllFine here.now.code here.now.routine (scalar_operands d (ScalarInstr.Load a i k place)) }
-    ensures value { ScalarIs here.now stores.now frame.now d (ScalarInstr.Load a i k place) result }
+    requires operands { AllFine here.now.code here.now.routine (scalar_operands d (load_of access)) }
+    ensures value { ScalarIs here.now stores.now frame.now d (load_of access) result }
     ensures fits { IfOk result (λ bits. bits < 2 ^ width (elem_of here.now.routine d)) }
 {
-    let store = here.store(frame, stores, a);
-    match stores.load(store, here.scalar(frame, i), here.mask(frame, k)) {
+    let store = here.store(frame, stores, access.array);
+    match stores.load(
+        store,
+        here.scalar(frame, access.index),
+        here.mask(frame, access.mask),
+    ) {
         Ok(bits) => Ok(bits),
-        Err(trap) => Err(here.trap(TrapKind::Index, place, trap.instance)),
+        Err(trap) => Err(here.trap(TrapKind::Index, access.place, trap.instance)),
     }
 }
 

@@ -7,7 +7,7 @@ ghost use Rattle.isp_machine.specs.Starts.{NoEntryFor, Ready};
 
 use crate::calls::begin;
 use crate::frame::FrameBox;
-use crate::step::Run;
+use crate::run::Run;
 use crate::zeros::ZerosBox;
 use isp_base::{Argument, Array, Bound};
 use isp_lanes::LaneMask;

@@ -12,45 +12,23 @@ ghost use Rattle.isp_store.specs.Held.{shapes};
 
 use crate::calls::call;
 use crate::divide::divide;
-use crate::frame::{Frame, FrameBox};
+use crate::frame::Frame;
 use crate::here::Here;
 use crate::jumps::{fail, jump, jump_if};
 use crate::masks::mask;
-use crate::packed::{packed_load, packed_store};
+use crate::packed::packed;
 use crate::returns::give_back;
+use crate::run::Run;
 use crate::says::{print_scalar, print_vector, say};
 use crate::scalars::scalar;
 use crate::stop::Step;
-use crate::stores::{clear, scatter, store, store_run};
+use crate::stores::{clear, scatter, store_shared};
 use crate::vectors::vector;
-use crate::zeros::ZerosBox;
 use isp_base::Trap;
 use isp_code::Instr;
 use isp_store::Arrays;
 use isp_verify::Verified;
 use std::alloc::{AllocError, Global};
-use std::marker::Model;
-
-/// The machine between two instructions: the call that runs, the calls that wait, the innermost
-/// last, the arrays that all lanes share, and the output. `rooms` is the memory of calls that are
-/// over, for later ones, and `zeros` what new registers are copied from: no part of what contracts see.
-#[derive(Drop)]
-pub(crate) struct Run<const N: usize> {
-    pub(crate) frame: FrameBox<N>,
-    pub(crate) waiting: Vec<FrameBox<N>>,
-    pub(crate) stores: Arrays,
-    pub(crate) out: Vec<u8>,
-    pub(crate) rooms: Vec<FrameBox<N>>,
-    pub(crate) zeros: ZerosBox<N>,
-}
-
-impl<const N: usize> Model for Run<N> {
-    ghost use Rattle.isp_machine.specs.Rows.{RunRows};
-
-    ghost Value = { RunRows };
-
-    ghost view = { λ r. record { frame = r.frame; waiting = r.waiting.items; stores = r.stores; out = r.out.items } };
-}
 
 // The instructions that neither write text nor call nor return, but for scatters.
 //
@@ -78,54 +56,9 @@ fn compute<const N: usize>(
         Instr::Scalar { result, instr } => scalar(here, frame, stores, *result, *instr)?,
         Instr::Vector { result, instr } => vector(here, frame, stores, *result, *instr)?,
         Instr::Mask { result, instr } => mask(here, frame, *result, *instr),
-        Instr::Divide {
-            op,
-            result,
-            dividend,
-            divisor,
-            mask,
-            place,
-        } => divide(
-            here, frame, *op, *result, *dividend, *divisor, *mask, *place,
-        )?,
-        Instr::Store {
-            array,
-            index,
-            value,
-            mask,
-            place,
-        } => store(here, frame, stores, *array, *index, *value, *mask, *place)?,
-        Instr::StoreRun {
-            array,
-            index,
-            value,
-            mask,
-            place,
-        } => { store_run(here, frame, stores, *array, *index, *value, *mask, *place)? }
-        Instr::PackedStore {
-            count,
-            array,
-            index,
-            value,
-            mask,
-            place,
-        } => {
-            packed_store(
-                here, frame, stores, *count, *array, *index, *value, *mask, *place,
-            )?
-        }
-        Instr::PackedLoad {
-            count,
-            array,
-            index,
-            result,
-            mask,
-            place,
-        } => {
-            packed_load(
-                here, frame, stores, *count, *array, *index, *result, *mask, *place,
-            )?
-        }
+        Instr::Divide { .. } => divide(here, frame, instr)?,
+        Instr::Store { .. } | Instr::StoreRun { .. } => store_shared(here, frame, stores, instr)?,
+        Instr::PackedStore { .. } | Instr::PackedLoad { .. } => packed(here, frame, stores, instr)?,
         Instr::Clear { array, mask } => clear(here, frame, stores, *array, *mask),
         Instr::Jump { target } => jump(here, frame, *target),
         Instr::JumpIf {
@@ -189,35 +122,11 @@ fn execute<const N: usize>(
             c.get(),
         ),
         Instr::Return(x) => {
-            give_back(
-                here,
-                &mut run.frame,
-                &mut run.waiting,
-                &mut run.stores,
-                &mut run.rooms,
-                ending,
-                *x,
-            );
+            give_back(here, run, ending, *x);
             Ok(())
         }
-        Instr::Scatter {
-            array,
-            indices,
-            value,
-            mask,
-            place,
-        } => {
-            scatter(
-                here,
-                &mut run.frame.at,
-                &mut run.stores,
-                ending,
-                *array,
-                *indices,
-                *value,
-                *mask,
-                *place,
-            );
+        Instr::Scatter { .. } => {
+            scatter(here, &mut run.frame.at, &mut run.stores, ending, instr);
             Ok(())
         }
         _ => {

@@ -1,52 +1,52 @@
 //! Instructions that write arrays.
-ghost use Rattle.std.specs.Prelude.{◌≡◌, ◌+◌, ◌<◌, length, IfOk, IfErr};
+ghost use Rattle.std.specs.Prelude.{◌≡◌, ◌+◌, ◌<◌, length, IfOk, IfErr, IsTrue};
 ghost use Rattle.isp_base.specs.Types.{gang_width};
-ghost use Rattle.isp_code.specs.Fine.{AllFine};
+ghost use Rattle.isp_code.specs.Fine.{AllFine, GoesOn};
 ghost use Rattle.isp_code.specs.Operands.{operands};
 ghost use Rattle.isp_machine.specs.Moves.{Goes, Fails};
 ghost use Rattle.isp_machine.specs.Shapes.{Shaped, Opened};
 ghost use Rattle.isp_machine.specs.Steps.{Comes};
+ghost use Rattle.isp_machine.specs.reader.Instructions.{store_of, store_run_of};
+ghost use Rattle.isp_machine.specs.reader.Kinds.{is_scatter, is_store};
 ghost use Rattle.isp_machine.specs.declared.stop.Step.TheVariants.{Went};
 ghost use Rattle.isp_store.specs.Held.{shapes};
 
 use crate::frame::Frame;
 use crate::here::Here;
+use crate::operands::Access;
 use crate::stop::Step;
 use isp_base::{Trap, TrapKind};
 use isp_code::{Instr, Register};
 use isp_store::Arrays;
 
-/// Stores a scalar, and goes on to the next instruction.
-pub(crate) fn store<const N: usize>(
+// Stores a scalar, and goes on to the next instruction.
+fn store<const N: usize>(
     here: &Here,
     frame: &mut Frame<N>,
     stores: &mut Arrays,
-    a: Register,
-    i: Register,
+    access: Access,
     y: Register,
-    k: Register,
-    place: u32,
 ) -> Result<(), Trap>
     requires gang { N ≡ gang_width here.now.code.gang }
     requires shaped { Shaped here.now.routine frame.old }
     requires arrays { Opened here.now.routine (shapes stores.old) frame.old }
-    requires operands { AllFine here.now.code here.now.routine (operands (Instr.Store a i y k place)) }
+    requires operands { AllFine here.now.code here.now.routine (operands (store_of access y)) }
     requires next { frame.old.pc + 1 < length here.now.routine.code }
-    ensures ok { IfOk result (λ _. Goes here.now (Instr.Store a i y k place) stores.old frame.old stores.new frame.new) }
-    ensures err { IfErr result (λ t. Fails here.now (Instr.Store a i y k place) stores.old frame.old t) }
+    ensures ok { IfOk result (λ _. Goes here.now (store_of access y) stores.old frame.old stores.new frame.new) }
+    ensures err { IfErr result (λ t. Fails here.now (store_of access y) stores.old frame.old t) }
     ensures same { IfErr result (λ t. frame.new ≡ frame.old) }
     ensures same_stores { IfErr result (λ t. stores.new ≡ stores.old) }
 {
-    let store = here.store(frame, stores, a);
-    let index = here.scalar(frame, i);
+    let store = here.store(frame, stores, access.array);
+    let index = here.scalar(frame, access.index);
     let bits = here.scalar(frame, y);
-    match stores.store(store, index, bits, here.mask(frame, k)) {
+    match stores.store(store, index, bits, here.mask(frame, access.mask)) {
         Ok(()) => {
             let _count = here.count();
             frame.next();
             Ok(())
         }
-        Err(trap) => Err(here.trap(TrapKind::Index, place, trap.instance)),
+        Err(trap) => Err(here.trap(TrapKind::Index, access.place, trap.instance)),
     }
 }
 
@@ -57,63 +57,126 @@ pub(crate) fn scatter<const N: usize>(
     frame: &mut Frame<N>,
     stores: &mut Arrays,
     ending: &mut Step,
-    a: Register,
-    i: Register,
-    y: Register,
-    k: Register,
-    place: u32,
+    instr: &Instr,
 )
     requires gang { N ≡ gang_width here.now.code.gang }
     requires shaped { Shaped here.now.routine frame.old }
     requires arrays { Opened here.now.routine (shapes stores.old) frame.old }
-    requires operands { AllFine here.now.code here.now.routine (operands (Instr.Scatter a i y k place)) }
-    requires next { frame.old.pc + 1 < length here.now.routine.code }
+    requires operands { AllFine here.now.code here.now.routine (operands instr.now) }
+    requires next { GoesOn here.now.routine frame.old.pc instr.now }
     requires went { ending.old ≡ Went }
-    ensures { Comes here.now (Instr.Scatter a i y k place) stores.old frame.old stores.new frame.new ending.new }
+    requires scatters { IsTrue (is_scatter instr.now) }
+    ensures { Comes here.now instr.now stores.old frame.old stores.new frame.new ending.new }
 {
-    match frame.scatter(stores, a.number, i.number, y.number, k.number) {
-        Ok(()) => {
-            let _count = here.count();
-            frame.next();
-        }
-        Err(trap) => {
-            *ending = Step::Trapped(here.trap(TrapKind::Index, place, trap.instance));
-        }
+    match instr {
+        Instr::Scatter {
+            array,
+            indices,
+            value,
+            mask,
+            place,
+        } => match frame.scatter(
+            stores,
+            array.number,
+            indices.number,
+            value.number,
+            mask.number,
+        ) {
+            Ok(()) => {
+                let _count = here.count();
+                frame.next();
+            }
+            Err(trap) => {
+                *ending = Step::Trapped(here.trap(TrapKind::Index, *place, trap.instance));
+            }
+        },
+        _ => unreachable!(),
     }
 }
 
-/// Stores lanes at consecutive elements, and goes on to the next instruction.
+// Stores lanes at consecutive elements, and goes on to the next instruction.
 #[inline(never)]
-pub(crate) fn store_run<const N: usize>(
+fn store_run<const N: usize>(
     here: &Here,
     frame: &mut Frame<N>,
     stores: &mut Arrays,
-    a: Register,
-    i: Register,
+    access: Access,
     y: Register,
-    k: Register,
-    place: u32,
 ) -> Result<(), Trap>
     requires gang { N ≡ gang_width here.now.code.gang }
     requires shaped { Shaped here.now.routine frame.old }
     requires arrays { Opened here.now.routine (shapes stores.old) frame.old }
-    requires operands { AllFine here.now.code here.now.routine (operands (Instr.StoreRun a i y k place)) }
+    requires operands { AllFine here.now.code here.now.routine (operands (store_run_of access y)) }
     requires next { frame.old.pc + 1 < length here.now.routine.code }
-    ensures ok { IfOk result (λ _. Goes here.now (Instr.StoreRun a i y k place) stores.old frame.old stores.new frame.new) }
-    ensures err { IfErr result (λ t. Fails here.now (Instr.StoreRun a i y k place) stores.old frame.old t) }
+    ensures ok { IfOk result (λ _. Goes here.now (store_run_of access y) stores.old frame.old stores.new frame.new) }
+    ensures err { IfErr result (λ t. Fails here.now (store_run_of access y) stores.old frame.old t) }
     ensures same { IfErr result (λ t. frame.new ≡ frame.old) }
     ensures same_stores { IfErr result (λ t. stores.new ≡ stores.old) }
 {
-    let store = here.store(frame, stores, a);
-    let index = here.scalar(frame, i);
+    let store = here.store(frame, stores, access.array);
+    let index = here.scalar(frame, access.index);
     let value = here.vector(frame, y);
-    match stores.store_run(store, index, value, here.mask(frame, k)) {
+    match stores.store_run(store, index, value, here.mask(frame, access.mask)) {
         Ok(()) => {
             let _count = here.count();
             frame.next();
             Ok(())
         }
-        Err(trap) => Err(here.trap(TrapKind::Index, place, trap.instance)),
+        Err(trap) => Err(here.trap(TrapKind::Index, access.place, trap.instance)),
+    }
+}
+
+/// Stores at one index of an array that all lanes share, and goes on to the next instruction.
+#[inline(always)]
+pub(crate) fn store_shared<const N: usize>(
+    here: &Here,
+    frame: &mut Frame<N>,
+    stores: &mut Arrays,
+    instr: &Instr,
+) -> Result<(), Trap>
+    requires gang { N ≡ gang_width here.now.code.gang }
+    requires shaped { Shaped here.now.routine frame.old }
+    requires arrays { Opened here.now.routine (shapes stores.old) frame.old }
+    requires operands { AllFine here.now.code here.now.routine (operands instr.now) }
+    requires next { GoesOn here.now.routine frame.old.pc instr.now }
+    requires stores { IsTrue (is_store instr.now) }
+    ensures ok { IfOk result (λ _. Goes here.now instr.now stores.old frame.old stores.new frame.new) }
+    ensures err { IfErr result (λ t. Fails here.now instr.now stores.old frame.old t) }
+    ensures same { IfErr result (λ t. frame.new ≡ frame.old) }
+    ensures same_stores { IfErr result (λ t. stores.new ≡ stores.old) }
+{
+    match instr {
+        Instr::Store {
+            array,
+            index,
+            value,
+            mask,
+            place,
+        } => {
+            let access = Access {
+                array: *array,
+                index: *index,
+                mask: *mask,
+                place: *place,
+            };
+            store(here, frame, stores, access, *value)
+        }
+        Instr::StoreRun {
+            array,
+            index,
+            value,
+            mask,
+            place,
+        } => {
+            let access = Access {
+                array: *array,
+                index: *index,
+                mask: *mask,
+                place: *place,
+            };
+            store_run(here, frame, stores, access, *value)
+        }
+        _ => unreachable!(),
     }
 }
 

@@ -5,76 +5,61 @@ ghost use Rattle.isp_code.specs.Fine.{AllFine};
 ghost use Rattle.isp_code.specs.Operands.{vector_operands};
 ghost use Rattle.isp_machine.specs.Moves.{Sure, VectorIs, InPlace, Goes, Fails};
 ghost use Rattle.isp_machine.specs.Shapes.{Shaped, Opened};
+ghost use Rattle.isp_machine.specs.reader.Instructions.{gather_of, load_run_of};
 ghost use Rattle.isp_store.specs.Held.{Held, shapes};
 
-use crate::cross::{exchange, insert, scan, shuffle, shuffle_two};
+use crate::cross::across;
 use crate::frame::Frame;
 use crate::here::Here;
 use crate::lanes::{apply, combine, compare, convert, copy, number, select, splat};
+use crate::operands::{Access, Target};
 use isp_base::{Trap, TrapKind};
 use isp_code::{Instr, Register, VectorInstr};
 use isp_store::Arrays;
 
 // What an instruction that cannot fail leaves in the lanes of the register, which is written where it stands.
 #[inline(never)]
-fn change<const N: usize>(here: &Here, frame: &mut Frame<N>, d: Register, instr: VectorInstr)
+fn change<const N: usize>(here: &Here, frame: &mut Frame<N>, register: Register, instr: VectorInstr)
     requires gang { N ≡ gang_width here.now.code.gang }
     requires shaped { Shaped here.now.routine frame.old }
-    requires operands { AllFine here.now.code here.now.routine (vector_operands d instr) }
+    requires operands { AllFine here.now.code here.now.routine (vector_operands register instr) }
     requires sure { Sure instr }
     ensures pc { frame.new.pc ≡ frame.old.pc }
-    ensures written { (s : Held) → InPlace here.now s frame.old d instr frame.new }
+    ensures written { (s : Held) → InPlace here.now s frame.old register instr frame.new }
 {
     match instr {
-        VectorInstr::Copy { value, mask } => copy(here, frame, d, value, mask),
-        VectorInstr::Convert { value, mask } => convert(here, frame, d, value, mask),
-        VectorInstr::Unary { op, value, mask } => apply(here, frame, d, op, value, mask),
+        VectorInstr::Copy { value, mask } => copy(here, frame, Target { register, mask }, value),
+        VectorInstr::Convert { value, mask } => {
+            convert(here, frame, Target { register, mask }, value)
+        }
+        VectorInstr::Unary { op, value, mask } => {
+            apply(here, frame, Target { register, mask }, op, value)
+        }
         VectorInstr::Binary {
             op,
             left,
             right,
             mask,
-        } => combine(here, frame, d, op, left, right, mask),
+        } => combine(here, frame, Target { register, mask }, op, left, right),
         VectorInstr::Compare {
             op,
             left,
             right,
             mask,
-        } => compare(here, frame, d, op, left, right, mask),
+        } => compare(here, frame, Target { register, mask }, op, left, right),
         VectorInstr::Select {
             test,
             if_true,
             if_false,
             mask,
-        } => select(here, frame, d, test, if_true, if_false, mask),
-        VectorInstr::Splat { value, mask } => splat(here, frame, d, value, mask),
-        VectorInstr::Index(k) => number(here, frame, d, k),
-        VectorInstr::Scan { op, value, mask } => scan(here, frame, d, op, value, mask),
-        VectorInstr::Exchange {
-            op,
-            vector,
-            by,
-            mask,
-        } => exchange(here, frame, d, op, vector, by, mask),
-        VectorInstr::Shuffle {
-            vector,
-            lanes,
-            mask,
-        } => shuffle(here, frame, d, vector, lanes, mask),
-        VectorInstr::ShuffleTwo {
-            first,
-            second,
-            lanes,
-            mask,
-        } => shuffle_two(here, frame, d, first, second, lanes, mask),
-        VectorInstr::Insert {
-            vector,
-            lane,
-            value,
-            mask,
-        } => insert(here, frame, d, vector, lane, value, mask),
-        VectorInstr::Gather { .. } => unreachable!(),
-        VectorInstr::LoadRun { .. } => unreachable!(),
+        } => {
+            let target = Target { register, mask };
+            select(here, frame, target, test, if_true, if_false)
+        }
+        VectorInstr::Splat { value, mask } => splat(here, frame, Target { register, mask }, value),
+        VectorInstr::Index(mask) => number(here, frame, Target { register, mask }),
+        VectorInstr::Gather { .. } | VectorInstr::LoadRun { .. } => unreachable!(),
+        _ => across(here, frame, register, instr),
     }
 }
 
@@ -103,13 +88,29 @@ fn vector_value<const N: usize>(
             indices,
             mask,
             place,
-        } => gather(here, frame, stores, d, array, indices, mask, place),
+        } => {
+            let access = Access {
+                array,
+                index: indices,
+                mask,
+                place,
+            };
+            gather(here, frame, stores, d, access)
+        }
         VectorInstr::LoadRun {
             array,
             index,
             mask,
             place,
-        } => load_run(here, frame, stores, d, array, index, mask, place),
+        } => {
+            let access = Access {
+                array,
+                index,
+                mask,
+                place,
+            };
+            load_run(here, frame, stores, d, access)
+        }
         _ => {
             change(here, frame, d, instr);
             Ok(())
@@ -124,23 +125,26 @@ fn gather<const N: usize>(
     frame: &mut Frame<N>,
     stores: &Arrays,
     d: Register,
-    a: Register,
-    i: Register,
-    k: Register,
-    place: u32,
+    access: Access,
 ) -> Result<(), Trap>
     requires gang { N ≡ gang_width here.now.code.gang }
     requires shaped { Shaped here.now.routine frame.old }
     requires arrays { Opened here.now.routine (shapes stores.now) frame.old }
-    requires operands { AllFine here.now.code here.now.routine (vector_operands d (VectorInstr.Gather a i k place)) }
+    requires operands { AllFine here.now.code here.now.routine (vector_operands d (gather_of access)) }
     ensures pc { IfOk result (λ _. frame.new.pc ≡ frame.old.pc) }
-    ensures ok { IfOk result (λ _. InPlace here.now stores.now frame.old d (VectorInstr.Gather a i k place) frame.new) }
-    ensures err { IfErr result (λ t. VectorIs here.now stores.now frame.old d (VectorInstr.Gather a i k place) (Err t)) }
+    ensures ok { IfOk result (λ _. InPlace here.now stores.now frame.old d (gather_of access) frame.new) }
+    ensures err { IfErr result (λ t. VectorIs here.now stores.now frame.old d (gather_of access) (Err t)) }
     ensures same { IfErr result (λ t. frame.new ≡ frame.old) }
 {
-    match frame.gather(stores, d.number, a.number, i.number, k.number) {
+    match frame.gather(
+        stores,
+        d.number,
+        access.array.number,
+        access.index.number,
+        access.mask.number,
+    ) {
         Ok(()) => Ok(()),
-        Err(trap) => Err(here.trap(TrapKind::Index, place, trap.instance)),
+        Err(trap) => Err(here.trap(TrapKind::Index, access.place, trap.instance)),
     }
 }
 
@@ -151,29 +155,26 @@ fn load_run<const N: usize>(
     frame: &mut Frame<N>,
     stores: &Arrays,
     d: Register,
-    a: Register,
-    i: Register,
-    k: Register,
-    place: u32,
+    access: Access,
 ) -> Result<(), Trap>
     requires gang { N ≡ gang_width here.now.code.gang }
     requires shaped { Shaped here.now.routine frame.old }
     requires arrays { Opened here.now.routine (shapes stores.now) frame.old }
-    requires operands { AllFine here.now.code here.now.routine (vector_operands d (VectorInstr.LoadRun a i k place)) }
+    requires operands { AllFine here.now.code here.now.routine (vector_operands d (load_run_of access)) }
     ensures pc { IfOk result (λ _. frame.new.pc ≡ frame.old.pc) }
-    ensures ok { IfOk result (λ _. InPlace here.now stores.now frame.old d (VectorInstr.LoadRun a i k place) frame.new) }
-    ensures err { IfErr result (λ t. VectorIs here.now stores.now frame.old d (VectorInstr.LoadRun a i k place) (Err t)) }
+    ensures ok { IfOk result (λ _. InPlace here.now stores.now frame.old d (load_run_of access) frame.new) }
+    ensures err { IfErr result (λ t. VectorIs here.now stores.now frame.old d (load_run_of access) (Err t)) }
     ensures same { IfErr result (λ t. frame.new ≡ frame.old) }
 {
-    let store = here.store(frame, stores, a);
-    let index = here.scalar(frame, i);
+    let store = here.store(frame, stores, access.array);
+    let index = here.scalar(frame, access.index);
     let mut value = *here.vector(frame, d);
-    match stores.load_run(store, index, here.mask(frame, k), &mut value) {
+    match stores.load_run(store, index, here.mask(frame, access.mask), &mut value) {
         Ok(()) => {
             frame.set_vector(d.number, &value);
             Ok(())
         }
-        Err(trap) => Err(here.trap(TrapKind::Index, place, trap.instance)),
+        Err(trap) => Err(here.trap(TrapKind::Index, access.place, trap.instance)),
     }
 }
 

@@ -15,10 +15,10 @@ returns-clause-written g c =
     let a = c.args in
     let h = a.here.now.routine in
     let f = a.frame.now in
-    let m = masks_at f a.k.number in
+    let m = masks_at f a.target.mask.number in
     λ s. record {
       value = c.insert.new.out;
-      elem = c.insert.ensures.elem ∙ c.vector.ensures.elem ∙ sym (vector_elem_is h f c.requires.shaped a.d c.requires.operands.0.0);
+      elem = c.insert.ensures.elem ∙ c.vector.ensures.elem ∙ sym (vector_elem_is h f c.requires.shaped a.target.register c.requires.operands.0.0);
       written = record {
         lanes = on m (insert (gang_width a.here.now.code.gang) (on m (vectors_at f a.x.number)) (number I32 (scalars_at f a.i.number)) (scalars_at f a.y.number));
         value = λ ws out. refl;

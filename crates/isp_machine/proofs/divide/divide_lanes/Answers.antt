@@ -19,18 +19,18 @@ returns-in-Ok-clause-ok g c =
     let h = c.args.here.now in
     let f = c.args.frame.now in
     let a = c.args in
-    let o = division_of a.op in
+    let o = division_of a.ratio.op in
     let t = elem_of h.routine a.d in
-    let m = masks_at f a.k.number in
-    let x : Map = on m (vectors_at f a.x.number) in
-    let y : Map = on m (vectors_at f a.y.number) in
+    let m = masks_at f a.ratio.mask.number in
+    let x : Map = on m (vectors_at f a.ratio.dividend.number) in
+    let y : Map = on m (vectors_at f a.ratio.divisor.number) in
     let lanes : Map = map2 (op_bits o t) x y in
     let left = c.in-Ok.ensures.lanes in
     let low : lowest_failing (gang_width h.code.gang) (is_zero o t) y ≡ None = sym (λ j. lowest_failing (c.requires.gang j) (is_zero o (c.vector_told.ensures.elem j)) y) ∙ c.in-Ok.ensures.none in
     λ s opened.
-    goes_by_vector h s f c.requires.shaped opened a.d (instr.Divide a.op a.d a.x a.y a.k a.place) lanes (vector_in f a.d.number) left.value c.next.new.self c.requires.d refl (left.elem ∙ c.vector_told.ensures.elem)
+    goes_by_vector h s f c.requires.shaped opened a.d (instr.Divide a.ratio.op a.d a.ratio.dividend a.ratio.divisor a.ratio.mask a.ratio.place) lanes (vector_in f a.d.number) left.value c.next.new.self c.requires.d refl (left.elem ∙ c.vector_told.ensures.elem)
     (λ ws out.
-    ap (λ (r : Class). divided h.code h.routine (conf_of s f ws out) r o a.d a.x a.y a.k a.place) c.requires.d.0
-    ∙ ap (λ (l : Option ℕ). moved (unless h.code h.routine (conf_of s f ws out) l Divide a.place lanes) (set_vector (conf_of s f ws out) a.d)) low)
+    ap (λ (r : Class). divided h.code h.routine (conf_of s f ws out) r o a.d a.ratio.dividend a.ratio.divisor a.ratio.mask a.ratio.place) c.requires.d.0
+    ∙ ap (λ (l : Option ℕ). moved (unless h.code h.routine (conf_of s f ws out) l Divide a.ratio.place lanes) (set_vector (conf_of s f ws out) a.d)) low)
     (left.bits ∙ (λ j. over (map2 (op_bits o (c.vector_told.ensures.elem j)) x y) (vectors_at f a.d.number)))
     (c.next.ensures ∙ ap (λ (z : FrameRows). record z { pc = z.pc + 1 }) left.now)

@@ -15,17 +15,17 @@ returns-clause-written g c =
     let n = g.row.N in
     let h = c.args.here.now.routine in
     let f = c.args.frame.now in
-    let ms = mask_in f c.args.k.number in
-    let old = vector_in f c.args.d.number in
+    let ms = mask_in f c.args.target.mask.number in
+    let old = vector_in f c.args.target.register.number in
     let xs = (vector_in f c.args.x.number).bits in
     let ys = (vector_in f c.args.y.number).bits in
-    let x = on (masks_at f c.args.k.number) (vectors_at f c.args.x.number) in
-    let y = on (masks_at f c.args.k.number) (vectors_at f c.args.y.number) in
+    let x = on (masks_at f c.args.target.mask.number) (vectors_at f c.args.x.number) in
+    let y = on (masks_at f c.args.target.mask.number) (vectors_at f c.args.y.number) in
     λ s. record {
       value = written ms (zip2 (op_bits c.plain_operator.result old.elem) xs ys) old;
       elem = refl;
       written = record {
-        lanes = map2 (op_bits (plain_of c.args.op) (elem_of h c.args.d)) x y;
+        lanes = map2 (op_bits (plain_of c.args.op) (elem_of h c.args.target.register)) x y;
         value = λ ws out. refl;
         bits = views.zipped n (op_bits c.plain_operator.result old.elem) ms xs ys old.bits c.mask_told.ensures.long c.vector_told-2.ensures.long c.vector_told-3.ensures.long c.vector_told.ensures.long ∙ (λ i. over (map2 (op_bits (c.plain_operator.ensures i) (c.vector_told.ensures.elem i)) x y) (lane_of old.bits));
       };

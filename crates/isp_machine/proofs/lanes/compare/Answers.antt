@@ -14,13 +14,13 @@ returns-clause-written g c =
     let n = g.row.N in
     let h = c.args.here.now.routine in
     let f = c.args.frame.now in
-    let ms = mask_in f c.args.k.number in
-    let old = vector_in f c.args.d.number in
+    let ms = mask_in f c.args.target.mask.number in
+    let old = vector_in f c.args.target.register.number in
     let xs = (vector_in f c.args.x.number).bits in
     let ys = (vector_in f c.args.y.number).bits in
     let t = (vector_in f c.args.x.number).elem in
-    let x = on (masks_at f c.args.k.number) (vectors_at f c.args.x.number) in
-    let y = on (masks_at f c.args.k.number) (vectors_at f c.args.y.number) in
+    let x = on (masks_at f c.args.target.mask.number) (vectors_at f c.args.x.number) in
+    let y = on (masks_at f c.args.target.mask.number) (vectors_at f c.args.y.number) in
     λ s. record {
       value = written ms (zip2 (compare_bits c.args.op t) xs ys) old;
       elem = refl;

@@ -11,14 +11,14 @@ returns-clause-written g c =
     let n = g.row.N in
     let h = c.args.here.now.routine in
     let f = c.args.frame.now in
-    let ms = mask_in f c.args.k.number in
-    let old = vector_in f c.args.d.number in
+    let ms = mask_in f c.args.target.mask.number in
+    let old = vector_in f c.args.target.register.number in
     let xs = (vector_in f c.args.x.number).bits in
     λ s. record {
       value = written ms (xs) old;
       elem = refl;
       written = record {
-        lanes = on (masks_at f c.args.k.number) (vectors_at f c.args.x.number);
+        lanes = on (masks_at f c.args.target.mask.number) (vectors_at f c.args.x.number);
         value = λ ws out. refl;
         bits = views.copied n ms xs old.bits c.mask_told.ensures.long c.vector_told-2.ensures.long c.vector_told.ensures.long;
       };

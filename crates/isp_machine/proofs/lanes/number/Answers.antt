@@ -12,13 +12,13 @@ returns-clause-written g c =
     let n = g.row.N in
     let h = c.args.here.now.routine in
     let f = c.args.frame.now in
-    let ms = mask_in f c.args.k.number in
-    let old = vector_in f c.args.d.number in
+    let ms = mask_in f c.args.target.mask.number in
+    let old = vector_in f c.args.target.register.number in
     λ s. record {
       value = written ms (range_with_len 0 n) old;
       elem = refl;
       written = record {
-        lanes = on (masks_at f c.args.k.number) (λ p. p);
+        lanes = on (masks_at f c.args.target.mask.number) (λ p. p);
         value = λ ws out. refl;
         bits = views.numbered n ms old.bits c.mask_told.ensures.long c.vector_told.ensures.long;
       };

@@ -16,8 +16,8 @@ pub returns-clause-written : goal.returns-clause-written
 returns-clause-written g c =
     let n = g.row.N in
     let f = c.args.frame.now in
-    let ms = mask_in f c.args.k.number in
-    let old = vector_in f c.args.d.number in
+    let ms = mask_in f c.args.target.mask.number in
+    let old = vector_in f c.args.target.register.number in
     let ts = (vector_in f c.args.test.number).bits in
     let xs = (vector_in f c.args.x.number).bits in
     let ys = (vector_in f c.args.y.number).bits in
@@ -25,7 +25,7 @@ returns-clause-written g c =
       value = written ms (sel_l (map is_on ts) xs ys) old;
       elem = refl;
       written = record {
-        lanes = on (masks_at f c.args.k.number) (λ p. if is_true (vectors_at f c.args.test.number p) then vectors_at f c.args.x.number p else vectors_at f c.args.y.number p);
+        lanes = on (masks_at f c.args.target.mask.number) (λ p. if is_true (vectors_at f c.args.test.number p) then vectors_at f c.args.x.number p else vectors_at f c.args.y.number p);
         value = λ ws out. refl;
         bits = views.selected n is_on ms ts xs ys old.bits c.mask_told.ensures.long c.vector_told-2.ensures.long c.vector_told-3.ensures.long c.vector_told-4.ensures.long c.vector_told.ensures.long
             ∙ ap (λ (t : ℕ → Bool). over (on (flag_of ms) (λ p. if t (lane_of ts p) then lane_of xs p else lane_of ys p)) (lane_of old.bits)) (fun_ext true_is);

@@ -11,15 +11,15 @@ returns-clause-written g c =
     let n = g.row.N in
     let h = c.args.here.now.routine in
     let f = c.args.frame.now in
-    let ms = mask_in f c.args.k.number in
-    let old = vector_in f c.args.d.number in
+    let ms = mask_in f c.args.target.mask.number in
+    let old = vector_in f c.args.target.register.number in
     λ s. record {
       value = written ms (replicate n c.scalar-bits.result) old;
       elem = refl;
       written = record {
-        lanes = on (masks_at f c.args.k.number) (λ p. scalars_at f c.args.x.number);
+        lanes = on (masks_at f c.args.target.mask.number) (λ p. scalars_at f c.args.x.number);
         value = λ ws out. refl;
-        bits = views.splatted n c.scalar-bits.result ms old.bits c.mask_told.ensures.long c.vector_told.ensures.long ∙ (λ i. over (on (masks_at f c.args.k.number) (λ p. c.scalar-bits.ensures.value i)) (lane_of old.bits));
+        bits = views.splatted n c.scalar-bits.result ms old.bits c.mask_told.ensures.long c.vector_told.ensures.long ∙ (λ i. over (on (masks_at f c.args.target.mask.number) (λ p. c.scalar-bits.ensures.value i)) (lane_of old.bits));
       };
       now = c.splat.ensures;
     }

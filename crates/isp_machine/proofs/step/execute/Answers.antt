@@ -1,4 +1,4 @@
-use Rattle.std.proofs.Common.{◌≡◌, sym, ap, ◌∙◌, subst, [], rules, Some}
+use Rattle.std.proofs.Common.{◌≡◌, refl, sym, ap, ◌∙◌, subst, [], rules, Some}
 use Rattle.std.specs.Prelude.{slice_get, slice_index_or}
 use Rattle.isp_base.specs.Maps.{on}
 use Rattle.isp_base.specs.Prints.{value_text, list_text}
@@ -11,9 +11,9 @@ use Rattle.isp_code.specs.declared.instr.Instr.{Instr}
 use Rattle.isp_code.specs.declared.instr.Instr.TheVariants as instr
 use Rattle.isp_machine.specs.Moves.{Computes}
 use Rattle.isp_machine.specs.Rows.{RunRows, run_of}
-use Rattle.isp_machine.specs.Steps.{Steady}
+use Rattle.isp_machine.specs.Steps.{Done, Steady}
 use Rattle.isp_machine.specs.Views.{scalars_at, vectors_at, masks_at}
-use Rattle.isp_machine.proofs.Doing.{spoken, computed, came, called, call_mask, call_place}
+use Rattle.isp_machine.proofs.Doing.{spoken, computed, came, call_mask, call_place}
 use Rattle.isp_machine.proofs.step.execute.Goals as goal
 
 pub call-requires : goal.call-requires
@@ -22,18 +22,18 @@ call-requires g c =
     let is : c.args.instr.now ≡ instr.Call c.get.result.now = c.in-Call.is ∙ ap instr.Call (sym c.get.ensures) in
     let fine : AllFine h.code h.routine (call_operands c.get.result.now) = subst (λ (i : Instr). AllFine h.code h.routine (operands i)) is c.requires.operands in
     let calls : CallFine h.code h.routine c.get.result.now = subst (λ (i : Instr). CallsFine h.code h.routine i) is c.requires.calls in
-    let found = subst (λ (z : RunRows). slice_get h.code.routines z.frame.function ≡ Some h.routine) (sym c.run.view_is) c.requires.found in
-    let sound = subst (λ (z : RunRows). Steady g.row.N h.code z) (sym c.run.view_is) c.requires.sound in
-    let next = subst (λ (z : RunRows). GoesOn h.routine z.frame.pc (instr.Call c.get.result.now)) (sym c.run.view_is) (subst (λ (i : Instr). GoesOn h.routine c.args.run.now.frame.pc i) is c.requires.next) in (
+    let found = subst (λ (z : RunRows). slice_get h.code.routines z.frame.function ≡ Some h.routine) (sym c.run-in-Call.view_is) c.requires.found in
+    let sound = subst (λ (z : RunRows). Steady g.row.N h.code z) (sym c.run-in-Call.view_is) c.requires.sound in
+    let next = subst (λ (z : RunRows). GoesOn h.routine z.frame.pc (instr.Call c.get.result.now)) (sym c.run-in-Call.view_is) (subst (λ (i : Instr). GoesOn h.routine c.args.run.now.frame.pc i) is c.requires.next) in (
       search rules,
       (
         search rules,
         (
           c.requires.code,
           (
-            subst (λ (p : Listing). slice_get p.routines c.run.inside.frame.function ≡ Some h.routine) c.requires.code found,
+            subst (λ (p : Listing). slice_get p.routines c.run-in-Call.inside.frame.function ≡ Some h.routine) c.requires.code found,
             (
-              subst (λ (p : Listing). Steady g.row.N p (record { frame = c.run.inside.frame; waiting = c.run.inside.waiting.items; stores = c.run.inside.stores; out = c.run.inside.out.items })) c.requires.code sound,
+              subst (λ (p : Listing). Steady g.row.N p (record { frame = c.run-in-Call.inside.frame; waiting = c.run-in-Call.inside.waiting.items; stores = c.run-in-Call.inside.stores; out = c.run-in-Call.inside.out.items })) c.requires.code sound,
               (call_mask h.code h.routine c.get.result.now fine, (call_place h.code h.routine c.get.result.now fine, (calls, (next, c.requires.went)))),
             ),
           ),
@@ -56,11 +56,11 @@ pub returns-in_ok-print_scalar-in-PrintScalar-clause-done : goal.returns-in_ok-p
 returns-in_ok-print_scalar-in-PrintScalar-clause-done g c =
     let h = c.args.here.now in
     let low = subst (λ (i : Instr). GoesOn h.routine c.args.run.now.frame.pc i) c.in-PrintScalar.is c.requires.next in
-    let frame : c.deref_mut-in-PrintScalar.result.now ≡ c.run.inside.frame = search rules in
-    let waiting : c.run-inside-in-PrintScalar.inside.0.1.0.items ≡ c.run.inside.waiting.items = search rules in
-    let stores : c.run-inside-in-PrintScalar.inside.0.1.1.0 ≡ c.run.inside.stores = search rules in
-    let out : c.run-inside-in-PrintScalar.inside.0.1.1.1.0.items ≡ c.run.inside.out.items = search rules in
-    let is = (λ j. run_of (stores j) (frame j) (waiting j) (out j)) ∙ c.run.view_is in
+    let frame : c.deref_mut-in-PrintScalar.result.now ≡ c.run-in-PrintScalar.inside.frame = search rules in
+    let waiting : c.run-inside-in-PrintScalar.inside.0.1.0.items ≡ c.run-in-PrintScalar.inside.waiting.items = search rules in
+    let stores : c.run-inside-in-PrintScalar.inside.0.1.1.0 ≡ c.run-in-PrintScalar.inside.stores = search rules in
+    let out : c.run-inside-in-PrintScalar.inside.0.1.1.1.0.items ≡ c.run-in-PrintScalar.inside.out.items = search rules in
+    let is = (λ j. run_of (stores j) (frame j) (waiting j) (out j)) ∙ c.run-in-PrintScalar.view_is in
     spoken g.row.N h c.args.instr.now c.args.run.now c.requires.found c.requires.sound _ is _ c.requires.went (instr.PrintScalar c.in-PrintScalar.x) c.in-PrintScalar.is low
     (value_text (elem_of h.routine c.in-PrintScalar.x) (scalars_at c.deref_mut-in-PrintScalar.result.now c.in-PrintScalar.x.number)) c.print_scalar.new.frame c.print_scalar.new.out.items c.in_ok-print_scalar-in-PrintScalar.ensures.ok c.in_ok-print_scalar-in-PrintScalar.ensures.written
 
@@ -69,45 +69,37 @@ returns-in_ok-print_vector-in-PrintVector-clause-done g c =
     let h = c.args.here.now in
     let low = subst (λ (i : Instr). GoesOn h.routine c.args.run.now.frame.pc i) c.in-PrintVector.is c.requires.next in
     let f = c.deref_mut-in-PrintVector.result.now in
-    let frame : c.deref_mut-in-PrintVector.result.now ≡ c.run.inside.frame = search rules in
-    let waiting : c.run-inside-in-PrintVector.inside.0.1.0.items ≡ c.run.inside.waiting.items = search rules in
-    let stores : c.run-inside-in-PrintVector.inside.0.1.1.0 ≡ c.run.inside.stores = search rules in
-    let out : c.run-inside-in-PrintVector.inside.0.1.1.1.0.items ≡ c.run.inside.out.items = search rules in
-    let is = (λ j. run_of (stores j) (frame j) (waiting j) (out j)) ∙ c.run.view_is in
+    let frame : c.deref_mut-in-PrintVector.result.now ≡ c.run-in-PrintVector.inside.frame = search rules in
+    let waiting : c.run-inside-in-PrintVector.inside.0.1.0.items ≡ c.run-in-PrintVector.inside.waiting.items = search rules in
+    let stores : c.run-inside-in-PrintVector.inside.0.1.1.0 ≡ c.run-in-PrintVector.inside.stores = search rules in
+    let out : c.run-inside-in-PrintVector.inside.0.1.1.1.0.items ≡ c.run-in-PrintVector.inside.out.items = search rules in
+    let is = (λ j. run_of (stores j) (frame j) (waiting j) (out j)) ∙ c.run-in-PrintVector.view_is in
     spoken g.row.N h c.args.instr.now c.args.run.now c.requires.found c.requires.sound _ is _ c.requires.went (instr.PrintVector c.in-PrintVector.vector c.in-PrintVector.mask) c.in-PrintVector.is low
     (list_text (elem_of h.routine c.in-PrintVector.vector) (gang_width h.code.gang) (on (masks_at f c.in-PrintVector.mask.number) (vectors_at f c.in-PrintVector.vector.number)))
     c.print_vector.new.frame c.print_vector.new.out.items c.in_ok-print_vector-in-PrintVector.ensures.ok c.in_ok-print_vector-in-PrintVector.ensures.written
 
 pub returns-in-Return-clause-done : goal.returns-in-Return-clause-done
 returns-in-Return-clause-done g c =
-    called g.row.N c.args.here.now c.args.instr.now c.args.run.now c.requires.found c.requires.sound _ c.run.view_is (instr.Return c.in-Return.x) c.in-Return.is c.give_back.new.stores c.give_back.new.frame c.give_back.new.waiting.items c.give_back.new.ending c.give_back.ensures
-
-pub scatter-requires : goal.scatter-requires
-scatter-requires g c =
-    let h = c.args.here.now in
-    let i = c.in-Scatter in
-    let op = instr.Scatter i.array i.indices i.value i.mask i.place in
-    search rules
+    subst (λ (i : Instr). Done g.row.N c.args.here.now i c.args.run.now c.give_back.new.run c.give_back.new.ending) (sym c.in-Return.is) c.give_back.ensures
 
 pub returns-in-Scatter-clause-done : goal.returns-in-Scatter-clause-done
 returns-in-Scatter-clause-done g c =
-    let k = c.in-Scatter in
     let computes : Computes c.args.instr.now = search rules in
-    let frame : c.deref_mut-in-Scatter.result.now ≡ c.run.inside.frame = search rules in
-    let waiting : c.run-inside-in-Scatter.inside.0.1.0.items ≡ c.run.inside.waiting.items = search rules in
-    let stores : c.run-inside-in-Scatter.inside.0.1.1.0 ≡ c.run.inside.stores = search rules in
-    let out : c.run-inside-in-Scatter.inside.0.1.1.1.0.items ≡ c.run.inside.out.items = search rules in
-    let is = (λ j. run_of (stores j) (frame j) (waiting j) (out j)) ∙ c.run.view_is in
-    came g.row.N c.args.here.now c.args.instr.now c.args.run.now c.requires.found c.requires.sound _ is computes c.requires.operands c.requires.next (instr.Scatter k.array k.indices k.value k.mask k.place) k.is c.scatter.new.stores c.scatter.new.frame c.scatter.new.ending c.scatter.ensures
+    let frame : c.deref_mut-in-Scatter.result.now ≡ c.run-in-Scatter.inside.frame = search rules in
+    let waiting : c.run-inside-in-Scatter.inside.0.1.0.items ≡ c.run-in-Scatter.inside.waiting.items = search rules in
+    let stores : c.run-inside-in-Scatter.inside.0.1.1.0 ≡ c.run-in-Scatter.inside.stores = search rules in
+    let out : c.run-inside-in-Scatter.inside.0.1.1.1.0.items ≡ c.run-in-Scatter.inside.out.items = search rules in
+    let is = (λ j. run_of (stores j) (frame j) (waiting j) (out j)) ∙ c.run-in-Scatter.view_is in
+    came g.row.N c.args.here.now c.args.instr.now c.args.run.now c.requires.found c.requires.sound _ is computes c.requires.operands c.requires.next c.args.instr.now refl c.scatter.new.stores c.scatter.new.frame c.scatter.new.ending c.scatter.ensures
 
 pub returns-in_default-compute : goal.returns-in_default-compute
 returns-in_default-compute g c =
     let computes : Computes c.args.instr.now = search rules in
-    let frame : c.deref_mut-in_default.result.now ≡ c.run.inside.frame = search rules in
-    let waiting : c.run-inside-in_default.inside.0.1.0.items ≡ c.run.inside.waiting.items = search rules in
-    let stores : c.run-inside-in_default.inside.0.1.1.0 ≡ c.run.inside.stores = search rules in
-    let out : c.run-inside-in_default.inside.0.1.1.1.0.items ≡ c.run.inside.out.items = search rules in
-    let is = (λ j. run_of (stores j) (frame j) (waiting j) (out j)) ∙ c.run.view_is in
+    let frame : c.deref_mut-in_default.result.now ≡ c.run-in_default.inside.frame = search rules in
+    let waiting : c.run-inside-in_default.inside.0.1.0.items ≡ c.run-in_default.inside.waiting.items = search rules in
+    let stores : c.run-inside-in_default.inside.0.1.1.0 ≡ c.run-in_default.inside.stores = search rules in
+    let out : c.run-inside-in_default.inside.0.1.1.1.0.items ≡ c.run-in_default.inside.out.items = search rules in
+    let is = (λ j. run_of (stores j) (frame j) (waiting j) (out j)) ∙ c.run-in_default.view_is in
     record {
       done = computed g.row.N c.args.here.now c.args.instr.now c.args.run.now c.requires.found c.requires.sound _ is computes c.requires.operands c.requires.next _ c.requires.went c.compute.new.stores c.compute.new.frame c.in_default-compute.ensures.ok;
       same = tt;

@@ -15,8 +15,8 @@ gather-requires g c =
     let there = o.1.0.0 in
     let shaped = c.requires.shaped in
     let opened = c.requires.arrays in
-    let elem = vector_elem_is h f shaped a.d o.0.0 ∙ sym o.1.0.2 ∙ sym (array_elem_is h a.stores.now f shaped opened a.a there) in
-    (search rules, (search rules, (array_low h a.stores.now f shaped opened a.a there, (search rules, (search rules, (array_there h a.stores.now f shaped opened a.a there, (vector_elem_is h f shaped a.i o.1.1.0.0 ∙ o.1.1.0.1, elem)))))))
+    let elem = vector_elem_is h f shaped a.d o.0.0 ∙ sym o.1.0.2 ∙ sym (array_elem_is h a.stores.now f shaped opened a.access.array there) in
+    (search rules, (search rules, (array_low h a.stores.now f shaped opened a.access.array there, (search rules, (search rules, (array_there h a.stores.now f shaped opened a.access.array there, (vector_elem_is h f shaped a.access.index o.1.1.0.0 ∙ o.1.1.0.1, elem)))))))
 
 pub returns-in-Ok-clause-ok : goal.returns-in-Ok-clause-ok
 returns-in-Ok-clause-ok g c =
@@ -24,12 +24,12 @@ returns-in-Ok-clause-ok g c =
     record {
       value = _;
       elem = c.in-Ok.ensures.elem;
-      written = record { lanes = _; value = gathered a.here.now a.stores.now a.frame.now a.a a.i a.k a.d a.place c.requires.arrays c.requires.operands.1.0.0 g.row.N c.requires.gang c.in-Ok.ensures.inside; bits = c.in-Ok.ensures.lanes };
+      written = record { lanes = _; value = gathered a.here.now a.stores.now a.frame.now a.access.array a.access.index a.access.mask a.d a.access.place c.requires.arrays c.requires.operands.1.0.0 g.row.N c.requires.gang c.in-Ok.ensures.inside; bits = c.in-Ok.ensures.lanes };
       now = c.in-Ok.ensures.others;
     }
 
 pub returns-in-Err-clause-err : goal.returns-in-Err-clause-err
 returns-in-Err-clause-err g c =
     let a = c.args in
-    subst (λ (t : Trap). VectorIs a.here.now a.stores.now a.frame.now a.d (vector.Gather a.a a.i a.k a.place) (Err t)) (sym c.trap.ensures)
-    (not_gathered a.here.now a.stores.now a.frame.now a.a a.i a.k a.d a.place c.requires.arrays c.requires.operands.1.0.0 g.row.N c.requires.gang c.in-Err.trap.instance c.in-Err.ensures.lowest)
+    subst (λ (t : Trap). VectorIs a.here.now a.stores.now a.frame.now a.d (vector.Gather a.access.array a.access.index a.access.mask a.access.place) (Err t)) (sym c.trap.ensures)
+    (not_gathered a.here.now a.stores.now a.frame.now a.access.array a.access.index a.access.mask a.d a.access.place c.requires.arrays c.requires.operands.1.0.0 g.row.N c.requires.gang c.in-Err.trap.instance c.in-Err.ensures.lowest)

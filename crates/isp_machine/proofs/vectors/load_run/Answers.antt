@@ -20,7 +20,7 @@ returns-in-Ok-clause-ok g c =
       elem = c.in-Ok.ensures.elem ∙ c.vector.ensures.elem ∙ sym (vector_elem_is a.here.now.routine a.frame.now c.requires.shaped a.d c.requires.operands.0.0);
       written = record {
         lanes = _;
-        value = run_loaded a.here.now a.stores.now a.frame.now a.a a.i a.k a.place c.requires.operands.1.0.1 g.row.N c.store-store.result c.scalar-index.result (flag_of c.mask.result.now) c.requires.gang c.store-store.ensures.value c.store-store.ensures.size c.scalar-index.ensures.value c.mask.ensures a.d c.in-Ok.ensures.inside;
+        value = run_loaded a.here.now a.stores.now a.frame.now a.access.array a.access.index a.access.mask a.access.place c.requires.operands.1.0.1 g.row.N c.store-store.result c.scalar-index.result (flag_of c.mask.result.now) c.requires.gang c.store-store.ensures.value c.store-store.ensures.size c.scalar-index.ensures.value c.mask.ensures a.d c.in-Ok.ensures.inside;
         bits = c.in-Ok.ensures.lanes ∙ ap (over (on (flag_of c.mask.result.now) (λ p. elements a.stores.now c.store-store.result (unsigned_abs (run_index (number I64 c.scalar-index.result) p))))) c.vector.ensures.lanes;
       };
       now = c.set_vector.ensures;
@@ -29,5 +29,5 @@ returns-in-Ok-clause-ok g c =
 pub returns-in-Err-clause-err : goal.returns-in-Err-clause-err
 returns-in-Err-clause-err g c =
     let a = c.args in
-    subst (λ (t : Trap). VectorIs a.here.now a.stores.now a.frame.now a.d (vector.LoadRun a.a a.i a.k a.place) (Err t)) (sym c.trap.ensures)
-    (run_not_loaded a.here.now a.stores.now a.frame.now a.a a.i a.k a.place c.requires.operands.1.0.1 g.row.N c.store-store.result c.scalar-index.result (flag_of c.mask.result.now) c.requires.gang c.store-store.ensures.value c.store-store.ensures.size c.scalar-index.ensures.value c.mask.ensures a.d c.in-Err.trap.instance c.in-Err.ensures.lowest)
+    subst (λ (t : Trap). VectorIs a.here.now a.stores.now a.frame.now a.d (vector.LoadRun a.access.array a.access.index a.access.mask a.access.place) (Err t)) (sym c.trap.ensures)
+    (run_not_loaded a.here.now a.stores.now a.frame.now a.access.array a.access.index a.access.mask a.access.place c.requires.operands.1.0.1 g.row.N c.store-store.result c.scalar-index.result (flag_of c.mask.result.now) c.requires.gang c.store-store.ensures.value c.store-store.ensures.size c.scalar-index.ensures.value c.mask.ensures a.d c.in-Err.trap.instance c.in-Err.ensures.lowest)
