@@ -1,18 +1,17 @@
 //! Calls.
-ghost use Rattle.std.specs.Prelude.{◌≡◌, ◌+◌, ◌<◌, ◌≤◌, ◌^◌, ◌++◌, ◌∷◌, [], length, slice_get, vec_len, vec_capacity, Some, IfOk, OnOk, OnErr, ℕ, List};
+ghost use Rattle.std.specs.Prelude.{◌≡◌, ◌+◌, ◌<◌, ◌≤◌, ◌^◌, ◌++◌, ◌∷◌, [], length, slice_get, vec_len, vec_capacity, Some, IfOk, OnOk, OnErr};
 ghost use Rattle.isp_code.specs.Fine.{IsThere, CallFine};
 ghost use Rattle.isp_code.specs.Listing.{Routine};
 ghost use Rattle.isp_machine.specs.Begun.{Begun, given, new_stores, no_frame};
-ghost use Rattle.isp_machine.specs.Rows.{run_of};
-ghost use Rattle.isp_machine.specs.Shapes.{Sound};
-ghost use Rattle.isp_machine.specs.Steps.{Done};
+ghost use Rattle.isp_machine.specs.Steps.{Done, Steady};
 ghost use Rattle.isp_machine.specs.declared.stop.Step.TheVariants.{Went};
 
 use crate::frame::{Frame, FrameBox};
 use crate::here::Here;
 use crate::kernels::first_lane;
+use crate::run::Run;
 use crate::stop::Step;
-use crate::zeros::{Zeros, ZerosBox};
+use crate::zeros::Zeros;
 use isp_base::TrapKind;
 use isp_code::{Call, Class, Instr, Register};
 use isp_lanes::LaneMask;
@@ -88,51 +87,45 @@ pub(crate) fn call<const N: usize>(
     alloc: Global,
     code: &Verified,
     here: &Here,
-    frame: &mut FrameBox<N>,
-    waiting: &mut Vec<FrameBox<N>>,
-    stores: &mut Arrays,
-    rooms: &mut Vec<FrameBox<N>>,
-    zeros: &ZerosBox<N>,
+    run: &mut Run<N>,
     ending: &mut Step,
     call: &Call,
 ) -> Result<(), AllocError>
     requires code { here.now.code ≡ code.now }
-    requires found { slice_get code.now.routines frame.old.function ≡ Some here.now.routine }
-    requires sound { Sound N code.now stores.old frame.old waiting.old.items }
+    requires found { slice_get code.now.routines run.old.frame.function ≡ Some here.now.routine }
+    requires sound { Steady N code.now run.old }
     requires mask { IsThere here.now.routine Class.Mask call.now.mask }
     requires place { call.now.place < length here.now.code.places }
     requires fine { CallFine here.now.code here.now.routine call.now }
-    requires next { frame.old.pc + 1 < length here.now.routine.code }
+    requires next { run.old.frame.pc + 1 < length here.now.routine.code }
     requires went { ending.old ≡ Went }
-    ensures ok { OnOk result ((out : List ℕ) → Done N here.now (Instr.Call call.now) (run_of stores.old frame.old waiting.old.items out) (run_of stores.new frame.new waiting.new.items out) ending.new) }
-    ensures same_frame { OnErr result (frame.new ≡ frame.old) }
-    ensures same_waiting { OnErr result (waiting.new.items ≡ waiting.old.items) }
-    ensures same_stores { OnErr result (stores.new ≡ stores.old) }
+    ensures ok { OnOk result (Done N here.now (Instr.Call call.now) run.old run.new ending.new) }
+    ensures same { OnErr result (run.new ≡ run.old) }
     ensures same_ending { OnErr result (ending.new ≡ ending.old) }
 {
-    let mask = *here.mask(&frame.at, call.mask);
+    let mask = *here.mask(&run.frame.at, call.mask);
     mask.told();
-    if waiting.len() >= MOST_CALLS - 1 {
+    if run.waiting.len() >= MOST_CALLS - 1 {
         let lane = first_lane(&mask);
         *ending = Step::Trapped(here.trap(TrapKind::Depth, call.place, lane));
         return Ok(());
     }
     let _count = here.count();
-    waiting.reserve(1)?;
+    run.waiting.reserve(1)?;
     // The calls that wait and this one leave their frames where they return: that place is made here.
-    rooms.reserve(waiting.len() + 2)?;
-    let mut callee = room(alloc, rooms)?;
+    run.rooms.reserve(run.waiting.len() + 2)?;
+    let mut callee = room(alloc, &mut run.rooms)?;
     let arguments = call.arguments.as_slice();
-    callee.at.pass_call(here, &frame.at, arguments, &mask)?;
+    callee.at.pass_call(here, &run.frame.at, arguments, &mask)?;
     begin(
         alloc,
         code,
-        stores,
+        &mut run.stores,
         &mut callee.at,
         call.function as usize,
         &mask,
-        &zeros.at,
+        &run.zeros.at,
     )?;
-    wait(frame, waiting, callee, call.result, &mask);
+    wait(&mut run.frame, &mut run.waiting, callee, call.result, &mask);
     Ok(())
 }

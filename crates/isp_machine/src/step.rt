@@ -109,18 +109,7 @@ fn execute<const N: usize>(
             print_vector(alloc, here, &mut run.frame.at, &mut run.out, *vector, *mask)?;
             Ok(())
         }
-        Instr::Call(c) => call(
-            alloc,
-            code,
-            here,
-            &mut run.frame,
-            &mut run.waiting,
-            &mut run.stores,
-            &mut run.rooms,
-            &run.zeros,
-            ending,
-            c.get(),
-        ),
+        Instr::Call(c) => call(alloc, code, here, run, ending, c.get()),
         Instr::Return(x) => {
             give_back(here, run, ending, *x);
             Ok(())

@@ -1,11 +1,9 @@
-use Rattle.std.proofs.Common.{◌≡◌, refl, sym, ap, ◌∙◌, subst, ◌<◌, ◌^◌, Ok, rules}
+use Rattle.std.proofs.Common.{refl, sym, ◌∙◌, rules}
 use Rattle.isp_code.specs.Lines.{exchanged}
-use Rattle.isp_base.specs.Maps.{lane_of, on, over}
+use Rattle.isp_base.specs.Maps.{on, over}
 use Rattle.isp_base.specs.Types.{gang_width}
-use Rattle.isp_base.specs.Values.{number, width}
-use Rattle.isp_base.specs.declared.types.Elem.{Elem}
+use Rattle.isp_base.specs.Values.{number}
 use Rattle.isp_base.specs.declared.types.Elem.TheVariants.{I32}
-use Rattle.isp_machine.specs.Arrays.{vector_in}
 use Rattle.isp_machine.specs.Views.{masks_at, scalars_at, vectors_at}
 use Rattle.isp_machine.proofs.Written.{vector_elem_is}
 use Rattle.isp_machine.proofs.cross.exchange.Goals as goal

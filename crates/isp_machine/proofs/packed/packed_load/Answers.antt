@@ -1,7 +1,7 @@
 use Rattle.std.proofs.Common.{sym, ap, ◌∙◌, subst, ◌+◌, ◌<◌, ◌≤◌, ◌^◌, unsigned_abs, arith}
 use Rattle.std.specs.Prelude.{slice_set}
 use Rattle.isp_base.specs.Cross.{packed_index}
-use Rattle.isp_base.specs.Maps.{lane_of, on, over}
+use Rattle.isp_base.specs.Maps.{on, over}
 use Rattle.isp_base.specs.Sets.{flag_of}
 use Rattle.isp_base.specs.Values.{number, width}
 use Rattle.isp_base.specs.declared.trap.Trap.{Trap}

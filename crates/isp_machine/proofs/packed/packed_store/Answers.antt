@@ -1,12 +1,9 @@
-use Rattle.std.proofs.Common.{sym, ap, ◌∙◌, subst, ◌+◌, ◌<◌, ◌≤◌, ◌^◌, unsigned_abs, arith}
-use Rattle.std.specs.Prelude.{slice_set}
-use Rattle.isp_base.specs.Cross.{packed_index}
-use Rattle.isp_base.specs.Maps.{lane_of, on, over}
+use Rattle.std.proofs.Common.{sym, ap, ◌∙◌, subst, ◌+◌, ◌<◌, ◌≤◌, ◌^◌, arith}
+use Rattle.isp_base.specs.Maps.{lane_of}
 use Rattle.isp_base.specs.Sets.{flag_of}
-use Rattle.isp_base.specs.Values.{number, width}
+use Rattle.isp_base.specs.Values.{width}
 use Rattle.isp_base.specs.declared.trap.Trap.{Trap}
 use Rattle.isp_base.specs.declared.types.Elem.{Elem}
-use Rattle.isp_base.specs.declared.types.Elem.TheVariants.{I64}
 use Rattle.isp_code.specs.Registers.{elem_of}
 use Rattle.isp_code.specs.declared.instr.Instr.TheVariants as instr
 use Rattle.isp_store.specs.Held.{elements}

@@ -1,4 +1,4 @@
-use Rattle.std.proofs.Common.{◌≡◌, refl, sym, ap, ◌∙◌, subst, [], rules, Some}
+use Rattle.std.proofs.Common.{◌≡◌, ◌+◌, ◌<◌, length, refl, sym, ap, ◌∙◌, subst, [], rules, Some}
 use Rattle.std.specs.Prelude.{slice_get, slice_index_or}
 use Rattle.isp_base.specs.Maps.{on}
 use Rattle.isp_base.specs.Prints.{value_text, list_text}
@@ -10,7 +10,7 @@ use Rattle.isp_code.specs.Registers.{elem_of}
 use Rattle.isp_code.specs.declared.instr.Instr.{Instr}
 use Rattle.isp_code.specs.declared.instr.Instr.TheVariants as instr
 use Rattle.isp_machine.specs.Moves.{Computes}
-use Rattle.isp_machine.specs.Rows.{RunRows, run_of}
+use Rattle.isp_machine.specs.Rows.{run_of}
 use Rattle.isp_machine.specs.Steps.{Done, Steady}
 use Rattle.isp_machine.specs.Views.{scalars_at, vectors_at, masks_at}
 use Rattle.isp_machine.proofs.Doing.{spoken, computed, came, call_mask, call_place}
@@ -19,27 +19,16 @@ use Rattle.isp_machine.proofs.step.execute.Goals as goal
 pub call-requires : goal.call-requires
 call-requires g c =
     let h = c.args.here.now in
+    let r = c.args.run.now in
     let is : c.args.instr.now ≡ instr.Call c.get.result.now = c.in-Call.is ∙ ap instr.Call (sym c.get.ensures) in
     let fine : AllFine h.code h.routine (call_operands c.get.result.now) = subst (λ (i : Instr). AllFine h.code h.routine (operands i)) is c.requires.operands in
     let calls : CallFine h.code h.routine c.get.result.now = subst (λ (i : Instr). CallsFine h.code h.routine i) is c.requires.calls in
-    let found = subst (λ (z : RunRows). slice_get h.code.routines z.frame.function ≡ Some h.routine) (sym c.run-in-Call.view_is) c.requires.found in
-    let sound = subst (λ (z : RunRows). Steady g.row.N h.code z) (sym c.run-in-Call.view_is) c.requires.sound in
-    let next = subst (λ (z : RunRows). GoesOn h.routine z.frame.pc (instr.Call c.get.result.now)) (sym c.run-in-Call.view_is) (subst (λ (i : Instr). GoesOn h.routine c.args.run.now.frame.pc i) is c.requires.next) in (
-      search rules,
-      (
-        search rules,
-        (
-          c.requires.code,
-          (
-            subst (λ (p : Listing). slice_get p.routines c.run-in-Call.inside.frame.function ≡ Some h.routine) c.requires.code found,
-            (
-              subst (λ (p : Listing). Steady g.row.N p (record { frame = c.run-in-Call.inside.frame; waiting = c.run-in-Call.inside.waiting.items; stores = c.run-in-Call.inside.stores; out = c.run-in-Call.inside.out.items })) c.requires.code sound,
-              (call_mask h.code h.routine c.get.result.now fine, (call_place h.code h.routine c.get.result.now fine, (calls, (next, c.requires.went)))),
-            ),
-          ),
-        ),
-      ),
-    )
+    let next : r.frame.pc + 1 < length h.routine.code = subst (λ (i : Instr). GoesOn h.routine r.frame.pc i) is c.requires.next in
+    let found = subst (λ (p : Listing). slice_get p.routines r.frame.function ≡ Some h.routine) c.requires.code c.requires.found in
+    let sound = subst (λ (p : Listing). Steady g.row.N p r) c.requires.code c.requires.sound in
+    let mask = call_mask h.code h.routine c.get.result.now fine in
+    let place = call_place h.code h.routine c.get.result.now fine in
+    search (rules, calls, next, found, sound, mask, place)
 
 pub returns-in_ok-say-in-Say-clause-done : goal.returns-in_ok-say-in-Say-clause-done
 returns-in_ok-say-in-Say-clause-done g c =

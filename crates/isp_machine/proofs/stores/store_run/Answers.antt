@@ -1,17 +1,10 @@
-use Rattle.std.proofs.Common.{sym, ap, ◌∙◌, subst, ◌+◌, ◌<◌, ◌≤◌, ◌^◌, unsigned_abs, arith}
-use Rattle.std.specs.Prelude.{slice_set}
-use Rattle.isp_base.specs.Cross.{packed_index}
-use Rattle.isp_base.specs.Maps.{lane_of, on, over}
+use Rattle.std.proofs.Common.{sym, subst}
+use Rattle.isp_base.specs.Maps.{lane_of}
 use Rattle.isp_base.specs.Sets.{flag_of}
-use Rattle.isp_base.specs.Values.{number, width}
 use Rattle.isp_base.specs.declared.trap.Trap.{Trap}
-use Rattle.isp_base.specs.declared.types.Elem.{Elem}
-use Rattle.isp_base.specs.declared.types.Elem.TheVariants.{I64}
-use Rattle.isp_code.specs.Registers.{elem_of}
 use Rattle.isp_code.specs.declared.instr.Instr.TheVariants as instr
 use Rattle.isp_store.specs.Held.{elements}
 use Rattle.isp_machine.specs.Moves.{Fails}
-use Rattle.isp_machine.specs.Rows.{FrameRows}
 use Rattle.isp_machine.proofs.Consecutive.{goes_run, fails_run}
 use Rattle.isp_machine.proofs.stores.store_run.Goals as goal
 
