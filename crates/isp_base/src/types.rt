@@ -2,7 +2,7 @@
 ghost use Rattle.std.specs.Prelude.{◌≡◌, ◌≢◌, ◌<◌, ◌≤◌, ◌⊎◌, None, Some, true};
 ghost use Rattle.isp_base.specs.Cross.{widened};
 ghost use Rattle.isp_base.specs.Sets.{any, everyone};
-ghost use Rattle.isp_base.specs.Types.{gang_width, span_to};
+ghost use Rattle.isp_base.specs.Types.{gang_width, span_to, widest};
 ghost use Rattle.isp_base.specs.Ranks.{chosen, common, operand, rank};
 ghost use Rattle.isp_base.specs.declared.types.Elem.{Elem};
 ghost use Rattle.isp_base.specs.declared.types.Gang.{Gang};
@@ -124,11 +124,12 @@ pub enum Gang {
     W4,
     W8,
     W16,
+    W32,
 }
 
 impl Gang {
     /// Every gang, the smallest first.
-    pub const ALL: [Gang; 3] = [Gang::W4, Gang::W8, Gang::W16];
+    pub const ALL: [Gang; 4] = [Gang::W4, Gang::W8, Gang::W16, Gang::W32];
 
     /// The gang of so many instances, if there is one.
     pub fn of_width(width: usize) -> Option<Gang>
@@ -139,6 +140,7 @@ impl Gang {
             4 => Some(Gang::W4),
             8 => Some(Gang::W8),
             16 => Some(Gang::W16),
+            32 => Some(Gang::W32),
             _ => None,
         }
     }
@@ -151,14 +153,15 @@ impl Gang {
             Gang::W4 => 4,
             Gang::W8 => 8,
             Gang::W16 => 16,
+            Gang::W32 => 32,
         }
     }
 }
 
-/// What holds of every gang: it has an instance, and at most 16, so that a word of 64 bits has a bit for each.
+/// What holds of every gang: it has an instance, and at most as many as the widest, 32, so that a word of 64 bits has a bit for each.
 pub fn gang_laws()
     ensures some { (g : Gang) → 0 < gang_width g }
-    ensures few { (g : Gang) → gang_width g ≤ 16 }
+    ensures few { (g : Gang) → gang_width g ≤ widest }
     ensures someone { (g : Gang) → any (gang_width g) (everyone (gang_width g)) ≡ true }
 {}
 

@@ -9,3 +9,4 @@ pub mod Outside
 pub mod Parts
 pub mod Others
 pub mod Loads
+pub mod RunsFor
