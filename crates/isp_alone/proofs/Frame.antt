@@ -197,7 +197,7 @@ module _ (m m2 : ℕ → ℕ → ℕ) (p : ℕ) where
           is (Lasts s) a = refl
 
         turns_framed : (n : ℕ) → Framed m m2 left_at (turns test body step n) (turns test2 body2 step2 n)
-        turns_framed zero = framed_same m m2 left_at (λ s. Lasts s) (λ s. stays s)
+        turns_framed zero = framed_same m m2 left_at (turns test body step zero) (λ s. stays s)
         turns_framed (suc n) = turned_framed (stepped test body step (turns test body step n)) (stepped test2 body2 step2 (turns test2 body2 step2 n)) (stepped_framed _ _ (turns_framed n))
 
       rounds_framed : (body body2 : Alone → End) → Framed m m2 left_at body body2 → (rs : List Run) → Framed m m2 left_at (rounds body p rs) (rounds body2 p rs)

@@ -1,5 +1,5 @@
--- Two laws of what instances do alone.
-use Rattle.std.specs.Prelude.{◌≡◌, ℕ, ◌<◌, List, Some, None}
+-- Laws of what instances do alone.
+use Rattle.std.specs.Prelude.{◌≡◌, ℕ, ◌<◌, ◌≤◌, List, Some, None}
 use Rattle.isp_base.specs.Types.{gang_width}
 use Rattle.isp_base.specs.declared.signature.Argument.{Argument}
 use Rattle.isp_typed.specs.Typed.{Program}
@@ -7,6 +7,7 @@ use Rattle.isp_alone.specs.Answers.{reached}
 use Rattle.isp_alone.specs.Runs.{solo_run}
 use Rattle.isp_alone.specs.Touched.{Reads, AreApart}
 use Rattle.isp_alone.specs.OneByOne.{one_by_one, IsOrder}
+use Rattle.isp_alone.specs.Longer.{Later, Names}
 
 -- Over other arrays, which have the same elements where a run reads, it is the same run.
 abbrev pub ReadsDecide : Type 0
@@ -25,3 +26,16 @@ AnyOrder =
     → (b e : ℕ)
     → ((p x : ℕ) → p < gang_width program.gang → (reached (solo_run program f most xs m p)).wrote b e ≡ Some x → one_by_one program f most xs ps m b e ≡ x)
     × (((p : ℕ) → p < gang_width program.gang → (reached (solo_run program f most xs m p)).wrote b e ≡ None) → one_by_one program f most xs ps m b e ≡ m b e)
+
+-- A run that ended or trapped is the same with more turns. What a cut one touched a longer one touches too.
+abbrev pub MoreTurnsAlone : Type 0
+MoreTurnsAlone =
+    (program : Program) (f few most : ℕ) (xs : List Argument) (m : ℕ → ℕ → ℕ) (p : ℕ)
+    → few ≤ most
+    → Later (solo_run program f few xs m p) (solo_run program f most xs m p)
+
+-- A trap names the instance that runs.
+abbrev pub TrapsNameTheInstance : Type 0
+TrapsNameTheInstance =
+    (program : Program) (f most : ℕ) (xs : List Argument) (m : ℕ → ℕ → ℕ) (p : ℕ)
+    → Names p (solo_run program f most xs m p)

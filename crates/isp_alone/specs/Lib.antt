@@ -9,5 +9,6 @@ pub mod Calls
 pub mod Runs
 pub mod Touched
 pub mod OneByOne
+pub mod Longer
 pub mod Laws
 pub mod Samples
