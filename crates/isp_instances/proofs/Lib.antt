@@ -29,3 +29,4 @@ pub mod Handed
 pub mod Calls
 pub mod Entry
 pub mod Whole
+pub mod Turns

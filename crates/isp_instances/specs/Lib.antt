@@ -8,3 +8,4 @@ pub mod Bodies
 pub mod Laws
 pub mod Samples
 pub mod Correct
+pub mod Turns

@@ -2,6 +2,7 @@
 ghost use Rattle.isp_instances.specs.Correct.{SoloRunsAgree};
 ghost use Rattle.isp_instances.specs.Laws.{ActsAgree, BodiesAgree, EveryCallAgrees, ExpressionsAgree, LoopsAgree, StatementsAgree, TouchedStays};
 ghost use Rattle.isp_instances.specs.Samples.{AgreementOfSamples};
+ghost use Rattle.isp_instances.specs.Turns.{EachWithItsTurns};
 
 /// What an instance alone has read stays read, and where it has stored it has stored, whatever it does next: so a part of a run
 /// touches no more than the whole.
@@ -57,4 +58,10 @@ pub fn every_call_agrees()
 /// instances one by one, in any order, it has printed nothing, and its result is each instance's own.
 pub fn solo_runs_agree()
     ensures { SoloRunsAgree }
+{}
+
+/// `solo_runs_agree` where each instance has a number of turns of its own, with which it ends: with as many turns as any of them the
+/// gang ends with what the instances leave.
+pub fn each_with_its_turns()
+    ensures { EachWithItsTurns }
 {}

@@ -4,6 +4,6 @@
 mod laws;
 
 pub use laws::{
-    acts_agree, agreement_of_samples, bodies_agree, every_call_agrees, expressions_agree,
-    loops_agree, solo_runs_agree, statements_agree, touched_stays,
+    acts_agree, agreement_of_samples, bodies_agree, each_with_its_turns, every_call_agrees,
+    expressions_agree, loops_agree, solo_runs_agree, statements_agree, touched_stays,
 };
