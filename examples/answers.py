@@ -9,6 +9,7 @@ import math
 import pathlib
 import subprocess
 import sys
+import zlib
 
 HERE = pathlib.Path(__file__).resolve().parent
 ROWS = HERE.parent / "crates/isp_cases/data/kernels.rows"
@@ -100,7 +101,37 @@ def factors(a):
     a["numbers"] = [math.gcd(n, m) for n, m in zip(a["numbers"], a["others"])]
 
 
+def compact(a):
+    kept = [v for v in a["values"] if v > 0]
+    a["kept"][: len(kept)] = kept
+    return len(kept)
+
+
+def bitonic(a):
+    a["values"].sort()
+
+
+def life(a):
+    width, height = a["width"], a["height"]
+    alive = {(y, x) for y in range(height) for x in range(width) if a["cells"][y * width + x]}
+    for _ in range(a["generations"]):
+        near = [((y + j) % height, (x + i) % width) for y, x in alive for j in (-1, 0, 1) for i in (-1, 0, 1) if (j, i) != (0, 0)]
+        alive = {cell for cell in near if near.count(cell) == 3 or near.count(cell) == 2 and cell in alive}
+    a["cells"] = [int((y, x) in alive) for y in range(height) for x in range(width)]
+    a["next"] = list(a["cells"])
+
+
+def find(a):
+    return bytes(a["text"]).find(bytes(a["word"]))
+
+
+def crc32(a):
+    starts = a["starts"]
+    a["sums"] = [zlib.crc32(bytes(a["bytes"][start:end])) for start, end in zip(starts, starts[1:])]
+
+
 KERNELS = [brighten, blur, fir, lookup, histogram, mandelbrot, roots, matrix, collatz, threshold, totals, factors]
+KERNELS += [compact, bitonic, life, find, crc32]
 
 
 def answer(kernel):

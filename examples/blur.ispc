@@ -1,5 +1,5 @@
 // A foreach of two dimensions: the rows one after the other, and along a row the columns in runs of a gang.
-// The loops over the nine neighbours are uniform, so the gang makes the same turns together, and no instance waits for another.
+// The loops over the nine neighbours are uniform, so the gang makes the same iterations together, and no instance waits for another.
 // `row` and `column` are varying: each instance reads its own element of the image, and at the border one inside.
 export void blur(const uniform uint8 image[], uniform uint8 blurred[], uniform int width, uniform int height) {
     foreach (y = 0 ... height, x = 0 ... width) {

@@ -1,4 +1,4 @@
-// Each instance follows its own number down to 1: both sides of the varying `if` run, each for those that need it.
+// Each instance follows its own number down to 1: both branches of the varying `if` run, each for those that need it.
 // The `while` goes on while one instance is left; the others are off in it, and their counts stay.
 // The function is called with a whole run of numbers at once, and what it gives back is varying.
 int steps(int64 n) {

@@ -1,6 +1,6 @@
-// Each instance has a point of its own, and they leave the loop at different turns: the test is varying, and those that fail it wait, off.
+// Each instance has a point of its own, and they leave the loop after different numbers of iterations: the test is varying, and those that fail it wait, off.
 // The loop ends when its last instance does, so the gang takes as long as its slowest point.
-// Numbers have twelve bits behind the point: 4096 is 1, and a product of two is shifted back by twelve.
+// Numbers have twelve fraction bits: 4096 is 1, and a product of two is shifted back by twelve.
 export void mandelbrot(uniform int left, uniform int top, uniform int step, uniform int width, uniform int height, uniform int limit, uniform int turns[]) {
     foreach (y = 0 ... height, x = 0 ... width) {
         int real = left + x * step, imaginary = top + y * step;
