@@ -9,7 +9,7 @@ An example is a block between ``` that begins with `$ `:
     $ cat NAME                      the lines of a file up to the next `$ `; it stays as it is until it is shown anew
     $ isp WORD..                    what it prints, and last `[STATUS]` where that is not 0; `$ bin/isp WORD..` too
     $ isp WORD.. > NAME             what it prints is what the `$ cat NAME` behind it shows
-    $ isp WORD.. 2>&1 | tools/explain NAME
+    $ isp WORD.. 2>&1 | tools/explain NAME..
                                     what tools/explain makes of what the same command printed before
 
 Other commands count for nothing. A file that a page does not show is taken from the repository, where it is there. Of a command that
@@ -131,8 +131,9 @@ def rows_of(page):
                 unseen.discard(words[1])
             elif words[0] != "isp":
                 continue
-            elif words[-4:-1] == ["2>&1", "|", "tools/explain"]:
-                said = explained(words[-1:], text_of(printed.get(tuple(words[1:-4]), [])), files)
+            elif "tools/explain" in words:
+                at = words.index("tools/explain")
+                said = explained(words[at + 1 :], text_of(printed.get(tuple(words[1 : at - 2]), [])), files)
                 if said != shown:
                     differ.append(f"{heading}: tools/explain says\n{text_of(said)}")
             elif into and following == f"cat {into}" and not unseen.intersection(words[:-1]):
