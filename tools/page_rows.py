@@ -2,7 +2,8 @@
 """Writes crates/isp_requests/data/pages.rows from the examples of the pages, so that `rt ci` runs what the pages show.
 
     tools/page_rows.py              writes the rows of README.md and docs/, and the count of requests in crates/isp_requests/stdout
-    tools/page_rows.py --check      ends with status 1 where these are stale, or where tools/explain says something else than a page
+    tools/page_rows.py --check      ends with status 1 where these are stale, where tools/explain says something else than a page, or where a
+                                    row of a table of docs/FAULTS.md is the fix of no program among these and among those of ported.rows
 
 An example is a block between ``` that begins with `$ `:
 
@@ -16,6 +17,8 @@ Other commands count for nothing. A file that a page does not show is taken from
 goes into another, or reads a file that is not shown since another made it, there is no row; its name is printed. The format of the
 rows stands in crates/isp_requests/src/main.rt.
 """
+import importlib.machinery
+import importlib.util
 import os
 import re
 import subprocess
@@ -26,6 +29,7 @@ ROOT = os.path.dirname(os.path.dirname(os.path.realpath(__file__)))
 CRATE = "crates/isp_requests"
 ROWS = f"{CRATE}/data/pages.rows"
 COUNT = f"{CRATE}/stdout"
+PORTED = "crates/isp_cases/data/ported.rows"
 HEAD = """. What the examples of README.md and of the pages of docs/ show. Written by tools/page_rows.py.
 . What docs/FAULTS.md and docs/INDEPENDENCE.md show was worked out from the rules before it was run, but for the place of 11, which is left open.
 """
@@ -146,6 +150,37 @@ def rows_of(page):
     return rows, differ
 
 
+def refused(rows):
+    """Yields the fault, the source and the span of each source that rows refuse, those of this page and those of PORTED."""
+    files = {}
+    for line in rows:
+        word, _, rest = line.partition(" ")
+        if word == "file":
+            files.__setitem__(*rest.split(" ", 1))
+        elif word == "words":
+            name = rest.split(" ")[-1]
+        elif word == "err" and (fault := re.match(r"isp: (\d+) \w+ at (\d+)\.\.(\d+)$", rest)) and name in files:
+            yield fault[1], files[name].replace("␤", "\n").replace("␉", "\t").encode(), int(fault[2]), int(fault[3])
+    for line in contents(PORTED).split("\n"):
+        if fault := re.match(r"refuses (\d+) \w+\|(.*)⟦(.*)⟧(.*)", line):
+            before, marked, after = (part.encode() for part in fault.groups()[1:])
+            yield fault[1], before + marked + after, len(before), len(before + marked)
+
+
+def unused(rows):
+    """Yields the rows of the tables of docs/FAULTS.md that are the fix of no program."""
+    loader = importlib.machinery.SourceFileLoader("explain", f"{ROOT}/tools/explain")
+    explain = importlib.util.module_from_spec(importlib.util.spec_from_loader("explain", loader))
+    loader.exec_module(explain)
+    tables, used = {heading: [cell for cell, _ in table] for heading, (_, _, table) in explain.pages_faults().items()}, set()
+    for number, source, start, end in refused(rows):
+        heading = next((it for it in tables if it.startswith(f"{number} ")), "")
+        spot = explain.Spot(source, start, end)
+        used.add((heading, next((cell for cell in tables.get(heading, []) if spot.fits(cell)), "")))
+    for heading, cells in tables.items():
+        yield from (f"{heading}: no program for the row {cell}" for cell in cells if (heading, cell) not in used)
+
+
 def counted(rows):
     """Returns the line that crates/isp_requests prints where all of its requests come out."""
     names = [name for name in contents(f"{CRATE}/args").split() if name != os.path.basename(ROWS)]
@@ -164,6 +199,7 @@ def main():
         rows += of_page
         differ += otherwise
     text = HEAD + text_of(rows)
+    differ += unused(rows)
     for why in differ:
         print(why, file=sys.stderr)
     for name, wanted in ((ROWS, text), (COUNT, counted(text))):
