@@ -62,7 +62,7 @@ def one_of(*words):
 
 
 def gang(word):
-    return number(4, 16)(word) or (0 if word in ("4", "8", "16") else 61)
+    return number(4, 32)(word) or (0 if word in ("4", "8", "16", "32") else 61)
 
 
 def constant(word):
@@ -90,7 +90,7 @@ ENDINGS = {"": [], "n": [constant], "t": [lettered("t")], "L": [lettered("L", 62
 def forms(word, count):
     """The forms of so many words behind the first, or None."""
     exact = {
-        "isp": [[number(1, 1), one_of("gang"), gang]],
+        "isp": [[number(1, 2), one_of("gang"), gang]],
         "place": [[BELOW, BELOW]],
         "text": [[hexadecimal]],
         "func": [[name, one_of("export", "inner"), one_of("void")], [name, one_of("export", "inner"), one_of("s", "v"), one_of(*TYPES)]],
@@ -124,6 +124,8 @@ def line_fault(last, line):
     for judge, operand in zip(fs, behind):
         if judge(operand):
             return judge(operand), None
+    if word == "isp" and behind[0] != ("2" if behind[2] == "32" else "1"):
+        return 61, None
     if word == "place" and not int(behind[0]) <= int(behind[1]) <= 1048576:
         return 61, None
     return 0, kind
@@ -189,8 +191,9 @@ FRAMES = {
     "s": (F, "m 1\nend\n"), "v": (F, "m 1\nend\n"), "m": (F, END), "end": (M, ""), "instr": (M, END),
 }
 HEADERS = [
-    "isp 1 gang 4", "isp 1 gang 8", "isp 1 gang 16", "place 0 4", "place 5 5", "text 0aff", "func f export void", "func if inner s b", "func _9 inner v u64",
-    "par s i32 n", "par v u8 while", "par a i64 A_1", "loc u i16 1", "loc p u32 65536", "s b", "s i8 u8 i16 u16 i32", "v u32 i64", "m 0", "m 4294967295", "end",
+    "isp 1 gang 4", "isp 1 gang 8", "isp 1 gang 16", "isp 2 gang 32", "place 0 4", "place 5 5", "text 0aff",
+    "func f export void", "func if inner s b", "func _9 inner v u64", "par s i32 n", "par v u8 while", "par a i64 A_1",
+    "loc u i16 1", "loc p u32 65536", "s b", "s i8 u8 i16 u16 i32", "v u32 i64", "m 0", "m 4294967295", "end",
 ]
 
 
@@ -257,7 +260,9 @@ def rows():
     yield from (M + f"const s0 {n}\n" + END for n in "0 -1 -0 -01 00 - -- +1 1x 18446744073709551615 18446744073709551616 -9223372036854775808 -9223372036854775809".split(" "))
     yield from (H + f"place {p}\n" for p in ("5 4", "0 1048576", "0 1048577", "4294967296 03", "5 03", "2000000 03", "01 x", "x 01", "1048576 1048576"))
     yield from (F + f"m {n}\n" + END for n in "01 00 04294967296 4294967296 x -1 +1 0x1".split(" "))
-    yield from (f"isp {h}\n" for h in ("2 gang 4", "1 gan 4", "1 gang 5", "x gang 04", "01 gang 4", "1 gang 04", "2 gang 04", "2 gang 32", "1 gang 32"))
+    yield from (f"isp {h}\n" for h in ("2 gang 4", "1 gan 4", "1 gang 5", "x gang 04", "1 gan 32"))
+    yield from (f"isp {v} gang {n}\n" for v in "0 1 2 3 01 02".split(" ") for n in "4 04 8 16 32 032 64".split(" "))
+    yield WHOLE.replace("isp 1 gang 4", "isp 2 gang 32")
     yield from (H + f"text {t}\n" for t in ("780", "7A", "zz", "00", "7", "7g"))
     yield from (F + f"loc u i32 {n}\n" + "m 1\nend\n" for n in ("0", "1", "65536", "65537", "00", "x"))
     jumps = "jmp 0|jmp L|jmp Lx|jmp l0|jmp x01|jmp L4294967296|jmp L4294967295|jmp L01|jmp L04294967296|jz s01 x|jz x L01|jz x x|jz m0 L0"

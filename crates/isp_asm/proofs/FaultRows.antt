@@ -161,8 +161,8 @@ void_with_type : Breaks (gang ++ line "func f export void i32") BadOperand 2
 void_with_type = refl
 
 -- numbers, from left to right
-version_two : Breaks (line "isp 2 gang 4") BadOperand 1
-version_two = refl
+version_three : Breaks (line "isp 3 gang 4") BadOperand 1
+version_three = refl
 
 gang_of_five : Breaks (line "isp 1 gang 5") BadOperand 1
 gang_of_five = refl
@@ -391,14 +391,42 @@ byte_above = refl
 word_gan : Breaks (line "isp 1 gan 4") BadOperand 1
 word_gan = refl
 
-version_and_zero : Breaks (line "isp 2 gang 04") BadOperand 1
+-- each word of the first line before the pair
+version_and_zero : Breaks (line "isp 2 gang 04") NotCanonical 1
 version_and_zero = refl
+
+no_version_and_zero : Breaks (line "isp 3 gang 04") BadOperand 1
+no_version_and_zero = refl
+
+zero_and_no_gang : Breaks (line "isp 02 gang 5") NotCanonical 1
+zero_and_no_gang = refl
+
+pair_and_word : Breaks (line "isp 1 gan 32") BadOperand 1
+pair_and_word = refl
+
+gang_of_4 : Breaks (line "isp 2 gang 4") BadOperand 1
+gang_of_4 = refl
+
+gang_of_8 : Breaks (line "isp 2 gang 8") BadOperand 1
+gang_of_8 = refl
+
+gang_of_16 : Breaks (line "isp 2 gang 16") BadOperand 1
+gang_of_16 = refl
 
 gang_of_32 : Breaks (line "isp 1 gang 32") BadOperand 1
 gang_of_32 = refl
 
-gang_of_16 : IsRead (line "isp 1 gang 16")
-gang_of_16 = refl
+gang_of_64 : Breaks (line "isp 2 gang 64") BadOperand 1
+gang_of_64 = refl
+
+first_of_8 : IsRead (line "isp 1 gang 8")
+first_of_8 = refl
+
+first_of_16 : IsRead (line "isp 1 gang 16")
+first_of_16 = refl
+
+second_of_32 : IsRead (line "isp 2 gang 32")
+second_of_32 = refl
 
 result_int : Breaks (gang ++ line "func f export s int") BadOperand 2
 result_int = refl

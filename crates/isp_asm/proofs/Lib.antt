@@ -1,6 +1,7 @@
 pub mod Texts
 pub mod FaultRows
 pub mod Numerals
+pub mod HeaderReadings
 pub mod HeadLaws
 pub mod Splits
 pub mod WordReadings

@@ -10,7 +10,7 @@ use Rattle.std.proofs.lemmas.List.{append-nil}
 use Rattle.isp_base.specs.Types.{gang_width}
 use Rattle.isp_base.specs.declared.types.Elem.{Elem}
 use Rattle.isp_base.specs.declared.types.Gang.{Gang}
-use Rattle.isp_base.specs.declared.types.Gang.TheVariants.{W4, W8, W16}
+use Rattle.isp_base.specs.declared.types.Gang.TheVariants.{W4, W8, W16, W32}
 use Rattle.isp_base.specs.declared.types.Span.{Span}
 use Rattle.isp_code.specs.Writable.{number_fits, register_fits, result_fits, call_fits, place_fits, source_limit, text_fits, local_fits}
 use Rattle.isp_code.specs.declared.function.Local.{Local}
@@ -113,7 +113,7 @@ abbrev gang_word : Gang → List ℕ
 gang_word g = decimal (gang_width g)
 
 abbrev gang_back : List ℕ → Gang
-gang_back w = first_of gang_word W4 (W4 ∷ W8 ∷ W16 ∷ []) w
+gang_back w = first_of gang_word W4 (W4 ∷ W8 ∷ W16 ∷ W32 ∷ []) w
 
 abbrev export_back : List ℕ → Bool
 export_back w = first_of export_word true (true ∷ false ∷ []) w
@@ -160,6 +160,7 @@ unfolding digits
 gang_kept W4 = refl
 gang_kept W8 = refl
 gang_kept W16 = refl
+gang_kept W32 = refl
 
 small : (n m : ℕ) → n ≤ m → m ≤ 2 ^ 32 → value (decimal n) ≡ n
 small n m h k = digits_value-decimal own n (omega (arith, h, k))

@@ -9,7 +9,7 @@ use Rattle.std.proofs.lemmas.Fmt.{digits_value-decimal}
 use Rattle.isp_base.specs.Types.{gang_width}
 use Rattle.isp_base.specs.declared.types.Elem.{Elem}
 use Rattle.isp_base.specs.declared.types.Gang.{Gang}
-use Rattle.isp_base.specs.declared.types.Gang.TheVariants.{W4, W8, W16}
+use Rattle.isp_base.specs.declared.types.Gang.TheVariants.{W4, W8, W16, W32}
 use Rattle.isp_base.specs.declared.types.Span.{Span}
 use Rattle.isp_code.specs.Writable.{number_fits, register_fits, result_fits, call_fits, place_fits, source_limit, name_fits, local_fits}
 use Rattle.isp_code.specs.declared.function.Local.{Local}
@@ -31,10 +31,11 @@ use Rattle.isp_asm.specs.Heads.{heads, head_word, first_spelled}
 use Rattle.isp_asm.specs.Order.{kind_of, may_follow}
 use Rattle.isp_asm.specs.Rows.{Row, line, call, row, row_words, tail_words}
 use Rattle.isp_asm.specs.Spelling as says
-use Rattle.isp_asm.specs.Spelling.{Line, line_words, export_word, kind_word, sharing_word, returns_words}
+use Rattle.isp_asm.specs.Spelling.{Line, version_of, line_words, export_word, kind_word, sharing_word, returns_words}
 use Rattle.isp_asm.specs.Words.{register_word, type_word, function_word, back_word, place_word, hex_word}
 use Rattle.isp_asm.specs.reader.Reading.{ending_of, line_fits, line_head, row_head, tail_fits}
 use Rattle.isp_asm.proofs.HeadLaws.{head_found}
+use Rattle.isp_asm.proofs.HeaderReadings.{version_value, width_value, version_goes}
 use Rattle.isp_asm.proofs.Numerals.{own, number_lt}
 use Rattle.isp_asm.proofs.RowLaws.{HasForms, one_register, row_fit, row_fits, row_forms}
 use Rattle.isp_asm.proofs.Rights.{Right, AllRight, right-append, no_words_fault, all_plain, number_right, lettered_right, label_right, register_right, registers_right, back_right, constant_right, type_right, types_right, name_right, hex_right}
@@ -72,13 +73,26 @@ pub record Spelled (h : Head) (all : List (List ℕ)) : Type 0 where
   pub is : all ≡ head_word h ∷ operands
   pub fine : Operands h operands
 
-version_right : Right (NumberIn is_version) (codes "1")
-version_right = (refl, refl)
+version_right : (g : Gang) → Right (NumberIn is_version) (decimal (version_of g))
+version_right W4 = number_right is_version 1 (omega arith) refl
+version_right W8 = number_right is_version 1 (omega arith) refl
+version_right W16 = number_right is_version 1 (omega arith) refl
+version_right W32 = number_right is_version 2 (omega arith) refl
 
 gang_right : (g : Gang) → Right (NumberIn is_gang) (decimal (gang_width g))
 gang_right W4 = number_right is_gang 4 (omega arith) refl
 gang_right W8 = number_right is_gang 8 (omega arith) refl
 gang_right W16 = number_right is_gang 16 (omega arith) refl
+gang_right W32 = number_right is_gang 32 (omega arith) refl
+
+header_right : (g : Gang) → Operands head.Isp (decimal (version_of g) ∷ codes "gang" ∷ decimal (gang_width g) ∷ [])
+header_right g =
+    record {
+      forms = NumberIn is_version ∷ OneOf (codes "gang" ∷ []) ∷ NumberIn is_gang ∷ [];
+      known = refl;
+      right = (version_right g, ((refl, refl), (gang_right g, tt)));
+      whole = rw (version_value g, width_value g, version_goes g) refl;
+    }
 
 place_right : (s : Span) → place_fits s ≡ true → Operands head.Place (decimal s.start ∷ decimal s.end ∷ [])
 place_right s h =
@@ -175,12 +189,7 @@ row_right (line o rs t) h k =
 row_right (call c) h k = record { operands = row_operands (call c); is = refl; fine = call_right c h }
 
 pub line_right : (l : Line) → line_fits l ≡ true → Spelled (line_head l) (line_words l)
-line_right (says.Isp g) h =
-    record {
-      operands = codes "1" ∷ codes "gang" ∷ decimal (gang_width g) ∷ [];
-      is = refl;
-      fine = record { forms = NumberIn is_version ∷ OneOf (codes "gang" ∷ []) ∷ NumberIn is_gang ∷ []; known = refl; right = (version_right, ((refl, refl), (gang_right g, tt))); whole = refl };
-    }
+line_right (says.Isp g) h = record { operands = decimal (version_of g) ∷ codes "gang" ∷ decimal (gang_width g) ∷ []; is = refl; fine = header_right g }
 line_right (says.Place s) h = record { operands = decimal s.start ∷ decimal s.end ∷ []; is = refl; fine = place_right s h }
 line_right (says.Text bytes) h =
     record { operands = hex_word bytes ∷ []; is = refl; fine = record { forms = Hex ∷ []; known = refl; right = (hex_right bytes h, tt); whole = refl } }

@@ -7,9 +7,10 @@ use Rattle.std.proofs.lemmas.List.{append-nil}
 use Rattle.std.proofs.lemmas.List.Concat.{flat_map-append}
 use Rattle.std.proofs.lemmas.Option.{slice_get_within, get_or_from_slice_get}
 use Rattle.isp_base.specs.Types.{gang_width}
+use Rattle.isp_base.specs.declared.types.Gang.{Gang}
 use Rattle.isp_code.specs.Listing.{Listing, Routine}
 use Rattle.isp_asm.specs.Spelling as says
-use Rattle.isp_asm.specs.Spelling.{Line, spaced, line_words, line_text, lines_text, routine_lines, head_lines, if_any, header_words, place_line, text_line, param_line, local_line, instr_line, scalars_line, vectors_line, text_of}
+use Rattle.isp_asm.specs.Spelling.{Line, spaced, line_words, line_text, lines_text, routine_lines, head_lines, if_any, version_of, header_words, place_line, text_line, param_line, local_line, instr_line, scalars_line, vectors_line, text_of}
 
 lines-append : (xs ys : List Line) → lines_text (xs ++ ys) ≡ lines_text xs ++ lines_text ys
 lines-append xs ys = flat_map-append (λ l. line_text (line_words l)) xs ys
@@ -51,12 +52,12 @@ module _ (h : Routine) where
       ∙ ap (λ t. o ++ t) (sym routine_text))
 
 -- code, by its parts
-pub listing_written : (c : Listing) (n : ℕ) (a b d e : List ℕ) → n ≡ gang_width c.gang → a ≡ line_text (header_words n) → b ≡ a ++ lines_text (map place_line c.places) → d ≡ b ++ lines_text (map text_line c.texts) → e ≡ d ++ lines_text (flat_map routine_lines c.routines) → e ≡ text_of c
-listing_written c n a b d e i j k l m =
-    m ∙ (rw (l, k, j, i)
-    (append_assoc (line_text (header_words (gang_width c.gang)) ++ lines_text (map place_line c.places)) (lines_text (map text_line c.texts)) (lines_text (flat_map routine_lines c.routines))
-    ∙ append_assoc (line_text (header_words (gang_width c.gang))) (lines_text (map place_line c.places)) (lines_text (map text_line c.texts) ++ lines_text (flat_map routine_lines c.routines))
-    ∙ ap (λ t. line_text (header_words (gang_width c.gang)) ++ t)
+pub listing_written : (c : Listing) (a b d e : List ℕ) → a ≡ line_text (header_words c.gang) → b ≡ a ++ lines_text (map place_line c.places) → d ≡ b ++ lines_text (map text_line c.texts) → e ≡ d ++ lines_text (flat_map routine_lines c.routines) → e ≡ text_of c
+listing_written c a b d e j k l m =
+    m ∙ (rw (l, k, j)
+    (append_assoc (line_text (header_words c.gang) ++ lines_text (map place_line c.places)) (lines_text (map text_line c.texts)) (lines_text (flat_map routine_lines c.routines))
+    ∙ append_assoc (line_text (header_words c.gang)) (lines_text (map place_line c.places)) (lines_text (map text_line c.texts) ++ lines_text (flat_map routine_lines c.routines))
+    ∙ ap (λ t. line_text (header_words c.gang) ++ t)
     (ap (λ t. lines_text (map place_line c.places) ++ t) (sym (lines-append (map text_line c.texts) (flat_map routine_lines c.routines)))
     ∙ sym (lines-append (map place_line c.places) (map text_line c.texts ++ flat_map routine_lines c.routines)))))
 
@@ -71,6 +72,6 @@ from_number xs n x e =
 words_grouped : (o a b c d e : List ℕ) → ((((o ++ a) ++ b) ++ c) ++ d) ++ e ≡ o ++ (a ++ ((b ++ (c ++ (d ++ []))) ++ e))
 words_grouped o a b c d e = simp (append_assoc, append-nil)
 
-pub header_written : (n : ℕ) (o a b c d : List ℕ) → a ≡ o ++ codes "isp" → b ≡ a ++ spaced (codes "1") → c ≡ b ++ spaced (codes "gang") → d ≡ c ++ spaced (decimal n) → d ++ 10 ∷ [] ≡ o ++ line_text (header_words n)
-header_written n o a b c d i j k l =
-    rw (l, k, j, i) (words_grouped o (codes "isp") (spaced (codes "1")) (spaced (codes "gang")) (spaced (decimal n)) (10 ∷ []))
+pub header_written : (g : Gang) (v n : ℕ) (o a b c d : List ℕ) → v ≡ version_of g → n ≡ gang_width g → a ≡ o ++ codes "isp" → b ≡ a ++ spaced (decimal v) → c ≡ b ++ spaced (codes "gang") → d ≡ c ++ spaced (decimal n) → d ++ 10 ∷ [] ≡ o ++ line_text (header_words g)
+header_written g v n o a b c d e f i j k l =
+    rw (l, k, j, i, e, f) (words_grouped o (codes "isp") (spaced (decimal (version_of g))) (spaced (codes "gang")) (spaced (decimal (gang_width g))) (10 ∷ []))

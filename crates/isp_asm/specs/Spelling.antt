@@ -5,6 +5,7 @@ use Rattle.std.specs.List.{flat_map}
 use Rattle.isp_base.specs.Types.{gang_width}
 use Rattle.isp_base.specs.declared.types.Elem.{Elem}
 use Rattle.isp_base.specs.declared.types.Gang.{Gang}
+use Rattle.isp_base.specs.declared.types.Gang.TheVariants.{W32}
 use Rattle.isp_base.specs.declared.types.Span.{Span}
 use Rattle.isp_code.specs.Listing.{Listing, Routine}
 use Rattle.isp_code.specs.declared.function.Local.{Local}
@@ -52,12 +53,17 @@ abbrev pub sharing_word : Sharing → List ℕ
 sharing_word Shared = codes "u"
 sharing_word PerInstance = codes "p"
 
--- the first line, with the number of lanes
-abbrev pub header_words : ℕ → List (List ℕ)
-header_words n = codes "isp" ∷ codes "1" ∷ codes "gang" ∷ decimal n ∷ []
+-- the version that the first line names: gangs of 32 came with the second
+abbrev pub version_of : Gang → ℕ
+version_of W32 = 2
+version_of g = 1
+
+-- the first line, with the version and the number of lanes
+abbrev pub header_words : Gang → List (List ℕ)
+header_words g = codes "isp" ∷ decimal (version_of g) ∷ codes "gang" ∷ decimal (gang_width g) ∷ []
 
 abbrev pub line_words : Line → List (List ℕ)
-line_words (Isp g) = header_words (gang_width g)
+line_words (Isp g) = header_words g
 line_words (Place s) = codes "place" ∷ decimal s.start ∷ decimal s.end ∷ []
 line_words (Text bytes) = codes "text" ∷ hex_word bytes ∷ []
 line_words (Func name exported r) = codes "func" ∷ name ∷ export_word exported ∷ returns_words r

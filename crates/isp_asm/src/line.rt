@@ -1,10 +1,9 @@
 //! Lines as they are read.
 ghost use Rattle.std.specs.Prelude.{◌≡◌, ◌∷◌, [], true, length, map, replicate, codes, IfOk, IfErr, OnOk, Some, None};
-ghost use Rattle.isp_base.specs.Types.{gang_width};
 ghost use Rattle.isp_code.specs.Writable.{local_fits, name_fits, number_fits, param_fits, place_fits, text_fits};
 ghost use Rattle.isp_asm.specs.Heads.{head_word};
 ghost use Rattle.isp_asm.specs.Spelling as says;
-ghost use Rattle.isp_asm.specs.Spelling.{header_words, line_words, returns_words};
+ghost use Rattle.isp_asm.specs.Spelling.{line_words, returns_words};
 ghost use Rattle.isp_asm.specs.Words.{type_word};
 ghost use Rattle.isp_asm.specs.declared.fault.LineFault.TheVariants.{Refused};
 ghost use Rattle.isp_asm.specs.declared.fault.Rule.{Rule};
@@ -14,7 +13,7 @@ ghost use Rattle.isp_asm.specs.reader.Reading.{behind_fault, is_some_types, line
 use crate::fault::{LineFault, Rule};
 use crate::head::Head;
 use crate::instr::{call, instr};
-use crate::{operands, words};
+use crate::{operands, page, words};
 use isp_base::{Elem, Gang, Name, Span};
 use isp_code::{Instr, Local, Param, Returns};
 use std::alloc::Global;
@@ -55,16 +54,30 @@ pub(crate) enum Line {
 }
 
 fn header(words: &[&str]) -> Result<Gang, Rule>
-    ensures spelled { IfOk result (λ g. header_words (gang_width g) ≡ codes "isp" ∷ words_of words.now) }
+    ensures spelled { IfOk result (λ g. line_words (says.Isp g) ≡ codes "isp" ∷ words_of words.now) }
     ensures ok { OnOk result (behind_fault head.Isp (words_of words.now) ≡ None) }
     ensures err { IfErr result (λ e. behind_fault head.Isp (words_of words.now) ≡ Some e) }
 {
     let [version, gang, width] = words else {
         return Err(Rule::BadLine);
     };
-    words::version(version.as_bytes())?;
+    lanes(version, gang, width)
+}
+
+// The lanes of a gang, behind its version.
+fn lanes(version: &str, gang: &str, width: &str) -> Result<Gang, Rule>
+    ensures spelled { IfOk result (λ g. line_words (says.Isp g) ≡ codes "isp" ∷ version.now ∷ gang.now ∷ width.now ∷ []) }
+    ensures ok { OnOk result (behind_fault head.Isp (version.now ∷ gang.now ∷ width.now ∷ []) ≡ None) }
+    ensures err { IfErr result (λ e. behind_fault head.Isp (version.now ∷ gang.now ∷ width.now ∷ []) ≡ Some e) }
+{
+    let version = words::version(version.as_bytes())?;
     words::expect("gang", gang)?;
-    words::gang(width.as_bytes())
+    let gang = words::gang(width.as_bytes())?;
+    if version == page::version_of(gang) {
+        Ok(gang)
+    } else {
+        Err(Rule::BadOperand)
+    }
 }
 
 fn place(words: &[&str]) -> Result<Span, Rule>

@@ -5,12 +5,12 @@ ghost use Rattle.std.specs.Fmt.{decimal, signed_decimal};
 ghost use Rattle.std.specs.List.{flat_map};
 ghost use Rattle.isp_asm.specs.Heads.{head_word};
 ghost use Rattle.isp_asm.specs.Rows.{tail_words};
-ghost use Rattle.isp_asm.specs.Spelling.{spaced};
+ghost use Rattle.isp_asm.specs.Spelling.{spaced, version_of};
 ghost use Rattle.isp_asm.specs.Words.{letter, register_word, back_word, type_word, hex_word, hex_byte};
 
 use crate::head::Head;
 use crate::row::Tail;
-use isp_base::Elem;
+use isp_base::{Elem, Gang};
 use isp_code::{Class, Register};
 use itoa::Buffer;
 use std::alloc::{AllocError, Global};
@@ -200,6 +200,16 @@ fn letter_of(class: Class) -> &'static str
         Class::Vector => "v",
         Class::Mask => "m",
         Class::Array => "a",
+    }
+}
+
+/// The version of code for a gang.
+pub(crate) fn version_of(gang: Gang) -> u64
+    ensures { result ≡ version_of gang }
+{
+    match gang {
+        Gang::W4 | Gang::W8 | Gang::W16 => 1,
+        Gang::W32 => 2,
     }
 }
 

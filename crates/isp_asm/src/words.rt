@@ -415,14 +415,16 @@ pub(crate) fn value(kind: &str, elem: &str) -> Result<Returns, Rule>
     }
 }
 
-/// The only version.
-pub(crate) fn version(word: &[u8]) -> Result<(), Rule>
-    ensures spelled { OnOk result (codes "1" ≡ word.now) }
+/// A version.
+pub(crate) fn version(word: &[u8]) -> Result<u64, Rule>
+    ensures spelled { IfOk result (λ v. decimal v ≡ word.now) }
+    ensures fits { IfOk result (λ v. forms.is_version v ≡ true) }
     ensures ok { OnOk result (word_fault (NumberIn forms.is_version) word.now ≡ None) }
     ensures err { IfErr result (λ e. word_fault (NumberIn forms.is_version) word.now ≡ Some e) }
 {
     match numeral(Rule::BadOperand, word) {
-        Ok(1) => Ok(()),
+        Ok(1) => Ok(1),
+        Ok(2) => Ok(2),
         Ok(_) => Err(Rule::BadOperand),
         Err(rule) => Err(rule),
     }
@@ -438,6 +440,7 @@ pub(crate) fn gang(word: &[u8]) -> Result<Gang, Rule>
         Ok(4) => Ok(Gang::W4),
         Ok(8) => Ok(Gang::W8),
         Ok(16) => Ok(Gang::W16),
+        Ok(32) => Ok(Gang::W32),
         Ok(_) => Err(Rule::BadOperand),
         Err(rule) => Err(rule),
     }

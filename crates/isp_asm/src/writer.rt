@@ -4,12 +4,12 @@ ghost use Rattle.std.specs.List.{flat_map};
 ghost use Rattle.isp_code.specs.Listing.{routine_of};
 ghost use Rattle.isp_asm.specs.Heads.{head_word};
 ghost use Rattle.isp_asm.specs.Spelling as says;
-ghost use Rattle.isp_asm.specs.Spelling.{export_word, header_words, instr_line, kind_word, if_any, line_text, line_words, lines_text, local_line, param_line, place_line, returns_words, routine_lines, scalars_line, sharing_word, spaced, text_line, text_of, vectors_line};
+ghost use Rattle.isp_asm.specs.Spelling.{export_word, instr_line, kind_word, if_any, line_text, line_words, lines_text, local_line, param_line, place_line, returns_words, routine_lines, scalars_line, sharing_word, spaced, text_line, text_of, vectors_line};
 ghost use Rattle.isp_asm.specs.Words.{type_word};
 
 use crate::head::Head;
-use crate::page::Page;
-use isp_base::{Elem, Span};
+use crate::page::{self, Page};
+use isp_base::{Elem, Gang, Span};
 use isp_code::{Code, Function, Instr, Local, Param, ParamKind, Returns, Sharing};
 use std::alloc::{AllocError, Global};
 
@@ -18,7 +18,7 @@ pub fn write(alloc: Global, code: &Code) -> Result<String, AllocError>
     ensures { IfOk result (λ s. string_bytes s ≡ text_of code.now) }
 {
     let mut page = Page::new(alloc);
-    page.header(code.gang().width() as u64)?;
+    page.header(code.gang())?;
     page.places(code.places())?;
     page.texts(code)?;
     page.functions(code.functions())?;
@@ -26,13 +26,13 @@ pub fn write(alloc: Global, code: &Code) -> Result<String, AllocError>
 }
 
 impl Page {
-    fn header(&mut self, width: u64) -> Result<(), AllocError>
-        ensures { OnOk result (self.new ≡ self.old ++ line_text (header_words width)) }
+    fn header(&mut self, gang: Gang) -> Result<(), AllocError>
+        ensures { OnOk result (self.new ≡ self.old ++ line_text (line_words (says.Isp gang))) }
     {
         self.head(Head::Isp)?;
-        self.word("1")?;
+        self.number(page::version_of(gang))?;
         self.word("gang")?;
-        self.number(width)?;
+        self.number(gang.width() as u64)?;
         self.feed()
     }
 

@@ -31,6 +31,23 @@ jmp L0
 end
 ";
 
+const WIDE: &str = "isp 2 gang 32
+func f export void
+m 1
+ret -
+end
+";
+
+// First lines that are refused: what each word is comes before whether version and gang go together.
+const HEADERS: [(&str, Rule); 6] = [
+    ("isp 1 gang 32\n", Rule::BadOperand),
+    ("isp 2 gang 4\n", Rule::BadOperand),
+    ("isp 2 gang 16\n", Rule::BadOperand),
+    ("isp 2 gang 04\n", Rule::NotCanonical),
+    ("isp 3 gang 04\n", Rule::BadOperand),
+    ("isp 01 gang 32\n", Rule::NotCanonical),
+];
+
 // Why a text that begins as this one and stops behind `front` is refused: 60 at the line that is not there, if it may not stop there.
 fn cut_fault(alloc: Global, front: &str) -> Result<Option<Fault>, AllocError> {
     let lines: Vec<&str> = front.split('\n').collect(alloc)?;
@@ -63,7 +80,20 @@ fn cut(rt: &impl Abort, alloc: Global, text: &str) -> Result<(), Fail> {
 
 #[test]
 fn cut_behind_each_byte(rt: HostRuntime) -> Result<(), Fail> {
-    cut(&rt, rt.alloc(), TEXT)
+    cut(&rt, rt.alloc(), TEXT)?;
+    cut(&rt, rt.alloc(), WIDE)
+}
+
+#[test]
+fn headers_refused(rt: HostRuntime) -> Result<(), Fail> {
+    for (text, rule) in HEADERS {
+        let wanted = Fault { rule, line: 1 };
+        match read(rt.alloc(), text) {
+            Ok(_) => return Err(Fail::new("a first line is read")),
+            Err(fault) => assert_eq!(rt; fault, AsmFault::Refused(wanted), "{text}"),
+        }
+    }
+    Ok(())
 }
 
 // Reads a text with another byte at a place. What is read is written alike.
@@ -86,9 +116,11 @@ fn replace(rt: &impl Abort, alloc: Global, text: &str, place: usize, byte: u8) -
 #[test]
 fn each_byte_replaced(rt: HostRuntime) -> Result<(), Fail> {
     let alloc = rt.alloc();
-    for place in 0..TEXT.len() {
-        for byte in 0..128u8 {
-            replace(&rt, alloc, TEXT, place, byte)?;
+    for text in [TEXT, WIDE] {
+        for place in 0..text.len() {
+            for byte in 0..128u8 {
+                replace(&rt, alloc, text, place, byte)?;
+            }
         }
     }
     Ok(())

@@ -1,5 +1,5 @@
 //! Code and its text.
-use isp_asm::write;
+use isp_asm::{read, write};
 use isp_base::{Elem, Gang, Name, Span};
 use isp_code::{
     Arguments, Call, CallBox, Class, Code, Function, Instr, Local, Param, ParamKind, Register,
@@ -112,6 +112,20 @@ fn no_function(rt: HostRuntime) -> Result<(), Fail> {
     let code = Code::new(alloc, Gang::W16);
     let text = write(alloc, &code)?;
     assert!(rt; text.as_str() == "isp 1 gang 16\n");
+    Ok(())
+}
+
+#[test]
+fn a_gang_of_32(rt: HostRuntime) -> Result<(), Fail> {
+    let alloc = rt.alloc();
+    let mut code = Code::new(alloc, Gang::W32);
+    let mut f = function(alloc, "f")?;
+    f.code.push(Instr::Return(None))?;
+    assert!(rt; code.add_function(f).is_ok());
+    let text = write(alloc, &code)?;
+    assert!(rt; text.as_str() == "isp 2 gang 32\nfunc f export void\nm 1\nret -\nend\n");
+    let again = read(alloc, text.as_str()).map_err(|_| Fail::new("the text is refused"))?;
+    assert!(rt; again.gang() == Gang::W32);
     Ok(())
 }
 
