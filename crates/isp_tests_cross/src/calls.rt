@@ -196,7 +196,10 @@ fn calls_agree<const N: usize>(elem: Elem) -> bool
 #[test]
 fn calls(rt: HostRuntime) {
     for elem in TYPES {
-        let good = calls_agree::<4>(elem) && calls_agree::<8>(elem) && calls_agree::<16>(elem);
+        let good = calls_agree::<4>(elem)
+            && calls_agree::<8>(elem)
+            && calls_agree::<16>(elem)
+            && calls_agree::<32>(elem);
         assert!(rt; good, "{elem:?}");
     }
 }

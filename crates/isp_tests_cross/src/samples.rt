@@ -19,12 +19,12 @@ pub(crate) const TYPES: [Elem; 9] = [
 ];
 
 // The numbers by which lanes are named.
-pub(crate) const NUMBERS: [i64; 8] = [0, 1, -1, 3, -6, 16, 2_147_483_647, -2_147_483_648];
+pub(crate) const NUMBERS: [i64; 10] = [0, 1, -1, 3, -6, 16, 31, -32, 2_147_483_647, -2_147_483_648];
 
 // How many samples a type has, and how many masks are tried.
 pub(crate) const SAMPLES: usize = 4;
 
-pub(crate) const MASKS: usize = 5;
+pub(crate) const MASKS: usize = 7;
 
 // The bits of 0, 1 and the ends of a type, in turn.
 pub(crate) fn sample(elem: Elem, number: usize) -> u64
@@ -64,12 +64,15 @@ pub(crate) fn numbers<const N: usize>(first: usize) -> Lanes<N>
 {
     let mut row = Lanes::zero(Elem::I32);
     for lane in 0..N {
-        row.set(lane, int32(NUMBERS[first.wrapping_add(lane) % 8]));
+        row.set(
+            lane,
+            int32(NUMBERS[first.wrapping_add(lane) % NUMBERS.len()]),
+        );
     }
     row
 }
 
-// All lanes, none, the even ones, one, and all but one.
+// All lanes, none, the even ones, one, all but one, and each half.
 pub(crate) fn mask<const N: usize>(kind: usize) -> LaneMask<N>
     requires { N ≤ 64 }
 {
@@ -80,7 +83,9 @@ pub(crate) fn mask<const N: usize>(kind: usize) -> LaneMask<N>
             1 => false,
             2 => lane % 2 == 0,
             3 => lane == 2,
-            _ => lane != 1,
+            4 => lane != 1,
+            5 => lane < N / 2,
+            _ => lane >= N / 2,
         };
         mask.set(lane, on);
     }
