@@ -353,7 +353,7 @@ fn refused_words(rt: HostRuntime) -> Result<(), Fail> {
         ("isp run a b c d", "error: unexpected argument 'd' found"),
         (
             "isp run --gang 5 a b c",
-            "error: invalid value '5' for '--gang <G>'\n  [possible values: 4, 8, 16]\n",
+            "error: invalid value '5' for '--gang <G>'\n  [possible values: 4, 8, 16, 32]\n",
         ),
         (
             "isp run --gang 04 a b c",
