@@ -18,6 +18,14 @@ pub(crate) struct Record<'a> {
     err: String,
 }
 
+// What comes out of a request.
+#[derive(Drop)]
+struct Answer {
+    status: u8,
+    out: Page,
+    err: Page,
+}
+
 impl<'a> Record<'a> {
     pub(crate) fn new(alloc: Global, name: &'a str) -> Record<'a> {
         Record {
@@ -38,6 +46,7 @@ impl<'a> Record<'a> {
         match word {
             "file" => self.put_file(rest)?,
             "words" => self.words = rest,
+            "kept" => self.keep(rest)?,
             "status" => self.status = number(rest).unwrap_or(0),
             "out" => self.out = self.placed(rest)?,
             "err" => {
@@ -56,6 +65,17 @@ impl<'a> Record<'a> {
         self.files.put(name, marked.source)
     }
 
+    // What the words before write, if it begins as is said, is the text of a file.
+    fn keep(&mut self, rest: &'a str) -> Result<(), AllocError> {
+        let (name, beginning) = parted(rest, ' ');
+        let beginning = spelt_out(self.alloc, beginning)?;
+        let text = self.answer()?.out.text(self.alloc)?;
+        if text.as_str().starts_with(beginning.as_str()) {
+            self.files.put(name, text)?;
+        }
+        Ok(())
+    }
+
     // A text with the place in its brackets.
     fn placed(&self, text: &str) -> Result<String, AllocError> {
         let text = spelt_out(self.alloc, text)?;
@@ -65,8 +85,8 @@ impl<'a> Record<'a> {
         }
     }
 
-    /// In what the request does not come out as the record says, if it does not.
-    pub(crate) fn difference(&self) -> Result<Option<String>, AllocError> {
+    // What the words come to.
+    fn answer(&self) -> Result<Answer, AllocError> {
         let alloc = self.alloc;
         let line = format!(in alloc; "isp {}", self.words)?;
         let words: Vec<String> = line
@@ -76,6 +96,13 @@ impl<'a> Record<'a> {
             .try_collect(alloc)?;
         let (mut out, mut err) = (Page::new(alloc), Page::new(alloc));
         let status = command(alloc, words.as_slice(), &self.files, &mut out, &mut err);
+        Ok(Answer { status, out, err })
+    }
+
+    /// In what the request does not come out as the record says, if it does not.
+    pub(crate) fn difference(&self) -> Result<Option<String>, AllocError> {
+        let alloc = self.alloc;
+        let Answer { status, out, err } = self.answer()?;
         if u64::from(status) == self.status && out.is(&self.out) && err.is(&self.err) {
             return Ok(None);
         }
