@@ -1,7 +1,7 @@
 #!/usr/bin/env python3
 """Writes crates/isp_tests_machine/src/lines/table.rt: each line of the machine that computes, moves or stores, and what is seen of it.
 
-Each line stands here once, with what it gives by docs/MACHINE.md on lists of whole numbers, at gangs of 4, 8 and 16: the scalar that it
+Each line stands here once, with what it gives by docs/MACHINE.md on lists of whole numbers, at each gang: the scalar that it
 writes; the lanes of m1 of the vector; v1 in the lanes of the mask; or all elements of a0 where it stores. Nothing is taken from the crates. Run it at the top of the repository:
 
     python3 tools/line_table.py
@@ -203,7 +203,7 @@ def memory():
     yield stored("PackedStore(S4, A0, S2, V2, M1, 0)", packed)
 
 
-HEAD = """//! Lines of the machine, and what is seen of each at gangs of 4, 8 and 16; written by tools/line_table.py.
+HEAD = """//! Lines of the machine, and what is seen of each at gangs of 4, 8, 16 and 32; written by tools/line_table.py.
 use crate::listing::Line;
 use crate::registers::{
     A0, A1, M0, M1, M2, M3, S0, S1, S2, S3, S4, S5, S6, V0, V1, V2, V3, V4, V5, V6, V7,
@@ -229,7 +229,7 @@ def write():
             rows = list(rows)
             out.write(f"/// Lines {what}.\npub(super) static {name}: [Line<'static>; {len(rows)}] = [\n")
             out.write("".join(f"    {line},\n" for line, _ in rows))
-            texts = "\n".join(" ".join(f(Gang(lanes)) for lanes in (4, 8, 16)) for _, f in rows)
+            texts = "\n".join(" ".join(f(Gang(lanes)) for lanes in (4, 8, 16, 32)) for _, f in rows)
             out.write(f'];\n\n/// What is seen of them.\npub(super) const {name}_SEEN: &str = "{texts}";\n\n')
 
 

@@ -118,5 +118,6 @@ pub(crate) fn is_reached(
         Gang::W4 => runs_to::<4>(alloc, &code, entry, bound, outcome),
         Gang::W8 => runs_to::<8>(alloc, &code, entry, bound, outcome),
         Gang::W16 => runs_to::<16>(alloc, &code, entry, bound, outcome),
+        Gang::W32 => runs_to::<32>(alloc, &code, entry, bound, outcome),
     })
 }

@@ -1,10 +1,10 @@
-//! Each line that computes, moves or stores, once, at gangs of 4, 8 and 16.
+//! Each line that computes, moves or stores, once, at each gang.
 mod table;
 
 use crate::listing::{Line, Routine, verified};
 use crate::registers::{A0, A1, A2, A3, M0, M1, M2, S2, S6, V0, V1, V2, V4, V5, V8};
 use crate::runs::{Given, writes};
-use isp_base::{Elem, Gang};
+use isp_base::{Elem, Gang, gang_laws};
 use isp_code::{Class, MaskInstr, ParamKind, Register, Returns, ScalarInstr, VectorInstr};
 use isp_verify::Verified;
 use std::alloc::Global;
@@ -151,33 +151,33 @@ fn code(alloc: Global, gang: Gang, line: &Line<'static>) -> Result<Verified, Fai
     verified(alloc, gang, &[routine])
 }
 
+// As many lanes as the widest gang has.
+const WIDEST: usize = 32;
+
 // The four, over and over.
-fn over(four: [u64; 4]) -> [u64; 16] {
-    let mut all = [0; 16];
-    for lane in 0..16 {
+fn over(four: [u64; 4]) -> [u64; WIDEST] {
+    let mut all = [0; WIDEST];
+    for lane in 0..WIDEST {
         all[lane] = four[lane % 4];
     }
     all
 }
 
 // As many as there are lanes.
-fn first(gang: Gang, all: &[u64; 16]) -> &[u64] {
-    match gang {
-        Gang::W4 => &all[..4],
-        Gang::W8 => &all[..8],
-        Gang::W16 => all,
-    }
+fn first(gang: Gang, all: &[u64; WIDEST]) -> &[u64] {
+    gang_laws();
+    &all[..gang.width()]
 }
 
 // Of each lane x, y, whether m1 has it, and whether m2 has it.
-fn lists() -> [[u64; 16]; 4] {
+fn lists() -> [[u64; WIDEST]; 4] {
     [over(X), over(Y), over(ON), over(OTHER)]
 }
 
 fn is_seen(
     alloc: Global,
     code: &Verified,
-    lists: &[[u64; 16]; 4],
+    lists: &[[u64; WIDEST]; 4],
     seen: &str,
 ) -> Result<bool, Fail> {
     let [x, y, on, other] = lists;
@@ -194,6 +194,11 @@ fn is_seen(
 
 fn each(rt: &impl Abort, alloc: Global, lines: &[Line<'static>], seen: &str) -> Result<(), Fail> {
     for (number, (line, texts)) in lines.iter().zip(seen.lines()).enumerate() {
+        assert_eq!(rt;
+            texts.split(' ').count(),
+            Gang::ALL.len(),
+            "{number}: a text for each gang"
+        );
         for (gang, text) in Gang::ALL.iter().zip(texts.split(' ')) {
             let code = code(alloc, *gang, line)?;
             assert!(rt;

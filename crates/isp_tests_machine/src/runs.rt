@@ -151,6 +151,7 @@ pub fn goes(
         Gang::W4 => goes_in::<4>(alloc, code, bound, steps),
         Gang::W8 => goes_in::<8>(alloc, code, bound, steps),
         Gang::W16 => goes_in::<16>(alloc, code, bound, steps),
+        Gang::W32 => goes_in::<32>(alloc, code, bound, steps),
     };
     Ok(right)
 }
@@ -206,6 +207,7 @@ pub fn writes(alloc: Global, code: &Verified, given: &[Given], output: &str) -> 
         Gang::W4 => writes_in::<4>(alloc, code, bound, output),
         Gang::W8 => writes_in::<8>(alloc, code, bound, output),
         Gang::W16 => writes_in::<16>(alloc, code, bound, output),
+        Gang::W32 => writes_in::<32>(alloc, code, bound, output),
     };
     Ok(right)
 }
