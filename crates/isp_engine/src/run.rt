@@ -137,6 +137,7 @@ fn run_for_gang<W: Sink>(
         Gang::W4 => run::<4, W>(alloc, order, bound, out),
         Gang::W8 => run::<8, W>(alloc, order, bound, out),
         Gang::W16 => run::<16, W>(alloc, order, bound, out),
+        Gang::W32 => run::<32, W>(alloc, order, bound, out),
     }
 }
 

@@ -111,13 +111,9 @@ fn chosen<'a>(name: &str, inner: &ArgMatches<'a>) -> Option<Request<'a>> {
     }
 }
 
+// `gang` lists the widths that may be given, and each has its gang.
 fn gang_of(inner: &ArgMatches<'_>) -> Option<Gang> {
-    match inner.get_str("gang")? {
-        "4" => Some(Gang::W4),
-        "8" => Some(Gang::W8),
-        "16" => Some(Gang::W16),
-        _ => None,
-    }
+    Gang::of_width(inner.get_str("gang")?.parse::<usize>().ok()?)
 }
 
 fn isp<'a>(alloc: Global) -> Result<Command<'a>, Error> {
@@ -189,7 +185,7 @@ fn gang<'a>(alloc: Global) -> Arg<'a> {
         .long("gang")
         .value_name("G")
         .help("Instances that run together")
-        .value_parser(["4", "8", "16"].as_slice())
+        .value_parser(["4", "8", "16", "32"].as_slice())
         .default_value("4")
 }
 
