@@ -6,9 +6,10 @@ use Rattle.std.proofs.lemmas.Int.{ints}
 use Rattle.isp_base.specs.Sets.{Mask, flag_of, nobody}
 use Rattle.isp_base.specs.Types.{gang_width}
 use Rattle.isp_base.specs.declared.types.Gang.{Gang}
-use Rattle.isp_base.specs.declared.types.Gang.TheVariants.{W4, W8, W16}
+use Rattle.isp_base.proofs.Gangs.{some_width}
 use Rattle.isp_gang.proofs.Made.{Made, made}
 use Rattle.std.proofs.lemmas.Bool.{le-ltb}
+use Rattle.isp_meaning.proofs.RunsFor.{no_run, one_run}
 use Rattle.isp_meaning.specs.Rounds.{Run, from_zero, runs_for, from_on, last_run, with_outer, joined_lists, runs_of}
 use Rattle.isp_gang.specs.Left.{range_seen, at_start, restarted, stepped, outer_left, left_of, have_numbers, are_within, runs_left, tail_within, some_range, is_ready, goes, all_go, carried, numbers_below, indices_now, members_now, advanced}
 use Rattle.isp_gang.specs.declared.ranges.Range.{Range}
@@ -41,19 +42,6 @@ far g a b h = by (b -ℤ a) (b -ℤ (a +ℤ pos g)) refl refl
     by (pos (suc n)) (pos m) e k = inl (omega (arith, ints, e, k))
     by (pos (suc n)) (negsuc m) e k = inr (omega arith, omega (arith, ints, e, k), refl)
     by (negsuc n) f e k = absurd (grind (arith, ints, e, h))
-
-one_run : (g : Gang) (x y : ℕ) → (x ≡ y + gang_width g) ⊎ ((0 < x) × (x ≤ gang_width g) × (y ≡ 0)) → runs_for (gang_width g) x ≡ suc (runs_for (gang_width g) y)
-one_run W4 x y (inl e) = omega (arith, e)
-one_run W4 x y (inr h) = omega (arith, h.0, h.1, h.2)
-one_run W8 x y (inl e) = omega (arith, e)
-one_run W8 x y (inr h) = omega (arith, h.0, h.1, h.2)
-one_run W16 x y (inl e) = omega (arith, e)
-one_run W16 x y (inr h) = omega (arith, h.0, h.1, h.2)
-
-no_run : (g : Gang) → runs_for (gang_width g) 0 ≡ 0
-no_run W4 = refl
-no_run W8 = refl
-no_run W16 = refl
 
 -- ---- lists of runs
 
@@ -99,7 +87,7 @@ none_without g [] h = absurd (let k : ⊥ = cc in k)
 none_without g (r ∷ []) h = by (and_of (int_lt r.start r.end) true h)
   where
     by : (int_lt r.start r.end ≡ false) ⊎ (true ≡ false) → runs_of (gang_width g) (map range_seen (r ∷ [])) ≡ []
-    by (inl e) = ap (λ n. map (last_run (gang_width g) (range_seen r)) (from_on (gang_width g) (runs_for (gang_width g) n) r.start)) (zero_from r.start r.end e) ∙ ap (λ n. map (last_run (gang_width g) (range_seen r)) (from_on (gang_width g) n r.start)) (no_run g)
+    by (inl e) = ap (λ n. map (last_run (gang_width g) (range_seen r)) (from_on (gang_width g) (runs_for (gang_width g) n) r.start)) (zero_from r.start r.end e) ∙ ap (λ n. map (last_run (gang_width g) (range_seen r)) (from_on (gang_width g) n r.start)) (no_run (gang_width g) (some_width g))
     by (inr e) = absurd (let k : ⊥ = cc in k)
 none_without g (r ∷ q ∷ rs) h = by (none_without g (q ∷ rs)) (and_of (int_lt r.start r.end) (have_numbers (q ∷ rs)) h)
   where
@@ -136,7 +124,7 @@ numbers_carried (suc k) (r ∷ rs) = ap (λ b. int_lt r.start r.end && b) (numbe
 
 -- the first has no number that is left
 spent : (g : Gang) (r : Range) (rs : List Range) → int_lt r.next r.end ≡ false → left_of (gang_width g) (r ∷ rs) ≡ []
-spent g r [] h = ap (λ n. map (last_run (gang_width g) (range_seen r)) (from_on (gang_width g) (runs_for (gang_width g) n) r.next)) (zero_from r.next r.end h) ∙ ap (λ n. map (last_run (gang_width g) (range_seen r)) (from_on (gang_width g) n r.next)) (no_run g)
+spent g r [] h = ap (λ n. map (last_run (gang_width g) (range_seen r)) (from_on (gang_width g) (runs_for (gang_width g) n) r.next)) (zero_from r.next r.end h) ∙ ap (λ n. map (last_run (gang_width g) (range_seen r)) (from_on (gang_width g) n r.next)) (no_run (gang_width g) (some_width g))
 spent g r (q ∷ rs) h = ap (λ n. outer_left r.index r.next n (left_of (gang_width g) (q ∷ rs)) (runs_of (gang_width g) (map range_seen (q ∷ rs)))) (zero_from r.next r.end h)
 
 some_of : (rs : List Range) → 0 < length rs → some_range rs ≡ true
@@ -197,7 +185,7 @@ left_within : (g : Gang) (r : Range) (rs : List Range) → are_within (r ∷ rs)
 left_within g r [] h =
     let some = (and_both (int_lt r.next r.end) true h).0 in
     let n = gang_width g in
-    ap (λ k. map (last_run n (range_seen r)) (from_on n k r.next)) (one_run g (from_zero (r.end -ℤ r.next)) (from_zero (r.end -ℤ (r.next +ℤ pos n))) (far n r.next r.end some))
+    ap (λ k. map (last_run n (range_seen r)) (from_on n k r.next)) (one_run n (from_zero (r.end -ℤ r.next)) (from_zero (r.end -ℤ (r.next +ℤ pos n))) (some_width g) (far n r.next r.end some))
     ∙ ap (λ b. run_now n (r ∷ []) ∷ map (last_run n (range_seen r)) (from_on n (runs_for n (from_zero (r.end -ℤ cond b (r.next +ℤ pos n) r.next))) (cond b (r.next +ℤ pos n) r.next))) (sym some)
 left_within g r (q ∷ rs) h =
     let both = and_both (int_lt r.next r.end) (are_within (q ∷ rs)) h in

@@ -1,10 +1,11 @@
--- Lists that are made place by place: sixteen long, up to place i as a function says, and the default from there on.
+-- Lists that are made place by place: as long as the widest gang, up to place i as a function says, and the default from there on.
 use Rattle.std.proofs.Common.{◌≡◌, refl, sym, ◌∙◌, subst, ⊎_elim, ℕ, zero, suc, ◌+◌, ◌<◌, ◌≤◌, List, [], ◌∷◌, arith, length, get_or, replicate}
 use Rattle.std.specs.Prelude.{slice_set}
 use Rattle.std.proofs.Math.Path.{fun_ext}
 use Rattle.std.proofs.Math.ListN.{length-set}
 use Rattle.std.proofs.lemmas.Bool.{cases_eq, cases_lt}
 use Rattle.std.proofs.lemmas.List.{get_or-set_other, get_or-set_same}
+use Rattle.isp_base.specs.Types.{widest}
 
 pub past : {A : Type 0} (xs : List A) (p : ℕ) (d : A) → length xs ≤ p → get_or xs p d ≡ d
 past [] p d h = refl
@@ -17,15 +18,15 @@ repeated (suc n) zero d = refl
 repeated (suc n) (suc p) d = repeated n p d
 
 pub record Made {A : Type 0} (d : A) (f : ℕ → A) (xs : List A) (i : ℕ) : Type 0 where
-  pub long : length xs ≡ 16
+  pub long : length xs ≡ widest
   pub done : (p : ℕ) → p < i → get_or xs p d ≡ f p
   pub off : (p : ℕ) → i ≤ p → get_or xs p d ≡ d
 
 module _ {A : Type 0} (d : A) (f : ℕ → A) where
-  pub begins : (xs : List A) → length xs ≡ 16 → ((p : ℕ) → get_or xs p d ≡ d) → Made d f xs 0
+  pub begins : (xs : List A) → length xs ≡ widest → ((p : ℕ) → get_or xs p d ≡ d) → Made d f xs 0
   begins xs long off = record { long = long; done = λ p h. absurd (omega (arith, h)); off = λ p h. off p }
 
-  pub next : (xs : List A) (i : ℕ) (v : A) → Made d f xs i → i < 16 → v ≡ f i → Made d f (slice_set xs i v) (i + 1)
+  pub next : (xs : List A) (i : ℕ) (v : A) → Made d f xs i → i < widest → v ≡ f i → Made d f (slice_set xs i v) (i + 1)
   next xs i v m lt is =
       record {
         long = length-set xs i v ∙ m.long;

@@ -4,9 +4,9 @@ use Rattle.std.specs.Int.{w128}
 use Rattle.std.proofs.lemmas.Int.{ints}
 use Rattle.isp_base.specs.Cross.{and_this, fold_below}
 use Rattle.isp_base.specs.Maps.{Map}
+use Rattle.isp_base.specs.Types.{widest}
 use Rattle.isp_base.specs.Values.{number}
 use Rattle.isp_base.specs.declared.types.Elem.{Elem}
-use Rattle.isp_base.specs.declared.types.Elem.TheVariants.{Bool as Truth}
 use Rattle.isp_gang.proofs.Wholes.{number_low, number_high}
 
 abbrev pub sum_below : Elem → Map → ℕ → ℤ
@@ -32,7 +32,7 @@ of_128 : (z : ℤ) → (pos 0 -ℤ pos (2 ^ 120)) ≤ℤ z → z ≤ℤ pos (2 ^
 of_128 (pos n) l h = record { sfits = omega (arith, ints, h) }
 of_128 (negsuc n) l h = record { sfits = omega (arith, ints, l) }
 
-pub sum_fits : (t : Elem) (x : Map) (n b : ℕ) → n ≤ 16 → FitsSigned w128 (sum_below t x n +ℤ number t b)
+pub sum_fits : (t : Elem) (x : Map) (n b : ℕ) → n ≤ widest → FitsSigned w128 (sum_below t x n +ℤ number t b)
 sum_fits t x n b few =
     let l = sum_low t x n in let h = sum_high t x n in let m = number_low t b in let k = number_high t b in
     of_128 _ (omega (arith, ints, l, m, few)) (omega (arith, ints, h, k, few))

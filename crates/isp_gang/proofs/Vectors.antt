@@ -4,6 +4,7 @@ use Rattle.std.specs.Prelude.{slice_set, if◌then◌else◌}
 use Rattle.std.proofs.Math.Path.{fun_ext}
 use Rattle.std.proofs.Math.Dec.{eqb-suc-zero, eqb-zero-suc, eqb-suc-suc}
 use Rattle.isp_base.specs.Maps.{put, lane_of}
+use Rattle.isp_base.specs.Types.{widest}
 use Rattle.isp_gang.specs.Growing.{at_each}
 use Rattle.isp_gang.proofs.Made.{repeated}
 
@@ -59,5 +60,5 @@ longer [] x n e = omega (arith, e)
 longer (y ∷ xs) x zero e = absurd (omega (arith, e))
 longer (y ∷ xs) x (suc n) e = let h = longer xs x n (omega (arith, e)) in omega (arith, h)
 
-pub zeros : lane_of (replicate 16 0) ≡ (λ p. 0)
-zeros = fun_ext (λ p. repeated 16 p 0)
+pub zeros : lane_of (replicate widest 0) ≡ (λ p. 0)
+zeros = fun_ext (λ p. repeated widest p 0)

@@ -1,9 +1,9 @@
 //! Calls across the instances of a gang, of values over a set.
-ghost use Rattle.std.specs.Prelude.{◌≡◌, ◌<◌, ◌≤◌, ℕ, None, true, false};
+ghost use Rattle.std.specs.Prelude.{◌≡◌, ◌*◌, ◌<◌, ◌≤◌, ℕ, None, true, false};
 ghost use Rattle.isp_base.specs.Cross.{all_of, any_of, exclusive_scan, extract, insert, instance, neutral, or_zero, reduce_add, reduce_best, reduce_equal, rotate, shift, shuffle, shuffle_two, best, fold_below};
 ghost use Rattle.isp_base.specs.Maps.{on};
 ghost use Rattle.isp_base.specs.Sets.{flag_of};
-ghost use Rattle.isp_base.specs.Types.{gang_width};
+ghost use Rattle.isp_base.specs.Types.{gang_width, widest};
 ghost use Rattle.isp_base.specs.Values.{number, op_bits};
 ghost use Rattle.isp_gang.specs.Seen.{map_of};
 
@@ -15,7 +15,7 @@ use isp_base::{BinOp, Elem, Gang, low_mask};
 // The number of one of so many instances: modulo their number.
 fn instance_of(count: usize, place: i64) -> usize
     requires some { 0 < count }
-    requires few { count ≤ 32 }
+    requires few { count ≤ 2 * widest }
     ensures value { result ≡ instance count place }
     ensures low { result < count }
 {
@@ -24,7 +24,7 @@ fn instance_of(count: usize, place: i64) -> usize
 
 // The value of an instance, 0 where there is none.
 fn value_at(row: &Row, instance: usize) -> u64
-    requires { instance < 16 }
+    requires { instance < widest }
     ensures { result ≡ or_zero (map_of row.now instance) }
 {
     or_zero(row[instance])
@@ -39,7 +39,7 @@ pub fn extracted(gang: Gang, row: &Row, place: i32) -> u64
 
 // The value of the instance so many places further, in a ring.
 fn turned(gang: Gang, row: &Row, count: i32, instance: usize) -> u64
-    requires { instance < 16 }
+    requires { instance < widest }
     ensures { result ≡ rotate (gang_width gang) (map_of row.now) count instance }
 {
     let place = instance as i64 + i64::from(count);
@@ -47,7 +47,7 @@ fn turned(gang: Gang, row: &Row, count: i32, instance: usize) -> u64
 }
 
 /// Each member gets the value of the instance so many places further, in a ring.
-#[tactic(auto, using(crate::proofs::Rows::begun, crate::proofs::Rows::on_made))]
+#[tactic(auto, using(crate::proofs::Rows::on_made))]
 pub fn rotated(gang: Gang, set: &Active, row: &Row, count: i32) -> Row
     ensures { map_of result ≡ on (flag_of set.now) (rotate (gang_width gang) (map_of row.now) count) }
 {
@@ -64,7 +64,7 @@ pub fn rotated(gang: Gang, set: &Active, row: &Row, count: i32) -> Row
 
 // The value of the instance so many places further, 0 past the ends.
 fn further(gang: Gang, row: &Row, count: i32, instance: usize) -> u64
-    requires { instance < 16 }
+    requires { instance < widest }
     ensures { result ≡ shift (gang_width gang) (map_of row.now) count instance }
 {
     let from = instance as i64 + i64::from(count);
@@ -76,7 +76,7 @@ fn further(gang: Gang, row: &Row, count: i32, instance: usize) -> u64
 }
 
 /// Each member gets the value of the instance so many places further, 0 past the ends.
-#[tactic(auto, using(crate::proofs::Rows::begun, crate::proofs::Rows::on_made))]
+#[tactic(auto, using(crate::proofs::Rows::on_made))]
 pub fn shifted(gang: Gang, set: &Active, row: &Row, count: i32) -> Row
     ensures { map_of result ≡ on (flag_of set.now) (shift (gang_width gang) (map_of row.now) count) }
 {
@@ -93,7 +93,7 @@ pub fn shifted(gang: Gang, set: &Active, row: &Row, count: i32) -> Row
 
 // The value of the instance that an index names.
 fn picked(gang: Gang, row: &Row, indices: &Row, instance: usize) -> u64
-    requires { instance < 16 }
+    requires { instance < widest }
     ensures { result ≡ shuffle (gang_width gang) (map_of row.now) (map_of indices.now) instance }
 {
     let place = int(value_at(indices, instance));
@@ -101,7 +101,7 @@ fn picked(gang: Gang, row: &Row, indices: &Row, instance: usize) -> u64
 }
 
 /// Each member gets the value of the instance that its index names.
-#[tactic(auto, using(crate::proofs::Rows::begun, crate::proofs::Rows::on_made))]
+#[tactic(auto, using(crate::proofs::Rows::on_made))]
 pub fn shuffled(gang: Gang, set: &Active, row: &Row, indices: &Row) -> Row
     ensures { map_of result ≡ on (flag_of set.now) (shuffle (gang_width gang) (map_of row.now) (map_of indices.now)) }
 {
@@ -118,7 +118,7 @@ pub fn shuffled(gang: Gang, set: &Active, row: &Row, indices: &Row) -> Row
 
 // The value that an index names of two rows side by side.
 fn picked_of_two(gang: Gang, first: &Row, second: &Row, indices: &Row, instance: usize) -> u64
-    requires { instance < 16 }
+    requires { instance < widest }
     ensures { result ≡ shuffle_two (gang_width gang) (map_of first.now) (map_of second.now) (map_of indices.now) instance }
 {
     let place = int(value_at(indices, instance));
@@ -131,7 +131,7 @@ fn picked_of_two(gang: Gang, first: &Row, second: &Row, indices: &Row, instance:
 }
 
 /// Each member gets the value that its index names of two rows side by side.
-#[tactic(auto, using(crate::proofs::Rows::begun, crate::proofs::Rows::on_made))]
+#[tactic(auto, using(crate::proofs::Rows::on_made))]
 pub fn shuffled_two(gang: Gang, set: &Active, first: &Row, second: &Row, indices: &Row) -> Row
     ensures { map_of result ≡ on (flag_of set.now) (shuffle_two (gang_width gang) (map_of first.now) (map_of second.now) (map_of indices.now)) }
 {
@@ -148,7 +148,7 @@ pub fn shuffled_two(gang: Gang, set: &Active, first: &Row, second: &Row, indices
 
 // The value of an instance once the one of a number has got another.
 fn replaced(gang: Gang, row: &Row, place: i32, bits: u64, instance: usize) -> u64
-    requires { instance < 16 }
+    requires { instance < widest }
     ensures { result ≡ insert (gang_width gang) (map_of row.now) place bits instance }
 {
     if instance == instance_of(gang.width(), i64::from(place)) {
@@ -159,7 +159,7 @@ fn replaced(gang: Gang, row: &Row, place: i32, bits: u64, instance: usize) -> u6
 }
 
 /// The instance of a number gets another value.
-#[tactic(auto, using(crate::proofs::Rows::begun, crate::proofs::Rows::on_made))]
+#[tactic(auto, using(crate::proofs::Rows::on_made))]
 pub fn inserted(gang: Gang, set: &Active, row: &Row, place: i32, bits: u64) -> Row
     ensures { map_of result ≡ on (flag_of set.now) (insert (gang_width gang) (map_of row.now) place bits) }
 {
@@ -175,7 +175,7 @@ pub fn inserted(gang: Gang, set: &Active, row: &Row, place: i32, bits: u64) -> R
 }
 
 /// Each member gets what the values of the lower ones give by an operator.
-#[tactic(auto, using(crate::proofs::Rows::begun, crate::proofs::Rows::on_made))]
+#[tactic(auto, using(crate::proofs::Rows::on_made))]
 pub fn scanned(operator: BinOp, elem: Elem, set: &Active, row: &Row) -> Row
     ensures { map_of result ≡ on (flag_of set.now) (exclusive_scan operator elem (map_of row.now)) }
 {

@@ -112,7 +112,7 @@ fn chosen(set: &Active, test: &Computed, first: &Computed, second: &Computed) ->
 }
 
 // Likewise of three rows.
-#[tactic(auto, using(crate::proofs::Rows::begun, crate::proofs::Rows::chosen_made))]
+#[tactic(auto, using(crate::proofs::Rows::chosen_made))]
 fn chosen_row(tests: &Row, first: &Row, second: &Row) -> Row
     ensures { map_of result ≡ (λ p. chosen_one (map_of tests.now p) (map_of first.now p) (map_of second.now p)) }
 {

@@ -1,6 +1,6 @@
 //! The ranges of a `foreach`: the gang deals out their numbers, run by run.
 ghost use Rattle.std.specs.Prelude.{◌≡◌, ◌<◌, ◌≤◌, ◌+◌, length, not, pos, ◌+ℤ◌, true, int_lt};
-ghost use Rattle.isp_base.specs.Types.{gang_width};
+ghost use Rattle.isp_base.specs.Types.{gang_width, widest};
 ghost use Rattle.isp_base.specs.Values.{wrap};
 ghost use Rattle.isp_base.specs.declared.types.Gang as GangType;
 ghost use Rattle.isp_gang.specs.Left.{advanced, carried, goes, is_ready, number_now, restarted, runs_left, stepped, tail_within};
@@ -29,7 +29,7 @@ pub fn index_at(range: &Range, is_last: bool, instance: usize) -> u64
 
 /// Whether an instance's number in a last range is below its end.
 pub fn has_number(range: &Range, instance: usize) -> bool
-    requires { instance < 16 }
+    requires { instance < widest }
     ensures { result ≡ int_lt (range.now.next +ℤ pos instance) range.now.end }
 {
     i128::from(range.next) + (instance as i128) < i128::from(range.end)
@@ -37,7 +37,7 @@ pub fn has_number(range: &Range, instance: usize) -> bool
 
 // So many numbers further, unless the end is reached.
 fn further(range: &Range, count: usize) -> i64
-    requires { count ≤ 16 }
+    requires { count ≤ widest }
     ensures { result ≡ stepped range.now (pos count) }
 {
     if range.next < i64::from(range.end) {

@@ -27,7 +27,7 @@ pub fn nothing() -> Row
 }
 
 /// The lanes of the members of a set.
-#[tactic(auto, using(crate::proofs::Rows::begun, crate::proofs::Rows::on_made))]
+#[tactic(auto, using(crate::proofs::Rows::on_made))]
 pub fn on(set: &Active, lanes: &Lanes) -> Row
     ensures { map_of result ≡ on (flag_of set.now) (lane_of lanes.now) }
 {
@@ -43,7 +43,7 @@ pub fn on(set: &Active, lanes: &Lanes) -> Row
 }
 
 /// One value in each member of a set.
-#[tactic(auto, using(crate::proofs::Rows::begun, crate::proofs::Rows::on_made))]
+#[tactic(auto, using(crate::proofs::Rows::on_made))]
 pub fn repeated(set: &Active, bits: u64) -> Row
     ensures { map_of result ≡ on (flag_of set.now) (λ p. bits) }
 {
@@ -55,7 +55,7 @@ pub fn repeated(set: &Active, bits: u64) -> Row
 }
 
 /// The number of each member of a set.
-#[tactic(auto, using(crate::proofs::Rows::begun, crate::proofs::Rows::on_made))]
+#[tactic(auto, using(crate::proofs::Rows::on_made))]
 pub fn numbers(set: &Active) -> Row
     ensures { map_of result ≡ on (flag_of set.now) (λ p. p) }
 {
@@ -71,7 +71,7 @@ pub fn numbers(set: &Active) -> Row
 }
 
 /// New bits where there are some.
-#[tactic(auto, using(crate::proofs::Rows::begun_lanes, crate::proofs::Rows::over_made))]
+#[tactic(auto, using(crate::proofs::Rows::over_made))]
 pub fn over(row: &Row, old: &Lanes) -> Lanes
     ensures { lane_of result ≡ over (map_of row.now) (lane_of old.now) }
 {
@@ -86,7 +86,7 @@ pub fn over(row: &Row, old: &Lanes) -> Lanes
 }
 
 /// The values of the first, or else of the second.
-#[tactic(auto, using(crate::proofs::Rows::begun, crate::proofs::Rows::layer_made))]
+#[tactic(auto, using(crate::proofs::Rows::layer_made))]
 pub fn layer(first: &Row, second: &Row) -> Row
     ensures { map_of result ≡ layer (map_of first.now) (map_of second.now) }
 {
@@ -101,7 +101,7 @@ pub fn layer(first: &Row, second: &Row) -> Row
 }
 
 /// Each value converted to another element type.
-#[tactic(auto, using(crate::proofs::Rows::begun, crate::proofs::Rows::map1_made))]
+#[tactic(auto, using(crate::proofs::Rows::map1_made))]
 pub fn converted(from: Elem, to: Elem, operand: &Row) -> Row
     ensures { map_of result ≡ map1 (converted from to) (map_of operand.now) }
 {
@@ -116,7 +116,7 @@ pub fn converted(from: Elem, to: Elem, operand: &Row) -> Row
 }
 
 /// An operator on each value.
-#[tactic(auto, using(crate::proofs::Rows::begun, crate::proofs::Rows::map1_made))]
+#[tactic(auto, using(crate::proofs::Rows::map1_made))]
 pub fn unary(operator: UnaryOp, elem: Elem, operand: &Row) -> Row
     ensures { map_of result ≡ map1 (unary_bits operator elem) (map_of operand.now) }
 {
@@ -145,7 +145,7 @@ pub fn operated(operator: BinOp, elem: Elem, x: u64, y: u64) -> u64
 }
 
 /// An operator on the values of both.
-#[tactic(auto, using(crate::proofs::Rows::begun, crate::proofs::Rows::map2_made))]
+#[tactic(auto, using(crate::proofs::Rows::map2_made))]
 pub fn binary(operator: BinOp, elem: Elem, left: &Row, right: &Row) -> Row
     ensures { map_of result ≡ map2 (op_bits operator elem) (map_of left.now) (map_of right.now) }
 {
@@ -160,7 +160,7 @@ pub fn binary(operator: BinOp, elem: Elem, left: &Row, right: &Row) -> Row
 }
 
 /// A comparison of the values of both.
-#[tactic(auto, using(crate::proofs::Rows::begun, crate::proofs::Rows::map2_made))]
+#[tactic(auto, using(crate::proofs::Rows::map2_made))]
 pub fn compared(comparison: Compare, elem: Elem, left: &Row, right: &Row) -> Row
     ensures { map_of result ≡ map2 (compare_bits comparison elem) (map_of left.now) (map_of right.now) }
 {
@@ -175,7 +175,7 @@ pub fn compared(comparison: Compare, elem: Elem, left: &Row, right: &Row) -> Row
 }
 
 /// The instances whose value is true, or is false.
-#[tactic(auto, using(crate::proofs::Masks::begun, crate::proofs::Rows::where_made))]
+#[tactic(auto, using(crate::proofs::Rows::where_made))]
 pub fn where_is(truth: bool, row: &Row) -> Active
     ensures { flag_of result ≡ where_true (is_bool truth) (map_of row.now) }
 {
@@ -190,7 +190,7 @@ pub fn where_is(truth: bool, row: &Row) -> Active
 }
 
 /// The instances in which the operator would divide by zero: those whose value is a divisor and 0 in the element type.
-#[tactic(auto, using(crate::proofs::Masks::begun, crate::proofs::Rows::where_made))]
+#[tactic(auto, using(crate::proofs::Rows::where_made))]
 pub fn where_zero(operator: BinOp, elem: Elem, row: &Row) -> Active
     ensures { flag_of result ≡ where_true (is_zero operator elem) (map_of row.now) }
 {

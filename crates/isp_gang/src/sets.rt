@@ -2,17 +2,18 @@
 ghost use Rattle.std.specs.Prelude.{◌≡◌, ◌<◌, ◌≤◌, Some};
 ghost use Rattle.isp_base.specs.Cross.{rank};
 ghost use Rattle.isp_base.specs.Sets.{any, everyone, flag_of, lone, lowest, nobody, union, without};
-ghost use Rattle.isp_base.specs.Types.{gang_width};
+ghost use Rattle.isp_base.specs.Types.{gang_width, widest};
 
 use isp_base::Gang;
 
 /// The number of instances of the widest gang.
-pub const WIDEST: usize = 16;
+pub const WIDEST: usize = 32;
 
 /// The instances of a set.
 pub type Active = [bool; WIDEST];
 
 /// No instance.
+#[tactic(auto, using(crate::proofs::Masks::nobody_made))]
 pub fn nobody() -> Active
     ensures { flag_of result ≡ nobody }
 {
@@ -20,7 +21,7 @@ pub fn nobody() -> Active
 }
 
 /// All instances of a gang.
-#[tactic(auto, using(crate::proofs::Masks::begun, crate::proofs::Masks::everyone_made))]
+#[tactic(auto, using(crate::proofs::Masks::everyone_made))]
 pub fn everyone(gang: Gang) -> Active
     ensures { flag_of result ≡ everyone (gang_width gang) }
 {
@@ -34,7 +35,7 @@ pub fn everyone(gang: Gang) -> Active
 /// One instance.
 #[tactic(auto, using(crate::proofs::Masks::alone_made))]
 pub fn alone(instance: usize) -> Active
-    requires { instance < 16 }
+    requires { instance < widest }
     ensures { flag_of result ≡ lone (Some instance) }
 {
     let mut set = [false; WIDEST];
@@ -43,7 +44,7 @@ pub fn alone(instance: usize) -> Active
 }
 
 /// The members of either.
-#[tactic(auto, using(crate::proofs::Masks::begun, crate::proofs::Masks::union_made))]
+#[tactic(auto, using(crate::proofs::Masks::union_made))]
 pub fn union(first: &Active, second: &Active) -> Active
     ensures { flag_of result ≡ union (flag_of first.now) (flag_of second.now) }
 {
@@ -55,7 +56,7 @@ pub fn union(first: &Active, second: &Active) -> Active
 }
 
 /// The members of the first that are not in the second.
-#[tactic(auto, using(crate::proofs::Masks::begun, crate::proofs::Masks::without_made))]
+#[tactic(auto, using(crate::proofs::Masks::without_made))]
 pub fn without(first: &Active, second: &Active) -> Active
     ensures { flag_of result ≡ without (flag_of first.now) (flag_of second.now) }
 {
@@ -67,6 +68,7 @@ pub fn without(first: &Active, second: &Active) -> Active
 }
 
 /// The lowest instance of a set.
+#[tactic(auto, using(crate::proofs::Masks::lowest_is))]
 pub fn lowest(gang: Gang, set: &Active) -> Option<usize>
     ensures { result ≡ lowest (gang_width gang) (flag_of set.now) }
 {
@@ -87,7 +89,7 @@ pub fn any(gang: Gang, set: &Active) -> bool
 
 /// How many instances below one are in a set.
 pub fn rank(set: &Active, instance: usize) -> usize
-    requires { instance ≤ 16 }
+    requires { instance ≤ widest }
     ensures value { result ≡ rank (flag_of set.now) instance }
     ensures low { result ≤ instance }
 {

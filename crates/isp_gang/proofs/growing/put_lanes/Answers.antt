@@ -1,5 +1,6 @@
 use Rattle.std.proofs.Common.{ap, length, ◌∙◌, arith, replicate}
 use Rattle.isp_base.specs.Maps.{lane_of, put}
+use Rattle.isp_base.specs.Types.{widest}
 use Rattle.isp_gang.specs.Growing.{lanes_of}
 use Rattle.isp_gang.proofs.Vectors.{padded_all, pushed, written, longer, zeros}
 use Rattle.isp_gang.proofs.growing.put_lanes.Goals as goal
@@ -7,8 +8,8 @@ use Rattle.isp_gang.proofs.growing.put_lanes.Goals as goal
 pub loop-next-preserved : goal.loop-next-preserved
 loop-next-preserved c =
     record {
-      same = ap lanes_of c.in_ok-push.ensures.items ∙ padded_all lane_of (λ p. 0) c.loop-next.values.items (replicate 16 0) zeros ∙ c.loop-next.invariant.same;
-      long = ap length c.in_ok-push.ensures.items ∙ longer c.loop-next.values.items (replicate 16 0) c.loop-next._next c.loop-next.invariant.long;
+      same = ap lanes_of c.in_ok-push.ensures.items ∙ padded_all lane_of (λ p. 0) c.loop-next.values.items (replicate widest 0) zeros ∙ c.loop-next.invariant.same;
+      long = ap length c.in_ok-push.ensures.items ∙ longer c.loop-next.values.items (replicate widest 0) c.loop-next._next c.loop-next.invariant.long;
     }
 
 pub returns-then-place-len-clause-ok : goal.returns-then-place-len-clause-ok

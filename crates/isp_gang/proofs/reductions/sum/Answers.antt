@@ -1,7 +1,7 @@
 use Rattle.std.proofs.Common.{◌≡◌, subst, sym, ap, ap₂, ◌∙◌, ◌≤◌, ◌+ℤ◌, arith, FitsSigned, None, Some}
 use Rattle.std.specs.Int.{w128}
 use Rattle.std.proofs.lemmas.Int.{to_z-of_z}
-use Rattle.isp_base.specs.Types.{gang_width}
+use Rattle.isp_base.specs.Types.{gang_width, widest}
 use Rattle.isp_base.specs.Values.{wrap}
 use Rattle.isp_gang.specs.Seen.{map_of}
 use Rattle.isp_base.proofs.Gangs.{few_width}
@@ -11,13 +11,13 @@ use Rattle.isp_gang.proofs.reductions.sum.Goals.{in-Some, in_default}
 
 pub overflow_add-total : goal.overflow_add-total
 overflow_add-total c =
-    let few : c.loop-instance.instance ≤ 16 = omega (arith, c.loop-instance-test.true, c.width-instance-end.ensures, few_width c.args.gang) in
+    let few : c.loop-instance.instance ≤ widest = omega (arith, c.loop-instance-test.true, c.width-instance-end.ensures, few_width c.args.gang) in
     let e = to_z-of_z w128 _ (record { sfits = c.number-total.type_inv }) ∙ c.number-total.ensures in
     subst (FitsSigned w128) (sym (ap₂ (λ a b. a +ℤ b) c.loop-instance.invariant e)) (sum_fits c.args.elem (map_of c.args.row.now) c.loop-instance.instance c.in-Some.bits few)
 
 pub loop-instance-preserved : goal.loop-instance-preserved
 loop-instance-preserved c =
-    let few : c.loop-instance.instance ≤ 16 = omega (arith, c.loop-instance-test.true, c.width-instance-end.ensures, few_width c.args.gang) in
+    let few : c.loop-instance.instance ≤ widest = omega (arith, c.loop-instance-test.true, c.width-instance-end.ensures, few_width c.args.gang) in
     let x = map_of c.args.row.now in
     let i = c.loop-instance.instance in
     elim c.match-row-instance.branch [
