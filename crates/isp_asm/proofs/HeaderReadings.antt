@@ -25,14 +25,14 @@ width_below W32 = omega arith
 pub width_value : (g : Gang) → digits_value 10 (decimal (gang_width g)) ≡ gang_width g
 width_value g = digits_value-decimal own (gang_width g) (width_below g)
 
-is_one : (g : Gang) → is_version (version_of g) ≡ true
-is_one W4 = refl
-is_one W8 = refl
-is_one W16 = refl
-is_one W32 = refl
+has_version : (g : Gang) → is_version (version_of g) ≡ true
+has_version W4 = refl
+has_version W8 = refl
+has_version W16 = refl
+has_version W32 = refl
 
 pub version_value : (g : Gang) → digits_value 10 (decimal (version_of g)) ≡ version_of g
-version_value g = digits_value-decimal own (version_of g) (version_below (version_of g) (is_one g))
+version_value g = digits_value-decimal own (version_of g) (version_below (version_of g) (has_version g))
 
 -- the version that goes with the lanes of a gang is the gang's
 goes_alone : (g : Gang) (v : ℕ) → goes_with (gang_width g) v ≡ (v == version_of g)
