@@ -196,6 +196,15 @@ impl<const N: usize> Lanes<N> {
         &self.row
     }
 
+    /// A row of words of the width that the element type takes, in the place of all lanes.
+    #[inline(always)]
+    pub fn set_row(&mut self, row: Row<N>)
+        requires { IsRow N (held_width row) self.old.elem (held row) }
+        ensures { self.new ≡ record { elem = self.old.elem; bits = held row.entry } }
+    {
+        self.row = row;
+    }
+
     /// The bits of all lanes of a vector of int64, which are read where they stand.
     pub fn wide_words(&self) -> &[u64; N]
         requires { self.now.elem ≡ I64 }

@@ -328,6 +328,11 @@ impl<const N: usize> Words<N> for Simd<u16, N> {
             .select(self, old)
     }
 
+    fn under(self, mask: &[u8; N], old: Self) -> Self {
+        let off = Simd::from_array(*mask).simd_eq(Simd::splat(0)).to_bitmask();
+        if off == 0 { self } else { self.over(mask, old) }
+    }
+
     fn flags(self) -> [u8; N] {
         self.simd_ne(Simd::splat(0))
             .select(Simd::splat(1u16), Simd::splat(0u16))
@@ -455,6 +460,11 @@ impl<const N: usize> Words<N> for Simd<u32, N> {
             .cast::<u32>()
             .simd_ne(Simd::splat(0))
             .select(self, old)
+    }
+
+    fn under(self, mask: &[u8; N], old: Self) -> Self {
+        let off = Simd::from_array(*mask).simd_eq(Simd::splat(0)).to_bitmask();
+        if off == 0 { self } else { self.over(mask, old) }
     }
 
     fn flags(self) -> [u8; N] {
