@@ -7,3 +7,4 @@ mod Picked
 mod Gathered
 mod Apart
 mod PlacesInOrder
+mod Runs

@@ -9,7 +9,7 @@ ghost use Rattle.isp_base.specs.Values.{number, width};
 ghost use Rattle.isp_lanes.specs.Lanes.{vector};
 ghost use Rattle.isp_store.specs.Held.{elements, size, elem, shapes, named};
 
-use crate::consecutive::{packed_places, run_places};
+use crate::consecutive::{is_whole, packed_places, run_places};
 use crate::index::{IndexTrap, limit, trap_under};
 use crate::rows;
 use isp_base::{Array, Elem};
@@ -273,8 +273,15 @@ impl Arrays {
         ensures lowest { IfErr result (λ t. lowest N (run_outside (size self.now array) (number I64 index) (flag_of mask.now)) ≡ Some t.instance) }
         ensures same { IfErr result (λ t. into.new ≡ into.old) }
     {
+        mask.told();
+        into.told();
+        let count = rows::count(&self.items, array);
+        if is_whole(count, index, mask) {
+            rows::load_row(&self.items, array, index as usize, into);
+            return Ok(());
+        }
         let mut places = [0; N];
-        run_places(rows::count(&self.items, array), index, mask, &mut places)?;
+        run_places(count, index, mask, &mut places)?;
         rows::load_lanes(&self.items, array, &places, mask, into);
         Ok(())
     }
@@ -297,8 +304,15 @@ impl Arrays {
         ensures lowest { IfErr result (λ t. lowest N (run_outside (size self.old array) (number I64 index) (flag_of mask.now)) ≡ Some t.instance) }
         ensures same { IfErr result (λ t. self.new ≡ self.old) }
     {
+        mask.told();
+        value.told();
+        let count = rows::count(&self.items, array);
+        if is_whole(count, index, mask) {
+            rows::put_row(&mut self.items, self.alloc, array, index as usize, value);
+            return Ok(());
+        }
         let mut places = [0; N];
-        run_places(rows::count(&self.items, array), index, mask, &mut places)?;
+        run_places(count, index, mask, &mut places)?;
         rows::put_lanes(&mut self.items, self.alloc, array, &places, mask, value);
         Ok(())
     }

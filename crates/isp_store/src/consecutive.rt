@@ -1,5 +1,5 @@
 //! Places of consecutive elements, one for each lane of a mask, from an index on.
-ghost use Rattle.std.specs.Prelude.{◌≡◌, ℕ, ◌<◌, ◌≤◌, pos, ◌+ℤ◌, unsigned_abs, true, false, Some, None, IfOk, IfErr, IfSome};
+ghost use Rattle.std.specs.Prelude.{◌≡◌, ℕ, ◌<◌, ◌≤◌, ◌+◌, ◌^◌, pos, ◌+ℤ◌, unsigned_abs, true, false, Some, None, IfOk, IfErr, IfSome};
 ghost use Rattle.isp_base.specs.Access.{is_beyond};
 ghost use Rattle.isp_base.specs.Cross.{rank, run_index, run_outside, packed_index, packed_outside};
 ghost use Rattle.isp_base.specs.Maps.{lane_of};
@@ -25,6 +25,18 @@ fn place_behind(count: usize, index: u64, offset: u64) -> Option<u64>
     } else {
         Some(place as u64)
     }
+}
+
+// Whether all lanes are on, and as many elements as there are lanes stand in a row from an index on.
+#[inline(always)]
+pub(crate) fn is_whole<const N: usize>(count: usize, index: u64, mask: &LaneMask<N>) -> bool
+    ensures on { result ≡ true → (p : ℕ) → p < N → flag_of mask.now p ≡ true }
+    ensures there { result ≡ true → index + N ≤ count }
+    ensures low { result ≡ true → index < 2 ^ 63 }
+{
+    mask.told();
+    let count = count as u64;
+    mask.all() && index < 1 << 63 && index <= count && N as u64 <= count - index
 }
 
 // For each lane of the mask the place that is as many behind an index as the lane's number says.

@@ -1,5 +1,6 @@
 //! Elements from an array into lanes, and back.
-ghost use Rattle.std.specs.Prelude.{◌≡◌, ℕ, ◌<◌, ◌^◌, length, true, Some, None, IfOk, IfErr};
+ghost use Rattle.std.specs.Prelude.{◌≡◌, ℕ, ◌<◌, ◌≤◌, ◌+◌, ◌^◌, length, true, Some, None, IfOk, IfErr};
+ghost use Rattle.std.specs.Simd.Lanes.{chunk, put_chunk};
 ghost use Rattle.isp_base.specs.declared.types.Elem.TheVariants.{I64};
 ghost use Rattle.isp_base.specs.Access.{element, is_outside, scatter};
 ghost use Rattle.isp_base.specs.Cells.{cell_width};
@@ -13,6 +14,7 @@ use crate::index::IndexTrap;
 use isp_base::{Array, Cells};
 use isp_lanes::{LaneMask, Lanes, Row};
 use std::alloc::Global;
+use std::simd::prelude::*;
 
 // The element at its place in each lane of the mask. How wide the array's words are is asked once.
 //
@@ -170,4 +172,72 @@ fn leave_all<const N: usize>(
         (Cells::Bits64(items), Row::Bits64(row)) => leave(items.as_mut_slice(), places, mask, row),
         _ => unreachable!(),
     }
+}
+
+// As many elements as there are lanes, from a place on, in the place of a vector's lanes.
+#[inline(always)]
+pub(crate) fn load_row<const N: usize>(array: &Array, start: usize, into: &mut Lanes<N>)
+    requires elem { into.old.elem ≡ array.now.elem }
+    requires inside { start + N ≤ length array.now.bits }
+    ensures { into.new ≡ record { elem = into.old.elem; bits = chunk start N array.now.bits } }
+{
+    match array.cells() {
+        Cells::Bits8(cells) => {
+            into.set_row(Row::Bits8(Simd::from_slice(&cells.as_slice()[start..]).to_array()));
+        }
+        Cells::Bits16(cells) => {
+            into.set_row(Row::Bits16(Simd::from_slice(&cells.as_slice()[start..]).to_array()));
+        }
+        Cells::Bits32(cells) => {
+            into.set_row(Row::Bits32(Simd::from_slice(&cells.as_slice()[start..]).to_array()));
+        }
+        Cells::Bits64(cells) => {
+            into.set_row(Row::Bits64(Simd::from_slice(&cells.as_slice()[start..]).to_array()));
+        }
+    }
+}
+
+// The lanes of a vector in the place of as many elements, from a place on. The words are taken out of the array while they are
+// written, and put back.
+#[inline(always)]
+pub(crate) fn put_row<const N: usize>(
+    array: &mut Array,
+    alloc: Global,
+    start: usize,
+    value: &Lanes<N>,
+)
+    requires elem { value.now.elem ≡ array.old.elem }
+    requires inside { start + N ≤ length array.old.bits }
+    ensures { array.new ≡ record { elem = array.old.elem; bits = put_chunk start array.old.bits value.now.bits } }
+{
+    value.told();
+    let mut cells = array.take_cells(alloc);
+    copy_row(&mut cells, start, value);
+    array.put_cells(cells);
+}
+
+// The lanes of a vector in the place of as many words, from a place on.
+#[inline(always)]
+fn copy_row<const N: usize>(cells: &mut Cells, start: usize, value: &Lanes<N>)
+    requires wide { held_width cells.old ≡ cell_width value.now.elem }
+    requires inside { start + N ≤ length (held cells.old) }
+    ensures held { held cells.new ≡ put_chunk start (held cells.old) value.now.bits }
+    ensures wide { held_width cells.new ≡ held_width cells.old }
+{
+    match (cells, value.row()) {
+        (Cells::Bits8(items), Row::Bits8(row)) => lay(items.as_mut_slice(), start, row),
+        (Cells::Bits16(items), Row::Bits16(row)) => lay(items.as_mut_slice(), start, row),
+        (Cells::Bits32(items), Row::Bits32(row)) => lay(items.as_mut_slice(), start, row),
+        (Cells::Bits64(items), Row::Bits64(row)) => lay(items.as_mut_slice(), start, row),
+        _ => unreachable!(),
+    }
+}
+
+// A row of words in the place of as many, from a place on.
+#[inline(always)]
+fn lay<T: Copy, const N: usize>(cells: &mut [T], start: usize, row: &[T; N])
+    requires { start + N ≤ length cells.old }
+    ensures { cells.new ≡ put_chunk start cells.old row.now }
+{
+    cells[start..start + N].copy_from_slice(row);
 }

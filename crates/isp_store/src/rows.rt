@@ -1,8 +1,10 @@
 //! Arrays by their numbers, where the places are known to be there.
-ghost use Rattle.std.specs.Prelude.{◌≡◌, ℕ, ◌<◌, ◌^◌, length, replicate, true, Some, None, IfOk, IfErr};
+ghost use Rattle.std.specs.Prelude.{◌≡◌, ℕ, ◌<◌, ◌≤◌, ◌+◌, ◌^◌, length, replicate, true, Some, None, IfOk, IfErr};
+ghost use Rattle.std.specs.Simd.Lanes.{chunk, put_chunk};
 ghost use Rattle.isp_base.specs.declared.types.Elem.TheVariants.{I64};
 ghost use Rattle.isp_base.specs.Access.{element, is_outside, scatter};
 ghost use Rattle.isp_base.specs.Arguments.{row_bits};
+ghost use Rattle.isp_base.specs.Cells.{cell_width};
 ghost use Rattle.isp_base.specs.Held.{held, held_width};
 ghost use Rattle.isp_base.specs.Maps.{lane_of, map1, on, over, put, lowest_failing};
 ghost use Rattle.isp_base.specs.Sets.{flag_of};
@@ -131,15 +133,60 @@ pub(crate) fn put_lanes<const N: usize>(
     moves::put(&mut rows[array], alloc, places, mask, value);
 }
 
+// As many elements as there are lanes, from a place on, in the place of a vector's lanes.
+#[inline(always)]
+pub(crate) fn load_row<const N: usize>(
+    rows: &[Array],
+    array: usize,
+    start: usize,
+    into: &mut Lanes<N>,
+)
+    requires there { array < length rows.now }
+    requires elem { into.old.elem ≡ type_of rows.now array }
+    requires inside { start + N ≤ length (row_bits rows.now array) }
+    ensures { into.new ≡ record { elem = into.old.elem; bits = chunk start N (row_bits rows.now array) } }
+{
+    moves::load_row(&rows[array], start, into);
+}
+
+// The lanes of a vector in the place of as many elements, from a place on.
+#[inline(always)]
+pub(crate) fn put_row<const N: usize>(
+    rows: &mut [Array],
+    alloc: Global,
+    array: usize,
+    start: usize,
+    value: &Lanes<N>,
+)
+    requires there { array < length rows.old }
+    requires elem { value.now.elem ≡ type_of rows.old array }
+    requires inside { start + N ≤ length (row_bits rows.old array) }
+    ensures elements { bits_of rows.new ≡ put (bits_of rows.old) array (lane_of (put_chunk start (row_bits rows.old array) value.now.bits)) }
+    ensures shapes { shapes_of rows.new ≡ shapes_of rows.old }
+{
+    moves::put_row(&mut rows[array], alloc, start, value);
+}
+
 // An array of zeros.
 pub(crate) fn zeros(alloc: Global, elem: Elem, count: usize) -> Result<Array, AllocError>
     ensures { IfOk result (λ a. a ≡ record { elem = elem; bits = replicate count 0 }) }
 {
     let mut array = Array::empty(alloc, elem);
-    for _ in 0..count {
-        array.push(0)?;
-    }
+    array.put_cells(zero_cells(alloc, elem, count)?);
     Ok(array)
+}
+
+// Words of zeros, of the width that the type takes.
+fn zero_cells(alloc: Global, elem: Elem, count: usize) -> Result<Cells, AllocError>
+    ensures words { IfOk result (λ cells. held cells ≡ replicate count 0) }
+    ensures wide { IfOk result (λ cells. held_width cells ≡ cell_width elem) }
+{
+    match elem {
+        Elem::Bool | Elem::I8 | Elem::U8 => Ok(Cells::Bits8(vec![in alloc; 0; count]?)),
+        Elem::I16 | Elem::U16 => Ok(Cells::Bits16(vec![in alloc; 0; count]?)),
+        Elem::I32 | Elem::U32 => Ok(Cells::Bits32(vec![in alloc; 0; count]?)),
+        Elem::I64 | Elem::U64 => Ok(Cells::Bits64(vec![in alloc; 0; count]?)),
+    }
 }
 
 // Zero in each element.
