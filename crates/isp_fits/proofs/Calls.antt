@@ -6,7 +6,7 @@ use Rattle.std.proofs.lemmas.List.Elements.{All-head, All-tail}
 use Rattle.std.proofs.lemmas.Option.{get_or_from_slice_get, slice_get_within}
 use Rattle.isp_base.specs.Maps.{over}
 use Rattle.isp_base.specs.Sets.{Mask}
-use Rattle.isp_base.specs.Types.{gang_width}
+use Rattle.isp_base.specs.Types.{gang_width, widest}
 use Rattle.isp_base.specs.Values.{width}
 use Rattle.isp_base.specs.declared.types.Elem.{Elem}
 use Rattle.isp_base.specs.declared.types.Elem.TheVariants.{Bool as Truth}
@@ -242,7 +242,7 @@ breach_of B (y ∷ ys) (suc k) x e f b = inr (breach_of B ys k x e f b)
 pub fine_of : {A : Type 0} (P : A → Type 0) (xs : List A) (k : ℕ) (x : A) → All P xs → slice_get xs k ≡ Some x → P x
 fine_of P xs k x all e = subst P (get_or_from_slice_get xs k x x e) (all k x (slice_get_within xs k x e))
 
-module _ (program : Program) (some : 0 < gang_width program.gang) (few : gang_width program.gang ≤ 16) (fine : All (FineFunction program.functions) program.functions) (clean : NoneOf (OfEach (FunctionBreach program.functions) program.functions)) (most : ℕ) where
+module _ (program : Program) (some : 0 < gang_width program.gang) (few : gang_width program.gang ≤ widest) (fine : All (FineFunction program.functions) program.functions) (clean : NoneOf (OfEach (FunctionBreach program.functions) program.functions)) (most : ℕ) where
   each_fine : (k : ℕ) (g : TFunction) → slice_get program.functions k ≡ Some g → FineFunction program.functions g
   each_fine k g e = fine_of (FineFunction program.functions) program.functions k g fine e
 

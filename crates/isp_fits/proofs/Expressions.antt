@@ -6,6 +6,7 @@ use Rattle.std.proofs.lemmas.List.Elements.{All-head, All-tail}
 use Rattle.isp_base.specs.Access.{is_zero}
 use Rattle.isp_base.specs.Cross.{rank, packed_outside}
 use Rattle.isp_base.specs.Sets.{Mask, lowest}
+use Rattle.isp_base.specs.Types.{widest}
 use Rattle.isp_base.specs.Unary.{unary_bits}
 use Rattle.isp_base.specs.Values.{width, op_bits, compare_bits}
 use Rattle.isp_base.specs.declared.types.Elem.{Elem}
@@ -73,7 +74,7 @@ abbrev pub CallsFit : ℕ → List TFunction → Calls → Type 0
 CallsFit gang fs calls =
     (k : ℕ) (g : TFunction) → slice_get fs k ≡ Some g → (sp : Span) (a : Mask) (ps : List Passed) (w : World) (s : State) → ArgumentsFit gang w g.variables ps → Sound gang w s → ValFits gang w (Fits gang (answer_elem g.answer)) (calls k sp a ps w.frame s)
 
-module _ (gang : ℕ) (some : 0 < gang) (few : gang ≤ 16) (fs : List TFunction) (each : (k : ℕ) (g : TFunction) → slice_get fs k ≡ Some g → FineFunction fs g) (calls : Calls) (fit : CallsFit gang fs calls) (w : World) (stands : Stands w) where
+module _ (gang : ℕ) (some : 0 < gang) (few : gang ≤ widest) (fs : List TFunction) (each : (k : ℕ) (g : TFunction) → slice_get fs k ≡ Some g → FineFunction fs g) (calls : Calls) (fit : CallsFit gang fs calls) (w : World) (stands : Stands w) where
   as_fit : (m : Payload) {e t : Elem} → e ≡ t → Fits gang e m → Fits gang t m
   as_fit m e h = subst (λ z. Fits gang z m) e h
 

@@ -6,6 +6,7 @@ use Rattle.std.proofs.lemmas.List.Elements.{All-head, All-tail}
 use Rattle.isp_base.specs.Access.{is_zero}
 use Rattle.isp_base.specs.Maps.{on, where_true}
 use Rattle.isp_base.specs.Sets.{Mask, nobody, everyone, union, without, any, lone}
+use Rattle.isp_base.specs.Types.{widest}
 use Rattle.isp_base.specs.Values.{width, wrap}
 use Rattle.isp_base.specs.declared.operators.BinOp.{BinOp}
 use Rattle.isp_base.specs.declared.types.Elem.{Elem}
@@ -141,7 +142,7 @@ module _ (gang : ℕ) (w : World) where
   members_below zero a l = tt
   members_below (suc n) a l = below_on (members n a) (if_listed (a n) n) (members_below n a (omega arith)) (listed_below (a n) n (omega arith))
 
-  active_fit : gang ≤ 16 → (i : ℕ) → elem_at w i ≡ I64 → (ps : List ℕ) → AllBelow ps → RoundsFit (map (round_of_one i) ps)
+  active_fit : gang ≤ widest → (i : ℕ) → elem_at w i ≡ I64 → (ps : List ℕ) → AllBelow ps → RoundsFit (map (round_of_one i) ps)
   active_fit few i q [] h = tt
   active_fit few i q (p ∷ ps) h = (λ s k. written_fits gang w I64 Uniform i (lone (Some p)) (One p) (tick s) q (omega (arith, h.0, few)) k, active_fit few i q ps h.1)
 
@@ -151,7 +152,7 @@ module _ (gang : ℕ) (w : World) where
 
 -- ---- statements
 
-module _ (gang : ℕ) (some : 0 < gang) (few : gang ≤ 16) (fs : List TFunction) (each : (k : ℕ) (g : TFunction) → slice_get fs k ≡ Some g → FineFunction fs g) (calls : Calls) (fit : CallsFit gang fs calls) (w : World) (stands : Stands w) where
+module _ (gang : ℕ) (some : 0 < gang) (few : gang ≤ widest) (fs : List TFunction) (each : (k : ℕ) (g : TFunction) → slice_get fs k ≡ Some g → FineFunction fs g) (calls : Calls) (fit : CallsFit gang fs calls) (w : World) (stands : Stands w) where
   -- a value of a type, or one of which nothing is asked
   typed_fits : (e : Elem) (x : TExpr) → FineValue fs w.variables e x → NoneOf (ExprBreach fs x) → (a : Mask) (s : State) → Sound gang w s → ValFits gang w (Fits gang e) (value gang w.frame calls x a s)
   typed_fits e x f n a s h =

@@ -7,8 +7,9 @@ use Rattle.std.proofs.lemmas.Bool.Decides.{nat_tests}
 use Rattle.isp_base.specs.Sets.{Mask, any}
 use Rattle.isp_base.specs.Types.{gang_width}
 use Rattle.isp_base.specs.declared.types.Gang.{Gang}
-use Rattle.isp_base.specs.declared.types.Gang.TheVariants.{W4, W8, W16}
+use Rattle.isp_base.proofs.Gangs.{some_width}
 use Rattle.isp_meaning.specs.Rounds.{Range, Run, from_zero, length_of, runs_for, from_on, last_run, with_outer, joined_lists, runs_of}
+use Rattle.isp_meaning.proofs.RunsFor.{no_run, one_run}
 use Rattle.isp_instances.specs.Stands.{AreSome}
 use Rattle.isp_instances.proofs.Rounds.{AllSome}
 
@@ -41,31 +42,14 @@ none_from a b h = by (b -ℤ a) refl where
   by (negsuc n) e = refl
 
 -- so many numbers further there are so many fewer
-further : (g : ℕ) (a b : ℤ) → 0 < from_zero (b -ℤ a) → (from_zero (b -ℤ a) ≡ from_zero (b -ℤ (a +ℤ pos g)) + g) ⊎ ((from_zero (b -ℤ a) ≤ g) × (from_zero (b -ℤ (a +ℤ pos g)) ≡ 0))
+further : (g : ℕ) (a b : ℤ) → 0 < from_zero (b -ℤ a)
+    → (from_zero (b -ℤ a) ≡ from_zero (b -ℤ (a +ℤ pos g)) + g) ⊎ ((0 < from_zero (b -ℤ a)) × (from_zero (b -ℤ a) ≤ g) × (from_zero (b -ℤ (a +ℤ pos g)) ≡ 0))
 further g a b h = by (b -ℤ a) (b -ℤ (a +ℤ pos g)) refl refl h where
-  by : (d f : ℤ) → d ≡ b -ℤ a → f ≡ b -ℤ (a +ℤ pos g) → 0 < from_zero d → (from_zero d ≡ from_zero f + g) ⊎ ((from_zero d ≤ g) × (from_zero f ≡ 0))
+  by : (d f : ℤ) → d ≡ b -ℤ a → f ≡ b -ℤ (a +ℤ pos g) → 0 < from_zero d → (from_zero d ≡ from_zero f + g) ⊎ ((0 < from_zero d) × (from_zero d ≤ g) × (from_zero f ≡ 0))
   by (pos zero) f e k lt = absurd (omega (arith, lt))
   by (pos (suc n)) (pos m) e k lt = inl (omega (arith, ints, e, k))
-  by (pos (suc n)) (negsuc m) e k lt = inr (omega (arith, ints, e, k), refl)
+  by (pos (suc n)) (negsuc m) e k lt = inr (lt, omega (arith, ints, e, k), refl)
   by (negsuc n) f e k lt = absurd (omega (arith, lt))
-
-runs_less : (g : Gang) (x y : ℕ) → (x ≡ y + gang_width g) ⊎ ((x ≤ gang_width g) × (y ≡ 0)) → 0 < x → runs_for (gang_width g) x ≡ suc (runs_for (gang_width g) y)
-runs_less W4 x y (inl e) lt = omega (arith, e, lt)
-runs_less W4 x y (inr h) lt = omega (arith, h.0, h.1, lt)
-runs_less W8 x y (inl e) lt = omega (arith, e, lt)
-runs_less W8 x y (inr h) lt = omega (arith, h.0, h.1, lt)
-runs_less W16 x y (inl e) lt = omega (arith, e, lt)
-runs_less W16 x y (inr h) lt = omega (arith, h.0, h.1, lt)
-
-no_runs : (g : Gang) → runs_for (gang_width g) 0 ≡ 0
-no_runs W4 = refl
-no_runs W8 = refl
-no_runs W16 = refl
-
-some_width : (g : Gang) → 0 < gang_width g
-some_width W4 = omega arith
-some_width W8 = omega arith
-some_width W16 = omega arith
 
 -- ---- runs
 
@@ -99,9 +83,9 @@ module _ (g : Gang) where
         → AreSome (gang_width g) (last_run (gang_width g) r z).members × AllSome (gang_width g) (map (last_run (gang_width g) r) (from_on (gang_width g) n (z +ℤ pos (gang_width g))))
     by next true h =
         let lt = one_from z r.end h in
-        let s = runs_less g _ _ (further (gang_width g) z r.end lt) lt in
+        let s = one_run (gang_width g) _ _ (some_width g) (further (gang_width g) z r.end lt) in
         (run_some r z h, next (omega (arith, e, s)))
-    by next false h = let s : runs_for (gang_width g) (from_zero (r.end -ℤ z)) ≡ 0 = ap (runs_for (gang_width g)) (none_from z r.end h) ∙ no_runs g in absurd (omega (arith, e, s))
+    by next false h = let s : runs_for (gang_width g) (from_zero (r.end -ℤ z)) ≡ 0 = ap (runs_for (gang_width g)) (none_from z r.end h) ∙ no_run (gang_width g) (some_width g) in absurd (omega (arith, e, s))
 
   outer_some : (k : ℕ) (z : ℤ) (xs : List Run) → AllSome (gang_width g) xs → AllSome (gang_width g) (map (with_outer k z) xs)
   outer_some k z [] h = tt

@@ -1,5 +1,5 @@
 -- The arrays that instances leave one by one, and the result of the first, fit their types: they are those of the gang's run.
-use Rattle.std.proofs.Common.{◌≡◌, sym, ap, subst, ◌∙◌, ℕ, ◌<◌, List, [], Some, None, arith}
+use Rattle.std.proofs.Common.{◌≡◌, sym, ap, subst, ◌∙◌, ℕ, List, [], Some, None}
 use Rattle.std.specs.Prelude.{Option}
 use Rattle.std.specs.List.{All}
 use Rattle.isp_base.specs.Arguments.{rows, rows_now}
@@ -8,9 +8,8 @@ use Rattle.isp_base.specs.Rows.{Row, Fit}
 use Rattle.isp_base.specs.Types.{gang_width}
 use Rattle.isp_base.specs.declared.signature.Argument.{Argument}
 use Rattle.isp_base.specs.declared.types.Elem.{Elem}
-use Rattle.isp_base.specs.declared.types.Gang.{Gang}
-use Rattle.isp_base.specs.declared.types.Gang.TheVariants.{W4, W8, W16}
 use Rattle.isp_base.specs.declared.types.Value.{Value}
+use Rattle.isp_base.proofs.Gangs.{some_width}
 use Rattle.isp_typed.specs.Typed.{Program, TFunction}
 use Rattle.isp_rates.specs.Program.{IsAccepted}
 use Rattle.isp_independence.specs.Independent.{IsIndependent}
@@ -31,11 +30,6 @@ use Rattle.isp_solo.specs.Left.{rows_left}
 use Rattle.isp_solo.specs.Report.{AllEnd, left_upward, upward}
 use Rattle.isp_solo.proofs.Cuts.{cut_same, left_is}
 use Rattle.isp_solo.proofs.Upward.{upward_left, upward_order}
-
-pub some_instance : (g : Gang) → 0 < gang_width g
-some_instance W4 = omega arith
-some_instance W8 = omega arith
-some_instance W16 = omega arith
 
 abbrev left_in : Outcome → List Row
 left_in (Ends rs a out) = rs
@@ -75,7 +69,7 @@ module _ (program : Program) (name : List ℕ) (f : ℕ) (h : TFunction) (xs : L
     gang_ends : outcome_of h.gives xs (meaning program f n xs) ≡ Ends (left_upward program f n xs) (answer_as h.gives (One (value_of (alone 0)))) []
     gang_ends =
         sym (ap (λ t. outcome_of (gives_of t) xs (meaning program f n xs)) entry.export.found)
-        ∙ solo_runs_agree program name f h xs n accepted entry independent ends apart (upward (gang_width program.gang)) (upward_order (gang_width program.gang)) 0 (some_instance program.gang)
+        ∙ solo_runs_agree program name f h xs n accepted entry independent ends apart (upward (gang_width program.gang)) (upward_order (gang_width program.gang)) 0 (some_width program.gang)
 
     fitting : Fitting xs (one_by_one program f n xs (upward (gang_width program.gang)) (bound xs)) (answer_as h.gives (One (value_of (alone 0))))
     fitting =

@@ -4,10 +4,10 @@ use Rattle.std.specs.Prelude.{List}
 use Rattle.isp_base.specs.declared.types.Elem.{Elem}
 use Rattle.isp_base.specs.declared.types.Elem.TheVariants.{Bool as Truth, I8, U8, I16, U16, I32, U32, I64, U64}
 use Rattle.isp_base.specs.declared.types.Gang.{Gang}
-use Rattle.isp_base.specs.declared.types.Gang.TheVariants as gangs
 use Rattle.isp_base.specs.declared.types.Span.{Span}
 use Rattle.isp_base.specs.Ranks.{same_elem, operand, common, chosen}
 use Rattle.isp_base.specs.Values.{greatest}
+use Rattle.isp_base.proofs.Gangs.{few_width}
 use Rattle.isp_base.proofs.RankLaws.{common_one, same_is}
 use Rattle.isp_tree.specs.Sound.{InText}
 use Rattle.isp_tree.specs.declared.expr.Prefix.{Prefix}
@@ -77,9 +77,7 @@ module _ (gs : List TFunction) (all : List Variable) where
   truth_fine false s = omega arith
 
   pub count_fine : (g : Gang) → (count_value g).bits ≤ greatest (count_value g).elem
-  count_fine gangs.W4 = omega arith
-  count_fine gangs.W8 = omega arith
-  count_fine gangs.W16 = omega arith
+  count_fine g = let few = few_width g in omega (arith, few)
 
   pub cast_fine : (s : Span) (w : ValueWords) (x : TExpr) → BareExpr x → BareExpr (cast_to s (w, x))
   cast_fine s w x f = ((converted_fine w.elem x f, converted_elem w.elem x), refl)

@@ -1,6 +1,7 @@
 use Rattle.std.proofs.Common.{◌≡◌, ℕ, subst, arith}
 use Rattle.std.specs.Prelude.{Option}
 use Rattle.isp_base.specs.Arguments.{rows}
+use Rattle.isp_base.proofs.Gangs.{some_width}
 use Rattle.isp_base.specs.Types.{gang_width}
 use Rattle.isp_base.specs.declared.types.Elem.{Elem}
 use Rattle.isp_typed.specs.Views.{program_of}
@@ -8,7 +9,6 @@ use Rattle.isp_alone.specs.Runs.{solo_run, bound}
 use Rattle.isp_solo.specs.Left.{rows_left}
 use Rattle.isp_solo.specs.Report.{Says}
 use Rattle.isp_solo.specs.Together.{AreTogether}
-use Rattle.isp_solo.proofs.Fitting.{some_instance}
 use Rattle.isp_solo.proofs.Stopping.{trapped_first, cut_first, gives_is}
 use Rattle.isp_solo.proofs.instances.report.Goals as goal
 
@@ -37,5 +37,5 @@ returns-clause-came c = λ h found.
     let n : c.loop-instance.instance ≡ gang_width c.args.program.now.gang = omega (arith, c.loop-instance-test.false, c.loop-instance.auto.instance-end, c.width-instance-end.ensures) in
     subst (λ (t : Option Elem). Says (gang_width c.args.program.now.gang) run c.args.arguments.now (rows_left run (rows c.args.arguments.now) (gang_width c.args.program.now.gang)) t c.ended.result)
     (gives_is c.args.program.now.functions.items c.args.function c.index.result.now h c.requires c.index.ensures found)
-    (c.ended.ensures (gang_width c.args.program.now.gang) run (rows c.args.arguments.now) (some_instance c.args.program.now.gang)
+    (c.ended.ensures (gang_width c.args.program.now.gang) run (rows c.args.arguments.now) (some_width c.args.program.now.gang)
     (subst (λ (k : ℕ). AreTogether run (rows c.args.arguments.now) k c.loop-instance.together) n c.loop-instance.invariant))
