@@ -113,17 +113,24 @@ fn replace(rt: &impl Abort, alloc: Global, text: &str, place: usize, byte: u8) -
     Ok(())
 }
 
-#[test]
-fn each_byte_replaced(rt: HostRuntime) -> Result<(), Fail> {
-    let alloc = rt.alloc();
-    for text in [TEXT, WIDE] {
-        for place in 0..text.len() {
-            for byte in 0..128u8 {
-                replace(&rt, alloc, text, place, byte)?;
-            }
+// Reads a text with each byte replaced by each of 0 to 127.
+fn replace_each(rt: &impl Abort, alloc: Global, text: &str) -> Result<(), Fail> {
+    for place in 0..text.len() {
+        for byte in 0..128u8 {
+            replace(rt, alloc, text, place, byte)?;
         }
     }
     Ok(())
+}
+
+#[test]
+fn each_byte_replaced(rt: HostRuntime) -> Result<(), Fail> {
+    replace_each(&rt, rt.alloc(), TEXT)
+}
+
+#[test]
+fn each_byte_replaced_by_32(rt: HostRuntime) -> Result<(), Fail> {
+    replace_each(&rt, rt.alloc(), WIDE)
 }
 
 // Reads a text with memory refused at each point in turn, and at last writes it again.
