@@ -7,6 +7,7 @@ use Rattle.std.proofs.lemmas.List.{append-nil, length-append, take_all}
 use Rattle.std.proofs.lemmas.Option.{slice_get_past}
 use Rattle.isp_base.specs.Maps.{Lanes, Map, lane_of, over}
 use Rattle.isp_base.specs.Sets.{Mask}
+use Rattle.isp_base.specs.Types.{widest}
 use Rattle.isp_base.specs.declared.types.Rate.TheVariants.{Uniform, Varying}
 use Rattle.isp_typed.specs.declared.variable.Holds.{Holds}
 use Rattle.isp_typed.specs.declared.variable.Holds.TheVariants.{Value as AValue, Given, Local}
@@ -28,7 +29,7 @@ use Rattle.isp_tasks.specs.Seen.{answer_in, frame_seen, sizes_in}
 use Rattle.isp_tasks.specs.Stores.{own_of}
 use Rattle.isp_tasks.specs.declared.activation.Activation.{Activation}
 
-pub over_zeros : (row : List (Option ℕ)) (x : Map) (lanes : List ℕ) → lane_of lanes ≡ over (map_of row) (lane_of (replicate 16 0)) → map_of row ≡ x → lane_of lanes ≡ over x (λ p. 0)
+pub over_zeros : (row : List (Option ℕ)) (x : Map) (lanes : List ℕ) → lane_of lanes ≡ over (map_of row) (lane_of (replicate widest 0)) → map_of row ≡ x → lane_of lanes ≡ over x (λ p. 0)
 over_zeros row x lanes e is = e ∙ ap₂ {C = Lanes} (λ (m : Map) (f : Lanes). over m f) is zeros
 
 is_below : (m n : ℕ) → m < n → nat_lt m n ≡ true
@@ -179,8 +180,8 @@ abbrev pub state_with : (ℕ → ℕ) → (ℕ → Lanes) → (ℕ → ℕ → L
 state_with u v o z b s = record { uniforms = u; varying = v; own = o; result = 0; results = z; arrays = b; out = s.out; work = s.work }
 
 pub state_begun : (g : TypedFunction) (ps : List Passed) (caller : Activation) (a : Mask) (s : State) (vs : List Variable) (us : List ℕ) (ls : List (List ℕ)) (os : List (Vec (List ℕ) Global)) → vs ≡ g.variables.items → values_of us ≡ one_at vs ps → lanes_of ls ≡ each_at vs ps a → os ≡ []
-    → state_with (values_of us) (lanes_of ls) (own_of os) (lane_of (replicate 16 0)) (below (length caller.sizes.items) s.arrays) s ≡ begun (function_of g) ps (frame_seen caller) a s
+    → state_with (values_of us) (lanes_of ls) (own_of os) (lane_of (replicate widest 0)) (below (length caller.sizes.items) s.arrays) s ≡ begun (function_of g) ps (frame_seen caller) a s
 state_begun g ps caller a s vs us ls os ev eu el eo =
     let b = below (length caller.sizes.items) s.arrays in
-    ap₂ (λ (u : ℕ → ℕ) (l : ℕ → Lanes). state_with u l (own_of os) (lane_of (replicate 16 0)) b s) (eu ∙ ap (λ (y : List Variable). one_at y ps) ev) (el ∙ ap (λ (y : List Variable). each_at y ps a) ev)
+    ap₂ (λ (u : ℕ → ℕ) (l : ℕ → Lanes). state_with u l (own_of os) (lane_of (replicate widest 0)) b s) (eu ∙ ap (λ (y : List Variable). one_at y ps) ev) (el ∙ ap (λ (y : List Variable). each_at y ps a) ev)
     ∙ ap₂ (λ (x : List (Vec (List ℕ) Global)) (z : Lanes). state_with (one_at g.variables.items ps) (each_at g.variables.items ps a) (own_of x) z b s) eo zeros

@@ -1,23 +1,18 @@
 -- How a run begins.
-use Rattle.std.proofs.Common.{◌≡◌, refl, ap, ap₂, ◌∙◌, ℕ, zero, suc, List, [], ◌∷◌, map, length, replicate, Vec, Global, Bor, None}
+use Rattle.std.proofs.Common.{◌≡◌, refl, ap, ap₂, ◌∙◌, ℕ, zero, suc, List, [], ◌∷◌, map, length, Vec, Global, Bor, None}
 use Rattle.std.proofs.Math.Path.{fun_ext}
 use Rattle.std.specs.Prelude.{slice_index}
 use Rattle.isp_base.specs.Arguments.{rows, row_bits}
-use Rattle.isp_base.specs.Maps.{lane_of}
 use Rattle.isp_base.specs.Rows.{Row}
 use Rattle.isp_base.specs.declared.signature.Argument.{Argument}
 use Rattle.isp_typed.specs.declared.function.Program.{Program}
 use Rattle.isp_typed.specs.Views.{program_of}
 use Rattle.isp_meaning.specs.Runs.{first_frame}
-use Rattle.isp_gang.proofs.Made.{repeated}
 use Rattle.isp_gang.specs.Growing.{values_of}
 use Rattle.isp_tasks.specs.Seen.{frame_seen, state_seen}
 use Rattle.isp_tasks.specs.Starts.{Starts, nothing_written}
 use Rattle.isp_tasks.specs.Stores.{stores_of}
 use Rattle.isp_tasks.specs.declared.state.Evaluator.{Evaluator}
-
-pub zeros : lane_of (replicate 16 0) ≡ (λ p. 0)
-zeros = fun_ext (λ p. repeated 16 p 0)
 
 index_is : (xs : List ℕ) (e : ℕ) → values_of xs e ≡ slice_index xs e
 index_is [] zero = refl

@@ -5,15 +5,16 @@ use Rattle.isp_base.specs.Access.{is_beyond, put_at, scatter}
 use Rattle.isp_base.specs.Cross.{packed_index, packed_outside, packed_places}
 use Rattle.isp_base.specs.Maps.{Lanes, Map}
 use Rattle.isp_base.specs.Sets.{Mask, flag_of, lowest, or_this}
+use Rattle.isp_base.specs.Types.{widest}
 use Rattle.isp_gang.specs.Seen.{map_of}
 use Rattle.isp_gang.proofs.Made.{Made, made, past}
 use Rattle.isp_tasks.specs.Packing.{place_at, places_at}
 
-pub outside_made : (n : ℕ) (z : ℤ) (set out : List Bool) → length set ≡ 16 → Made false (packed_outside n z (flag_of set)) out 16 → flag_of out ≡ packed_outside n z (flag_of set)
-outside_made n z set out long m = made false _ out 16 m (λ p h. ap (λ b. b && is_beyond n (packed_index z (flag_of set) p)) (past set p false (omega (arith, long, h))))
+pub outside_made : (n : ℕ) (z : ℤ) (set out : List Bool) → length set ≡ widest → Made false (packed_outside n z (flag_of set)) out widest → flag_of out ≡ packed_outside n z (flag_of set)
+outside_made n z set out long m = made false _ out widest m (λ p h. ap (λ b. b && is_beyond n (packed_index z (flag_of set) p)) (past set p false (omega (arith, long, h))))
 
-pub places_made : (n : ℕ) (z : ℤ) (set : List Bool) (places : List (Option ℕ)) → length set ≡ 16 → Made None (places_at n z (flag_of set)) places 16 → map_of places ≡ places_at n z (flag_of set)
-places_made n z set places long m = made None _ places 16 m (λ p h. ap (λ b. if b then place_at n (packed_index z (flag_of set) p) else None) (past set p false (omega (arith, long, h))))
+pub places_made : (n : ℕ) (z : ℤ) (set : List Bool) (places : List (Option ℕ)) → length set ≡ widest → Made None (places_at n z (flag_of set)) places widest → map_of places ≡ places_at n z (flag_of set)
+places_made n z set places long m = made None _ places widest m (λ p h. ap (λ b. if b then place_at n (packed_index z (flag_of set) p) else None) (past set p false (omega (arith, long, h))))
 
 -- where no element is outside, they are stored at their places
 one_place : (b t : Bool) (i : ℕ) → (b && t) ≡ false → (if b then (if t then None else Some i) else None) ≡ (if b then Some i else None)

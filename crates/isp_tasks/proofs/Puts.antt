@@ -7,6 +7,7 @@ use Rattle.std.proofs.lemmas.List.{get_or-set_other, get_or-set_same}
 use Rattle.isp_base.specs.Access.{put_at, scatter}
 use Rattle.isp_base.specs.Maps.{Map, Lanes, put, lane_of, holds, or_old, each1}
 use Rattle.isp_base.specs.Sets.{Mask, flag_of}
+use Rattle.isp_base.specs.Types.{widest}
 use Rattle.isp_gang.specs.Growing.{lanes_of}
 use Rattle.isp_gang.proofs.Vectors.{at_there, at_past, written}
 use Rattle.isp_gang.specs.Seen.{map_of}
@@ -51,11 +52,11 @@ own_part i x y f e p = if nat_lt p i then own_stored x y f e p else f e p
 
 -- ---- rows that are made place by place
 
-pub own_made : (f : ℕ → Lanes) (xs zs : List (Option ℕ)) → length xs ≡ 16 → Made None (λ p. each1 (λ x. f x p) (map_of xs p)) zs 16 → map_of zs ≡ (λ p. each1 (λ x. f x p) (map_of xs p))
-own_made f xs zs long m = made None _ zs 16 m (λ p h. ap (each1 (λ x. f x p)) (past xs p None (omega (arith, long, h))))
+pub own_made : (f : ℕ → Lanes) (xs zs : List (Option ℕ)) → length xs ≡ widest → Made None (λ p. each1 (λ x. f x p) (map_of xs p)) zs widest → map_of zs ≡ (λ p. each1 (λ x. f x p) (map_of xs p))
+own_made f xs zs long m = made None _ zs widest m (λ p h. ap (each1 (λ x. f x p)) (past xs p None (omega (arith, long, h))))
 
-pub zeros_made : (set : List Bool) (xs zs : List ℕ) → length xs ≡ 16 → Made 0 (with_zeros (flag_of set) (lane_of xs)) zs 16 → lane_of zs ≡ with_zeros (flag_of set) (lane_of xs)
-zeros_made set xs zs long m = made 0 _ zs 16 m (λ p h. ap (λ n. if flag_of set p then 0 else n) (past xs p 0 (omega (arith, long, h))) ∙ same (flag_of set p))
+pub zeros_made : (set : List Bool) (xs zs : List ℕ) → length xs ≡ widest → Made 0 (with_zeros (flag_of set) (lane_of xs)) zs widest → lane_of zs ≡ with_zeros (flag_of set) (lane_of xs)
+zeros_made set xs zs long m = made 0 _ zs widest m (λ p h. ap (λ n. if flag_of set p then 0 else n) (past xs p 0 (omega (arith, long, h))) ∙ same (flag_of set p))
   where
     same : (b : Bool) → ◌≡◌ {A = ℕ} (if b then 0 else 0) 0
     same true = refl
@@ -104,9 +105,9 @@ module _ (x y : Map) (k : ℕ → Lanes) where
       ∙ sym (ap (λ o. if holds (λ j. nat_eq j e) o then or_old (y i) (k e i) else k e i) hx ∙ ap (λ b. if b then or_old (y i) (k e i) else k e i) (ne_eqb place e (λ t. far (sym t)))))
       (cases_eq e place))
 
-pub own_all : (xs : List (Option ℕ)) (y : Map) (k : ℕ → Lanes) → length xs ≡ 16 → own_part 16 (map_of xs) y k ≡ own_stored (map_of xs) y k
+pub own_all : (xs : List (Option ℕ)) (y : Map) (k : ℕ → Lanes) → length xs ≡ widest → own_part widest (map_of xs) y k ≡ own_stored (map_of xs) y k
 own_all xs y k long =
-    fun_ext (λ e. fun_ext (λ p. ⊎_elim (λ (h : p < 16). own_after (map_of xs) y k 16 e p h) (λ h. own_before (map_of xs) y k 16 e p h ∙ sym (ap (λ o. if holds (λ j. nat_eq j e) o then or_old (y p) (k e p) else k e p) (past xs p None (omega (arith, long, h))))) (cases_lt p 16)))
+    fun_ext (λ e. fun_ext (λ p. ⊎_elim (λ (h : p < widest). own_after (map_of xs) y k widest e p h) (λ h. own_before (map_of xs) y k widest e p h ∙ sym (ap (λ o. if holds (λ j. nat_eq j e) o then or_old (y p) (k e p) else k e p) (past xs p None (omega (arith, long, h))))) (cases_lt p widest)))
 
 pub own_next_store : (f g r : ℕ → ℕ → Lanes) (n i : ℕ) (x y : Map) → g ≡ put f n (own_part i x y (f n)) → r ≡ put g n (put_own_at i (x i) (y i) (g n)) → r ≡ put f n (own_part (i + 1) x y (f n))
 own_next_store f g r n i x y e is = change_again f g r n (own_part i x y (f n)) (put_own_at i (x i) (y i)) e is ∙ ap (put f n) (by (x i) (y i) refl refl)
@@ -119,7 +120,7 @@ own_next_store f g r n i x y e is = change_again f g r n (own_part i x y (f n)) 
 pub own_first : (f : ℕ → ℕ → Lanes) (n : ℕ) (x y : Map) → f ≡ put f n (own_part 0 x y (f n))
 own_first f n x y = sym (put_same f n (own_part 0 x y (f n)) (own_begins x y (f n)))
 
-pub own_last : (f g : ℕ → ℕ → Lanes) (n i : ℕ) (xs : List (Option ℕ)) (y : Map) → length xs ≡ 16 → i ≡ 16 → g ≡ put f n (own_part i (map_of xs) y (f n)) → g ≡ put f n (own_stored (map_of xs) y (f n))
+pub own_last : (f g : ℕ → ℕ → Lanes) (n i : ℕ) (xs : List (Option ℕ)) (y : Map) → length xs ≡ widest → i ≡ widest → g ≡ put f n (own_part i (map_of xs) y (f n)) → g ≡ put f n (own_stored (map_of xs) y (f n))
 own_last f g n i xs y long end e = e ∙ ap (λ k. put f n (own_part k (map_of xs) y (f n))) end ∙ ap (put f n) (own_all xs y (f n) long)
 
 -- ---- lanes of a set that become 0 place by place

@@ -42,7 +42,7 @@ pub fn started<'a>(
 }
 
 // Before a run with such stores.
-#[tactic(auto, using(crate::proofs::Openings::zeros))]
+#[tactic(auto, using(isp_gang::proofs::Vectors::zeros))]
 fn evaluator<'a>(
     alloc: Global,
     program: &'a Program,

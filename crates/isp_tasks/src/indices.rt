@@ -30,7 +30,7 @@ pub fn element(elem: Elem, bits: u64) -> usize
 }
 
 /// The instances whose index is outside an array of so many elements.
-#[tactic(auto, using(isp_gang::proofs::Masks::begun, isp_gang::proofs::Rows::where_made))]
+#[tactic(auto, using(isp_gang::proofs::Rows::where_made))]
 pub fn where_outside(elem: Elem, count: usize, row: &Row) -> Active
     ensures { flag_of result ≡ where_true (Access.is_outside elem count) (map_of row.now) }
 {
@@ -55,7 +55,7 @@ pub fn places(elem: Elem, index: &Computed) -> Computed
 }
 
 // Likewise of a row.
-#[tactic(auto, using(isp_gang::proofs::Rows::begun, isp_gang::proofs::Rows::map1_made))]
+#[tactic(auto, using(isp_gang::proofs::Rows::map1_made))]
 fn place_row(elem: Elem, indices: &Row) -> Row
     ensures { map_of result ≡ map1 (Access.element elem) (map_of indices.now) }
 {
@@ -70,7 +70,7 @@ fn place_row(elem: Elem, indices: &Row) -> Row
 }
 
 /// The elements of a store at the indices.
-#[tactic(auto, using(isp_gang::proofs::Rows::begun, isp_gang::proofs::Rows::map1_made))]
+#[tactic(auto, using(isp_gang::proofs::Rows::map1_made))]
 pub fn picked(stores: &[Vec<u64>], store: usize, elem: Elem, indices: &Row) -> Row
     ensures { map_of result ≡ map1 (λ x. stores_of stores.now store (Access.element elem x)) (map_of indices.now) }
 {
@@ -85,7 +85,7 @@ pub fn picked(stores: &[Vec<u64>], store: usize, elem: Elem, indices: &Row) -> R
 }
 
 /// Each instance's own element at its index.
-#[tactic(auto, using(isp_gang::proofs::Rows::begun, crate::proofs::Puts::own_made))]
+#[tactic(auto, using(crate::proofs::Puts::own_made))]
 pub fn picked_own(arrays: &[Vec<Lanes>], array: usize, elem: Elem, indices: &Row) -> Row
     ensures { map_of result ≡ (λ p. each1 (λ x. own_of arrays.now array (Access.element elem x) p) (map_of indices.now p)) }
 {

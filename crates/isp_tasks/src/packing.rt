@@ -3,7 +3,7 @@ ghost use Rattle.std.specs.Prelude.{◌≡◌, ◌<◌, unsigned_abs};
 ghost use Rattle.isp_base.specs.Cross.{packed_index, packed_outside};
 ghost use Rattle.isp_base.specs.Maps.{on};
 ghost use Rattle.isp_base.specs.Sets.{flag_of, lowest};
-ghost use Rattle.isp_base.specs.Types.{gang_width};
+ghost use Rattle.isp_base.specs.Types.{gang_width, widest};
 ghost use Rattle.isp_base.specs.Values.{number};
 ghost use Rattle.isp_gang.specs.Seen.{map_of};
 ghost use Rattle.isp_tasks.specs.Packing.{place_at, places_at};
@@ -17,7 +17,7 @@ use isp_gang::sets::{Active, WIDEST, lowest, rank};
 
 // The whole number of the element of a member.
 fn index(elem: Elem, first: u64, set: &Active, instance: usize) -> i128
-    requires { instance < 16 }
+    requires { instance < widest }
     ensures { result ≡ packed_index (number elem first) (flag_of set.now) instance }
 {
     whole(elem, first) + rank(set, instance) as i128
@@ -25,7 +25,7 @@ fn index(elem: Elem, first: u64, set: &Active, instance: usize) -> i128
 
 // Whether an instance is a member whose element is not in an array of so many.
 fn is_outside(elem: Elem, first: u64, count: usize, set: &Active, instance: usize) -> bool
-    requires { instance < 16 }
+    requires { instance < widest }
     ensures { result ≡ packed_outside count (number elem first) (flag_of set.now) instance }
 {
     let index = index(elem, first, set, instance);
@@ -33,7 +33,7 @@ fn is_outside(elem: Elem, first: u64, count: usize, set: &Active, instance: usiz
 }
 
 /// The lowest member whose element is not in an array of so many.
-#[tactic(auto, using(isp_gang::proofs::Masks::begun, crate::proofs::Packs::outside_made))]
+#[tactic(auto, using(crate::proofs::Packs::outside_made))]
 pub fn outside(gang: Gang, elem: Elem, first: u64, count: usize, set: &Active) -> Option<usize>
     ensures { result ≡ lowest (gang_width gang) (packed_outside count (number elem first) (flag_of set.now)) }
 {
@@ -61,7 +61,7 @@ fn element_of(stores: &[Vec<u64>], store: usize, index: i128) -> u64
 }
 
 /// The consecutive elements of a store for the members.
-#[tactic(auto, using(isp_gang::proofs::Rows::begun, isp_gang::proofs::Rows::on_made))]
+#[tactic(auto, using(isp_gang::proofs::Rows::on_made))]
 pub fn held(stores: &[Vec<u64>], store: usize, elem: Elem, first: u64, set: &Active) -> Row
     ensures { map_of result ≡ on (flag_of set.now) (λ p. stores_of stores.now store
         (unsigned_abs (packed_index (number elem first) (flag_of set.now) p))) }
@@ -90,7 +90,7 @@ fn place(count: usize, index: i128) -> Option<u64>
 }
 
 /// The elements of the members that are in an array of so many.
-#[tactic(auto, using(isp_gang::proofs::Rows::begun, crate::proofs::Packs::places_made))]
+#[tactic(auto, using(crate::proofs::Packs::places_made))]
 pub fn places(elem: Elem, first: u64, count: usize, set: &Active) -> Row
     ensures { map_of result ≡ places_at count (number elem first) (flag_of set.now) }
 {

@@ -3,7 +3,7 @@ ghost use Rattle.std.specs.Prelude.{◌≡◌, ◌<◌, ◌++◌, map, drop, IfE
 ghost use Rattle.std.specs.Fmt.{signed_decimal};
 ghost use Rattle.isp_base.specs.Prints.{comma, item_text, list_text, value_text, first_text, print_text};
 ghost use Rattle.isp_base.specs.Sets.{flag_of};
-ghost use Rattle.isp_base.specs.Types.{gang_width};
+ghost use Rattle.isp_base.specs.Types.{gang_width, widest};
 ghost use Rattle.isp_typed.specs.Typed.{type_of};
 ghost use Rattle.isp_typed.specs.Views.{expr_of, exprs_of};
 ghost use Rattle.isp_meaning.specs.Printing as Printing;
@@ -43,7 +43,7 @@ fn push_number(output: &mut Vec<u8>, number: i128) -> Result<(), AllocError>
 
 // The value of an instance, `_` where there is none.
 fn push_item(output: &mut Vec<u8>, elem: Elem, row: &Row, instance: usize) -> Result<(), AllocError>
-    requires { instance < 16 }
+    requires { instance < widest }
     ensures { OnOk result (output.new.items ≡ output.old.items ++ item_text elem (map_of row.now instance)) }
 {
     match row[instance] {

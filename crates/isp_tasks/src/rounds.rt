@@ -267,7 +267,7 @@ impl<'a> Evaluator<'a> {
 }
 
 // The numbers of an index in the instances of a set: in the last range each has its own.
-#[tactic(auto, using(isp_gang::proofs::Rows::begun, isp_gang::proofs::Rows::on_made))]
+#[tactic(auto, using(isp_gang::proofs::Rows::on_made))]
 fn index_row(range: &Range, is_last: bool, set: &Active) -> Row
     ensures { map_of result ≡ on (flag_of set.now) (λ p. wrap Elem.I32 (number_now range.now.next is_last p)) }
 {
@@ -296,7 +296,7 @@ fn on_now(gang: Gang, ranges: &Vec<Range>) -> Active
 }
 
 // The instances whose number from one on is below an end.
-#[tactic(auto, using(isp_gang::proofs::Masks::begun, isp_gang::proofs::Left::below_made))]
+#[tactic(auto, using(isp_gang::proofs::Left::below_made))]
 fn on_below(gang: Gang, range: &Range) -> Active
     ensures { flag_of result ≡ numbers_below (gang_width gang) range.now.next range.now.end }
 {

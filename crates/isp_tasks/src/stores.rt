@@ -3,7 +3,7 @@ ghost use Rattle.std.specs.Prelude.{◌≡◌, ◌<◌, OnOk};
 ghost use Rattle.isp_base.specs.Access.{put_at, scatter};
 ghost use Rattle.isp_base.specs.Maps.{lane_of, put};
 ghost use Rattle.isp_base.specs.Sets.{flag_of};
-ghost use Rattle.isp_base.specs.Types.{gang_width};
+ghost use Rattle.isp_base.specs.Types.{gang_width, widest};
 ghost use Rattle.isp_meaning.specs.Places.{own_stored};
 ghost use Rattle.isp_gang.specs.Growing.{lanes_of};
 ghost use Rattle.isp_gang.specs.Seen.{map_of};
@@ -138,7 +138,7 @@ fn put_lane(
     place: Option<u64>,
     bits: Option<u64>,
 ) -> Result<(), AllocError>
-    requires { instance < 16 }
+    requires { instance < widest }
     ensures { OnOk result (own_of arrays.new.items ≡ put (own_of arrays.old.items) array
         (put_own_at instance place bits (own_of arrays.old.items array))) }
 {
@@ -179,7 +179,7 @@ pub fn put_own_each(
 }
 
 // Zero in the lanes of a set.
-#[tactic(auto, using(isp_gang::proofs::Rows::begun_lanes, crate::proofs::Puts::zeros_made))]
+#[tactic(auto, using(crate::proofs::Puts::zeros_made))]
 fn cleared(lanes: &Lanes, set: &Active) -> Lanes
     ensures { lane_of result ≡ with_zeros (flag_of set.now) (lane_of lanes.now) }
 {
