@@ -1,18 +1,16 @@
 -- Instances that have a number of turns each: with as many as any of them, all runs are the same.
-use Rattle.std.proofs.Common.{◌≡◌, ℕ, ◌<◌, ◌≤◌, sym, ap, ◌∙◌}
-use Rattle.std.specs.Prelude.{List, [], ◌⊎◌}
+use Rattle.std.proofs.Common.{◌≡◌, ℕ, ◌<◌, sym, ap, subst, ◌∙◌}
+use Rattle.std.specs.Prelude.{[], ◌⊎◌}
 use Rattle.isp_base.specs.Arguments.{rows, rows_now}
 use Rattle.isp_base.specs.Outcomes.{Ends}
 use Rattle.isp_base.specs.Types.{gang_width}
-use Rattle.isp_base.specs.declared.signature.Argument.{Argument}
-use Rattle.isp_typed.specs.Typed.{Program}
 use Rattle.isp_meaning.specs.Payloads.{One}
 use Rattle.isp_meaning.specs.Runs.{answer_as}
 use Rattle.isp_alone.specs.Answers.{Answer, Has, Bad, Long}
 use Rattle.isp_alone.specs.Longer.{Later}
 use Rattle.isp_alone.specs.OneByOne.{one_by_one}
 use Rattle.isp_alone.specs.Runs.{solo_run, bound, IsEnded, value_of}
-use Rattle.isp_alone.specs.Touched.{Reads, Writes, Clash, AreApart}
+use Rattle.isp_alone.specs.Touched.{Reads, Writes, AreApart}
 use Rattle.isp_alone.proofs.MoreTurns.{more_turns_alone}
 use Rattle.isp_instances.specs.Turns.{EachWithItsTurns}
 use Rattle.isp_instances.proofs.Entry.{solo_runs_agree}
