@@ -1,12 +1,13 @@
 //! A call: where it stands, and its registers.
-ghost use Rattle.std.specs.Prelude.{◌≡◌, ◌<◌, ◌≤◌, ◌+◌, ◌^◌, ◌++◌, [], length, get_or, slice_set, map, replicate, None, Some, IfOk, IfErr, OnOk, OnErr, if◌then◌else◌};
+ghost use Rattle.std.specs.Prelude.{◌≡◌, ◌<◌, ◌≤◌, ◌+◌, ◌^◌, ◌++◌, [], length, get_or, slice_set, map, replicate, unsigned_abs, None, Some, IfOk, IfErr, OnOk, OnErr, if◌then◌else◌};
 ghost use Rattle.isp_base.specs.Arguments.{rows};
-ghost use Rattle.isp_base.specs.Sets.{flag_of};
+ghost use Rattle.isp_base.specs.Cross.{run_index, run_outside};
+ghost use Rattle.isp_base.specs.Sets.{flag_of, lowest};
 ghost use Rattle.isp_code.specs.Listing.{routine_of};
 ghost use Rattle.isp_code.specs.Registers.{arrays_of};
 ghost use Rattle.isp_machine.specs.Begun.{AreThere, Begun, by_call, by_run, given, new_stores, no_frame};
 ghost use Rattle.isp_machine.specs.Shapes.{Shaped};
-ghost use Rattle.isp_base.specs.Maps.{over};
+ghost use Rattle.isp_base.specs.Maps.{on, over};
 ghost use Rattle.isp_base.specs.declared.types.Elem.TheVariants.{Bool as Truth, I32, I64};
 ghost use Rattle.std.specs.List.{range_with_len};
 ghost use Rattle.std.specs.Simd.Lanes.{zip2, sel_l};
@@ -15,6 +16,7 @@ ghost use Rattle.isp_base.specs.Unary.{unary_bits};
 ghost use Rattle.isp_lanes.specs.Lanes.{is_on, first_zero, written, no_row};
 ghost use Rattle.isp_machine.specs.Arrays.{ArrayThere, Rewritten, Scattered, array_elem, array_in, bits_in, elem_in, gathered_at, lanes_set, mask_in, outside_at, vector_in};
 ghost use Rattle.isp_machine.specs.Views.{no_array, vectors_at, masks_at};
+ghost use Rattle.isp_store.specs.Held.{elem, elements, size};
 
 use crate::array::FrameArray;
 use crate::here::Here;
@@ -479,6 +481,35 @@ impl<const N: usize> Frame<N> {
         let array = &self.arrays[a as usize];
         let mask = &self.masks[k as usize];
         array.gather(stores, &mut self.vectors, d as usize, i as usize, mask)
+    }
+
+    /// In each lane of a mask the element of a store that is as many behind an index as the lane's number
+    /// says, in a vector that is written where it stands.
+    ///
+    /// Index where one is outside, with the lowest such lane, and then nothing changes.
+    #[inline(never)]
+    pub(crate) fn load_run(
+        &mut self,
+        stores: &Arrays,
+        d: u32,
+        store: usize,
+        index: u64,
+        k: u32,
+    ) -> Result<(), IndexTrap>
+        requires d { d < length self.old.vectors }
+        requires k { k < length self.old.masks }
+        requires there { store < length stores.now.rows }
+        requires elem { elem_in self.old d ≡ elem stores.now store }
+        ensures inside { IfOk result (λ _. lowest N (run_outside (size stores.now store) (number I64 index) (masks_at self.old k)) ≡ None) }
+        ensures lanes { IfOk result (λ _. vectors_at self.new d ≡ over (on (masks_at self.old k) (λ p. elements stores.now store (unsigned_abs (run_index (number I64 index) p)))) (vectors_at self.old d)) }
+        ensures elem { elem_in self.new d ≡ elem_in self.old d }
+        ensures others { self.new ≡ record self.old { vectors = slice_set self.old.vectors d (vector_in self.new d) } }
+        ensures lowest { IfErr result (λ t. lowest N (run_outside (size stores.now store) (number I64 index) (masks_at self.old k)) ≡ Some t.instance) }
+        ensures same { IfErr result (λ t. self.new ≡ self.old) }
+    {
+        let mask = &self.masks[k as usize];
+        mask.told();
+        stores.load_run(store, index, mask, &mut self.vectors[d as usize])
     }
 
     /// Each lane of a mask writes its value at its index in an array.

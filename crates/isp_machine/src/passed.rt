@@ -141,9 +141,7 @@ pub(crate) fn push_zeros(scalars: &mut Vec<u64>, count: usize) -> Result<(), All
     ensures { OnOk result (scalars.new.items ≡ scalars.old.items ++ replicate count 0) }
 {
     scalars.reserve(count)?;
-    for _ in 0..count {
-        scalars.push(0)?;
-    }
+    scalars.resize(scalars.len() + count, 0)?;
     Ok(())
 }
 

@@ -17,17 +17,22 @@ use isp_base::{Trap, TrapKind};
 use isp_code::{Instr, Register, VectorInstr};
 use isp_store::Arrays;
 
-// What an instruction that cannot fail leaves in the lanes of the register, which is written where it stands.
-#[inline(never)]
-fn change<const N: usize>(here: &Here, frame: &mut Frame<N>, register: Register, instr: VectorInstr)
+/// What an instruction that cannot fail leaves in the lanes of the register, which is written where it stands.
+#[inline(always)]
+pub(crate) fn change<const N: usize>(
+    here: &Here,
+    frame: &mut Frame<N>,
+    register: Register,
+    instr: &VectorInstr,
+)
     requires gang { N ≡ gang_width here.now.code.gang }
     requires shaped { Shaped here.now.routine frame.old }
-    requires operands { AllFine here.now.code here.now.routine (vector_operands register instr) }
-    requires sure { Sure instr }
+    requires operands { AllFine here.now.code here.now.routine (vector_operands register instr.now) }
+    requires sure { Sure instr.now }
     ensures pc { frame.new.pc ≡ frame.old.pc }
-    ensures written { (s : Held) → InPlace here.now s frame.old register instr frame.new }
+    ensures written { (s : Held) → InPlace here.now s frame.old register instr.now frame.new }
 {
-    match instr {
+    match *instr {
         VectorInstr::Copy { value, mask } => copy(here, frame, Target { register, mask }, value),
         VectorInstr::Convert { value, mask } => {
             convert(here, frame, Target { register, mask }, value)
@@ -59,7 +64,7 @@ fn change<const N: usize>(here: &Here, frame: &mut Frame<N>, register: Register,
         VectorInstr::Splat { value, mask } => splat(here, frame, Target { register, mask }, value),
         VectorInstr::Index(mask) => number(here, frame, Target { register, mask }),
         VectorInstr::Gather { .. } | VectorInstr::LoadRun { .. } => unreachable!(),
-        _ => across(here, frame, register, instr),
+        _ => across(here, frame, register, *instr),
     }
 }
 
@@ -112,15 +117,15 @@ fn vector_value<const N: usize>(
             load_run(here, frame, stores, d, access)
         }
         _ => {
-            change(here, frame, d, instr);
+            change(here, frame, d, &instr);
             Ok(())
         }
     }
 }
 
-// The elements at the lanes' indices.
+/// The elements at the lanes' indices.
 #[inline(always)]
-fn gather<const N: usize>(
+pub(crate) fn gather<const N: usize>(
     here: &Here,
     frame: &mut Frame<N>,
     stores: &Arrays,
@@ -148,9 +153,9 @@ fn gather<const N: usize>(
     }
 }
 
-// The elements from an index on.
+/// The elements from an index on.
 #[inline(always)]
-fn load_run<const N: usize>(
+pub(crate) fn load_run<const N: usize>(
     here: &Here,
     frame: &mut Frame<N>,
     stores: &Arrays,
@@ -168,12 +173,10 @@ fn load_run<const N: usize>(
 {
     let store = here.store(frame, stores, access.array);
     let index = here.scalar(frame, access.index);
-    let mut value = *here.vector(frame, d);
-    match stores.load_run(store, index, here.mask(frame, access.mask), &mut value) {
-        Ok(()) => {
-            frame.set_vector(d.number, &value);
-            Ok(())
-        }
+    here.mask_told(frame, access.mask);
+    here.vector_told(frame, d);
+    match frame.load_run(stores, d.number, store, index, access.mask.number) {
+        Ok(()) => Ok(()),
         Err(trap) => Err(here.trap(TrapKind::Index, access.place, trap.instance)),
     }
 }
