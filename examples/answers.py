@@ -180,7 +180,7 @@ def rows():
         name = kernel.__name__
         source = (HERE / f"{name}.ispc").read_text().replace("\n", "␤")
         arguments = (HERE / f"{name}.json").read_text().strip()
-        for gang in (4, 8, 16):
+        for gang in (4, 8, 16, 32):
             lines += [f"=== {name} of examples, {gang}", f"source {source}", f"gang {gang}", f"entry {name}"]
             lines += [f"arguments {arguments}", "turns 1000", f"ends {answer(kernel).strip()}"]
     return "\n".join(lines) + "\n"

@@ -70,7 +70,7 @@ impl<'a> Case<'a> {
         match word {
             "." | "" => {}
             "source" => self.take(rest)?,
-            "gang" => self.gang = gang_named(rest),
+            "gang" => self.widen(rest, tried)?,
             "entry" => self.entry = rest,
             "arguments" => self.arguments = spelt_out(self.alloc, rest)?,
             "turns" => self.turns = number(rest).unwrap_or(0),
@@ -88,6 +88,15 @@ impl<'a> Case<'a> {
     fn take(&mut self, source: &str) -> Result<(), AllocError> {
         let text = spelt_out(self.alloc, source)?;
         self.marked = Marked::new(self.alloc, text.as_str())?;
+        Ok(())
+    }
+
+    // Takes the width of a gang. It is a difference where there is no such gang.
+    fn widen(&mut self, lanes: &str, tried: &mut Tried) -> Result<(), AllocError> {
+        match Gang::of_width(number(lanes).unwrap_or(0) as usize) {
+            Some(gang) => self.gang = gang,
+            None => tried.differ(format!(in self.alloc; "{}: no gang of {lanes}", self.name)?)?,
+        }
         Ok(())
     }
 
@@ -232,8 +241,4 @@ impl<'a> Case<'a> {
         }
         Ok(())
     }
-}
-
-fn gang_named(lanes: &str) -> Gang {
-    Gang::of_width(number(lanes).unwrap_or(0) as usize).unwrap_or(Gang::W4)
 }
