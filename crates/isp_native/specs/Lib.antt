@@ -1,0 +1,4 @@
+pub mod Words
+pub mod Rows
+pub mod Text
+pub mod reader

@@ -1,0 +1,10 @@
+//! What ends the line of an instruction.
+
+/// The operand behind the registers.
+#[derive(Clone, Copy)]
+pub enum Tail {
+    Nothing,
+    Place(u32),
+    Label(u32),
+    Number(i128),
+}

@@ -1,0 +1,483 @@
+"""Programs in code text that try each instruction, with what docs/MACHINE.md says of it, worked out in plain numbers.
+
+tests() yields a name, the code text, the entry, its arguments, and what must come out, as tools/native-test takes them.
+"""
+import random
+
+GANGS = 4, 8, 16, 32
+BITS = {"b": 1, "i8": 8, "u8": 8, "i16": 16, "u16": 16, "i32": 32, "u32": 32, "i64": 64, "u64": 64}
+WHOLE = [t for t in BITS if t != "b"]
+WIDER = {"i8": "i16", "u8": "u16", "i16": "i32", "u16": "u32", "i32": "i64", "u32": "u64", "i64": "i64", "u64": "u64"}
+ROUNDS = 8
+
+
+def wrap(t, z):
+    z %= 1 << BITS[t]
+    return z - (1 << BITS[t]) if t[0] == "i" and z >> (BITS[t] - 1) else z
+
+
+def convert(t, z):
+    return int(z != 0) if t == "b" else wrap(t, z)
+
+
+def quotient(x, y):
+    return abs(x) // abs(y) * (1 if (x < 0) == (y < 0) else -1)
+
+
+PLAIN = {
+    "add": lambda t, x, y: x + y,
+    "sub": lambda t, x, y: x - y,
+    "mul": lambda t, x, y: x * y,
+    "and": lambda t, x, y: x & y,
+    "or": lambda t, x, y: x | y,
+    "xor": lambda t, x, y: x ^ y,
+    "shl": lambda t, x, y: x << y % BITS[t],
+    "shr": lambda t, x, y: x >> y % BITS[t],
+    "min": lambda t, x, y: min(x, y),
+    "max": lambda t, x, y: max(x, y),
+}
+DIVISIONS = {"div": quotient, "rem": lambda x, y: x - y * quotient(x, y)}
+UNARY = {"neg": lambda x: -x, "inv": lambda x: -x - 1, "abs": abs}
+COMPARE = {
+    "eq": lambda x, y: x == y,
+    "ne": lambda x, y: x != y,
+    "lt": lambda x, y: x < y,
+    "le": lambda x, y: x <= y,
+    "gt": lambda x, y: x > y,
+    "ge": lambda x, y: x >= y,
+}
+SCANS = {"sadd": (0, lambda a, x: a + x), "sand": (-1, lambda a, x: a & x), "sor": (0, lambda a, x: a | x)}
+
+
+def least(t):
+    return -(1 << (BITS[t] - 1)) if t[0] == "i" else 0
+
+
+def greatest(t):
+    return (1 << (BITS[t] - (t[0] == "i"))) - 1
+
+
+def some(dice, t):
+    """A value of a type: small, at an end, or any."""
+    near = [0, 1, 2, 7, 31, 32, 33, 63, 64, -1, -2, -8, least(t), least(t) + 1, greatest(t), greatest(t) - 1]
+    return convert(t, dice.choice(near) if dice.random() < 0.6 else dice.getrandbits(64))
+
+
+class Code:
+    """A function that is written line by line. Registers come by their type; what it stores in the array of a type must be what was told."""
+
+    def __init__(self, gang, dice):
+        self.gang, self.dice = gang, dice
+        self.params, self.values = [], {}
+        self.scalars, self.vectors, self.masks, self.body, self.locals = [], [], 1, [], []
+        self.asked = []
+
+    def array(self, name, t, values):
+        self.params.append(f"par a {t} {name}")
+        self.values[name] = values
+        return f"a{len(self.params) - 1}"
+
+    def scalar(self, t):
+        self.scalars.append(t)
+        return f"s{len(self.scalars) - 1}"
+
+    def vector(self, t):
+        self.vectors.append(t)
+        return f"v{len(self.vectors) - 1}"
+
+    def mask(self):
+        self.masks += 1
+        return f"m{self.masks - 1}"
+
+    def line(self, *lines):
+        self.body += lines
+
+    def constant(self, t, n):
+        s = self.scalar(t)
+        self.line(f"const {s} {n}")
+        return s
+
+    def text(self, places=((0, 1), (2, 5)), before=()):
+        types = [f"s {' '.join(self.scalars)}"] * bool(self.scalars) + [f"v {' '.join(self.vectors)}"] * bool(self.vectors)
+        head = [f"isp 1 gang {self.gang}", *(f"place {a} {b}" for a, b in places), "text 68c3a90a", *before, "func f export void"]
+        return "\n".join([*head, *self.params, *self.locals, *types, f"m {self.masks}", *self.body, "ret -", "end"]) + "\n"
+
+
+class Rounds(Code):
+    """A loop over rounds: in each, vectors of the arrays' next elements, and a mask m1 of the lanes where `k` is true."""
+
+    def __init__(self, gang, t, dice):
+        super().__init__(gang, dice)
+        self.t, self.outs, self.wanted, self.writes = t, {}, {}, []
+        size = gang * ROUNDS
+        masks = [[1] * gang, [0] * gang] + [[int(dice.random() < chance) for _ in range(gang)] for chance in (0.5, 0.9, 0.2, 0.5, 0.5)]
+        masks.append([int(p == gang - 2) for p in range(gang)])
+        self.k = sum(masks, [])
+        self.rows = {name: [some(dice, t) for _ in range(size)] for name in "xyd"}
+        self.rows["n"] = [z or 3 for z in (some(dice, t) for _ in range(size))]
+        self.rows["c"] = [dice.randrange(2) for _ in range(size)]
+        self.rows["j"] = [some(dice, "i32") if dice.random() < 0.3 else dice.randrange(-gang, 3 * gang) for _ in range(size)]
+        self.rows["e"] = [dice.randrange(gang) for _ in range(size)]
+        kinds = {**dict.fromkeys("xydn", t), "c": "b", "j": "i32", "e": "i64"}
+        places = {name: self.array(name, kinds[name], list(row)) for name, row in self.rows.items()}
+        places["k"] = self.array("k", "b", list(self.k))
+        self.at, self.v, self.first = self.constant("i64", 0), {}, {}
+        self.step, self.one = self.constant("i64", gang), self.constant("i64", 1)
+        self.end, self.again, self.zero = self.constant("i64", size), self.scalar("b"), self.constant("i64", 0)
+        self.full, self.m = "m0", self.mask()
+        self.start = len(self.body)
+        for name, array in places.items():
+            kind = kinds.get(name, "b")
+            self.v[name], self.first[name] = self.vector(kind), self.scalar(kind)
+            self.line(f"vload {self.v[name]} {array} {self.at} m0 p0", f"load {self.first[name]} {array} {self.at} m0 p0")
+        self.places = places
+        self.line(f"mtest {self.m} {self.v['k']} m0")
+        self.results = {}
+
+    def out(self, t):
+        """Where results of a type go: an array, and the register with the next place."""
+        if t not in self.outs:
+            self.outs[t] = (self.array(f"o_{t}", t, []), self.scalar("i64"))
+        return self.outs[t]
+
+    def row(self, name, r):
+        return self.rows[name][r * self.gang : (r + 1) * self.gang]
+
+    def wants(self, t, values):
+        """Adds a result: a function of the round that gives the values."""
+        self.asked.append((t, values))
+
+    def stored(self, t, register):
+        array, place = self.out(t)
+        self.line(f"vstore {array} {place} {register} m0 p0", f"add {place} {place} {self.step}")
+
+    def stored_one(self, t, register):
+        array, place = self.out(t)
+        self.line(f"store {array} {place} {register} m0 p0", f"add {place} {place} {self.one}")
+
+    def result(self, t):
+        if t not in self.results:
+            self.results[t] = self.vector(t), self.scalar(t), self.vector(t), self.scalar(t)
+        return self.results[t]
+
+    def lanes(self, t, word, rest, value):
+        """An instruction that writes lanes of t under m1: `value` of a round and a lane. The others keep 1 0 1 0 .."""
+        d, _, kept, one = self.result(t)
+        self.line(f"const {one} 1", f"conv {kept} {self.v['c']} m0", f"copy {d} {kept} m0", f"{word} {d} {rest} {self.m}")
+        self.stored(t, d)
+        self.wants(t, lambda r: [value(r, p) if self.on(r, p) else self.row("c", r)[p] for p in range(self.gang)])
+
+    def one_value(self, t, line, value):
+        """An instruction that writes a scalar of t."""
+        _, d, _, _ = self.result(t)
+        self.line(line.replace("D", d))
+        self.stored_one(t, d)
+        self.wants(t, lambda r: [value(r)])
+
+    def mask_out(self, m, lanes):
+        """The lanes of a mask, as a row of truths."""
+        d, one, _, _ = self.result("b")
+        self.line(f"const {one} 0", f"splat {d} {one} m0", f"const {one} 1", f"splat {d} {one} {m}")
+        self.stored("b", d)
+        self.wants("b", lambda r: [int(lanes(r, p)) for p in range(self.gang)])
+
+    def on(self, r, p):
+        return self.k[r * self.gang + p]
+
+    def members(self, r):
+        return [p for p in range(self.gang) if self.on(r, p)]
+
+    def lane(self, name, r, p):
+        """What a lane has, and 0 where it is off or not there."""
+        return self.row(name, r)[p] if 0 <= p < self.gang and self.on(r, p) else 0
+
+    def finished(self):
+        self.line(f"add {self.at} {self.at} {self.step}", f"lt {self.again} {self.at} {self.end}", f"jnz {self.again} L{self.start}")
+        found = {t: [] for t in self.outs}
+        for r in range(ROUNDS):
+            for t, values in self.asked:
+                found[t] += values(r)
+        wanted = {name: list(values) for name, values in self.values.items()}
+        for t, values in found.items():
+            self.values[f"o_{t}"], wanted[f"o_{t}"] = [0] * len(values), [bool(x) for x in values] if t == "b" else values
+        for name in ("k", "c"):
+            wanted[name] = [bool(x) for x in wanted[name]]
+        for name in ("x", "y", "d", "n") if self.t == "b" else ():
+            wanted[name] = [bool(x) for x in wanted[name]]
+        writes = "".join(text(r) for r in range(ROUNDS) for text in self.writes)
+        return wanted, writes.encode().hex()
+
+
+def told(t, x):
+    return ("false", "true")[x] if t == "b" else str(x)
+
+
+def plain_lines(c, t):
+    x, y, n = (lambda r, p, name=name: c.row(name, r)[p] for name in "xyn")
+    v, s = c.v, c.first
+    for u in BITS:
+        c.lanes(u, "conv", v["x"], lambda r, p, u=u: convert(u, x(r, p)))
+        c.one_value(u, f"conv D {s['x']}", lambda r, u=u: convert(u, x(r, 0)))
+    for word, test in COMPARE.items():
+        c.lanes("b", word, f"{v['x']} {v['y']}", lambda r, p, test=test: int(test(x(r, p), y(r, p))))
+        c.one_value("b", f"{word} D {s['x']} {s['y']}", lambda r, test=test: int(test(x(r, 0), y(r, 0))))
+    c.lanes(t, "copy", v["x"], x)
+    c.one_value(t, f"copy D {s['x']}", lambda r: x(r, 0))
+    c.lanes(t, "sel", f"{v['c']} {v['x']} {v['y']}", lambda r, p: x(r, p) if c.row("c", r)[p] else y(r, p))
+    c.one_value(t, f"sel D {s['c']} {s['x']} {s['y']}", lambda r: x(r, 0) if c.row("c", r)[0] else y(r, 0))
+    c.lanes(t, "splat", s["x"], lambda r, p: x(r, 0))
+    if t == "b":
+        c.lanes(t, "lnot", v["x"], lambda r, p: 1 - x(r, p))
+        c.one_value(t, f"lnot D {s['x']}", lambda r: 1 - x(r, 0))
+        return
+    for word, op in PLAIN.items():
+        c.lanes(t, word, f"{v['x']} {v['y']}", lambda r, p, op=op: wrap(t, op(t, x(r, p), y(r, p))))
+        c.one_value(t, f"{word} D {s['x']} {s['y']}", lambda r, op=op: wrap(t, op(t, x(r, 0), y(r, 0))))
+    for word, op in UNARY.items():
+        c.lanes(t, word, v["x"], lambda r, p, op=op: wrap(t, op(x(r, p))))
+        c.one_value(t, f"{word} D {s['x']}", lambda r, op=op: wrap(t, op(x(r, 0))))
+    for word, op in DIVISIONS.items():
+        d, _, kept, _ = c.result(t)
+        c.line(f"copy {d} {v['d']} m0", f"{word} {d} {v['x']} {v['n']} {c.m} p0")
+        c.stored(t, d)
+        c.wants(t, lambda r, op=op: [wrap(t, op(x(r, p), n(r, p))) if c.on(r, p) else c.row("d", r)[p] for p in range(c.gang)])
+        c.one_value(t, f"{word} D {s['x']} {s['n']} m0 p0", lambda r, op=op: wrap(t, op(x(r, 0), n(r, 0))))
+    for z in (least(t), greatest(t)):
+        c.one_value(t, f"const D {z}", lambda r, z=z: z)
+
+
+def cross_lines(c, t):
+    g, v, s = c.gang, c.v, c.first
+    j = lambda r, p: c.row("j", r)[p]
+    xs = lambda r: [c.row("x", r)[p] for p in c.members(r)]
+    if t == "b":
+        c.one_value("b", f"rany D {v['x']} {c.m}", lambda r: int(any(xs(r))))
+        c.one_value("b", f"rall D {v['x']} {c.m}", lambda r: int(all(xs(r))))
+        return
+    c.one_value(WIDER[t], f"radd D {v['x']} {c.m}", lambda r: wrap(WIDER[t], sum(xs(r))))
+    c.one_value(t, f"rmin D {v['x']} {c.m}", lambda r: min(xs(r), default=0))
+    c.one_value(t, f"rmax D {v['x']} {c.m}", lambda r: max(xs(r), default=0))
+    c.one_value("b", f"requ D {v['x']} {c.m}", lambda r: int(len(set(xs(r))) < 2))
+    same = c.vector(t)
+    c.line(f"splat {same} {s['y']} m0")
+    c.one_value("b", f"requ D {same} {c.m}", lambda r: 1)
+    for word, (first, op) in SCANS.items():
+
+        def scanned(r, p, first=first, op=op):
+            a = first
+            for q in c.members(r):
+                a = op(a, c.row("x", r)[q]) if q < p else a
+            return wrap(t, a)
+
+        c.lanes(t, word, v["x"], scanned)
+    c.lanes(t, "bcast", f"{v['x']} {s['j']}", lambda r, p: c.lane("x", r, j(r, 0) % g))
+    c.lanes(t, "rot", f"{v['x']} {s['j']}", lambda r, p: c.lane("x", r, (p + j(r, 0)) % g))
+    c.lanes(t, "shf", f"{v['x']} {s['j']}", lambda r, p: c.lane("x", r, p + j(r, 0)))
+    c.lanes(t, "shuf", f"{v['x']} {v['j']}", lambda r, p: c.lane("x", r, j(r, p) % g))
+
+    def two(r, p):
+        q = j(r, p) % (2 * g)
+        return c.lane("x", r, q) if q < g else c.lane("y", r, q - g)
+
+    c.lanes(t, "shuf2", f"{v['x']} {v['y']} {v['j']}", two)
+    c.lanes(t, "ins", f"{v['x']} {s['j']} {s['y']}", lambda r, p: c.row("y", r)[0] if p == j(r, 0) % g else c.row("x", r)[p])
+    c.one_value(t, f"extr D {v['x']} {s['j']} {c.m}", lambda r: c.lane("x", r, j(r, 0) % g))
+
+
+def mask_lines(c, t):
+    m = c.mask()
+    v = c.v
+    tested = c.mask()
+    c.line(f"mtest {tested} {v['c']} m0")
+    on, test = c.on, lambda r, p: c.row("c", r)[p]
+    for word, op in (("mand", lambda a, b: a and b), ("mor", lambda a, b: a or b), ("mandn", lambda a, b: a and not b)):
+        c.line(f"{word} {m} {c.m} {tested}")
+        c.mask_out(m, lambda r, p, op=op: op(on(r, p), test(r, p)))
+    c.line(f"mcopy {m} {c.m}")
+    c.mask_out(m, on)
+    c.line(f"mtest {m} {v['c']} {c.m}")
+    c.mask_out(m, lambda r, p: on(r, p) and test(r, p))
+    c.line(f"mnone {m}", f"mfull {m}")
+    c.mask_out(m, lambda r, p: 1)
+    c.line(f"mnone {m}")
+    c.mask_out(m, lambda r, p: 0)
+    c.line(f"mlow {m} {c.m}")
+    c.mask_out(m, lambda r, p: on(r, p) and p == c.members(r)[0])
+    c.one_value("i64", f"mfirst D {c.m}", lambda r: (c.members(r) or [0])[0])
+    c.lanes("i32", "index", "", lambda r, p: p)
+    far = 1 << 63
+    for a, b in ((0, 3), (5, 5), (-2, c.gang), (7, 2), (-far, far - 1), (far - 2, far - 1), (far - 1, far - 1), (-far, 3 - far), (far - 1, -far)):
+        one, two = c.constant("i64", a), c.constant("i64", b)
+        c.line(f"mrange {m} {one} {two}")
+        c.mask_out(m, lambda r, p, a=a, b=b: a + p < b)
+    for word, op in (("joff", lambda ps: not ps), ("jon", bool), ("jall", lambda ps: len(ps) == c.gang)):
+        d = c.result("b")[1]
+        at = len(c.body)
+        c.line(f"const {d} 1", f"{word} {c.m} L{at + 3}", f"const {d} 0")
+        c.stored_one("b", d)
+        c.wants("b", lambda r, op=op: [int(op(c.members(r)))])
+
+
+def memory_lines(c, t):
+    """Gathers and scatters, runs and packed calls, on an array that lanes share, and one of each lane's own."""
+    g, v, s = c.gang, c.v, c.first
+    e = lambda r, p: c.row("e", r)[p]
+    shared, own = f"a{len(c.params) + 20}", f"a{len(c.params) + 21}"
+    c.locals = [f"loc u {t} {g}", f"loc p {t} {g}"]
+    c.local_names = shared, own
+    back, tail, front = c.vector(t), c.constant("i64", 1), c.constant("i64", -2)
+
+    def shown(array):
+        if array == shared:
+            c.line(f"vload {back} {array} {c.zero} m0 p0")
+        else:
+            c.line(f"gather {back} {array} {v['e']} m0 p0")
+        c.stored(t, back)
+
+    def scattered(r):
+        found = [0] * g
+        for p in c.members(r):
+            found[e(r, p)] = c.row("x", r)[p]
+        return found
+
+    c.lanes(t, "gather", f"{c.places['x']} {v['e']}", lambda r, p: c.row("x", 0)[e(r, p)])
+    c.body[-3] += " p0"
+    c.line(f"clear {shared} m0", f"scatter {shared} {v['e']} {v['x']} {c.m} p0")
+    shown(shared)
+    c.wants(t, scattered)
+    c.line(f"clear {own} m0", f"scatter {own} {v['e']} {v['x']} {c.m} p0")
+    shown(own)
+    c.wants(t, lambda r: [c.row("x", r)[p] if c.on(r, p) else 0 for p in range(g)])
+    c.line(f"scatter {own} {v['e']} {v['x']} m0 p0", f"clear {own} {c.m}")
+    shown(own)
+    c.wants(t, lambda r: [0 if c.on(r, p) else c.row("x", r)[p] for p in range(g)])
+    inner, low, high = c.mask(), c.constant("i64", 2), c.constant("i64", g - 1)
+    # lanes 2 to g - 1 from -2 on, and lanes 0 to g - 2 from 1 on
+    c.line(f"mrange {inner} {c.zero} {low}", f"mandn {inner} {c.m} {inner}", f"clear {shared} m0", f"vstore {shared} {front} {v['x']} {inner} p0")
+    shown(shared)
+    c.wants(t, lambda r: [c.row("x", r)[q + 2] if q + 2 < g and c.on(r, q + 2) else 0 for q in range(g)])
+    c.line(f"vstore {shared} {c.zero} {v['y']} m0 p0", f"copy {back} {v['d']} m0", f"vload {back} {shared} {front} {inner} p0")
+    c.stored(t, back)
+    c.wants(t, lambda r: [c.row("y", r)[p - 2] if p >= 2 and c.on(r, p) else c.row("d", r)[p] for p in range(g)])
+    c.line(f"mrange {inner} {c.zero} {high}", f"mand {inner} {c.m} {inner}", f"copy {back} {v['d']} m0", f"vload {back} {shared} {tail} {inner} p0")
+    c.stored(t, back)
+    c.wants(t, lambda r: [c.row("y", r)[p + 1] if p + 1 < g and c.on(r, p) else c.row("d", r)[p] for p in range(g)])
+    c.line(f"clear {shared} m0", f"vstore {shared} {c.zero} {v['x']} {c.m} p0")
+    shown(shared)
+    c.wants(t, lambda r: [c.row("x", r)[p] if c.on(r, p) else 0 for p in range(g)])
+    if t in ("i32", "u32"):
+        count = c.result("i32")[1]
+        c.line(f"clear {shared} m0", f"pstore {count} {shared} {c.zero} {v['x']} {c.m} p0")
+        c.stored_one("i32", count)
+        c.wants("i32", lambda r: [len(c.members(r))])
+        shown(shared)
+        c.wants(t, lambda r: [c.row("x", r)[p] for p in c.members(r)] + [0] * (g - len(c.members(r))))
+        c.line(f"copy {back} {v['d']} m0", f"pload {count} {c.places['y']} {c.at} {back} {c.m} p0")
+        c.stored(t, back)
+        c.wants(t, lambda r: [c.row("y", r)[c.members(r).index(p)] if c.on(r, p) else c.row("d", r)[p] for p in range(g)])
+        c.stored_one("i32", count)
+        c.wants("i32", lambda r: [len(c.members(r))])
+
+
+def printed_lines(c, t):
+    c.line("say t0", f"prs {c.first['x']}", f"prv {c.v['x']} {c.m}")
+    c.writes.append(lambda r: "hé\n" + told(t, c.row("x", r)[0]))
+    c.writes.append(lambda r: "[" + ",".join(told(t, c.row("x", r)[p]) if c.on(r, p) else "_" for p in range(c.gang)) + "]")
+
+
+def rounds(group, lines, dice):
+    for gang in GANGS:
+        for t in ["i32"] if group == "masks" else BITS:
+            c = Rounds(gang, t, dice)
+            lines(c, t)
+            wanted, writes = c.finished()
+            text = c.text()
+            for name, place in zip(getattr(c, "local_names", ()), range(2)):
+                words = [[f"a{len(c.params) + place}" if word == name else word for word in line.split(" ")] for line in text.split("\n")]
+                text = "\n".join(map(" ".join, words))
+            text = "\n".join(" ".join(line.split()) for line in text.split("\n"))
+            yield f"lines: {group} of {t} at {gang}", text, "f", c.values, {"end": "ends", "writes": writes, "arrays": wanted, "result": None}
+
+
+def trap_of(gang, name, t, lines, values, kind, instance):
+    """A function over x, y of t, e of i64 and k, where an instruction traps at p1."""
+    c = Code(gang, None)
+    for one, kind_of in (("x", t), ("y", t), ("e", "i64"), ("k", "b")):
+        c.array(one, kind_of, values[one])
+    zero, m = c.constant("i64", 0), c.mask()
+    x, y, e, k = c.vector(t), c.vector(t), c.vector("i64"), c.vector("b")
+    sx, sy, se = c.scalar(t), c.scalar(t), c.scalar("i64")
+    count = c.scalar("i32")
+    for register, place in ((x, 0), (y, 1), (e, 2), (k, 3)):
+        c.line(f"vload {register} a{place} {zero} m0 p0")
+    c.line(f"mtest {m} {k} m0", f"load {sx} a0 {zero} m0 p0", f"load {sy} a1 {zero} m0 p0", f"load {se} a2 {zero} m0 p0")
+    c.line(lines.format(x=x, y=y, e=e, m=m, sx=sx, sy=sy, se=se, count=count))
+    arrays = {one: list(row) for one, row in values.items()}
+    arrays["k"] = [bool(one) for one in arrays["k"]]
+    wanted = {"end": "traps", "kind": kind, "start": 2, "stop": 5, "instance": instance, "writes": "", "arrays": arrays, "result": None}
+    return f"lines: {name} of {t} at {gang}", c.text(), "f", c.values, wanted
+
+
+def traps(dice):
+    for gang in GANGS:
+        for mask in ([1] * gang, [int(p >= 2) for p in range(gang)], [int(p in (1, gang - 1)) for p in range(gang)], [int(p == gang - 1) for p in range(gang)]):
+            on = [p for p in range(gang) if mask[p]]
+            # two lanes that are on fail, the lowest of them last in the order of e, and a lane that is off
+            bad = sorted({on[-1], on[len(on) // 2]})
+            off = [p for p in range(gang) if not mask[p]][:1]
+            row = lambda good, wrong: [wrong if p in bad + off else good for p in range(gang)]
+            base = {"x": list(range(1, gang + 1)), "y": row(3, 0), "e": [p if p not in bad + off else (gang, -1, 1 << 62)[p % 3] for p in range(gang)], "k": mask}
+            for t in ("i8", "u16", "i32", "u64"):
+                for word in DIVISIONS:
+                    yield trap_of(gang, f"{word} by zero", t, f"{word} {{x}} {{x}} {{y}} {{m}} p1", base, "divide", bad[0])
+            for name, line in (("gather", "gather {x} a0 {e} {m} p1"), ("scatter", "scatter a0 {e} {y} {m} p1")):
+                yield trap_of(gang, f"{name} outside", "i32", line, base, "index", bad[0])
+            zero = {**base, "y": [0] + [5] * (gang - 1), "e": [gang] + [0] * (gang - 1)}
+            yield trap_of(gang, "scalar div by zero", "i32", "div {sx} {sx} {sy} {m} p1", zero, "divide", on[0])
+            for name, line in (("load", "load {sx} a0 {se} {m} p1"), ("store", "store a0 {se} {sy} {m} p1")):
+                for wrong in (gang, -1, 1 << 62):
+                    yield trap_of(gang, f"{name} outside", "i32", line, {**zero, "e": [wrong] + [0] * (gang - 1)}, "index", on[0])
+            for shift, first in ((1, gang - 1), (2, gang - 2), (-1, 0), (-2, 0), (gang, 0), ((1 << 63) - 1, 0), (-(1 << 63), 0)):
+                failing = [p for p in on if not 0 <= shift + p < gang]
+                for name, line in (("vload", "vload {x} a0 {se} {m} p1"), ("vstore", "vstore a0 {se} {y} {m} p1")):
+                    if failing:
+                        yield trap_of(gang, f"{name} from {shift}", "i16", line, {**base, "e": [shift] + [0] * (gang - 1)}, "index", failing[0])
+                failing = [p for rank, p in enumerate(on) if not 0 <= shift + rank < gang]
+                for name, line in (("pload", "pload {count} a0 {se} {x} {m} p1"), ("pstore", "pstore {count} a0 {se} {y} {m} p1")):
+                    if failing:
+                        yield trap_of(gang, f"{name} from {shift}", "u32", line, {**base, "e": [shift] + [0] * (gang - 1)}, "index", failing[0])
+            yield trap_of(gang, "fail", "i32", "fail {m} p1", base, "assert", on[0])
+
+
+def calls():
+    """A function that calls itself: n deep, with a vector, an array and a mask; it adds up the lanes that called."""
+    for gang in GANGS:
+        for deep in (3, 254, 255, 256):
+            inner = [
+                *("func g inner v i32", "par s i32 n", "par v i32 x", "par a i32 a", "s i32 b i32", "v i32 i32", "m 1"),
+                *("copy v1 v0 m0", "const s1 1", "lt s2 s0 s1", "jnz s2 L8", "splat v2 s1 m0", "add v2 v0 v2 m0", "sub s3 s0 s1"),
+                *("call f0 v1 m0 p1 s3 v2 a0", "ret v1", "end"),
+            ]
+            mask = [int(p % 3 != 1) for p in range(gang)]
+            c = Code(gang, None)
+            a, k = c.array("a", "i32", [10 * p for p in range(gang)]), c.array("k", "b", mask)
+            zero, n = c.constant("i64", 0), c.constant("i32", deep)
+            x, flags, m = c.vector("i32"), c.vector("b"), c.mask()
+            c.line(f"vload {x} {a} {zero} m0 p0", f"vload {flags} {k} {zero} m0 p0", f"mtest {m} {flags} m0")
+            c.line(f"call f0 {x} {m} p1 {n} {x} {a}", f"vstore {a} {zero} {x} m0 p0")
+            wanted = {"end": "ends", "writes": "", "result": None, "arrays": {"a": [10 * p + deep * mask[p] for p in range(gang)], "k": [bool(one) for one in mask]}}
+            if deep + 2 > 256:
+                wanted.update(end="traps", kind="depth", start=2, stop=5, instance=0)
+                wanted["arrays"]["a"] = c.values["a"]
+            yield f"lines: calls {deep} deep at {gang}", c.text(before=inner), "f", c.values, wanted
+
+
+def tests():
+    dice = random.Random(1)
+    yield from rounds("operators", plain_lines, dice)
+    yield from rounds("crossing", cross_lines, dice)
+    yield from rounds("masks", mask_lines, dice)
+    yield from rounds("memory", memory_lines, dice)
+    yield from rounds("printing", printed_lines, dice)
+    yield from traps(dice)
+    yield from calls()
