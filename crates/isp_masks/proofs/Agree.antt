@@ -2,16 +2,16 @@
 use Rattle.std.proofs.Common.{◌≡◌, ◌≢◌, ℕ, ◌+◌, ◌*◌, ◌<◌, ◌≤◌, List, [], ◌∷◌, length, Option, Some, None, true, false, refl, sym, ap, ◌∙◌, subst, arith, ⊎_elim}
 use Rattle.std.specs.Prelude.{slice_get, nat_lt}
 use Rattle.std.proofs.lemmas.Bool.{lt-ltb, ltb-true, cond-true, cases_lt}
+use Rattle.isp_base.proofs.Gangs.{someone}
 use Rattle.isp_base.specs.Arguments.{rows, rows_now, AreShort}
 use Rattle.isp_base.specs.Binding.{has_signature}
 use Rattle.isp_base.specs.Outcomes.{Outcome, Ends, Traps, GoesOn, IsOver, out_of}
 use Rattle.isp_base.specs.Prefixes.{IsPrefix}
-use Rattle.isp_base.specs.Sets.{Mask, nobody, everyone, any}
+use Rattle.isp_base.specs.Sets.{Mask, nobody, everyone}
 use Rattle.isp_base.specs.Types.{gang_width}
 use Rattle.isp_base.specs.declared.signature.Argument.{Argument}
 use Rattle.isp_base.specs.declared.types.Elem.{Elem}
 use Rattle.isp_base.specs.declared.types.Gang.{Gang}
-use Rattle.isp_base.specs.declared.types.Gang.TheVariants.{W4, W8, W16}
 use Rattle.isp_base.specs.declared.types.Rate.{Rate}
 use Rattle.isp_base.specs.declared.types.Rate.TheVariants.{Uniform, Varying}
 use Rattle.isp_base.specs.declared.types.Ty.{Ty}
@@ -49,11 +49,6 @@ use Rattle.isp_masks.proofs.Endings.{longer, one_end, grows, rows_same}
 use Rattle.isp_masks.proofs.Stmts.{block_runs}
 use Rattle.isp_masks.proofs.Fitting.{block_parts}
 use Rattle.isp_masks.specs.Free.{BlockFree}
-
-all_some : (g : Gang) → any (gang_width g) (everyone (gang_width g)) ≡ true
-all_some W4 = refl
-all_some W8 = refl
-all_some W16 = refl
 
 all_inside : (n p : ℕ) → everyone n p ≡ true → p < n
 all_inside n p h = ltb-true p n h
@@ -153,7 +148,7 @@ module _ (program : Program) (code : Listing) (all : AreCompiled program code) (
       (record {
         at = record { home_is = refl; waiting_is = refl; pc_is = refl };
         mask = put_same (λ k. nobody) 0 (everyone (gang_width code.gang));
-        some = all_some code.gang;
+        some = someone code.gang;
         inside = λ p e. (all_inside (gang_width code.gang) p e, λ i. let no : true ≡ false = sym i ∙ is.outside in absurd (cc));
         stands = subst (λ z. Stands (world n) (begin z) c) (sym is.gang) (begins program code f h g l n xs is.run is.passed is.fine.params entry.one sig);
         used = omega arith;

@@ -5,6 +5,7 @@ use Rattle.std.specs.Prelude.{pos, ◌+ℤ◌, ◌≤ℤ◌, ◌^◌, if◌then�
 use Rattle.std.proofs.lemmas.Int.{ints}
 use Rattle.std.proofs.lemmas.Bool.{lt-ltb}
 use Rattle.isp_base.proofs.Elems.{number_below}
+use Rattle.isp_base.proofs.Gangs.{few_width}
 use Rattle.isp_base.proofs.Laws.{back_is, bits_are, value_is}
 use Rattle.isp_base.proofs.Wraps.{wrap_to-pos}
 use Rattle.isp_base.specs.Cross.{fold_below, reduce_add}
@@ -34,7 +35,7 @@ use Rattle.isp_masks.specs.Ranges.{wide, narrow, lane, sum_lanes, lane_numbers, 
 use Rattle.isp_masks.specs.Rounds.{fill_mask}
 use Rattle.isp_masks.proofs.Numbered.{small_number}
 use Rattle.isp_masks.proofs.Parts.{BoundParts, BoundsParts, MeasuresTyped}
-use Rattle.isp_masks.proofs.RangeRuns.{AreHeld, HasMeasures, width_few}
+use Rattle.isp_masks.proofs.RangeRuns.{AreHeld, HasMeasures}
 use Rattle.isp_masks.proofs.Sweeps.{Low, IsNotLess}
 
 -- ---- an int32 as an int64
@@ -289,7 +290,7 @@ module _ (w : Setting) (ready : IsSettled w) where
       lanes =
           ap (number I64) (put_other c5.scalars w2 (wrap I64 (number I64 1)) w1 (ready.apart.spares Uniform I64 I64 n (n + 1) apart) ∙ put_same c3.scalars w1 (reduce_add I32 g (on (c3.masks h) (c3.vectors v1))))
           ∙ ap (λ z. number I64 (wrap I64 z)) (sum_ones g (on (c3.masks h) (c3.vectors v1)) one_in)
-          ∙ back_is I64 (pos g) (let few = width_few w.code.gang in (omega (arith, ints), omega (arith, ints, few)))
+          ∙ back_is I64 (pos g) (let few = few_width w.code.gang in (omega (arith, ints), omega (arith, ints, few)))
 
       one : number I64 (c6.scalars w2) ≡ pos 1
       one = ap (number I64) (put_same c5.scalars w2 (wrap I64 (number I64 1)) ∙ bits_are I64 1 (omega arith)) ∙ unit_is

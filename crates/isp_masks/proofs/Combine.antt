@@ -26,6 +26,10 @@ use Rattle.isp_masks.proofs.Unions.{union_nobody}
 abbrev pub part_spot : Form → Rate → ℕ → Spot → Spot
 part_spot f r k spot = record spot { on = k; slot = part_slot f r spot.slot }
 
+-- a part under mask k, whose slots begin at slot n
+abbrev pub deep : ℕ → ℕ → Spot → Spot
+deep n k spot = record spot { on = k; slot = n }
+
 module _ (w : Setting) (ready : IsSettled w) where
   -- ---- a stretch before
 

@@ -3,10 +3,11 @@ use Rattle.std.proofs.Common.{◌≡◌, refl, sym, ap, ap₂, ◌∙◌, ℕ, z
 use Rattle.std.specs.Prelude.{ℤ, pos, negsuc, ◌+ℤ◌, ◌-ℤ◌, int_lt}
 use Rattle.std.proofs.lemmas.Int.{ints}
 use Rattle.std.proofs.Math.Nat.{suc-mul, zero-mul, mul-zero, one-mul, mul_assoc, mul-add}
+use Rattle.isp_base.proofs.Gangs.{some_width}
 use Rattle.isp_base.specs.Sets.{Mask}
 use Rattle.isp_base.specs.Types.{gang_width}
 use Rattle.isp_base.specs.declared.types.Gang.{Gang}
-use Rattle.isp_base.specs.declared.types.Gang.TheVariants.{W4, W8, W16}
+use Rattle.isp_meaning.proofs.RunsFor.{no_run, one_run}
 use Rattle.isp_meaning.specs.Outcomes.{Res, Went, Trapped, Cut, go_on}
 use Rattle.isp_meaning.specs.Rounds.{Range, Round, rounds, from_zero, length_of, runs_for, joined_lists, counted}
 use Rattle.isp_meaning.specs.State.{State}
@@ -43,19 +44,6 @@ far g a b h = by (b -ℤ a) (b -ℤ (a +ℤ pos g)) refl refl
     by (pos (suc n)) (negsuc m) e k = inr (omega arith, omega (arith, ints, e, k), refl)
     by (negsuc n) f e k = absurd (grind (arith, ints, e, h))
 
-one_run : (g : Gang) (x y : ℕ) → (x ≡ y + gang_width g) ⊎ ((0 < x) × (x ≤ gang_width g) × (y ≡ 0)) → runs_for (gang_width g) x ≡ suc (runs_for (gang_width g) y)
-one_run W4 x y (inl e) = omega (arith, e)
-one_run W4 x y (inr h) = omega (arith, h.0, h.1, h.2)
-one_run W8 x y (inl e) = omega (arith, e)
-one_run W8 x y (inr h) = omega (arith, h.0, h.1, h.2)
-one_run W16 x y (inl e) = omega (arith, e)
-one_run W16 x y (inr h) = omega (arith, h.0, h.1, h.2)
-
-no_run : (g : Gang) → runs_for (gang_width g) 0 ≡ 0
-no_run W4 = refl
-no_run W8 = refl
-no_run W16 = refl
-
 pub counts_ones : (n : ℕ) (z end : ℤ) → n ≡ from_zero (end -ℤ z) → CountsTo 1 n z end
 counts_ones zero z end e = by (int_lt z end) refl
   where
@@ -72,13 +60,13 @@ pub counts_runs : (g : Gang) (n : ℕ) (z end : ℤ) → n ≡ runs_for (gang_wi
 counts_runs g zero z end e = by (int_lt z end) refl
   where
     by : (b : Bool) → int_lt z end ≡ b → int_lt z end ≡ false
-    by true h = let s = one_run g _ _ (far (gang_width g) z end h) in absurd (omega (arith, e, s))
+    by true h = let s = one_run (gang_width g) _ _ (some_width g) (far (gang_width g) z end h) in absurd (omega (arith, e, s))
     by false h = h
 counts_runs g (suc n) z end e = by (counts_runs g n (z +ℤ pos (gang_width g)) end) (int_lt z end) refl
   where
     by : (n ≡ runs_for (gang_width g) (from_zero (end -ℤ (z +ℤ pos (gang_width g)))) → CountsTo (gang_width g) n (z +ℤ pos (gang_width g)) end) → (b : Bool) → int_lt z end ≡ b → (int_lt z end ≡ true) × CountsTo (gang_width g) n (z +ℤ pos (gang_width g)) end
-    by ih true h = let s = one_run g _ _ (far (gang_width g) z end h) in (h, ih (omega (arith, e, s)))
-    by ih false h = let s : runs_for (gang_width g) (from_zero (end -ℤ z)) ≡ 0 = ap (runs_for (gang_width g)) (zero_from z end h) ∙ no_run g in absurd (omega (arith, e, s))
+    by ih true h = let s = one_run (gang_width g) _ _ (some_width g) (far (gang_width g) z end h) in (h, ih (omega (arith, e, s)))
+    by ih false h = let s : runs_for (gang_width g) (from_zero (end -ℤ z)) ≡ 0 = ap (runs_for (gang_width g)) (zero_from z end h) ∙ no_run (gang_width g) (some_width g) in absurd (omega (arith, e, s))
 
 -- ---- rounds, one after the other
 

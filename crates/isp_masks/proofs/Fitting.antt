@@ -12,7 +12,7 @@ use Rattle.isp_lower.specs.Rated.{Reaches}
 use Rattle.isp_lower.specs.Setting.{Setting, OtherAt}
 use Rattle.isp_lower.proofs.Lemmas.{ExprTree, OperandTree, expr_fits, operand_fits, values_fit, simple_fits, items_fit, RunConstant, all_grow, simple_other}
 use Rattle.isp_masks.specs.Prints.{own_rates}
-use Rattle.isp_masks.specs.Asks.{answer_asks, bound_asks, bounds_asks, places_asks, ranges_asks, part_slot, first_asks, test_part_asks, step_asks, stmt_asks, block_asks, stmts_asks}
+use Rattle.isp_masks.specs.Asks.{answer_asks, bound_asks, bounds_asks, places_asks, ranges_asks, part_slot, parts_slot, first_asks, test_part_asks, step_asks, stmt_asks, block_asks, stmts_asks}
 use Rattle.isp_masks.specs.Ranges.{places_slot, runs_slot}
 use Rattle.isp_masks.specs.Fits.{StmtFits, BlockFits}
 use Rattle.isp_masks.proofs.Parts.{AnswerFits, BoundParts, BoundsParts, RangesTyped, ForeachFits, FirstFits, TestFits, StepFits, StmtParts, BlockParts, StmtsParts, RangesConstant}
@@ -127,7 +127,7 @@ mutual
   stmt_fits (t_simple x sp) w n k f free t i = simple_fits w x n t i (simple_other w k x f)
   stmt_fits (t_if g j e x sp) w n k f free t i = (expr_fits w e n t.0 i.0, stmt_fits x w (part_slot g (type_of e).rate n) k f.2 free t.1 i.1.1)
   stmt_fits (t_if_else g j e x y sp) w n k f free t i =
-      (expr_fits w e n t.0 i.0, stmt_fits x w (part_slot g (type_of e).rate n) k f.2 free.0 t.1 i.1.1.0, stmt_fits y w (part_slot g (type_of e).rate n) k f.3 free.1 t.2 i.1.1.1)
+      (expr_fits w e n t.0 i.0, stmt_fits x w (parts_slot (type_of e).rate n) k f.2 free.0 t.1 i.1.1.0, stmt_fits y w (parts_slot (type_of e).rate n) k f.3 free.1 t.2 i.1.1.1)
   stmt_fits (t_while g j e x sp) w n k f free t i = (expr_fits w e (n + 3) t.0.0 i.1.0, stmt_fits x w (n + 3) k f.2 free t.1 i.1.1)
   stmt_fits (t_do g j x e sp) w n k f free t i = (expr_fits w e (n + 3) t.0.0 i.1.1, stmt_fits x w (n + 3) k f.1 free t.1 i.1.0)
   stmt_fits (t_for g j first e step z x sp) w n k f free t i =

@@ -14,7 +14,6 @@ use Rattle.isp_typed.specs.declared.stmt.TypedStmt.{TypedStmt}
 use Rattle.isp_masks.specs.Asks.{stmt_asks, stmts_asks}
 use Rattle.isp_masks.specs.Awaited.{Awaits, Code, jump_where}
 use Rattle.isp_masks.specs.Exits.{all_go_on}
-use Rattle.isp_masks.specs.Ranged.{StmtRanged, StmtsRanged}
 use Rattle.isp_masks.specs.Spots.{Spot}
 use Rattle.isp_masks.specs.Statements.{stmt_code, stmt_places, stmt_texts, stmts_places, stmts_texts}
 use Rattle.isp_masks.specs.Written.{Writes}
@@ -66,13 +65,6 @@ pub stmts_more : (answer : Option Ty) (n : ℕ) (all : List TypedStmt) (i : ℕ)
 stmts_more answer n all i x lt is =
     ap (λ z. stmts_asks answer (t_stmts (stmts_of z)) n) (drop_more all i x lt)
     ∙ ap (λ z. Both (stmt_asks answer (stmt_of z) n) (stmts_asks answer (t_stmts (stmts_of (drop (i + 1) all))) n)) (sym is)
-
--- and each `foreach` in them has a range
-pub ranged_more : (all : List TypedStmt) (i : ℕ) (x : TypedStmt) → i < length all → x ≡ get_or all i x
-    → StmtsRanged (t_stmts (stmts_of (drop i all))) → StmtRanged (stmt_of x) × StmtsRanged (t_stmts (stmts_of (drop (i + 1) all)))
-ranged_more all i x lt is r =
-    let both = subst (λ z. StmtsRanged (t_stmts (stmts_of z))) (drop_more all i x lt) r in
-    (subst (λ z. StmtRanged (stmt_of z)) (sym is) both.0, both.1)
 
 pub stmts_end : (answer : Option Ty) (n : ℕ) (all : List TypedStmt) (i : ℕ) → length all ≤ i → stmts_asks answer (t_stmts (stmts_of (drop i all))) n ≡ Nothing
 stmts_end answer n all i le = ap (λ z. stmts_asks answer (t_stmts (stmts_of z)) n) (drop_all i all le)

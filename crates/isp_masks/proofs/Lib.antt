@@ -1,8 +1,11 @@
 mod Unions
 mod Exiting
 mod Members
+mod Jumping
 mod Names
 mod Combine
+mod Sides
+mod KeptParts
 mod Choices
 mod Leaves
 mod Sequences
@@ -48,9 +51,10 @@ mod Writing
 mod Awaiting
 mod Forms
 mod Sifting
+mod JumpsWritten
+mod WidelyWritten
 mod Telling
 mod Views
-mod Ranged
 mod RangesAsked
 mod RangesWritten
 mod Spans

@@ -11,16 +11,17 @@ use Rattle.isp_base.proofs.Laws.{same_is}
 use Rattle.isp_base.proofs.Wraps.{wrap_to-same}
 use Rattle.isp_base.specs.Maps.{Lanes, on, over, map2}
 use Rattle.isp_base.specs.Sets.{Mask, any}
+use Rattle.isp_base.specs.Types.{widest}
 use Rattle.isp_base.specs.Values.{number, number_to, op_bits, wrap}
 use Rattle.isp_base.specs.declared.operators.BinOp.TheVariants as op
 use Rattle.isp_base.specs.declared.types.Elem.TheVariants.{I32}
 use Rattle.isp_meaning.specs.Rounds.{Range, last_run}
 
 -- a small natural stands for itself
-pub small_number : (p : ℕ) → p < 64 → number I32 p ≡ pos p
+pub small_number : (p : ℕ) → p < widest → number I32 p ≡ pos p
 small_number p lt = ap (number_to 32 (2 ^ 31 - 1)) (mod-eq_of_lt (far p lt)) ∙ number_below 32 (2 ^ 31 - 1) p (omega arith)
   where
-    far : (p : ℕ) → p < 64 → p < 2 ^ 32
+    far : (p : ℕ) → p < widest → p < 2 ^ 32
     far p lt = omega arith
 
 -- wrapping first does not matter
@@ -31,11 +32,11 @@ wrapped_sum z p = by (same_is I32 z).0 (same_is I32 z).1
     by (pos c) e = wrap_to-same 32 (number I32 (wrap I32 z) +ℤ pos p) (z +ℤ pos p) 0 c (omega (arith, ints, e))
     by (negsuc c) e = wrap_to-same 32 (number I32 (wrap I32 z) +ℤ pos p) (z +ℤ pos p) (suc c) 0 (omega (arith, ints, e, negsuc-*ℤ-pos c (2 ^ 32)))
 
-pub index_bits : (z : ℤ) (p : ℕ) → p < 64 → op_bits op.Add I32 (wrap I32 z) p ≡ wrap I32 (z +ℤ pos p)
+pub index_bits : (z : ℤ) (p : ℕ) → p < widest → op_bits op.Add I32 (wrap I32 z) p ≡ wrap I32 (z +ℤ pos p)
 index_bits z p lt = ap (λ n. wrap I32 (number I32 (wrap I32 z) +ℤ n)) (small_number p lt) ∙ wrapped_sum z p
 
 -- the place in each lane of a set, and the lane's number added
-pub index_is : (z : ℤ) (a : Mask) (old numbers : Lanes) → ((p : ℕ) → a p ≡ true → p < 64) → ((p : ℕ) → a p ≡ true → numbers p ≡ p) → map2 (op_bits op.Add I32) (on a (over (on a (λ p. wrap I32 z)) old)) (on a numbers) ≡ on a (λ p. wrap I32 (z +ℤ pos p))
+pub index_is : (z : ℤ) (a : Mask) (old numbers : Lanes) → ((p : ℕ) → a p ≡ true → p < widest) → ((p : ℕ) → a p ≡ true → numbers p ≡ p) → map2 (op_bits op.Add I32) (on a (over (on a (λ p. wrap I32 z)) old)) (on a numbers) ≡ on a (λ p. wrap I32 (z +ℤ pos p))
 index_is z a old numbers few are = fun_ext (λ p. at p (a p) refl)
   where
     at : (p : ℕ) (b : Bool) → a p ≡ b → map2 (op_bits op.Add I32) (on a (over (on a (λ q. wrap I32 z)) old)) (on a numbers) p ≡ on a (λ q. wrap I32 (z +ℤ pos q)) p

@@ -20,7 +20,7 @@ use Rattle.isp_lower.specs.Asks.{items_asks, test_asks, values_asks}
 use Rattle.isp_lower.specs.Reserved.{IsOwn, IsReserved}
 use Rattle.isp_lower.specs.declared.reserve.Reserve.{Reserve}
 use Rattle.isp_lower.proofs.Lemmas.{expr_own, operand_own, simple_own, item_own}
-use Rattle.isp_masks.specs.Asks.{answer_asks, bound_asks, bounds_asks, places_asks, ranges_asks, part_asks, part_slot, loop_asks, first_asks, test_part_asks, step_asks, stmt_asks, block_asks, stmts_asks, result_asks}
+use Rattle.isp_masks.specs.Asks.{answer_asks, bound_asks, bounds_asks, places_asks, ranges_asks, part_asks, part_slot, parts_slot, loop_asks, first_asks, test_part_asks, step_asks, stmt_asks, block_asks, stmts_asks, result_asks}
 use Rattle.isp_masks.specs.Lowered.{BodyIsOwn}
 use Rattle.isp_masks.specs.Prints.{own_rates}
 use Rattle.isp_masks.specs.Ranges.{places_slot, runs_slot}
@@ -97,7 +97,7 @@ module _ (fs : List TFunction) (vars : List Variable) (answer : Option Ty) where
     stmt_own (t_if k g e x sp) n f =
         (expr_own vars answer fs e n f.1.0, (part_own k (type_of e).rate n, stmt_own x (part_slot k (type_of e).rate n) f.2))
     stmt_own (t_if_else k g e x y sp) n f =
-        (expr_own vars answer fs e n f.1.0, (part_own k (type_of e).rate n, (stmt_own x (part_slot k (type_of e).rate n) f.2, stmt_own y (part_slot k (type_of e).rate n) f.3)))
+        (expr_own vars answer fs e n f.1.0, (part_own Coherent (type_of e).rate n, (stmt_own x (parts_slot (type_of e).rate n) f.2, stmt_own y (parts_slot (type_of e).rate n) f.3)))
     stmt_own (t_while k g e x sp) n f = (loop_own n, (expr_own vars answer fs e (n + 3) f.1.0, stmt_own x (n + 3) f.2))
     stmt_own (t_do k g x e sp) n f = (loop_own n, (stmt_own x (n + 3) f.1, expr_own vars answer fs e (n + 3) f.2.0))
     stmt_own (t_for k g first e step i x sp) n f =

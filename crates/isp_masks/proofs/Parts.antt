@@ -10,7 +10,7 @@ use Rattle.isp_typed.specs.Typed.{TExpr, t_exprs, type_of, TSimple, TFirst, t_fi
 use Rattle.isp_lower.specs.Setting.{Setting}
 use Rattle.isp_lower.specs.Tables.{IsTyped}
 use Rattle.isp_lower.proofs.Lemmas.{OperandFits, ExprParts, ValuesParts, SimpleParts, ItemsParts}
-use Rattle.isp_masks.specs.Asks.{part_slot}
+use Rattle.isp_masks.specs.Asks.{part_slot, parts_slot}
 use Rattle.isp_masks.specs.Prints.{own_rates}
 use Rattle.isp_masks.specs.Ranges.{wide, narrow, lane, places_slot, runs_slot}
 use Rattle.isp_masks.proofs.Bodies.{with_layout}
@@ -83,7 +83,7 @@ abbrev mutual
   StmtParts w (t_declare xs sp) n = ItemsParts w n xs
   StmtParts w (t_simple x sp) n = SimpleParts w x n
   StmtParts w (t_if f g e x sp) n = ExprParts w e n × StmtParts w x (part_slot f (type_of e).rate n)
-  StmtParts w (t_if_else f g e x y sp) n = ExprParts w e n × StmtParts w x (part_slot f (type_of e).rate n) × StmtParts w y (part_slot f (type_of e).rate n)
+  StmtParts w (t_if_else f g e x y sp) n = ExprParts w e n × StmtParts w x (parts_slot (type_of e).rate n) × StmtParts w y (parts_slot (type_of e).rate n)
   StmtParts w (t_while f g e x sp) n = ExprParts w e (n + 3) × StmtParts w x (n + 3)
   StmtParts w (t_do f g x e sp) n = ExprParts w e (n + 3) × StmtParts w x (n + 3)
   StmtParts w (t_for f g first e step i x sp) n = FirstFits w first n × TestFits w e (n + 3) × StepFits w step (n + 3) × StmtParts w x (n + 3)

@@ -3,15 +3,14 @@ use Rattle.std.proofs.Common.{◌≡◌, ℕ, ◌+◌, ◌*◌, ◌<◌, ◌≤�
 use Rattle.std.specs.Prelude.{slice_get, ◌≢◌, ℤ, pos, ◌+ℤ◌, ◌≤ℤ◌, ◌^◌, ◌&&◌, nat_lt, int_lt, not, if◌then◌else◌}
 use Rattle.std.proofs.Math.Nat.{one-mul}
 use Rattle.std.proofs.Math.Path.{fun_ext}
+use Rattle.isp_base.proofs.Gangs.{few_width, some_width}
 use Rattle.isp_base.specs.Maps.{Lanes, on, over, map2, or_old, put}
 use Rattle.isp_base.specs.Sets.{Mask, any}
-use Rattle.isp_base.specs.Types.{gang_width}
+use Rattle.isp_base.specs.Types.{widest}
 use Rattle.isp_base.specs.Values.{convert_bits, number, op_bits, wrap}
 use Rattle.isp_base.specs.declared.operators.BinOp.TheVariants as op
 use Rattle.isp_base.specs.declared.operators.Compare.TheVariants.{Less}
 use Rattle.isp_base.specs.declared.types.Elem.TheVariants.{Bool as Truth, I32, I64}
-use Rattle.isp_base.specs.declared.types.Gang.{Gang}
-use Rattle.isp_base.specs.declared.types.Gang.TheVariants.{W4, W8, W16}
 use Rattle.isp_base.specs.declared.types.Rate.TheVariants.{Uniform, Varying}
 use Rattle.isp_code.specs.Conf.{Conf, Go}
 use Rattle.isp_code.specs.Lines.{act}
@@ -50,24 +49,12 @@ round_after before x = record { members = x.members; begins = λ s. set_indices 
 abbrev pub with_index : ℕ → ℤ → (Mask → State → State) → Mask → State → State
 with_index i z before a s = written Varying i a (Each (on a (λ p. wrap I32 z))) (before a s)
 
-few_lanes : (g : Gang) (p : ℕ) → p < gang_width g → p < 64
-few_lanes W4 p lt = omega arith
-few_lanes W8 p lt = omega arith
-few_lanes W16 p lt = omega arith
-
-some_lanes : (g : Gang) → 1 ≤ gang_width g
-some_lanes W4 = omega arith
-some_lanes W8 = omega arith
-some_lanes W16 = omega arith
-
-pub width_few : (g : Gang) → gang_width g ≤ 64
-width_few W4 = omega arith
-width_few W8 = omega arith
-width_few W16 = omega arith
-
 module _ (w : Setting) where
   abbrev gang : ℕ
   gang = gang_of w
+
+  few_lanes : (p : ℕ) → p < gang → p < widest
+  few_lanes p lt = omega (arith, lt, few_width w.code.gang)
 
   -- ---- what the registers hold
 
@@ -184,7 +171,7 @@ module _ (w : Setting) where
       last_turn x m i set before c0 z s c pc q ex ec zl high nm mh tw tn ti measures sets has lt at lo place em st le =
           passes_after w ready c c5 (length set + 4) end (m + 1) q _ comes5 low5
           (passes_go w ready c5 (pc4 + length (code pc4)) end h (m + 1) 0 (length set + 4 + q) (body a s4) (went_all all)
-          (passes_body w ready c5 (pc4 + length (code pc4)) h (0 + (length set + 4 + q)) (body a s4) (runs a s4 c5 pc4 (0 + (length set + 4 + q)) (are_back w.routine.code pc front (code pc4) has) (record { at = at5; mask = em1; some = any_run gang gang x z (some_lanes w.code.gang) (omega arith) ∙ lt; inside = run_inside gang x z; stands = place_stands c4 s4 v5 stands4; used = omega (arith, le, o.work); counts = counts })))
+          (passes_body w ready c5 (pc4 + length (code pc4)) h (0 + (length set + 4 + q)) (body a s4) (runs a s4 c5 pc4 (0 + (length set + 4 + q)) (are_back w.routine.code pc front (code pc4) has) (record { at = at5; mask = em1; some = any_run gang gang x z (some_width w.code.gang) (omega arith) ∙ lt; inside = run_inside gang x z; stands = place_stands c4 s4 v5 stands4; used = omega (arith, le, o.work); counts = counts })))
           (λ s1 ok. record { conf = ok.conf; steps = ok.steps; comes = ok.comes; at = at_to w ok.conf (pc4 + length (code pc4)) end ok.at ends; stands = ok.stands; spares = spares_less w (m + 1) h c5 ok.conf (omega (arith, mh)) ok.spares; masks = λ r below. ok.masks r (omega (arith, mh)); bound = omega (arith, ok.bound) }))
         where
           front : List Instr
@@ -310,7 +297,7 @@ module _ (w : Setting) where
           value : v4 ≡ Each (on a (λ p. wrap I32 (z +ℤ pos p)))
           value =
               ap₂ (λ y t. Each (map2 (op_bits op.Add I32) y (on t (c3.vectors (lane w.layout n))))) first em1
-              ∙ ap Each (index_is z a old (c3.vectors (lane w.layout n)) (λ p on. few_lanes w.code.gang p (run_inside gang x z p on)) (λ p on. measures3.numbers p (run_inside gang x z p on)))
+              ∙ ap Each (index_is z a old (c3.vectors (lane w.layout n)) (λ p on. few_lanes p (run_inside gang x z p on)) (λ p on. measures3.numbers p (run_inside gang x z p on)))
 
           s4 : State
           s4 = set_indices a ((x.index, λ p. z +ℤ pos p) ∷ []) (before a s)
@@ -418,7 +405,7 @@ module _ (w : Setting) where
               let at3 = masked_at w ready c top h t at1 in
               let the_end : number I64 (c.scalars (wide w.layout (e + 1))) ≡ x.end = ap (number I64) (lo.spares.scalars_stay I64 (e + 1) below ∙ lo1.spares.scalars_stay I64 (e + 1) below) ∙ held.0.end in
               let is : t ≡ (last_run gang x z).members = ap₂ (λ y u p. nat_lt p gang && int_lt (y +ℤ pos p) u) place the_end in
-              let some : any gang (c3.masks h) ≡ int_lt z x.end = ap (any gang) (put_same c.masks h t ∙ is) ∙ any_run gang gang x z (some_lanes w.code.gang) (omega arith) in
+              let some : any gang (c3.masks h) ≡ int_lt z x.end = ap (any gang) (put_same c.masks h t ∙ is) ∙ any_run gang gang x z (some_width w.code.gang) (omega arith) in
               (jumped w ready c3 jump.Off (mask_register h) stop, comes_on w c c3 _ 1 1 (step_go w c top (range_mask h (wide w.layout m) (wide w.layout (e + 1))) c3 ready at1 has.1.0 refl) (jump_comes w ready c3 (top + 1) jump.Off (mask_register h) stop at3 has.1.1.0), subst (λ v. At w (jumped w ready c3 jump.Off (mask_register h) stop) v) (flipped (int_lt z x.end) stop (top + 1 + 1)) (jump_at w ready c3 (top + 1) jump.Off (mask_register h) stop (not (int_lt z x.end)) at3 (ap not some)), record { spares = spares_all w m c; masks = λ i lt. let ne : i ≢ h = omega (arith, mh) in put_other c.masks h t i ne }, refl, (λ s1 st1. st1), put_same c.masks h t ∙ is)
 
           it : IsSweep w body all m n gang x.end inside turn 32 (length set + 4) top stop c1
@@ -429,7 +416,7 @@ module _ (w : Setting) where
             low = omega (arith, ne, below);
             typed = typed.0.place;
             step = ap (number I64) (lo1.spares.scalars_stay I64 n (omega (arith, ne, below))) ∙ measures.lanes;
-            few = width_few w.code.gang;
+            few = few_width w.code.gang;
             high = held.0.high;
             enough = omega (arith, few);
             test = tested;
@@ -558,8 +545,7 @@ module _ (w : Setting) where
           }
 
       pub ranges_run : (rs : List TRange) (xs : List Range) → RangesRun rs xs
-      ranges_run [] [] li set before e m pc c0 s q few ne em mh typed held measures sets has at st le =
-          record { conf = c0; steps = 0; comes = comes_none w c0; at = at_to w c0 pc (pc + 0) at (omega arith); stands = st; spares = spares_all w m c0; masks = λ r lt. refl; bound = omega (arith, le) }
+      ranges_run [] [] li set before e m pc c0 s q few ne em mh typed held measures sets has at st le = absurd (cc)
       ranges_run [] (x ∷ xs) li set before e m pc c0 s q few ne em mh typed held measures sets has at st le = absurd held
       ranges_run (r ∷ rs) [] li set before e m pc c0 s q few ne em mh typed held measures sets has at st le = absurd held
       ranges_run (r ∷ []) (x ∷ []) li set before e m pc c0 s q few ne em mh typed held measures sets has at st le = last_range r x li set before e m pc c0 s q few ne em mh typed held measures sets has at st le

@@ -15,7 +15,7 @@ use Rattle.isp_masks.specs.Spots.{Spot}
 use Rattle.isp_masks.specs.StmtRuns.{AreThree, aside, EntersAt, Inside, StmtOk, StmtRuns}
 use Rattle.isp_masks.proofs.Unions.{union_assoc}
 use Rattle.isp_masks.proofs.Combine.{stmt_less, go_runs, plain_ok, guard_runs}
-use Rattle.isp_masks.proofs.Choices.{nobody_left}
+use Rattle.isp_masks.proofs.Sides.{nobody_left}
 
 module _ (w : Setting) (ready : IsSettled w) where
   -- where nobody leaves, nothing has to be set aside

@@ -16,13 +16,15 @@ use Rattle.isp_tree.specs.declared.stmt.Jump.TheVariants.{Break, Continue}
 use Rattle.isp_typed.specs.Typed.{TExpr, type_of, TSimple, TFirst, t_first_declare, t_first_simple, TStmt, t_block, t_declare, t_simple, t_if, t_if_else, t_while, t_do, t_for, t_foreach, t_foreach_active, t_unmasked, t_jump, t_return, t_print, t_assert, TBlock, t_braces, TStmts, t_no_stmts, t_stmt_then, TFunction}
 use Rattle.isp_lower.specs.Code.{jump_off, guard, found, expr_places, expr_code}
 use Rattle.isp_lower.specs.Layout.{Layout, class_at, register, outside}
-use Rattle.isp_masks.specs.Exits.{exits_of, all_go_on}
+use Rattle.isp_masks.specs.Exits.{exits_of, all_go_on, both_go_on, leaving_of}
 use Rattle.isp_masks.specs.Fors.{first_code, step_code, first_places, step_places}
 use Rattle.isp_masks.specs.Loops.{endless_code, for_code, is_wide, jump_all}
 use Rattle.isp_masks.specs.Ranges.{ranges_places, runs_slot}
-use Rattle.isp_masks.specs.Sets.{unite, leave_code, jump_code}
+use Rattle.isp_masks.specs.Sets.{unite, leave_code, jump_code, jumped_code}
+use Rattle.isp_masks.specs.declared.exits.Leaving.{Leaving}
+use Rattle.isp_masks.specs.declared.exits.Leaving.TheVariants.{Never, Always, Maybe}
 use Rattle.isp_masks.specs.Spots.{Numbers, Spot, body_spot, first_spot, past, under, widely}
-use Rattle.isp_masks.specs.Statements.{behind, rest_code, parted_code, wide_code, if_code, if_else_code, answer_code, returned, stmt_places, block_places, stmts_places, stmt_texts, block_texts, stmts_texts, stmt_code, block_code, stmts_code, function_code, body_layout}
+use Rattle.isp_masks.specs.Statements.{behind, rest_code, parted_code, kept_code, both_kept_code, left_code, wide_code, if_code, if_else_code, answer_code, returned, stmt_places, block_places, stmts_places, stmt_texts, block_texts, stmts_texts, stmt_code, block_code, stmts_code, function_code, body_layout}
 use Rattle.isp_lower.specs.Code.{copy, operand, operand_of}
 use Rattle.isp_masks.specs.Asks.{part_asks, first_asks, step_asks, answer_asks, block_asks, stmt_asks, stmts_asks}
 use Rattle.isp_lower.specs.Sound.{AreSound, Links, PartSound, IsRegister, Granted, ExprPresent, HasRegister, HasArray, HasLocal, HasMask}
@@ -62,10 +64,28 @@ module _ (code : Listing) (h : Routine) where
       let e2 = length-append (rest p2) (unite k n k ∷ []) in
       ((((refl, ln), ((there, bool), ((refl, lk), tt))), tt), ((((refl, lk), ((refl, lk), ((refl, ln), tt))), tt), sound_both code h side (rest p2 ++ unite k n k ∷ []) (guard_sound code h n first ln f (pc + 1 + 1) (omega (arith, e1, e2, lt))) (sound_both code h (rest p2) (unite k n k ∷ []) (g p2 (omega (arith, e1, e2, lt))) ((((refl, lk), ((refl, ln), ((refl, lk), tt))), tt), tt))))
 
+  kept_sound : (x k n : ℕ) (first : ℕ → List Instr) → k < h.masks → n < h.masks → IsThere h (class_at Varying) (register Varying x) → elem_of h (register Varying x) ≡ Truth → HereSound code h first → HereSound code h (λ pc. kept_code x pc k n first)
+  kept_sound x k n first lk ln there bool f pc lt = ((((refl, ln), ((there, bool), ((refl, lk), tt))), tt), guard_sound code h n first ln f (pc + 1) (omega (arith, lt)))
+
+  both_kept_sound : (x k n : ℕ) (first other : ℕ → List Instr) → k < h.masks → n < h.masks → n + 1 < h.masks → IsThere h (class_at Varying) (register Varying x) → elem_of h (register Varying x) ≡ Truth → HereSound code h first → HereSound code h other → HereSound code h (λ pc. both_kept_code x pc k n first other)
+  both_kept_sound x k n first other lk ln ls there bool f g pc lt =
+      let side = guard (jump_off n) (pc + 1 + 1) first in
+      let p2 = pc + 1 + 1 + length side in
+      let last = guard (jump_off (n + 1)) p2 other in
+      let e = length-append side last in
+      ((((refl, ln), ((there, bool), ((refl, lk), tt))), tt), ((((refl, ls), ((refl, lk), ((refl, ln), tt))), tt), sound_both code h side last (guard_sound code h n first ln f (pc + 1 + 1) (omega (arith, e, lt))) (guard_sound code h (n + 1) other ls g p2 (omega (arith, e, lt)))))
+
+  left_sound : (j : Jump) (x k co n : ℕ) → k < h.masks → co < h.masks → n < h.masks → IsThere h (class_at Varying) (register Varying x) → elem_of h (register Varying x) ≡ Truth → AreSound code h (left_code j x k co n)
+  left_sound j x k co n lk lc ln there bool = ((((refl, ln), ((there, bool), ((refl, lk), tt))), tt), ((((refl, lk), ((refl, lk), ((refl, ln), tt))), tt), jumped j))
+    where
+      jumped : (i : Jump) → AreSound code h (jumped_code i n co)
+      jumped Break = tt
+      jumped Continue = ((((refl, lc), ((refl, lc), ((refl, ln), tt))), tt), tt)
+
   -- in a c-form
   wide_sound : (x k n : ℕ) (first rest : ℕ → List Instr) → k < h.masks → n < h.masks → n + 1 < h.masks → IsThere h (class_at Varying) (register Varying x) → elem_of h (register Varying x) ≡ Truth → HereSound code h first → HereSound code h rest → HereSound code h (λ pc. wide_code x pc k n first rest)
   wide_sound x k n first rest lk ln ls there bool f g pc lt =
-      let p1 = pc + 1 + 1 + 1 in
+      let p1 = pc + 1 + 1 + 1 + 1 in
       let side = guard (jump_off k) p1 first in
       let p2 = p1 + length side in
       let join = rest (p2 + 1) ++ unite k k (n + 1) ∷ [] in
@@ -73,7 +93,7 @@ module _ (code : Listing) (h : Routine) where
       let e1 = length-append side last in
       let e2 = length-append (rest (p2 + 1)) (unite k k (n + 1) ∷ []) in
       let begin = sound_both code h side last (guard_sound code h k first lk f p1 (omega (arith, e1, e2, lt))) ((((refl, ln), (omega (arith, e1, e2, lt), tt)), tt), sound_both code h (rest (p2 + 1)) (unite k k (n + 1) ∷ []) (g (p2 + 1) (omega (arith, e1, e2, lt))) ((((refl, lk), ((refl, lk), ((refl, ls), tt))), tt), tt)) in
-      ((((refl, ln), ((there, bool), ((refl, lk), tt))), tt), ((((refl, ls), ((refl, lk), ((refl, ln), tt))), tt), ((((refl, lk), ((refl, ln), tt)), tt), begin)))
+      ((((refl, ln), ((there, bool), ((refl, lk), tt))), tt), ((((refl, ln), (omega (arith, e1, e2, lt), tt)), tt), ((((refl, ls), ((refl, lk), ((refl, ln), tt))), tt), ((((refl, lk), ((refl, ln), tt)), tt), begin))))
 
   -- the three masks are there
   abbrev HasMasks : Spot → Type 0
@@ -88,8 +108,8 @@ module _ (code : Listing) (h : Routine) where
     there : IsRegister h (type_of e).rate (found l e n) Truth
     mask : Granted h l (part_asks b (type_of e).rate n)
 
-  if_sound : (l : Layout) (b : Form) (e : TExpr) (spot : Spot) (first : ℕ → Spot → List Instr) → spot.on < h.masks → TestThere l b e spot.slot → AnySound b (type_of e).rate spot first → HereSound code h (λ pc. if_code b (type_of e).rate (found l e spot.slot) pc spot first)
-  if_sound l b e spot first lk test f = go b (type_of e).rate refl test.there.0 test.there.1 test.mask f
+  if_sound : (l : Layout) (v : Leaving) (b : Form) (e : TExpr) (spot : Spot) (first : ℕ → Spot → List Instr) → spot.on < h.masks → spot.continued < h.masks → TestThere l b e spot.slot → AnySound b (type_of e).rate spot first → HereSound code h (λ pc. if_code v b (type_of e).rate (found l e spot.slot) pc spot first)
+  if_sound l v b e spot first lk lc test f = go v b (type_of e).rate refl test.there.0 test.there.1 test.mask f
     where
       k : ℕ
       k = spot.on
@@ -97,13 +117,15 @@ module _ (code : Listing) (h : Routine) where
       n : ℕ
       n = spot.slot
 
-      go : (form : Form) (r : Rate) → (type_of e).rate ≡ r → IsThere h (class_at r) (register r (found l e n)) → elem_of h (register r (found l e n)) ≡ Truth → Granted h l (part_asks form r n) → AnySound form r spot first → HereSound code h (λ pc. if_code form r (found l e n) pc spot first)
-      go form Uniform er there bool mask f pc lt = ((((there, bool), (omega arith, tt)), tt), f (pc + 1) k lk (omega arith))
-      go Plain Varying er there bool mask f pc lt = parted_sound (found l e n) k n (λ pc1. first pc1 (under n spot)) (λ pc1. []) lk mask.1 there bool (λ pc1 lt1. f pc1 n mask.1 lt1) (λ pc1 lt1. tt) pc lt
-      go Coherent Varying er there bool mask f pc lt = wide_sound (found l e n) k n (λ pc1. first pc1 (widely k spot)) (λ pc1. []) lk mask.0.1 mask.1.1 there bool (λ pc1 lt1. f pc1 k lk lt1) (λ pc1 lt1. tt) pc lt
+      go : (o : Leaving) (form : Form) (r : Rate) → (type_of e).rate ≡ r → IsThere h (class_at r) (register r (found l e n)) → elem_of h (register r (found l e n)) ≡ Truth → Granted h l (part_asks form r n) → AnySound form r spot first → HereSound code h (λ pc. if_code o form r (found l e n) pc spot first)
+      go o form Uniform er there bool mask f pc lt = ((((there, bool), (omega arith, tt)), tt), f (pc + 1) k lk (omega arith))
+      go o Coherent Varying er there bool mask f pc lt = wide_sound (found l e n) k n (λ pc1. first pc1 (widely k spot)) (λ pc1. []) lk mask.0.1 mask.1.1 there bool (λ pc1 lt1. f pc1 k lk lt1) (λ pc1 lt1. tt) pc lt
+      go Never Plain Varying er there bool mask f pc lt = kept_sound (found l e n) k n (λ pc1. first pc1 (under n spot)) lk mask.1 there bool (λ pc1 lt1. f pc1 n mask.1 lt1) pc lt
+      go (Always j) Plain Varying er there bool mask f pc lt = left_sound j (found l e n) k spot.continued n lk lc mask.1 there bool
+      go Maybe Plain Varying er there bool mask f pc lt = parted_sound (found l e n) k n (λ pc1. first pc1 (under n spot)) (λ pc1. []) lk mask.1 there bool (λ pc1 lt1. f pc1 n mask.1 lt1) (λ pc1 lt1. tt) pc lt
 
-  if_else_sound : (l : Layout) (b : Form) (e : TExpr) (spot : Spot) (first second : ℕ → Spot → List Instr) → spot.on < h.masks → TestThere l b e spot.slot → AnySound b (type_of e).rate spot first → AnySound b (type_of e).rate spot second → HereSound code h (λ pc. if_else_code b (type_of e).rate (found l e spot.slot) pc spot first second)
-  if_else_sound l b e spot first second lk test f g = go b (type_of e).rate refl test.there.0 test.there.1 test.mask f g
+  if_else_sound : (l : Layout) (v : Bool) (b : Form) (e : TExpr) (spot : Spot) (first second : ℕ → Spot → List Instr) → spot.on < h.masks → TestThere l Coherent e spot.slot → AnySound Coherent (type_of e).rate spot first → AnySound Coherent (type_of e).rate spot second → HereSound code h (λ pc. if_else_code v b (type_of e).rate (found l e spot.slot) pc spot first second)
+  if_else_sound l v b e spot first second lk test f g = go v b (type_of e).rate refl test.there.0 test.there.1 test.mask f g
     where
       k : ℕ
       k = spot.on
@@ -111,17 +133,19 @@ module _ (code : Listing) (h : Routine) where
       n : ℕ
       n = spot.slot
 
-      go : (form : Form) (r : Rate) → (type_of e).rate ≡ r → IsThere h (class_at r) (register r (found l e n)) → elem_of h (register r (found l e n)) ≡ Truth → Granted h l (part_asks form r n) → AnySound form r spot first → AnySound form r spot second → HereSound code h (λ pc. if_else_code form r (found l e n) pc spot first second)
-      go form Uniform er there bool mask f g pc lt =
+      go : (o : Bool) (form : Form) (r : Rate) → (type_of e).rate ≡ r → IsThere h (class_at r) (register r (found l e n)) → elem_of h (register r (found l e n)) ≡ Truth → Granted h l (part_asks Coherent r n) → AnySound Coherent r spot first → AnySound Coherent r spot second → HereSound code h (λ pc. if_else_code o form r (found l e n) pc spot first second)
+      go o form Uniform er there bool mask f g pc lt =
           let ca = first (pc + 1) spot in
           let pb = pc + 1 + length ca + 1 in
           let cb = second pb spot in
           let e1 = length-append ca (instr.Jump (pb + length cb) ∷ cb) in
           ((((there, bool), (omega (arith, e1, lt), tt)), tt), sound_both code h ca (instr.Jump (pb + length cb) ∷ cb) (f (pc + 1) k lk (omega (arith, e1, lt))) (((omega (arith, e1, lt), tt), tt), g pb k lk (omega (arith, e1, lt))))
-      go Plain Varying er there bool mask f g pc lt =
-          parted_sound (found l e n) k n (λ pc1. first pc1 (under n spot)) (λ pc1. guard (jump_off k) pc1 (λ pc2. second pc2 (under k spot))) lk mask.1 there bool (λ pc1 lt1. f pc1 n mask.1 lt1) (guard_sound code h k (λ pc2. second pc2 (under k spot)) lk (λ pc2 lt2. g pc2 k lk lt2)) pc lt
-      go Coherent Varying er there bool mask f g pc lt =
+      go o Coherent Varying er there bool mask f g pc lt =
           wide_sound (found l e n) k n (λ pc1. first pc1 (widely k spot)) (λ pc1. guard (jump_off (n + 1)) pc1 (λ pc2. second pc2 (widely (n + 1) spot))) lk mask.0.1 mask.1.1 there bool (λ pc1 lt1. f pc1 k lk lt1) (guard_sound code h (n + 1) (λ pc2. second pc2 (widely (n + 1) spot)) mask.1.1 (λ pc2 lt2. g pc2 (n + 1) mask.1.1 lt2)) pc lt
+      go true Plain Varying er there bool mask f g pc lt =
+          both_kept_sound (found l e n) k n (λ pc1. first pc1 (widely n spot)) (λ pc1. second pc1 (widely (n + 1) spot)) lk mask.0.1 mask.1.1 there bool (λ pc1 lt1. f pc1 n mask.0.1 lt1) (λ pc1 lt1. g pc1 (n + 1) mask.1.1 lt1) pc lt
+      go false Plain Varying er there bool mask f g pc lt =
+          parted_sound (found l e n) k n (λ pc1. first pc1 (widely n spot)) (λ pc1. guard (jump_off k) pc1 (λ pc2. second pc2 (widely k spot))) lk mask.0.1 there bool (λ pc1 lt1. f pc1 n mask.0.1 lt1) (guard_sound code h k (λ pc2. second pc2 (widely k spot)) lk (λ pc2 lt2. g pc2 k lk lt2)) pc lt
 
   -- ---- statements
 
@@ -172,10 +196,10 @@ module _ (code : Listing) (h : Routine) where
           let pe = expr_places l e in
           let z1 = past pe z in
           let part = λ (pc2 : ℕ) (at : Spot). stmt_code l answer x pc2 z1 at in
-          let rest = if_code b (type_of e).rate (found l e n) (pc + length ce) spot part in
+          let rest = if_code (leaving_of x) b (type_of e).rate (found l e n) (pc + length ce) spot part in
           let e1 = length-append ce rest in
           let e2 = length-append pe (stmt_places l x) in
-          sound_both code h ce rest (value_sound fs code h l links e n is.0 f.0 pc z.place spot.on lm.0 (omega (arith, e2, pl)) (omega (arith, e1, lt))) (if_sound l b e spot part lm.0 (test_there fs l links answer b e n is.0 is.2 f.0 f.1.0) (λ pc2 m low lt2. stmt_sound x l links pc2 z1 (part_spot b (type_of e).rate m spot) is.1 f.1.1 (low, lm.1, lm.2) (omega (arith, e2, pl)) tx lt2) (pc + length ce) (omega (arith, e1, lt)))
+          sound_both code h ce rest (value_sound fs code h l links e n is.0 f.0 pc z.place spot.on lm.0 (omega (arith, e2, pl)) (omega (arith, e1, lt))) (if_sound l (leaving_of x) b e spot part lm.0 lm.1 (test_there fs l links answer b e n is.0 is.2 f.0 f.1.0) (λ pc2 m low lt2. stmt_sound x l links pc2 z1 (part_spot b (type_of e).rate m spot) is.1 f.1.1 (low, lm.1, lm.2) (omega (arith, e2, pl)) tx lt2) (pc + length ce) (omega (arith, e1, lt)))
       stmt_sound (t_if_else b g e x y sp) l links pc z spot is f lm pl tx lt =
           let n = spot.slot in
           let ce = expr_code l e pc z.place spot.on n in
@@ -184,12 +208,12 @@ module _ (code : Listing) (h : Routine) where
           let z1 = past pe z in
           let part = λ (pc2 : ℕ) (at : Spot). stmt_code l answer x pc2 z1 at in
           let other = λ (pc2 : ℕ) (at : Spot). stmt_code l answer y pc2 (behind l x z1) at in
-          let rest = if_else_code b (type_of e).rate (found l e n) (pc + length ce) spot part other in
+          let rest = if_else_code (both_go_on x y) b (type_of e).rate (found l e n) (pc + length ce) spot part other in
           let e1 = length-append ce rest in
           let e2 = length-append pe (px ++ stmt_places l y) in
           let e3 = length-append px (stmt_places l y) in
           let e4 = length-append (stmt_texts x) (stmt_texts y) in
-          sound_both code h ce rest (value_sound fs code h l links e n is.0 f.0 pc z.place spot.on lm.0 (omega (arith, e2, pl)) (omega (arith, e1, lt))) (if_else_sound l b e spot part other lm.0 (test_there fs l links answer b e n is.0 is.3 f.0 f.1.0) (λ pc2 m low lt2. stmt_sound x l links pc2 z1 (part_spot b (type_of e).rate m spot) is.1 f.1.1.0 (low, lm.1, lm.2) (omega (arith, e2, e3, pl)) (omega (arith, e4, tx)) lt2) (λ pc2 m low lt2. stmt_sound y l links pc2 (behind l x z1) (part_spot b (type_of e).rate m spot) is.2 f.1.1.1 (low, lm.1, lm.2) (omega (arith, e2, e3, pl)) (omega (arith, e4, tx)) lt2) (pc + length ce) (omega (arith, e1, lt)))
+          sound_both code h ce rest (value_sound fs code h l links e n is.0 f.0 pc z.place spot.on lm.0 (omega (arith, e2, pl)) (omega (arith, e1, lt))) (if_else_sound l (both_go_on x y) b e spot part other lm.0 (test_there fs l links answer Coherent e n is.0 is.3 f.0 f.1.0) (λ pc2 m low lt2. stmt_sound x l links pc2 z1 (part_spot Coherent (type_of e).rate m spot) is.1 f.1.1.0 (low, lm.1, lm.2) (omega (arith, e2, e3, pl)) (omega (arith, e4, tx)) lt2) (λ pc2 m low lt2. stmt_sound y l links pc2 (behind l x z1) (part_spot Coherent (type_of e).rate m spot) is.2 f.1.1.1 (low, lm.1, lm.2) (omega (arith, e2, e3, pl)) (omega (arith, e4, tx)) lt2) (pc + length ce) (omega (arith, e1, lt)))
       stmt_sound (t_while b g e x sp) l links pc z spot is f lm pl tx lt =
           let pe = expr_places l e in
           let e2 = length-append pe (stmt_places l x) in

@@ -50,7 +50,7 @@ module _ (code : Listing) (h : Routine) (l : Layout) where
 
   module _ (n k : ℕ) (body : ℕ → List Instr) (some : 0 < h.masks) (lk : k < h.masks) (measures : Granted h l (measures_asks n)) (fb : HereSound code h body) where
     ranges_sound : (rs : List TRange) (set : List Instr) (e m : ℕ) → AreSound code h set → Granted h l (bounds_asks rs e) → Granted h l (places_asks rs m) → HereSound code h (λ pc. ranges_code l n k body rs set e m pc)
-    ranges_sound [] set e m fs b p pc lt = tt
+    ranges_sound [] set e m fs b p pc lt = fb pc lt
     ranges_sound (r ∷ []) set e m fs b p pc lt =
         let last = last_index l r.index m n k in
         let index : AreSound code h last = (convert_sound code h Uniform I32 I64 (narrow l (m + 1)) (wide l m) 0 p.0.1.1.1.0 p.0.1.0 some, (splat_sound code h I32 (lane l (m + 1)) (narrow l (m + 1)) k p.0.1.1.1.1.0 p.0.1.1.1.0 lk, (add_varying (l.variable Varying r.index) (lane l (m + 1)) (lane l n) k p.0.0 p.0.1.1.1.1.0 measures.1.0 lk, (copy_sound code h Uniform I64 (l.place Uniform) (wide l m) 0 p.0.1.1.1.1.1.1 p.0.1.0 some, tt)))) in

@@ -4,6 +4,7 @@ use Rattle.isp_base.specs.Sets.{Mask, any}
 use Rattle.isp_base.specs.declared.trap.TrapKind.TheVariants.{Assert}
 use Rattle.isp_code.specs.Conf.{Conf}
 use Rattle.isp_code.specs.declared.instr.Instr.{Instr}
+use Rattle.isp_tree.specs.declared.stmt.Form.TheVariants.{Coherent}
 use Rattle.isp_tree.specs.declared.stmt.Jump.TheVariants.{Break, Continue}
 use Rattle.isp_typed.specs.Fine.{heads}
 use Rattle.isp_typed.specs.Typed.{TExpr, type_of, TStmt, t_block, t_declare, t_simple, t_if, t_if_else, t_while, t_do, t_for, t_foreach, t_foreach_active, t_unmasked, t_jump, t_return, t_print, t_assert, TBlock, t_braces, TStmts, t_no_stmts, t_stmt_then, TRange}
@@ -21,10 +22,11 @@ use Rattle.isp_masks.specs.Named.{AllNamed, BlockNamed, Named}
 use Rattle.isp_masks.specs.Ranges.{ranges_places, runs_slot, places_slot}
 use Rattle.isp_masks.specs.Spots.{Numbers, Spot, body_spot, past}
 use Rattle.isp_masks.specs.Statements.{behind, rest_code, if_code, if_else_code, stmt_places, stmt_code, block_code, stmts_code, stmt_texts, body_layout}
-use Rattle.isp_masks.specs.Exits.{either_leaves, exits_of, block_exits, nobody_leaves, all_go_on}
+use Rattle.isp_masks.specs.Exits.{either_leaves, exits_of, block_exits, nobody_leaves, all_go_on, both_go_on, leaving_of}
 use Rattle.isp_masks.specs.StmtRuns.{AreThree, aside, EntersAt, StmtRuns}
 use Rattle.isp_masks.proofs.Combine.{part_spot, stmt_after, stmt_less, with_runs, all_runs, plain_ok}
 use Rattle.isp_masks.proofs.Choices.{if_runs, if_else_runs}
+use Rattle.isp_masks.proofs.Jumping.{left_is, both_left}
 use Rattle.isp_masks.proofs.Members.{went_inside, went_whole}
 use Rattle.isp_masks.proofs.Active.{active_runs}
 use Rattle.isp_masks.proofs.Asserts.{fails_run}
@@ -46,15 +48,15 @@ use Rattle.isp_masks.proofs.Fitting.{last_constant}
 
 module _ (w : Setting) (ready : IsSettled w) where
   -- a test, and what follows it for the same set
-  tested_runs : (e : TExpr) (pc p : ℕ) (spot : Spot) (q : ℕ) (a : Mask) (s : State) (c : Conf) (code : ℕ → List Instr) (go : Payload → State → Res) → ExprParts w e spot.slot → AreAt w.routine.code pc (expr_code w.layout e pc p spot.on spot.slot ++ code (pc + length (expr_code w.layout e pc p spot.on spot.slot))) → AreAt w.code.places p (expr_places w.layout e) → AreThree spot → EntersAt w pc spot a s c q → ((m : Payload) (s1 : State) (ok : Ok w c (pc + length (expr_code w.layout e pc p spot.on spot.slot)) spot.slot (7 + (1 + q)) (Holds (type_of e).rate a (found w.layout e spot.slot) m) s1) → StmtRuns w w.turns ok.conf (pc + length (expr_code w.layout e pc p spot.on spot.slot) + length (code (pc + length (expr_code w.layout e pc p spot.on spot.slot)))) spot (ok.steps + (1 + q)) (go m s1)) → StmtRuns w w.turns c (pc + length (expr_code w.layout e pc p spot.on spot.slot ++ code (pc + length (expr_code w.layout e pc p spot.on spot.slot)))) spot (1 + q) (with_value (value (gang_of w) w.frame (calls_of w) e a (tick s)) go)
+  tested_runs : (e : TExpr) (pc p : ℕ) (spot : Spot) (q : ℕ) (a : Mask) (s : State) (c : Conf) (code : ℕ → List Instr) (go : Payload → State → Res) → ExprParts w e spot.slot → AreAt w.routine.code pc (expr_code w.layout e pc p spot.on spot.slot ++ code (pc + length (expr_code w.layout e pc p spot.on spot.slot))) → AreAt w.code.places p (expr_places w.layout e) → AreThree spot → EntersAt w pc spot a s c q → ((m : Payload) (s1 : State) (ok : Ok w c (pc + length (expr_code w.layout e pc p spot.on spot.slot)) spot.slot (8 + (1 + q)) (Holds (type_of e).rate a (found w.layout e spot.slot) m) s1) → StmtRuns w w.turns ok.conf (pc + length (expr_code w.layout e pc p spot.on spot.slot) + length (code (pc + length (expr_code w.layout e pc p spot.on spot.slot)))) spot (ok.steps + (1 + q)) (go m s1)) → StmtRuns w w.turns c (pc + length (expr_code w.layout e pc p spot.on spot.slot ++ code (pc + length (expr_code w.layout e pc p spot.on spot.slot)))) spot (1 + q) (with_value (value (gang_of w) w.frame (calls_of w) e a (tick s)) go)
   tested_runs e pc p spot q a s c code go fit has places three b f =
       let fe : heads e ≤ 1 = few w e spot.slot fit in
       let ce = expr_code w.layout e pc p spot.on spot.slot in
       let pc1 = pc + length ce in
       let to : pc1 + length (code pc1) ≡ pc + length (ce ++ code pc1) = omega (arith, length-append ce (code pc1)) in
       subst (λ z. StmtRuns w w.turns c z spot (1 + q) (with_value (value (gang_of w) w.frame (calls_of w) e a (tick s)) go)) to
-      (with_runs w ready c pc1 spot.slot 7 (1 + q) (Holds (type_of e).rate a (found w.layout e spot.slot)) (value (gang_of w) w.frame (calls_of w) e a (tick s)) go (pc1 + length (code pc1)) spot
-      (expr_runs w ready e pc p spot.on spot.slot (32 + q) (7 + (1 + q)) a (tick s) c fit (are_front w.routine.code pc ce _ has) places (omega arith) (enters_part w ready pc spot.on spot.slot (32 + q) q a s c (omega arith) b))
+      (with_runs w ready c pc1 spot.slot 8 (1 + q) (Holds (type_of e).rate a (found w.layout e spot.slot)) (value (gang_of w) w.frame (calls_of w) e a (tick s)) go (pc1 + length (code pc1)) spot
+      (expr_runs w ready e pc p spot.on spot.slot (32 + q) (8 + (1 + q)) a (tick s) c fit (are_front w.routine.code pc ce _ has) places (omega arith) (enters_part w ready pc spot.on spot.slot (32 + q) q a s c (omega arith) b))
       (λ m s1 ok. stmt_after w ready w.turns c ok.conf ok.steps (pc1 + length (code pc1)) spot (1 + q) (go m s1) ok.comes ok.spares (λ r lt ne. ok.masks r lt) three (f m s1 ok)))
 
 -- the last of some ranges: its index, its type, and that it is a constant
@@ -82,8 +84,8 @@ mutual
       let part = λ (pc2 : ℕ) (at : Spot). stmt_code w.layout w.frame.answer x pc2 z1 at in
       let own = named_past w.code z pl _ _ names in
       set_aside w ready (all_go_on x) c _ spot q _
-      (tested_runs w ready e pc z.place spot q a s c (λ pc1. if_code f (type_of e).rate (found w.layout e spot.slot) pc1 spot part) (branches (gang_of w) a (run (gang_of w) w.frame (calls_of w) w.turns x) went_all) fit.0 has (are_front w.code.places z.place pl _ names.places_are) three b
-      (λ m s1 ok. if_runs w ready f (type_of e).rate (found w.layout e spot.slot) (pc + length ce) spot (ok.steps + (1 + q)) a m s1 ok.conf part (run (gang_of w) w.frame (calls_of w) w.turns x) ok.at (ok.masks spot.on b.low ∙ b.mask) b.some b.inside ok.stands ok.holds (omega (arith, ok.bound)) three (are_back w.routine.code pc ce _ has) (λ j T s2 c2 pc2 y th h en. stmt_less w ready w.turns c2 _ _ _ (aside (all_go_on x)) y _ refl (stmt_runs x w ready pc2 z1 (part_spot f (type_of e).rate j spot) y T s2 c2 fit.1 h own th en))))
+      (tested_runs w ready e pc z.place spot q a s c (λ pc1. if_code (leaving_of x) f (type_of e).rate (found w.layout e spot.slot) pc1 spot part) (branches (gang_of w) a (run (gang_of w) w.frame (calls_of w) w.turns x) went_all) fit.0 has (are_front w.code.places z.place pl _ names.places_are) three b
+      (λ m s1 ok. if_runs w ready (leaving_of x) f (type_of e).rate (found w.layout e spot.slot) (pc + length ce) spot (ok.steps + (1 + q)) a m s1 ok.conf part (run (gang_of w) w.frame (calls_of w) w.turns x) ok.at (ok.masks spot.on b.low ∙ b.mask) b.some b.inside ok.stands ok.holds (omega (arith, ok.bound)) three (are_back w.routine.code pc ce _ has) (left_is w ready x) (λ j T s2 c2 pc2 y th h en. stmt_less w ready w.turns c2 _ _ _ (aside (all_go_on x)) y _ refl (stmt_runs x w ready pc2 z1 (part_spot f (type_of e).rate j spot) y T s2 c2 fit.1 h own th en))))
   stmt_runs (t_if_else f g e x y sp) w ready pc z spot q a s c fit has names three b =
       let ce = expr_code w.layout e pc z.place spot.on spot.slot in
       let pl = expr_places w.layout e in
@@ -93,8 +95,8 @@ mutual
       let other = λ (pc2 : ℕ) (at : Spot). stmt_code w.layout w.frame.answer y pc2 (behind w.layout x z1) at in
       let own = named_past w.code z pl _ _ names in
       set_aside w ready (nobody_leaves (either_leaves (exits_of x) (exits_of y))) c _ spot q _
-      (tested_runs w ready e pc z.place spot q a s c (λ pc1. if_else_code f (type_of e).rate (found w.layout e spot.slot) pc1 spot part other) (branches (gang_of w) a (run (gang_of w) w.frame (calls_of w) w.turns x) (run (gang_of w) w.frame (calls_of w) w.turns y)) fit.0 has (are_front w.code.places z.place pl _ names.places_are) three b
-      (λ m s1 ok. if_else_runs w ready f (type_of e).rate (found w.layout e spot.slot) (pc + length ce) spot (ok.steps + (1 + q)) a m s1 ok.conf part other (run (gang_of w) w.frame (calls_of w) w.turns x) (run (gang_of w) w.frame (calls_of w) w.turns y) ok.at (ok.masks spot.on b.low ∙ b.mask) b.some b.inside ok.stands ok.holds (omega (arith, ok.bound)) three (are_back w.routine.code pc ce _ has) (λ j T s2 c2 pc2 u th h en. stmt_less w ready w.turns c2 _ _ _ (aside (all_go_on x)) u _ refl (stmt_runs x w ready pc2 z1 (part_spot f (type_of e).rate j spot) u T s2 c2 fit.1 h (named_front w.code z1 px _ (stmt_texts x) _ own) th en)) (λ j T s2 c2 pc2 u th h en. stmt_less w ready w.turns c2 _ _ _ (aside (all_go_on y)) u _ refl (stmt_runs y w ready pc2 (behind w.layout x z1) (part_spot f (type_of e).rate j spot) u T s2 c2 fit.2 h (named_back w.code z1 px _ (stmt_texts x) _ own) th en))))
+      (tested_runs w ready e pc z.place spot q a s c (λ pc1. if_else_code (both_go_on x y) f (type_of e).rate (found w.layout e spot.slot) pc1 spot part other) (branches (gang_of w) a (run (gang_of w) w.frame (calls_of w) w.turns x) (run (gang_of w) w.frame (calls_of w) w.turns y)) fit.0 has (are_front w.code.places z.place pl _ names.places_are) three b
+      (λ m s1 ok. if_else_runs w ready (both_go_on x y) f (type_of e).rate (found w.layout e spot.slot) (pc + length ce) spot (ok.steps + (1 + q)) a m s1 ok.conf part other (run (gang_of w) w.frame (calls_of w) w.turns x) (run (gang_of w) w.frame (calls_of w) w.turns y) ok.at (ok.masks spot.on b.low ∙ b.mask) b.some b.inside ok.stands ok.holds (omega (arith, ok.bound)) three (are_back w.routine.code pc ce _ has) (both_left w ready x y) (λ j T s2 c2 pc2 u th h en. stmt_less w ready w.turns c2 _ _ _ (aside (all_go_on x)) u _ refl (stmt_runs x w ready pc2 z1 (part_spot Coherent (type_of e).rate j spot) u T s2 c2 fit.1 h (named_front w.code z1 px _ (stmt_texts x) _ own) th en)) (λ j T s2 c2 pc2 u th h en. stmt_less w ready w.turns c2 _ _ _ (aside (all_go_on y)) u _ refl (stmt_runs y w ready pc2 (behind w.layout x z1) (part_spot Coherent (type_of e).rate j spot) u T s2 c2 fit.2 h (named_back w.code z1 px _ (stmt_texts x) _ own) th en))))
   stmt_runs (t_while f g e x sp) w ready pc z spot q a s c fit has names three b = while_runs w ready f g e x sp (stmt_runs x w ready) pc z spot q a s c fit has names three b
   stmt_runs (t_do f g x e sp) w ready pc z spot q a s c fit has names three b = do_runs w ready f g x e sp (stmt_runs x w ready) pc z spot q a s c fit has names three b
   stmt_runs (t_for f g first e step i x sp) w ready pc z spot q a s c fit has names three b = for_runs w ready f g first e step i x sp (stmt_runs x w ready) pc z spot q a s c fit has names three b

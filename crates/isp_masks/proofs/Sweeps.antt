@@ -8,6 +8,7 @@ use Rattle.std.proofs.lemmas.Int.{ints}
 use Rattle.isp_base.proofs.Laws.{back_is}
 use Rattle.isp_base.specs.Ranges.{IsValue}
 use Rattle.isp_base.specs.Sets.{Mask}
+use Rattle.isp_base.specs.Types.{widest}
 use Rattle.isp_base.specs.Values.{number, op_bits, wrap}
 use Rattle.isp_base.specs.declared.operators.BinOp.TheVariants as op
 use Rattle.isp_base.specs.declared.types.Elem.TheVariants.{I64}
@@ -99,7 +100,7 @@ abbrev pub IsNotLess : ℤ → Type 0
 IsNotLess z = neg_ℤ (pos (2 ^ 31)) ≤ℤ z
 
 -- no place is past an int64
-next_place : (k : ℕ) (z end : ℤ) → k ≤ 64 → IsNotLess z → end ≤ℤ pos (2 ^ 31) → int_lt z end ≡ true → IsValue I64 (z +ℤ pos k)
+next_place : (k : ℕ) (z end : ℤ) → k ≤ widest → IsNotLess z → end ≤ℤ pos (2 ^ 31) → int_lt z end ≡ true → IsValue I64 (z +ℤ pos k)
 next_place k z end few low high lt = (grind (arith, ints, low), grind (arith, ints, high, lt))
 
 next_low : (k : ℕ) (z : ℤ) → IsNotLess z → IsNotLess (z +ℤ pos k)
@@ -114,7 +115,7 @@ pub record IsSweep (w : Setting) (body : Mask → State → Res) (all : Mask) (m
   pub low : u < m
   pub typed : IsTyped w Uniform (wide w.layout m) I64
   pub step : number I64 (c0.scalars (wide w.layout u)) ≡ pos k
-  pub few : k ≤ 64
+  pub few : k ≤ widest
   pub high : end ≤ℤ pos (2 ^ 31)
   pub enough : extra + 4 ≤ cost
   pub test : (z : ℤ) (c : Conf) → At w c top → Low w m c0 c → number I64 (c.scalars (wide w.layout m)) ≡ z

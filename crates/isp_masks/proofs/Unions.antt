@@ -3,7 +3,7 @@ use Rattle.std.proofs.Common.{◌≡◌, ℕ, zero, suc, ◌<◌, ◌⊎◌, inl
 use Rattle.std.specs.Prelude.{◌||◌, ◌&&◌, not}
 use Rattle.std.proofs.Math.Path.{fun_ext}
 use Rattle.std.proofs.lemmas.Bool.{cases_eq}
-use Rattle.isp_base.specs.Sets.{Mask, nobody, union, without, all}
+use Rattle.isp_base.specs.Sets.{Mask, nobody, union, without, any, all}
 
 pub union_nobody : (a : Mask) → union a nobody ≡ a
 union_nobody a = fun_ext (λ p. at (a p))
@@ -52,6 +52,17 @@ in_all (suc n) a h p lt =
     go last (inl e) lower = ap a e ∙ last
     go last (inr ne) lower = lower ne
 
+-- a set that has none of the first n has none below n
+not_in : (n : ℕ) (a : Mask) → any n a ≡ false → (p : ℕ) → p < n → a p ≡ false
+not_in zero a h p lt = absurd (omega (arith, lt))
+not_in (suc n) a h p lt =
+    let parts = neither (any n a) (a n) h in
+    go parts.1 (cases_eq p n) (λ ne. not_in n a parts.0 p (omega (arith, lt, ne)))
+  where
+    go : a n ≡ false → (p ≡ n) ⊎ (p ≡ n → ⊥) → ((p ≡ n → ⊥) → a p ≡ false) → a p ≡ false
+    go last (inl e) lower = ap a e ∙ last
+    go last (inr ne) lower = lower ne
+
 -- sets of instances that have a property
 module _ (A : ℕ → Type 0) where
   abbrev pub Below : Mask → Type 0
@@ -83,3 +94,29 @@ without_full n a b h below = fun_ext (λ p. at p (a p) refl)
     at : (p : ℕ) (x : Bool) → a p ≡ x → (x && not (b p)) ≡ false
     at p true e = ap not (in_all n b h p (below p e))
     at p false e = refl
+
+-- a part that has each of the first n is the whole
+pub full_part : (n : ℕ) (a b : Mask) → all n b ≡ true → Below (λ p. p < n) a → Below (λ p. a p ≡ true) b → b ≡ a
+full_part n a b h below part = fun_ext (λ p. at p (a p) (b p) refl refl)
+  where
+    at : (p : ℕ) (x y : Bool) → a p ≡ x → b p ≡ y → y ≡ x
+    at p true y e g = sym g ∙ in_all n b h p (below p e)
+    at p false true e g = sym (part p g) ∙ e
+    at p false false e g = refl
+
+-- a set of them that has none of them is empty
+pub none_in : (n : ℕ) (a : Mask) → any n a ≡ false → Below (λ p. p < n) a → a ≡ nobody
+none_in n a h below = fun_ext (λ p. at p (a p) refl)
+  where
+    at : (p : ℕ) (x : Bool) → a p ≡ x → x ≡ false
+    at p true e = sym e ∙ not_in n a h p (below p e)
+    at p false e = refl
+
+-- a part and the others are the whole
+pub part_and_others : (a b : Mask) → Below (λ p. a p ≡ true) b → union b (without a b) ≡ a
+part_and_others a b below = fun_ext (λ p. at p (b p) (a p) refl refl)
+  where
+    at : (p : ℕ) (x y : Bool) → b p ≡ x → a p ≡ y → (x || (y && not x)) ≡ y
+    at p true y e h = sym (below p e) ∙ h
+    at p false true e h = refl
+    at p false false e h = refl

@@ -2,10 +2,8 @@
 -- own.
 use Rattle.std.proofs.Common.{◌≡◌, ◌≢◌, ℕ, ◌+◌, ◌<◌, List, length, true, refl, ◌∙◌, arith, ◌*◌, ◌≤◌}
 use Rattle.std.proofs.lemmas.Bool.{ltb-true}
+use Rattle.isp_base.proofs.Gangs.{someone}
 use Rattle.isp_base.specs.Sets.{Mask, everyone, any}
-use Rattle.isp_base.specs.Types.{gang_width}
-use Rattle.isp_base.specs.declared.types.Gang.{Gang}
-use Rattle.isp_base.specs.declared.types.Gang.TheVariants.{W4, W8, W16}
 use Rattle.isp_code.specs.Conf.{Conf}
 use Rattle.isp_code.specs.declared.instr.Instr.{Instr}
 use Rattle.isp_meaning.specs.Outcomes.{Res, went_all, go_on}
@@ -16,12 +14,6 @@ use Rattle.isp_masks.specs.Rounds.{fill_mask, unmasked_code}
 use Rattle.isp_masks.specs.Spots.{Spot, body_spot}
 use Rattle.isp_masks.specs.StmtRuns.{AreThree, EntersAt, StmtOk, StmtRuns}
 use Rattle.isp_masks.proofs.Combine.{stmt_after, go_runs, plain_ok}
-
--- a gang has instances
-pub some_of : (g : Gang) → any (gang_width g) (everyone (gang_width g)) ≡ true
-some_of W4 = refl
-some_of W8 = refl
-some_of W16 = refl
 
 pub everyone_inside : (n p : ℕ) → everyone n p ≡ true → p < n
 everyone_inside n p h = ltb-true p n h
@@ -58,5 +50,5 @@ module _ (w : Setting) (ready : IsSettled w) where
       let to : pc + 1 + length (code (pc + 1)) ≡ pc + length (unmasked_code n pc code) = omega arith in
       stmt_after w ready w.turns c c1 1 (pc + length (unmasked_code n pc code)) spot q _ (step_go w c pc (fill_mask n) c1 ready b.at has.0 refl) (spares_all w n c) (λ r lt ne. let rn : r ≢ n = omega arith in put_other c.masks n all r rn) three
       (go_runs w ready w.turns c1 (pc + 1 + length (code (pc + 1))) (body_spot n) 0 (1 + q) (body all (tick s)) _ (pc + length (unmasked_code n pc code)) spot
-      (runs all (tick s) c1 (pc + 1) (0 + (1 + q)) has.1 (record { at = masked_at w ready c pc n all b.at; mask = put_same c.masks n all; some = some_of w.code.gang; inside = everyone_inside (gang_of w); stands = b.stands; used = omega (arith, b.used) }))
+      (runs all (tick s) c1 (pc + 1) (0 + (1 + q)) has.1 (record { at = masked_at w ready c pc n all b.at; mask = put_same c.masks n all; some = someone w.code.gang; inside = everyone_inside (gang_of w); stands = b.stands; used = omega (arith, b.used) }))
       (λ s1 g u ct rt e ok. plain_ok w ready c1 ok.conf ok.steps (pc + length (unmasked_code n pc code)) spot (1 + q) a s1 ok.comes (at_to w ok.conf _ _ ok.at to) ok.stands (spares_less w n (n + 3) c1 ok.conf (omega arith) ok.spares) (λ r lt. masks_stay c1 _ n _ s1 g ct rt ok r lt) three (put_other c.masks n all spot.on kn ∙ b.mask) (omega (arith, ok.bound))))

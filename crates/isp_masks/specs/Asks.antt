@@ -1,5 +1,5 @@
 -- What the code of statements asks for: what its parts ask for, the result's register where a value is returned, for a
--- varying test a mask and a slot behind it, in a c-form two, and for a loop three masks and slots behind them.
+-- varying test a mask and a slot behind it, in a c-form and with an `else` two, and for a loop three masks and slots behind them.
 use Rattle.std.specs.Prelude.{ℕ, ◌+◌, List, [], ◌∷◌, Option, Some, None}
 use Rattle.isp_base.specs.declared.types.Elem.TheVariants.{Bool as Truth, I32, I64}
 use Rattle.isp_base.specs.declared.types.Rate.{Rate}
@@ -28,6 +28,13 @@ abbrev pub part_slot : Form → Rate → ℕ → ℕ
 part_slot f Uniform n = n
 part_slot Plain Varying n = n + 1
 part_slot Coherent Varying n = n + 1 + 1
+
+-- two parts keep two in each form
+abbrev pub parts_asks : Rate → ℕ → Ask
+parts_asks r n = part_asks Coherent r n
+
+abbrev pub parts_slot : Rate → ℕ → ℕ
+parts_slot r n = part_slot Coherent r n
 
 -- what is returned is wanted at the rate of what the function gives, and stands where results do
 abbrev pub answer_asks : Option Ty → TExpr → ℕ → Ask
@@ -96,6 +103,10 @@ abbrev pub if_asks : Form → TExpr → ℕ → (ℕ → Ask) → Ask
 if_asks f e n parts =
     Both (expr_asks e n) (Both (part_asks f (type_of e).rate n) (parts (part_slot f (type_of e).rate n)))
 
+abbrev pub if_else_asks : TExpr → ℕ → (ℕ → Ask) → Ask
+if_else_asks e n parts =
+    Both (expr_asks e n) (Both (parts_asks (type_of e).rate n) (parts (parts_slot (type_of e).rate n)))
+
 -- a `for` behind its first part
 abbrev pub turns_asks : Option TExpr → Option TSimple → ℕ → (ℕ → Ask) → Ask
 turns_asks e step n body =
@@ -112,7 +123,7 @@ module _ (answer : Option Ty) where
     stmt_asks (t_declare xs sp) n = items_asks n xs
     stmt_asks (t_simple x sp) n = simple_asks x n
     stmt_asks (t_if f g e x sp) n = if_asks f e n (λ i. stmt_asks x i)
-    stmt_asks (t_if_else f g e x y sp) n = if_asks f e n (λ i. Both (stmt_asks x i) (stmt_asks y i))
+    stmt_asks (t_if_else f g e x y sp) n = if_else_asks e n (λ i. Both (stmt_asks x i) (stmt_asks y i))
     stmt_asks (t_while f g e x sp) n = Both (loop_asks n) (Both (expr_asks e (n + 3)) (stmt_asks x (n + 3)))
     stmt_asks (t_do f g x e sp) n = Both (loop_asks n) (Both (stmt_asks x (n + 3)) (expr_asks e (n + 3)))
     stmt_asks (t_for f g first e step i x sp) n =

@@ -8,7 +8,6 @@ pub mod Rounds
 pub mod Asserts
 pub mod Prints
 pub mod Printed
-pub mod Ranged
 pub mod Ranges
 pub mod Statements
 pub mod Named

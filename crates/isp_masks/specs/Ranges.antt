@@ -85,9 +85,9 @@ module _ (l : Layout) where
       convert Uniform (narrow (m + 1)) (wide m) 0 ∷ splat (lane (m + 1)) (narrow (m + 1)) h ∷ compute Varying plain.Add (l.variable Varying i) (lane (m + 1)) (lane n) h ∷ copy Uniform (l.place Uniform) (wide m) 0 ∷ []
 
   -- The ranges from one on, whose bounds begin at slot e and whose places begin at slot m; `set` are the indices of those outside.
-  -- The last one is taken in runs, of as many numbers as there are lanes.
+  -- The last one is taken in runs, of as many numbers as there are lanes. Without a range the body is all.
   abbrev pub ranges_code : ℕ → ℕ → (ℕ → List Instr) → List TRange → List Instr → ℕ → ℕ → ℕ → List Instr
-  ranges_code n h body [] set e m pc = []
+  ranges_code n h body [] set e m pc = body pc
   ranges_code n h body (r ∷ []) set e m pc =
       sweep_code e m n (range_mask h (wide m) (wide (e + 1))) (jump_off h) pc (λ pc1. two pc1 (set ++ last_index r.index m n h) body)
   ranges_code n h body (r ∷ q ∷ rs) set e m pc =

@@ -19,6 +19,11 @@ clear_mask d = instr.Mask (mask_register d) mask.Off
 abbrev pub leave_code : ℕ → ℕ → List Instr
 leave_code m k = unite m m k ∷ clear_mask k ∷ []
 
+-- what is left to do for those of mask n, who jump and are in no other mask
+abbrev pub jumped_code : Jump → ℕ → ℕ → List Instr
+jumped_code Break n co = []
+jumped_code Continue n co = unite co co n ∷ []
+
 abbrev pub jump_code : Jump → ℕ → ℕ → List Instr
 jump_code Break k co = clear_mask k ∷ []
 jump_code Continue k co = leave_code co k

@@ -23,7 +23,7 @@ spot_of x =
 abbrev pub under : ℕ → Spot → Spot
 under k spot = record spot { on = k; slot = spot.slot + 1 }
 
--- a part of a c-form, which keeps two masks
+-- a part where two masks are kept
 abbrev pub widely : ℕ → Spot → Spot
 widely k spot = record spot { on = k; slot = spot.slot + 1 + 1 }
 

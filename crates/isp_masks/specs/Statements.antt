@@ -11,21 +11,24 @@ use Rattle.isp_code.specs.declared.instr.JumpTest.TheVariants as jump
 use Rattle.isp_code.specs.declared.register.Register.{Register}
 use Rattle.isp_tree.specs.declared.stmt.Form.{Form}
 use Rattle.isp_tree.specs.declared.stmt.Form.TheVariants.{Plain, Coherent}
+use Rattle.isp_tree.specs.declared.stmt.Jump.{Jump}
 use Rattle.isp_typed.specs.Typed.{TExpr, type_of, TRange, TSimple, TStmt, t_block, t_declare, t_simple, t_if, t_if_else, t_while, t_do, t_for, t_foreach, t_foreach_active, t_unmasked, t_jump, t_return, t_print, t_assert, TBlock, t_braces, TStmts, t_no_stmts, t_stmt_then}
 use Rattle.isp_lower.specs.Layout.{Layout, register, outside, within}
 use Rattle.isp_lower.specs.Code.{copy, where_so, the_others, jump_off, jump_on, two, guard, choice, found, operand, operand_of, expr_places, expr_code}
 use Rattle.isp_lower.specs.Items.{items_code, items_places}
 use Rattle.isp_lower.specs.Simple.{simple_code, simple_places}
 use Rattle.isp_masks.specs.Asserts.{assert_code, assert_places}
-use Rattle.isp_masks.specs.Exits.{exits_of, nobody_leaves, all_go_on}
+use Rattle.isp_masks.specs.Exits.{exits_of, nobody_leaves, all_go_on, both_go_on, leaving_of}
 use Rattle.isp_masks.specs.Fors.{first_code, step_code, first_places, test_places, step_places}
 use Rattle.isp_masks.specs.Loops.{copy_mask, is_wide, jump_all, turn_code, step_back_code, while_code, for_code, endless_code, do_code}
 use Rattle.isp_masks.specs.Prints.{print_code, print_places, print_texts}
 use Rattle.isp_masks.specs.Ranges.{foreach_code, ranges_places, runs_slot}
 use Rattle.isp_masks.specs.Rounds.{unmasked_code, active_code}
-use Rattle.isp_masks.specs.Sets.{unite, leave_code, jump_code}
+use Rattle.isp_masks.specs.Sets.{unite, leave_code, jump_code, jumped_code}
 use Rattle.isp_masks.specs.Spots.{Numbers, Spot, body_spot, first_spot, past, under, widely}
 use Rattle.isp_masks.specs.declared.exits.Exits.{Exits}
+use Rattle.isp_masks.specs.declared.exits.Leaving.{Leaving}
+use Rattle.isp_masks.specs.declared.exits.Leaving.TheVariants.{Never, Always, Maybe}
 
 -- ---- one statement after the other
 
@@ -44,25 +47,46 @@ abbrev pub parted_code : ℕ → ℕ → ℕ → ℕ → (ℕ → List Instr) �
 parted_code x pc k n first rest =
     where_so n x k ∷ the_others k k n ∷ two (pc + 1 + 1) (guard (jump_off n) (pc + 1 + 1) first) (λ pc1. rest pc1 ++ unite k n k ∷ [])
 
--- A c-form: mask n gets those of mask k for which the test is true, mask n + 1 the others, and the first part runs for mask k,
--- which is then mask n. Where mask n has all lanes, nobody is left: a jump leads past the rest. Mask k ends as above.
+-- Nobody leaves the part: mask n gets those for which the test is true, and mask k stays as it is.
+abbrev pub kept_code : ℕ → ℕ → ℕ → ℕ → (ℕ → List Instr) → List Instr
+kept_code x pc k n first = where_so n x k ∷ guard (jump_off n) (pc + 1) first
+
+-- nor either of two: mask n + 1 gets the others
+abbrev pub both_kept_code : ℕ → ℕ → ℕ → ℕ → (ℕ → List Instr) → (ℕ → List Instr) → List Instr
+both_kept_code x pc k n first second =
+    where_so n x k ∷ the_others (n + 1) k n ∷ two (pc + 1 + 1) (guard (jump_off n) (pc + 1 + 1) first) (λ pc1. guard (jump_off (n + 1)) pc1 second)
+
+-- The part is one jump: those for which the test is true leave mask k.
+abbrev pub left_code : Jump → ℕ → ℕ → ℕ → ℕ → List Instr
+left_code j x k co n = where_so n x k ∷ the_others k k n ∷ jumped_code j n co
+
+-- A c-form: mask n gets those of mask k for which the test is true. Where it has all lanes, these are all of mask k, and a jump
+-- leads to the first part. Else mask n + 1 gets the others, and mask k those of mask n. The first part runs for mask k. Behind it
+-- nobody is left where mask n has all lanes: a jump leads past the rest. Mask k ends as above.
 abbrev pub wide_code : ℕ → ℕ → ℕ → ℕ → (ℕ → List Instr) → (ℕ → List Instr) → List Instr
 wide_code x pc k n first rest =
-    where_so n x k ∷ the_others (n + 1) k n ∷ copy_mask k n ∷ two (pc + 1 + 1 + 1) (guard (jump_off k) (pc + 1 + 1 + 1) first) (λ pc1. guard (jump_all n) pc1 (λ pc2. rest pc2 ++ unite k k (n + 1) ∷ []))
+    where_so n x k ∷ jump_all n (pc + 1 + 1 + 1 + 1 + 1) ∷ the_others (n + 1) k n ∷ copy_mask k n ∷ two (pc + 1 + 1 + 1 + 1) (guard (jump_off k) (pc + 1 + 1 + 1 + 1) first) (λ pc1. guard (jump_all n) pc1 (λ pc2. rest pc2 ++ unite k k (n + 1) ∷ []))
 
-abbrev pub if_code : Form → Rate → ℕ → ℕ → Spot → (ℕ → Spot → List Instr) → List Instr
-if_code f Uniform x pc spot first = guard (jump_on jump.False x) pc (λ pc1. first pc1 spot)
-if_code Plain Varying x pc spot first =
-    parted_code x pc spot.on spot.slot (λ pc1. first pc1 (under spot.slot spot)) (λ pc1. [])
-if_code Coherent Varying x pc spot first =
+-- told how the part is left
+abbrev pub if_code : Leaving → Form → Rate → ℕ → ℕ → Spot → (ℕ → Spot → List Instr) → List Instr
+if_code v f Uniform x pc spot first = guard (jump_on jump.False x) pc (λ pc1. first pc1 spot)
+if_code v Coherent Varying x pc spot first =
     wide_code x pc spot.on spot.slot (λ pc1. first pc1 (widely spot.on spot)) (λ pc1. [])
+if_code Never Plain Varying x pc spot first =
+    kept_code x pc spot.on spot.slot (λ pc1. first pc1 (under spot.slot spot))
+if_code (Always j) Plain Varying x pc spot first = left_code j x spot.on spot.continued spot.slot
+if_code Maybe Plain Varying x pc spot first =
+    parted_code x pc spot.on spot.slot (λ pc1. first pc1 (under spot.slot spot)) (λ pc1. [])
 
-abbrev pub if_else_code : Form → Rate → ℕ → ℕ → Spot → (ℕ → Spot → List Instr) → (ℕ → Spot → List Instr) → List Instr
-if_else_code f Uniform x pc spot first second = choice (jump_on jump.False x) pc (λ pc1. first pc1 spot) (λ pc1. second pc1 spot)
-if_else_code Plain Varying x pc spot first second =
-    parted_code x pc spot.on spot.slot (λ pc1. first pc1 (under spot.slot spot)) (λ pc1. guard (jump_off spot.on) pc1 (λ pc2. second pc2 (under spot.on spot)))
-if_else_code Coherent Varying x pc spot first second =
+-- told whether nobody leaves the parts
+abbrev pub if_else_code : Bool → Form → Rate → ℕ → ℕ → Spot → (ℕ → Spot → List Instr) → (ℕ → Spot → List Instr) → List Instr
+if_else_code b f Uniform x pc spot first second = choice (jump_on jump.False x) pc (λ pc1. first pc1 spot) (λ pc1. second pc1 spot)
+if_else_code b Coherent Varying x pc spot first second =
     wide_code x pc spot.on spot.slot (λ pc1. first pc1 (widely spot.on spot)) (λ pc1. guard (jump_off (spot.slot + 1)) pc1 (λ pc2. second pc2 (widely (spot.slot + 1) spot)))
+if_else_code true Plain Varying x pc spot first second =
+    both_kept_code x pc spot.on spot.slot (λ pc1. first pc1 (widely spot.slot spot)) (λ pc1. second pc1 (widely (spot.slot + 1) spot))
+if_else_code false Plain Varying x pc spot first second =
+    parted_code x pc spot.on spot.slot (λ pc1. first pc1 (widely spot.slot spot)) (λ pc1. guard (jump_off spot.on) pc1 (λ pc2. second pc2 (widely spot.on spot)))
 
 -- ---- the texts that code names, in order
 
@@ -151,10 +175,10 @@ abbrev mutual
   stmt_code l answer (t_simple x sp) pc z spot = simple_code l x pc z.place spot.on spot.slot
   stmt_code l answer (t_if f g e x sp) pc z spot =
       let z1 = past (expr_places l e) z in
-      two pc (expr_code l e pc z.place spot.on spot.slot) (λ pc1. if_code f (type_of e).rate (found l e spot.slot) pc1 spot (λ pc2 part. stmt_code l answer x pc2 z1 part))
+      two pc (expr_code l e pc z.place spot.on spot.slot) (λ pc1. if_code (leaving_of x) f (type_of e).rate (found l e spot.slot) pc1 spot (λ pc2 part. stmt_code l answer x pc2 z1 part))
   stmt_code l answer (t_if_else f g e x y sp) pc z spot =
       let z1 = past (expr_places l e) z in
-      two pc (expr_code l e pc z.place spot.on spot.slot) (λ pc1. if_else_code f (type_of e).rate (found l e spot.slot) pc1 spot (λ pc2 part. stmt_code l answer x pc2 z1 part) (λ pc2 part. stmt_code l answer y pc2 (behind l x z1) part))
+      two pc (expr_code l e pc z.place spot.on spot.slot) (λ pc1. if_else_code (both_go_on x y) f (type_of e).rate (found l e spot.slot) pc1 spot (λ pc2 part. stmt_code l answer x pc2 z1 part) (λ pc2 part. stmt_code l answer y pc2 (behind l x z1) part))
   stmt_code l answer (t_while f g e x sp) pc z spot =
       let n = spot.slot in
       while_code (is_wide f (type_of e).rate) (exits_of x) (type_of e).rate (found l e (n + 3)) pc spot (λ pc1. expr_code l e pc1 z.place n (n + 3)) (λ pc1. stmt_code l answer x pc1 (past (expr_places l e) z) (body_spot n))

@@ -9,7 +9,7 @@ use Rattle.isp_base.specs.declared.types.Span.{Span}
 use Rattle.isp_code.specs.declared.instr.Instr.{Instr}
 use Rattle.isp_tree.specs.declared.stmt.Form.{Form}
 use Rattle.isp_typed.specs.Typed.{TExpr, type_of, TSimple, TFirst, TStmt, TBlock, TRange}
-use Rattle.isp_lower.specs.Code.{expr_code, expr_places, found, guard, jump_off, two, compare, compute, convert, copy, splat}
+use Rattle.isp_lower.specs.Code.{expr_code, expr_places, found, guard, jump_off, two, compare, compute, convert, copy, splat, the_others, where_so}
 use Rattle.isp_lower.specs.Emitted.{layout, texts_of}
 use Rattle.isp_lower.specs.declared.types.Body.{Body}
 use Rattle.isp_lower.specs.declared.types.Scope.{Scope}
@@ -21,14 +21,15 @@ use Rattle.isp_lower.specs.Rows.{Variable, Place}
 use Rattle.isp_lower.specs.declared.numbered.Slot.{Slot}
 use Rattle.isp_masks.specs.Asks.{bounds_asks, loop_asks, measures_asks, places_asks}
 use Rattle.isp_masks.specs.Asserts.{assert_code, assert_places}
-use Rattle.isp_masks.specs.Exits.{exits_of, nobody_leaves}
+use Rattle.isp_masks.specs.Exits.{exits_of, nobody_leaves, both_go_on, leaving_of}
 use Rattle.isp_masks.specs.Fors.{first_code, first_places, step_code, step_places, test_places}
-use Rattle.isp_masks.specs.Loops.{again_code, back_code, do_code, is_wide, jump_all, live_code, sift_code, step_back_code, turn_code, while_code}
+use Rattle.isp_masks.specs.Loops.{again_code, back_code, copy_mask, do_code, is_wide, jump_all, live_code, sift_code, step_back_code, turn_code, while_code}
 use Rattle.isp_masks.specs.Ranges.{foreach_code, last_index, narrow, outer_index, places_slot, range_mask, ranges_code, ranges_places, runs_slot, sweep_code, test, wide}
 use Rattle.isp_masks.specs.Rounds.{active_code, unmasked_code}
 use Rattle.isp_masks.specs.Sets.{unite}
-use Rattle.isp_masks.specs.Spots.{Numbers, Spot as Where, body_spot, next_of, past, spot_of}
+use Rattle.isp_masks.specs.Spots.{Numbers, Spot as Where, body_spot, next_of, past, spot_of, widely}
 use Rattle.isp_masks.specs.Statements.{answer_code, behind, block_code, block_places, block_texts, body_code, function_code, if_code, if_else_code, stepped_code, stmt_code, stmt_places, stmt_texts, turns_code, body_layout}
+use Rattle.isp_masks.specs.declared.exits.Leaving.{Leaving}
 use Rattle.isp_masks.specs.declared.looping.Loop.{Loop}
 use Rattle.isp_masks.specs.declared.looping.Test.{Test}
 use Rattle.isp_masks.specs.declared.masks.Spot.{Spot}
@@ -81,15 +82,22 @@ abbrev pub guarded_at : Scope → TStmt → Spot → ℕ → ℕ → Piece
 guarded_at on x spot k n =
     record { code = λ pc z. guard (jump_off k) pc (λ pc1. part_code on x z pc1 (record (spot_of spot) { on = k; slot = n })); places = stmt_places (layout on) x; texts = stmt_texts x }
 
--- one part behind a test in register c, two of them, and with the test
-abbrev pub part_at : Scope → Form → Rate → ℕ → TStmt → Spot → Piece
-part_at on f r c x spot =
-    record { code = λ pc z. if_code f r c pc (spot_of spot) (part_code on x z); places = stmt_places (layout on) x; texts = stmt_texts x }
+-- One part behind a test in register c, told how it is left; two of them, told whether nobody leaves them; and with the test.
+abbrev pub part_at : Scope → Leaving → Form → Rate → ℕ → TStmt → Spot → Piece
+part_at on v f r c x spot =
+    record { code = λ pc z. if_code v f r c pc (spot_of spot) (part_code on x z); places = stmt_places (layout on) x; texts = stmt_texts x }
 
-abbrev pub parts_at : Scope → Form → Rate → ℕ → TStmt → TStmt → Spot → Piece
-parts_at on f r c x y spot =
+abbrev pub parts_at : Scope → Bool → Form → Rate → ℕ → TStmt → TStmt → Spot → Piece
+parts_at on b f r c x y spot =
     let l = layout on in
-    record { code = λ pc z. if_else_code f r c pc (spot_of spot) (part_code on x z) (part_code on y (behind l x z)); places = stmt_places l x ++ stmt_places l y; texts = stmt_texts x ++ stmt_texts y }
+    record { code = λ pc z. if_else_code b f r c pc (spot_of spot) (part_code on x z) (part_code on y (behind l x z)); places = stmt_places l x ++ stmt_places l y; texts = stmt_texts x ++ stmt_texts y }
+
+-- the test of a c-form in register c, and its first part
+abbrev pub first_widely_at : Scope → ℕ → TStmt → Spot → Piece
+first_widely_at on c x spot =
+    let k = spot.masks.on.number in
+    let n = spot.slot.number in
+    record { code = λ pc z. where_so n c k ∷ jump_all n (pc + 1 + 1 + 1 + 1 + 1) ∷ the_others (n + 1) k n ∷ copy_mask k n ∷ guard (jump_off k) (pc + 1 + 1 + 1 + 1) (λ pc1. part_code on x z pc1 (widely k (spot_of spot))); places = stmt_places (layout on) x; texts = stmt_texts x }
 
 -- the second part of a c-form, and those that went on from it come back: jumped past where a mask has all lanes
 abbrev pub others_at : Scope → TStmt → Spot → ℕ → ℕ → ℕ → Piece
@@ -101,13 +109,13 @@ others_at on y spot full k n =
 abbrev pub if_at : Scope → Form → TExpr → TStmt → Spot → Piece
 if_at on f e x spot =
     let l = layout on in
-    let part = part_at on f (type_of e).rate (found l e spot.slot.number) x spot in
+    let part = part_at on (leaving_of x) f (type_of e).rate (found l e spot.slot.number) x spot in
     record { code = λ pc z. two pc (expr_code l e pc z.place spot.masks.on.number spot.slot.number) (λ pc1. part.code pc1 (past (expr_places l e) z)); places = expr_places l e ++ part.places; texts = part.texts }
 
 abbrev pub if_else_at : Scope → Form → TExpr → TStmt → TStmt → Spot → Piece
 if_else_at on f e x y spot =
     let l = layout on in
-    let parts = parts_at on f (type_of e).rate (found l e spot.slot.number) x y spot in
+    let parts = parts_at on (both_go_on x y) f (type_of e).rate (found l e spot.slot.number) x y spot in
     record { code = λ pc z. two pc (expr_code l e pc z.place spot.masks.on.number spot.slot.number) (λ pc1. parts.code pc1 (past (expr_places l e) z)); places = expr_places l e ++ parts.places; texts = parts.texts }
 
 -- ---- loops

@@ -1,23 +1,25 @@
 //! The code of `if`: by a uniform test a jump takes one part, by a varying one each part runs for its own lanes. In a c-form the
 //! first part runs for the mask of the whole, and where all lanes pass the test nothing is joined behind it.
-ghost use Rattle.std.specs.Prelude.{◌<◌, ◌+◌, OnOk};
+ghost use Rattle.std.specs.Prelude.{◌<◌, ◌+◌, true, false, OnOk};
 ghost use Rattle.isp_base.specs.declared.types.Rate.TheVariants.{Uniform, Varying};
 ghost use Rattle.isp_tree.specs.declared.stmt.Form.TheVariants.{Plain, Coherent};
+ghost use Rattle.isp_masks.specs.declared.exits.Leaving.TheVariants.{Never, Maybe};
 ghost use Rattle.isp_typed.specs.Typed.{type_of};
 ghost use Rattle.isp_typed.specs.Views.{expr_of, stmt_of};
 ghost use Rattle.isp_lower.specs.Asks.{expr_asks};
 ghost use Rattle.isp_lower.specs.Emitted.{Present};
-ghost use Rattle.isp_masks.specs.Asks.{part_asks, part_slot, stmt_asks};
-ghost use Rattle.isp_masks.specs.Ranged.{StmtRanged};
-ghost use Rattle.isp_masks.specs.Written.{Writes, guarded_at, if_at, if_else_at, others_at, part_at, parts_at};
+ghost use Rattle.isp_masks.specs.Asks.{part_asks, part_slot, parts_asks, parts_slot, stmt_asks};
+ghost use Rattle.isp_masks.specs.Exits.{both_go_on, leaving_of, only_jump};
+ghost use Rattle.isp_masks.specs.Written.{Writes, first_widely_at, guarded_at, if_at, if_else_at, others_at, part_at, parts_at};
 
+use crate::exits::{Leaving, both_go_on, leaving_of};
 use crate::looping::{join_where, join_widely};
 use crate::masks::{Masks, Spot};
-use crate::sets::{part, part_beside, unite};
+use crate::sets::{leave_by, part, part_aside, set_apart_unless_all, unite};
 use crate::statement::stmt;
 use isp_base::Rate;
 use isp_code::{Instr, JumpTest};
-use isp_lower::{Body, MaskNumber, RegisterNumber, Scope, Site, expr, mask, scalar};
+use isp_lower::{Body, MaskNumber, RegisterNumber, Scope, Site, expr, mask, scalar, where_so};
 use isp_tree::Form;
 use isp_typed::{TypedExpr, TypedStmt};
 use std::alloc::AllocError;
@@ -49,7 +51,6 @@ pub(crate) fn if_alone(
     requires test { Present on.now (expr_asks (expr_of by.test.now) spot.slot.number) }
     requires part { Present on.now (part_asks by.form (type_of (expr_of by.test.now)).rate spot.slot.number) }
     requires then { Present on.now (stmt_asks on.now.answer (stmt_of then.now) (part_slot by.form (type_of (expr_of by.test.now)).rate spot.slot.number)) }
-    requires ranged { StmtRanged (stmt_of then.now) }
     ensures { OnOk result (Writes b.old b.new (if_at on.now by.entry.form (expr_of by.entry.test.now) (stmt_of then.now) spot)) }
 {
     let tested = expr(b, on, by.test, spot.site())?;
@@ -73,8 +74,7 @@ fn part_by(
 ) -> Result<(), AllocError>
     requires part { Present on.now (part_asks by.form by.rate spot.slot.number) }
     requires then { Present on.now (stmt_asks on.now.answer (stmt_of then.now) (part_slot by.form by.rate spot.slot.number)) }
-    requires ranged { StmtRanged (stmt_of then.now) }
-    ensures { OnOk result (Writes b.old b.new (part_at on.now by.form by.rate by.register.number (stmt_of then.now) spot)) }
+    ensures { OnOk result (Writes b.old b.new (part_at on.now (leaving_of (stmt_of then.now)) by.form by.rate by.register.number (stmt_of then.now) spot)) }
 {
     match (by.rate, by.form) {
         (Rate::Uniform, _) => part_by_jump(b, on, by.register, then, spot),
@@ -93,8 +93,7 @@ fn part_by_jump(
     spot: Spot,
 ) -> Result<(), AllocError>
     requires there { Present on.now (stmt_asks on.now.answer (stmt_of then.now) spot.slot.number) }
-    requires ranged { StmtRanged (stmt_of then.now) }
-    ensures { OnOk result (Writes b.old b.new (part_at on.now Plain Uniform tested.number (stmt_of then.now) spot)) }
+    ensures { OnOk result (Writes b.old b.new (part_at on.now Maybe Plain Uniform tested.number (stmt_of then.now) spot)) }
 {
     let at = b.code.len();
     b.push(Instr::JumpIf {
@@ -118,8 +117,50 @@ fn part_by_mask(
 ) -> Result<(), AllocError>
     requires slots { spot.slot.number + 1 < 4294967296 }
     requires then { Present on.now (stmt_asks on.now.answer (stmt_of then.now) (spot.slot.number + 1)) }
-    requires ranged { StmtRanged (stmt_of then.now) }
-    ensures { OnOk result (Writes b.old b.new (part_at on.now Plain Varying tested.number (stmt_of then.now) spot)) }
+    ensures { OnOk result (Writes b.old b.new (part_at on.now (leaving_of (stmt_of then.now)) Plain Varying tested.number (stmt_of then.now) spot)) }
+{
+    match leaving_of(then) {
+        Leaving::Never => part_kept(b, on, tested, then, spot),
+        Leaving::Always(jump) => leave_by(b, jump, tested, spot.masks, spot.slot.mask()),
+        Leaving::Maybe => part_joined(b, on, tested, then, spot),
+    }
+}
+
+/// Nobody leaves the part, so nobody has to come back.
+#[cycle(stmt)]
+fn part_kept(
+    b: &mut Body,
+    on: &Scope,
+    tested: RegisterNumber,
+    then: &TypedStmt,
+    spot: Spot,
+) -> Result<(), AllocError>
+    requires slots { spot.slot.number + 1 < 4294967296 }
+    requires then { Present on.now (stmt_asks on.now.answer (stmt_of then.now) (spot.slot.number + 1)) }
+    ensures { OnOk result (Writes b.old b.new (part_at on.now Never Plain Varying tested.number (stmt_of then.now) spot)) }
+{
+    let passed = spot.slot.mask();
+    b.push(where_so(passed, tested, spot.masks.on))?;
+    let site = Site {
+        mask: passed,
+        slot: spot.slot.next(),
+    };
+    under_mask(b, on, then, spot, site)?;
+    Ok(())
+}
+
+/// Those that go on from the part come back.
+#[cycle(stmt)]
+fn part_joined(
+    b: &mut Body,
+    on: &Scope,
+    tested: RegisterNumber,
+    then: &TypedStmt,
+    spot: Spot,
+) -> Result<(), AllocError>
+    requires slots { spot.slot.number + 1 < 4294967296 }
+    requires then { Present on.now (stmt_asks on.now.answer (stmt_of then.now) (spot.slot.number + 1)) }
+    ensures { OnOk result (Writes b.old b.new (part_at on.now Maybe Plain Varying tested.number (stmt_of then.now) spot)) }
 {
     part(b, spot.slot.mask(), tested, spot.masks.on)?;
     let site = Site {
@@ -142,18 +183,39 @@ fn part_widely(
 ) -> Result<(), AllocError>
     requires slots { spot.slot.number + 1 + 1 < 4294967296 }
     requires then { Present on.now (stmt_asks on.now.answer (stmt_of then.now) (spot.slot.number + 1 + 1)) }
-    requires ranged { StmtRanged (stmt_of then.now) }
-    ensures { OnOk result (Writes b.old b.new (part_at on.now Coherent Varying tested.number (stmt_of then.now) spot)) }
+    ensures { OnOk result (Writes b.old b.new (part_at on.now Maybe Coherent Varying tested.number (stmt_of then.now) spot)) }
 {
+    first_widely(b, on, tested, then, spot)?;
     let passed = spot.slot.mask();
     let others = spot.slot.next().mask();
-    part_beside(b, passed, others, tested, spot.masks.on)?;
-    let site = Site {
-        mask: spot.masks.on,
-        slot: spot.slot.next().next(),
-    };
-    under_mask(b, on, then, spot, site)?;
     join_widely(b, passed, true, spot.masks.on, others)?;
+    Ok(())
+}
+
+/// The test of a c-form, and its first part, for the mask of the whole. Where all lanes pass the test a jump leads to the part.
+/// Else the mask keeps those that pass it, another gets the others, and the part is jumped over where nobody passes.
+#[cycle(stmt)]
+fn first_widely(
+    b: &mut Body,
+    on: &Scope,
+    tested: RegisterNumber,
+    then: &TypedStmt,
+    spot: Spot,
+) -> Result<(), AllocError>
+    requires slots { spot.slot.number + 1 + 1 < 4294967296 }
+    requires then { Present on.now (stmt_asks on.now.answer (stmt_of then.now) (spot.slot.number + 1 + 1)) }
+    ensures { OnOk result (Writes b.old b.new (first_widely_at on.now tested.number (stmt_of then.now) spot)) }
+{
+    let k = spot.masks.on;
+    let passed = spot.slot.mask();
+    let beside = spot.slot.next();
+    let others = beside.mask();
+    let slot = beside.next();
+    b.push(where_so(passed, tested, k))?;
+    let at = set_apart_unless_all(b, passed, others, k)?;
+    let masks = spot.masks;
+    stmt(b, on, then, Spot { masks, slot })?;
+    b.land(at, JumpTest::Off, mask(k));
     Ok(())
 }
 
@@ -167,7 +229,6 @@ fn under_mask(
     site: Site,
 ) -> Result<(), AllocError>
     requires there { Present on.now (stmt_asks on.now.answer (stmt_of x.now) site.slot.number) }
-    requires ranged { StmtRanged (stmt_of x.now) }
     ensures { OnOk result (Writes b.old b.new (guarded_at on.now (stmt_of x.now) spot site.mask.number site.slot.number)) }
 {
     let masks = Masks {
@@ -198,11 +259,9 @@ pub(crate) fn if_else(
     spot: Spot,
 ) -> Result<(), AllocError>
     requires test { Present on.now (expr_asks (expr_of by.test.now) spot.slot.number) }
-    requires part { Present on.now (part_asks by.form (type_of (expr_of by.test.now)).rate spot.slot.number) }
-    requires then { Present on.now (stmt_asks on.now.answer (stmt_of then.now) (part_slot by.form (type_of (expr_of by.test.now)).rate spot.slot.number)) }
-    requires otherwise { Present on.now (stmt_asks on.now.answer (stmt_of otherwise.now) (part_slot by.form (type_of (expr_of by.test.now)).rate spot.slot.number)) }
-    requires then_ranged { StmtRanged (stmt_of then.now) }
-    requires otherwise_ranged { StmtRanged (stmt_of otherwise.now) }
+    requires part { Present on.now (parts_asks (type_of (expr_of by.test.now)).rate spot.slot.number) }
+    requires then { Present on.now (stmt_asks on.now.answer (stmt_of then.now) (parts_slot (type_of (expr_of by.test.now)).rate spot.slot.number)) }
+    requires otherwise { Present on.now (stmt_asks on.now.answer (stmt_of otherwise.now) (parts_slot (type_of (expr_of by.test.now)).rate spot.slot.number)) }
     ensures { OnOk result (Writes b.old b.new (if_else_at on.now by.entry.form (expr_of by.entry.test.now) (stmt_of then.now) (stmt_of otherwise.now) spot)) }
 {
     let tested = expr(b, on, by.test, spot.site())?;
@@ -225,12 +284,10 @@ fn parts_by(
     otherwise: &TypedStmt,
     spot: Spot,
 ) -> Result<(), AllocError>
-    requires part { Present on.now (part_asks by.form by.rate spot.slot.number) }
-    requires then { Present on.now (stmt_asks on.now.answer (stmt_of then.now) (part_slot by.form by.rate spot.slot.number)) }
-    requires otherwise { Present on.now (stmt_asks on.now.answer (stmt_of otherwise.now) (part_slot by.form by.rate spot.slot.number)) }
-    requires then_ranged { StmtRanged (stmt_of then.now) }
-    requires otherwise_ranged { StmtRanged (stmt_of otherwise.now) }
-    ensures { OnOk result (Writes b.old b.new (parts_at on.now by.form by.rate by.register.number (stmt_of then.now) (stmt_of otherwise.now) spot)) }
+    requires part { Present on.now (parts_asks by.rate spot.slot.number) }
+    requires then { Present on.now (stmt_asks on.now.answer (stmt_of then.now) (parts_slot by.rate spot.slot.number)) }
+    requires otherwise { Present on.now (stmt_asks on.now.answer (stmt_of otherwise.now) (parts_slot by.rate spot.slot.number)) }
+    ensures { OnOk result (Writes b.old b.new (parts_at on.now (both_go_on (stmt_of then.now) (stmt_of otherwise.now)) by.form by.rate by.register.number (stmt_of then.now) (stmt_of otherwise.now) spot)) }
 {
     match (by.rate, by.form) {
         (Rate::Uniform, _) => one_of(b, on, by.register, then, otherwise, spot),
@@ -251,9 +308,7 @@ fn one_of(
 ) -> Result<(), AllocError>
     requires then { Present on.now (stmt_asks on.now.answer (stmt_of then.now) spot.slot.number) }
     requires otherwise { Present on.now (stmt_asks on.now.answer (stmt_of otherwise.now) spot.slot.number) }
-    requires then_ranged { StmtRanged (stmt_of then.now) }
-    requires otherwise_ranged { StmtRanged (stmt_of otherwise.now) }
-    ensures { OnOk result (Writes b.old b.new (parts_at on.now Plain Uniform tested.number (stmt_of then.now) (stmt_of otherwise.now) spot)) }
+    ensures { OnOk result (Writes b.old b.new (parts_at on.now false Plain Uniform tested.number (stmt_of then.now) (stmt_of otherwise.now) spot)) }
 {
     let at = b.code.len();
     b.push(Instr::JumpIf {
@@ -280,21 +335,68 @@ fn parted(
     otherwise: &TypedStmt,
     spot: Spot,
 ) -> Result<(), AllocError>
-    requires slots { spot.slot.number + 1 < 4294967296 }
-    requires then { Present on.now (stmt_asks on.now.answer (stmt_of then.now) (spot.slot.number + 1)) }
-    requires otherwise { Present on.now (stmt_asks on.now.answer (stmt_of otherwise.now) (spot.slot.number + 1)) }
-    requires then_ranged { StmtRanged (stmt_of then.now) }
-    requires otherwise_ranged { StmtRanged (stmt_of otherwise.now) }
-    ensures { OnOk result (Writes b.old b.new (parts_at on.now Plain Varying tested.number (stmt_of then.now) (stmt_of otherwise.now) spot)) }
+    requires slots { spot.slot.number + 1 + 1 < 4294967296 }
+    requires then { Present on.now (stmt_asks on.now.answer (stmt_of then.now) (spot.slot.number + 1 + 1)) }
+    requires otherwise { Present on.now (stmt_asks on.now.answer (stmt_of otherwise.now) (spot.slot.number + 1 + 1)) }
+    ensures { OnOk result (Writes b.old b.new (parts_at on.now (both_go_on (stmt_of then.now) (stmt_of otherwise.now)) Plain Varying tested.number (stmt_of then.now) (stmt_of otherwise.now) spot)) }
+{
+    if both_go_on(then, otherwise) {
+        both_kept(b, on, tested, then, otherwise, spot)
+    } else {
+        both_joined(b, on, tested, then, otherwise, spot)
+    }
+}
+
+/// Nobody leaves the parts, so nobody has to come back.
+#[cycle(stmt)]
+fn both_kept(
+    b: &mut Body,
+    on: &Scope,
+    tested: RegisterNumber,
+    then: &TypedStmt,
+    otherwise: &TypedStmt,
+    spot: Spot,
+) -> Result<(), AllocError>
+    requires slots { spot.slot.number + 1 + 1 < 4294967296 }
+    requires then { Present on.now (stmt_asks on.now.answer (stmt_of then.now) (spot.slot.number + 1 + 1)) }
+    requires otherwise { Present on.now (stmt_asks on.now.answer (stmt_of otherwise.now) (spot.slot.number + 1 + 1)) }
+    ensures { OnOk result (Writes b.old b.new (parts_at on.now true Plain Varying tested.number (stmt_of then.now) (stmt_of otherwise.now) spot)) }
+{
+    let passed = spot.slot.mask();
+    let beside = spot.slot.next().mask();
+    let slot = spot.slot.next().next();
+    part_aside(b, passed, beside, tested, spot.masks.on)?;
+    let first = Site { mask: passed, slot };
+    let other = Site { mask: beside, slot };
+    under_mask(b, on, then, spot, first)?;
+    under_mask(b, on, otherwise, spot, other)?;
+    Ok(())
+}
+
+/// Those that go on from the first part come back behind the second.
+#[cycle(stmt)]
+fn both_joined(
+    b: &mut Body,
+    on: &Scope,
+    tested: RegisterNumber,
+    then: &TypedStmt,
+    otherwise: &TypedStmt,
+    spot: Spot,
+) -> Result<(), AllocError>
+    requires slots { spot.slot.number + 1 + 1 < 4294967296 }
+    requires then { Present on.now (stmt_asks on.now.answer (stmt_of then.now) (spot.slot.number + 1 + 1)) }
+    requires otherwise { Present on.now (stmt_asks on.now.answer (stmt_of otherwise.now) (spot.slot.number + 1 + 1)) }
+    ensures { OnOk result (Writes b.old b.new (parts_at on.now false Plain Varying tested.number (stmt_of then.now) (stmt_of otherwise.now) spot)) }
 {
     part(b, spot.slot.mask(), tested, spot.masks.on)?;
+    let slot = spot.slot.next().next();
     let first = Site {
         mask: spot.slot.mask(),
-        slot: spot.slot.next(),
+        slot,
     };
     let second = Site {
         mask: spot.masks.on,
-        slot: spot.slot.next(),
+        slot,
     };
     under_mask(b, on, then, spot, first)?;
     under_mask(b, on, otherwise, spot, second)?;
@@ -315,20 +417,14 @@ fn parted_widely(
     requires slots { spot.slot.number + 1 + 1 < 4294967296 }
     requires then { Present on.now (stmt_asks on.now.answer (stmt_of then.now) (spot.slot.number + 1 + 1)) }
     requires otherwise { Present on.now (stmt_asks on.now.answer (stmt_of otherwise.now) (spot.slot.number + 1 + 1)) }
-    requires then_ranged { StmtRanged (stmt_of then.now) }
-    requires otherwise_ranged { StmtRanged (stmt_of otherwise.now) }
-    ensures { OnOk result (Writes b.old b.new (parts_at on.now Coherent Varying tested.number (stmt_of then.now) (stmt_of otherwise.now) spot)) }
+    ensures { OnOk result (Writes b.old b.new (parts_at on.now false Coherent Varying tested.number (stmt_of then.now) (stmt_of otherwise.now) spot)) }
 {
+    first_widely(b, on, tested, then, spot)?;
     let passed = spot.slot.mask();
-    let beside = spot.slot.next().mask();
-    let slot = spot.slot.next().next();
-    let first = Site {
-        mask: spot.masks.on,
-        slot,
+    let second = Site {
+        mask: spot.slot.next().mask(),
+        slot: spot.slot.next().next(),
     };
-    let second = Site { mask: beside, slot };
-    part_beside(b, passed, beside, tested, spot.masks.on)?;
-    under_mask(b, on, then, spot, first)?;
     others(b, on, otherwise, spot, passed, second)?;
     Ok(())
 }
@@ -344,7 +440,6 @@ fn others(
     site: Site,
 ) -> Result<(), AllocError>
     requires there { Present on.now (stmt_asks on.now.answer (stmt_of x.now) site.slot.number) }
-    requires ranged { StmtRanged (stmt_of x.now) }
     ensures { OnOk result (Writes b.old b.new (others_at on.now (stmt_of x.now) spot passed.number site.mask.number site.slot.number)) }
 {
     let at = b.code.len();

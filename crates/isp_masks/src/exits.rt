@@ -1,7 +1,7 @@
 //! Who leaves a statement.
 ghost use Rattle.std.specs.Prelude.{◌≡◌};
 ghost use Rattle.isp_typed.specs.Views.{block_of, stmt_of};
-ghost use Rattle.isp_masks.specs.Exits.{all_go_on, block_exits, either_leaves, exits_of, jump_exits, nobody_leaves, none_leave, only_returns};
+ghost use Rattle.isp_masks.specs.Exits.{all_go_on, block_exits, block_jump, both_go_on, either_leaves, exits_of, jump_exits, leaving_of, nobody_leaves, none_leave, only_jump, only_returns};
 
 use isp_tree::Jump;
 use isp_typed::{TypedBlock, TypedStmt};
@@ -12,6 +12,17 @@ pub(crate) struct Exits {
     pub(crate) breaks: bool,
     pub(crate) continues: bool,
     pub(crate) returns: bool,
+}
+
+/// How instances leave a part.
+#[derive(Clone, Copy)]
+pub(crate) enum Leaving {
+    /// Nobody leaves it.
+    Never,
+    /// All leave it, since it is one jump.
+    Always(Jump),
+    /// Some may leave it.
+    Maybe,
 }
 
 impl Exits {
@@ -119,4 +130,57 @@ pub(crate) fn all_go_on(x: &TypedStmt) -> bool
     ensures { result ≡ all_go_on (stmt_of x.now) }
 {
     exits_of(x).is_none()
+}
+
+/// Whether nobody leaves either of two statements.
+pub(crate) fn both_go_on(x: &TypedStmt, y: &TypedStmt) -> bool
+    ensures { result ≡ both_go_on (stmt_of x.now) (stmt_of y.now) }
+{
+    all_go_on(x) && all_go_on(y)
+}
+
+/// The jump that a statement is, in braces or not.
+#[cycle(only_jump)]
+fn only_jump(x: &TypedStmt) -> Option<Jump>
+    ensures { result ≡ only_jump (stmt_of x.now) }
+{
+    match x {
+        TypedStmt::Block(b) => block_jump(b),
+        TypedStmt::Jump { jump: to, .. } => Some(*to),
+        TypedStmt::Declare { .. }
+        | TypedStmt::Simple { .. }
+        | TypedStmt::If { .. }
+        | TypedStmt::IfElse { .. }
+        | TypedStmt::While { .. }
+        | TypedStmt::Do { .. }
+        | TypedStmt::For { .. }
+        | TypedStmt::Foreach { .. }
+        | TypedStmt::ForeachActive { .. }
+        | TypedStmt::Unmasked { .. }
+        | TypedStmt::Return { .. }
+        | TypedStmt::Print { .. }
+        | TypedStmt::Assert { .. } => None,
+    }
+}
+
+/// The same of a block.
+#[cycle(only_jump)]
+fn block_jump(b: &TypedBlock) -> Option<Jump>
+    ensures { result ≡ block_jump (block_of b.now) }
+{
+    match b.statements.as_slice() {
+        [x] => only_jump(x),
+        _ => None,
+    }
+}
+
+/// How instances leave a part.
+pub(crate) fn leaving_of(x: &TypedStmt) -> Leaving
+    ensures { result ≡ leaving_of (stmt_of x.now) }
+{
+    match only_jump(x) {
+        Some(jump) => Leaving::Always(jump),
+        None if all_go_on(x) => Leaving::Never,
+        None => Leaving::Maybe,
+    }
 }

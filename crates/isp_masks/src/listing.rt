@@ -3,7 +3,6 @@ ghost use Rattle.std.specs.Prelude.{◌≡◌, [], IfOk, OnOk};
 ghost use Rattle.std.specs.List.{All};
 ghost use Rattle.isp_lower.specs.Drafts.{TablesCanBeWritten, all_routines, draft_of};
 ghost use Rattle.isp_rates.specs.Program.{IsAccepted};
-ghost use Rattle.isp_typed.specs.Scoped.{ScopedFunction};
 ghost use Rattle.isp_typed.specs.Views.{functions_of, program_of};
 ghost use Rattle.isp_masks.specs.Lowered.{AreLowered, HasCode, IsFineFunction};
 
@@ -18,7 +17,6 @@ fn routines(e: &mut Emitter, functions: &[TypedFunction]) -> Result<(), AllocErr
     requires none { all_routines (draft_of e.old) ≡ [] }
     requires tables { TablesCanBeWritten (draft_of e.old) }
     requires fine { All IsFineFunction (functions_of functions.now) }
-    requires scoped { All ScopedFunction (functions_of functions.now) }
     ensures gang { OnOk result ((draft_of e.new).gang ≡ (draft_of e.old).gang) }
     ensures tables { OnOk result (TablesCanBeWritten (draft_of e.new)) }
     ensures lowered { OnOk result (AreLowered (draft_of e.old).callees (functions_of functions.now) (all_routines (draft_of e.new)) (draft_of e.new).places (draft_of e.new).texts) }

@@ -4,7 +4,7 @@ ghost use Rattle.isp_typed.specs.Typed.{t_exprs};
 ghost use Rattle.isp_typed.specs.Views.{block_of, expr_of, exprs_of, first_of, simple_of, stmt_of, ranges_of};
 ghost use Rattle.isp_lower.specs.Asks.{Both, expr_asks, values_asks};
 ghost use Rattle.isp_lower.specs.Reserved.{Gives};
-ghost use Rattle.isp_masks.specs.Asks.{answer_asks, assert_asks, block_asks, first_asks, if_asks, loop_asks, mask_asks, part_asks, part_slot, step_asks, stmt_asks, test_part_asks, turn_asks, turns_asks, ranges_asks};
+ghost use Rattle.isp_masks.specs.Asks.{answer_asks, assert_asks, block_asks, first_asks, if_asks, if_else_asks, loop_asks, mask_asks, part_asks, part_slot, step_asks, stmt_asks, test_part_asks, turn_asks, turns_asks, ranges_asks};
 ghost use Rattle.isp_masks.specs.Prints.{own_rates};
 ghost use Rattle.isp_masks.specs.Ranges.{runs_slot};
 
@@ -32,19 +32,11 @@ fn stmt(r: &mut Reserve, x: &TypedStmt, answer: Option<Ty>, slot: Slot) -> Resul
             ..
         } => one_side(r, Condition { form: *form, test }, then, answer, slot),
         TypedStmt::IfElse {
-            form,
             test,
             then,
             otherwise,
             ..
-        } => two_sides(
-            r,
-            Condition { form: *form, test },
-            then,
-            otherwise,
-            answer,
-            slot,
-        ),
+        } => two_sides(r, test, then, otherwise, answer, slot),
         TypedStmt::Return { value, .. } => match value {
             Some(x) => returned(r, x, answer, slot),
             None => Ok(()),
@@ -172,20 +164,21 @@ fn one_side(
     Ok(())
 }
 
+/// Two parts keep two masks in each form.
 #[cycle(stmt)]
 fn two_sides(
     r: &mut Reserve,
-    by: Condition<'_>,
+    test: &TypedExpr,
     then: &TypedStmt,
     otherwise: &TypedStmt,
     answer: Option<Ty>,
     slot: Slot,
 ) -> Result<(), AllocError>
-    ensures { OnOk result (Gives r.old r.new (if_asks by.entry.form (expr_of by.entry.test.now) slot.number (λ i. Both (stmt_asks answer (stmt_of then.now) i) (stmt_asks answer (stmt_of otherwise.now) i)))) }
+    ensures { OnOk result (Gives r.old r.new (if_else_asks (expr_of test.now) slot.number (λ i. Both (stmt_asks answer (stmt_of then.now) i) (stmt_asks answer (stmt_of otherwise.now) i)))) }
 {
-    let rate = by.test.ty().rate;
-    r.expr(by.test, slot)?;
-    let next = part(r, by.form, rate, slot)?;
+    let rate = test.ty().rate;
+    r.expr(test, slot)?;
+    let next = part(r, Form::Coherent, rate, slot)?;
     stmt(r, then, answer, next)?;
     stmt(r, otherwise, answer, next)?;
     Ok(())

@@ -3,11 +3,9 @@ ghost use Rattle.std.specs.Prelude.{◌≡◌, ◌≤◌, OnOk};
 ghost use Rattle.isp_lower.specs.Drafts.{draft_of};
 ghost use Rattle.isp_lower.specs.Emitted.{Grows, Present, first_rows, layout, rows_of};
 ghost use Rattle.isp_lower.specs.Reserved.{Has};
-ghost use Rattle.isp_typed.specs.Scoped.{ScopedFunction};
 ghost use Rattle.isp_typed.specs.Views.{block_of, function_of};
 ghost use Rattle.isp_masks.specs.Asks.{block_asks, result_asks};
 ghost use Rattle.isp_masks.specs.Lowered.{AddsLowered, BodyIsOwn, IsFineFunction};
-ghost use Rattle.isp_masks.specs.Ranged.{BlockRanged};
 ghost use Rattle.isp_masks.specs.Statements.{returned};
 ghost use Rattle.isp_masks.specs.Written.{Writes, function_at};
 
@@ -40,7 +38,6 @@ fn returned(on: &Scope) -> Option<Register>
 /// The code of a body. Mask 0 has those that called, masks 1 and 2 get those that continued and that returned.
 fn body(b: &mut Body, on: &Scope, x: &TypedBlock) -> Result<(), AllocError>
     requires body { Present on.now (block_asks on.now.answer (block_of x.now) 3) }
-    requires ranged { BlockRanged (block_of x.now) }
     requires result { Present on.now (result_asks on.now.answer) }
     ensures { OnOk result (Writes b.old b.new (function_at on.now (block_of x.now))) }
 {
@@ -71,7 +68,6 @@ fn reserve(asked: &mut Reserve, f: &TypedFunction) -> Result<(), AllocError>
 /// names.
 pub(crate) fn function(e: &mut Emitter, f: &TypedFunction) -> Result<(), AllocError>
     requires fine { IsFineFunction (function_of f.now) }
-    requires scoped { ScopedFunction (function_of f.now) }
     ensures { OnOk result (AddsLowered (function_of f.now) (draft_of e.old) (draft_of e.new)) }
 {
     e.begin(f)?;

@@ -1,6 +1,6 @@
 //! The code of statements. A mask has the lanes that run a statement, and afterwards those that went on; those that
 //! continued and those that returned are added to two others.
-ghost use Rattle.std.specs.Prelude.{◌≤◌, ◌<◌, ◌+◌, length, option_map, OnOk};
+ghost use Rattle.std.specs.Prelude.{◌<◌, ◌+◌, length, option_map, OnOk};
 ghost use Rattle.isp_base.specs.declared.types.Elem.TheVariants.{I64};
 ghost use Rattle.isp_base.specs.declared.types.Rate.TheVariants.{Uniform};
 ghost use Rattle.isp_typed.specs.Views.{block_of, expr_of, ranges_of, simple_of, stmt_of};
@@ -8,7 +8,6 @@ ghost use Rattle.isp_lower.specs.Asks.{Register as Ask, expr_asks};
 ghost use Rattle.isp_lower.specs.Emitted.{Present};
 ghost use Rattle.isp_lower.specs.Rows.{Variable};
 ghost use Rattle.isp_masks.specs.Asks.{block_asks, ranges_asks, step_asks, stmt_asks, test_part_asks};
-ghost use Rattle.isp_masks.specs.Ranged.{StmtRanged, BlockRanged};
 ghost use Rattle.isp_masks.specs.Ranges.{runs_slot};
 ghost use Rattle.isp_masks.specs.Written.{Writes, active_at, block_at, do_at, for_turn_at, foreach_at, last_asks, last_range_at, last_run_at, outer_turn_at, passed_at, ranges_at, stepped_at, stmt_at, sweep_asks, sweeps_asks, turn_at, turns_at, unmasked_at, while_at, while_turn_at};
 
@@ -41,7 +40,6 @@ use std::alloc::AllocError;
 #[cycle(stmt)]
 pub(crate) fn stmt(b: &mut Body, on: &Scope, x: &TypedStmt, spot: Spot) -> Result<(), AllocError>
     requires there { Present on.now (stmt_asks on.now.answer (stmt_of x.now) spot.slot.number) }
-    requires ranged { StmtRanged (stmt_of x.now) }
     ensures { OnOk result (Writes b.old b.new (stmt_at on.now (stmt_of x.now) spot)) }
 {
     match x {
@@ -134,7 +132,6 @@ pub(crate) fn block(
     spot: Spot,
 ) -> Result<(), AllocError>
     requires there { Present on.now (block_asks on.now.answer (block_of body.now) spot.slot.number) }
-    requires ranged { BlockRanged (block_of body.now) }
     ensures { OnOk result (Writes b.old b.new (block_at on.now (block_of body.now) spot)) }
 {
     let mut jumps = Vec::new(*b.code.allocator());
@@ -153,7 +150,6 @@ pub(crate) fn block(
 fn turn(b: &mut Body, on: &Scope, body: &TypedStmt, it: Loop) -> Result<(), AllocError>
     requires slots { it.slot.number + 3 < 4294967296 }
     requires body { Present on.now (stmt_asks on.now.answer (stmt_of body.now) (it.slot.number + 3)) }
-    requires ranged { StmtRanged (stmt_of body.now) }
     ensures { OnOk result (Writes b.old b.new (turn_at on.now (stmt_of body.now) it)) }
 {
     let masks = Masks {
@@ -181,7 +177,6 @@ fn while_loop(
     requires slots { spot.slot.number + 3 < 4294967296 }
     requires test { Present on.now (expr_asks (expr_of test.now) (spot.slot.number + 3)) }
     requires body { Present on.now (stmt_asks on.now.answer (stmt_of body.now) (spot.slot.number + 3)) }
-    requires ranged { StmtRanged (stmt_of body.now) }
     ensures { OnOk result (Writes b.old b.new (while_at on.now form (expr_of test.now) (stmt_of body.now) spot)) }
 {
     let exits = exits_of(body);
@@ -213,7 +208,6 @@ fn while_turn(
 ) -> Result<(), AllocError>
     requires slots { it.slot.number + 3 < 4294967296 }
     requires body { Present on.now (stmt_asks on.now.answer (stmt_of body.now) (it.slot.number + 3)) }
-    requires ranged { StmtRanged (stmt_of body.now) }
     ensures { OnOk result (Writes b.old b.new (while_turn_at on.now test (stmt_of body.now) it)) }
 {
     sift(b, test, it.slot)?;
@@ -238,7 +232,6 @@ fn do_loop(
     requires slots { spot.slot.number + 3 < 4294967296 }
     requires test { Present on.now (expr_asks (expr_of test.now) (spot.slot.number + 3)) }
     requires body { Present on.now (stmt_asks on.now.answer (stmt_of body.now) (spot.slot.number + 3)) }
-    requires ranged { StmtRanged (stmt_of body.now) }
     ensures { OnOk result (Writes b.old b.new (do_at on.now form (stmt_of body.now) (expr_of test.now) spot)) }
 {
     let exits = exits_of(body);
@@ -260,7 +253,6 @@ fn do_loop(
 fn unmasked(b: &mut Body, on: &Scope, body: &TypedBlock, spot: Spot) -> Result<(), AllocError>
     requires slots { spot.slot.number + 3 < 4294967296 }
     requires body { Present on.now (block_asks on.now.answer (block_of body.now) (spot.slot.number + 3)) }
-    requires ranged { BlockRanged (block_of body.now) }
     ensures { OnOk result (Writes b.old b.new (unmasked_at on.now (block_of body.now) spot)) }
 {
     b.push(fill_mask(spot.slot.mask()))?;
@@ -281,7 +273,6 @@ fn active_loop(
     requires slots { spot.slot.number + 1 + 3 < 4294967296 }
     requires index { Present on.now (Ask Uniform (Variable index) I64) }
     requires body { Present on.now (stmt_asks on.now.answer (stmt_of body.now) (spot.slot.number + 1 + 3)) }
-    requires ranged { StmtRanged (stmt_of body.now) }
     ensures { OnOk result (Writes b.old b.new (active_at on.now index (stmt_of body.now) spot)) }
 {
     b.push(copy_mask(spot.slot.mask(), spot.masks.on))?;
@@ -314,7 +305,6 @@ fn turns(
     requires test { Present on.now (test_part_asks (option_map expr_of by.test.now) (spot.slot.number + 3)) }
     requires step { Present on.now (step_asks (option_map simple_of step.now) (spot.slot.number + 3)) }
     requires body { Present on.now (stmt_asks on.now.answer (stmt_of body.now) (spot.slot.number + 3)) }
-    requires ranged { StmtRanged (stmt_of body.now) }
     ensures { OnOk result (Writes b.old b.new (turns_at on.now by.entry.form (option_map expr_of by.entry.test.now) (option_map simple_of step.now) (stmt_of body.now) spot)) }
 {
     let exits = exits_of(body);
@@ -347,7 +337,6 @@ fn for_turn(
     requires test { Present on.now (expr_asks (expr_of test.now) (it.slot.number + 3)) }
     requires step { Present on.now (step_asks (option_map simple_of step.now) (it.slot.number + 3)) }
     requires body { Present on.now (stmt_asks on.now.answer (stmt_of body.now) (it.slot.number + 3)) }
-    requires ranged { StmtRanged (stmt_of body.now) }
     ensures { OnOk result (Writes b.old b.new (for_turn_at on.now (expr_of test.now) (option_map simple_of step.now) (stmt_of body.now) it)) }
 {
     let tested = expr(b, on, test, inside(it.slot))?;
@@ -372,7 +361,6 @@ fn passed_turn(
     requires slots { it.slot.number + 3 < 4294967296 }
     requires step { Present on.now (step_asks (option_map simple_of step.now) (it.slot.number + 3)) }
     requires body { Present on.now (stmt_asks on.now.answer (stmt_of body.now) (it.slot.number + 3)) }
-    requires ranged { StmtRanged (stmt_of body.now) }
     ensures { OnOk result (Writes b.old b.new (passed_at on.now test (option_map simple_of step.now) (stmt_of body.now) it)) }
 {
     sift(b, test, it.slot)?;
@@ -395,7 +383,6 @@ fn stepped_turn(
     requires slots { it.slot.number + 3 < 4294967296 }
     requires step { Present on.now (step_asks (option_map simple_of step.now) (it.slot.number + 3)) }
     requires body { Present on.now (stmt_asks on.now.answer (stmt_of body.now) (it.slot.number + 3)) }
-    requires ranged { StmtRanged (stmt_of body.now) }
     ensures { OnOk result (Writes b.old b.new (stepped_at on.now (option_map simple_of step.now) (stmt_of body.now) it)) }
 {
     turn(b, on, body, it)?;
@@ -412,10 +399,8 @@ fn foreach(
     body: &TypedStmt,
     spot: Spot,
 ) -> Result<(), AllocError>
-    requires some { 1 ≤ length all.now }
     requires ranges { Present on.now (ranges_asks (ranges_of all.now) spot.slot.number) }
     requires body { Present on.now (stmt_asks on.now.answer (stmt_of body.now) (runs_slot spot.slot.number (ranges_of all.now) + 3)) }
-    requires ranged { StmtRanged (stmt_of body.now) }
     ensures { OnOk result (Writes b.old b.new (foreach_at on.now (ranges_of all.now) (stmt_of body.now) spot)) }
 {
     let it = Sweep::first(spot.slot, all);
@@ -430,7 +415,7 @@ fn foreach(
     Ok(())
 }
 
-/// The ranges from one on.
+/// The ranges from one on, and without a range the body.
 #[cycle(stmt)]
 fn ranges(
     b: &mut Body,
@@ -440,14 +425,12 @@ fn ranges(
     set: Vec<OuterIndex>,
     it: Sweep,
 ) -> Result<(), AllocError>
-    requires some { 1 ≤ length all.now }
     requires ranges { Present on.now (sweeps_asks (ranges_of all.now) it) }
     requires body { Present on.now (stmt_asks on.now.answer (stmt_of body.now) (it.masks.number + 3)) }
-    requires ranged { StmtRanged (stmt_of body.now) }
     ensures { OnOk result (Writes b.old b.new (ranges_at on.now (ranges_of all.now) (stmt_of body.now) set.items it)) }
 {
     match all {
-        [] => unreachable!(),
+        [] => stmt(b, on, body, Spot::own(it.masks)),
         [last] => last_range(b, on, last.index, body, set, it),
         _ => outer_range(b, on, all, body, set, it),
     }
@@ -466,7 +449,6 @@ fn last_range(
     requires range { Present on.now (sweep_asks it) }
     requires index { Present on.now (last_asks variable it) }
     requires body { Present on.now (stmt_asks on.now.answer (stmt_of body.now) (it.masks.number + 3)) }
-    requires ranged { StmtRanged (stmt_of body.now) }
     ensures { OnOk result (Writes b.old b.new (last_range_at on.now variable (stmt_of body.now) set.items it)) }
 {
     begin(b, on, it)?;
@@ -493,7 +475,6 @@ fn last_run(
     requires range { Present on.now (sweep_asks it) }
     requires index { Present on.now (last_asks variable it) }
     requires body { Present on.now (stmt_asks on.now.answer (stmt_of body.now) (it.masks.number + 3)) }
-    requires ranged { StmtRanged (stmt_of body.now) }
     ensures { OnOk result (Writes b.old b.new (last_run_at on.now variable (stmt_of body.now) set.items it)) }
 {
     outer_indices(b, &set, it.masks.mask())?;
@@ -517,7 +498,6 @@ fn outer_range(
     requires range { Present on.now (sweep_asks it) }
     requires ranges { Present on.now (sweeps_asks (ranges_of all.now) it) }
     requires body { Present on.now (stmt_asks on.now.answer (stmt_of body.now) (it.masks.number + 3)) }
-    requires ranged { StmtRanged (stmt_of body.now) }
     ensures { OnOk result (Writes b.old b.new (ranges_at on.now (ranges_of all.now) (stmt_of body.now) set.items it)) }
 {
     begin(b, on, it)?;
@@ -545,7 +525,6 @@ fn outer_turn(
     requires range { Present on.now (sweep_asks it) }
     requires ranges { Present on.now (sweeps_asks (ranges_of all.now) it) }
     requires body { Present on.now (stmt_asks on.now.answer (stmt_of body.now) (it.masks.number + 3)) }
-    requires ranged { StmtRanged (stmt_of body.now) }
     ensures { OnOk result (Writes b.old b.new (outer_turn_at on.now (ranges_of all.now) (stmt_of body.now) set.items it)) }
 {
     let [range, inner @ ..] = all else {

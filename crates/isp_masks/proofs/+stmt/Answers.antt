@@ -1,7 +1,8 @@
 use Rattle.std.proofs.Common.{◌≡◌, ◌≤◌, List, [], ◌∷◌, ◌++◌, length, sym, ap, subst, ◌∙◌, arith, false, not, suc, take, take_all, drop, ◌<◌, ◌+◌, ◌-◌}
 use Rattle.std.specs.Prelude.{option_map, slice_set}
+use Rattle.isp_code.specs.declared.instr.Instr.{Instr}
 use Rattle.isp_code.specs.declared.instr.JumpTest.TheVariants as jump
-use Rattle.isp_lower.specs.Code.{jump_off, jump_on, two}
+use Rattle.isp_lower.specs.Code.{guard, jump_off, jump_on, the_others, two, where_so}
 use Rattle.isp_lower.specs.Emitted.{Appends, Present, layout}
 use Rattle.isp_lower.specs.declared.sites.Site.{Site}
 use Rattle.isp_typed.specs.Nodes.{block_nodes, stmts_nodes, range_nodes, stmt_nodes}
@@ -15,14 +16,15 @@ use Rattle.std.proofs.lemmas.Result.{on_ok_weaker}
 use Rattle.isp_masks.specs.Awaited.{AreBelow, Awaits, set_all}
 use Rattle.isp_masks.specs.Exits.{nobody_leaves}
 use Rattle.isp_masks.specs.Fors.{first_code, first_places}
-use Rattle.isp_masks.specs.Loops.{back_code, jump_all, sift_jump}
-use Rattle.isp_masks.specs.Ranged.{StmtRanged}
+use Rattle.isp_masks.specs.Loops.{back_code, copy_mask, jump_all, sift_jump}
 use Rattle.isp_masks.specs.Sets.{unite}
-use Rattle.isp_masks.specs.Spots.{Numbers, next_of, spot_of}
-use Rattle.isp_masks.specs.Statements.{stmt_code, stmt_places, stmt_texts, stmts_code, stmts_places, stmts_texts, body_code, body_layout}
+use Rattle.isp_masks.specs.Spots.{Numbers, next_of, spot_of, widely}
+use Rattle.isp_masks.specs.Statements.{left_code, stmt_code, stmt_places, stmt_texts, stmts_code, stmts_places, stmts_texts, body_code, body_layout}
 use Rattle.isp_masks.specs.Written.{Piece, Writes, block_at, guarded_at, stepped_at, stmt_at, turn_at, turns_at, first_sweep, index_codes, last_run_at, outer_turn_at, place_test, range_begin, range_step, ranges_at, run_test, step_back_at}
 use Rattle.isp_masks.proofs.Awaiting.{awaits_end}
-use Rattle.isp_masks.proofs.Forms.{list_step, nodes_low, ranged_more, stmts_more}
+use Rattle.isp_masks.proofs.Forms.{list_step, nodes_low, stmts_more}
+use Rattle.isp_masks.proofs.JumpsWritten.{left_written}
+use Rattle.isp_masks.proofs.WidelyWritten.{first_widely_written}
 use Rattle.isp_masks.proofs.Lists.{flat, flat_is}
 use Rattle.isp_masks.proofs.Sifting.{for_written, sifted}
 use Rattle.isp_masks.proofs.Views.{block_view}
@@ -72,6 +74,35 @@ branches::under_mask-returns t c =
     (record { code = λ pc z. stmt_code l a.on.now.answer x pc z (record (spot_of a.spot) { on = a.site.mask.number; slot = a.site.slot.number }); places = stmt_places l x; texts = stmt_texts x })
     (c.len-at.ensures ∙ a.b.now.code.ok.0) c.in_ok-push.ensures c.in_ok-stmt.ensures (cc) c.land.ensures.places c.land.ensures.texts
 
+pub branches::part_by_mask-returns-in-Always : goal.branches::part_by_mask-returns-in-Always
+branches::part_by_mask-returns-in-Always t c =
+    let a = c.args in
+    let x = stmt_of a.then.now in
+    let j = c.in-Always.jump in
+    let to = λ (k : MaskNumber). Appends a.b.now c.leave_by.new.b (λ pc p. left_code j a.tested.number a.spot.masks.on.number a.spot.masks.continued.number k.number) [] in
+    on_ok_weaker c.leave_by.result (λ w. left_written a.on.now a.b.now c.leave_by.new.b x a.spot a.tested.number j (sym c.leaving_of.ensures ∙ c.in-Always.is) (subst to c.mask.ensures w)) c.leave_by.ensures
+
+pub branches::first_widely-returns : goal.branches::first_widely-returns
+branches::first_widely-returns t c =
+    let a = c.args in
+    let x = stmt_of a.then.now in
+    let l = layout a.on.now in
+    let k = a.spot.masks.on.number in
+    let n = a.spot.slot.number in
+    let tested = c.push.new.self in
+    let set = c.set_apart_unless_all.new.b in
+    let passed : c.mask-passed.result.number ≡ n = ap (λ (m : MaskNumber). m.number) c.mask-passed.ensures in
+    let beside : c.next-beside.result.number ≡ n + 1 = ap (λ (s : Slot). s.number) c.next-beside.ensures in
+    let others : c.mask-others.result.number ≡ n + 1 = ap (λ (m : MaskNumber). m.number) c.mask-others.ensures ∙ beside in
+    let slot : c.next-slot.result.number ≡ n + 1 + 1 = ap (λ (s : Slot). s.number) c.next-slot.ensures ∙ ap (λ i. i + 1) beside in
+    let first = subst (λ (i : Instr). Appends a.b.now tested (λ pc p. i ∷ []) []) c.where_so.ensures c.in_ok-push.ensures in
+    let test = subst (λ i. Appends a.b.now tested (λ pc p. where_so i a.tested.number k ∷ []) []) passed first in
+    let asked = subst (λ i. Appends tested set (λ pc p. guard (jump_all i) pc (λ pc1. the_others c.mask-others.result.number k i ∷ copy_mask k i ∷ instr.Jump 0 ∷ [])) []) passed c.in_ok-at.ensures.adds in
+    let apart = subst (λ i. Appends tested set (λ pc p. guard (jump_all n) pc (λ pc1. the_others i k n ∷ copy_mask k n ∷ instr.Jump 0 ∷ [])) []) others asked in
+    let inside = subst (λ i. Writes set c.stmt.new.b (record { code = λ pc z. stmt_code l a.on.now.answer x pc z (record (spot_of a.spot) { slot = i }); places = stmt_places l x; texts = stmt_texts x })) slot c.in_ok-stmt.ensures in
+    first_widely_written a.b.now tested set c.stmt.new.b c.land.new.self c.in_ok-at.at n a.tested.number k (λ pc z. stmt_code l a.on.now.answer x pc z (widely k (spot_of a.spot))) (stmt_places l x) (stmt_texts x)
+    c.in_ok-at.ensures.room test apart inside (cc) c.land.ensures.places c.land.ensures.texts
+
 pub branches::part_by_jump-returns : goal.branches::part_by_jump-returns
 branches::part_by_jump-returns t c =
     let a = c.args in
@@ -105,8 +136,7 @@ statement::block-stmt-requires t c =
     let all : block_nodes (block_of a.body.now) ≡ suc (stmts_nodes (t_stmts (stmts_of items))) =
     ap block_nodes (block_view a.body.now) ∙ ap (λ zs. suc (stmts_nodes (t_stmts (stmts_of zs)))) (sym c.deref-x-items.ensures.value) in
     let asked = subst (Present a.on.now) (stmts_more a.on.now.answer a.spot.slot.number items c.loop-x.x-index c.x-item.result c.loop-x-test.true c.x-item.is) c.loop-x.invariant.2 in
-    let ranged = ranged_more items c.loop-x.x-index c.x-item.result c.loop-x-test.true c.x-item.is c.loop-x.invariant.3 in
-    (omega (arith, low, all, c.decreases), (asked.0, ranged.0))
+    (omega (arith, low, all, c.decreases), asked.0)
 
 pub statement::block-land_all-requires : goal.statement::block-land_all-requires
 statement::block-land_all-requires t c = subst (AreBelow (length c.loop-x.b.code.items)) (sym c.as_slice.ensures.value) c.loop-x.invariant.0.low
@@ -118,8 +148,7 @@ statement::block-loop-x-preserved t c =
     let step = list_step a.on.now.answer (spot_of a.spot) (layout a.on.now) a.b.now c.loop-x.b c.leave_room.new.b c.stmt.new.b c.loop-x.jumps.items c.leave_room.new.jumps.items c.loop-x.left _ items c.loop-x.x-index c.x-item.result
     c.loop-x-test.true c.x-item.is c.loop-x.invariant.0 c.loop-x.invariant.1 c.in_ok-leave_room.ensures c.in_ok-stmt.ensures (ap not c.all_go_on-left.ensures) in
     let asked = subst (Present a.on.now) (stmts_more a.on.now.answer a.spot.slot.number items c.loop-x.x-index c.x-item.result c.loop-x-test.true c.x-item.is) c.loop-x.invariant.2 in
-    let ranged = ranged_more items c.loop-x.x-index c.x-item.result c.loop-x-test.true c.x-item.is c.loop-x.invariant.3 in
-    (step.0, step.1, asked.1, ranged.1)
+    (step.0, step.1, asked.1)
 
 pub statement::block-returns : goal.statement::block-returns
 statement::block-returns t c =
@@ -202,12 +231,10 @@ statement::stmt-foreach-requires t c =
     ap stmt_of e.is ∙ foreach_view e.keyword e.before e.ranges e.body e.span ∙ ap (λ zs. t_foreach e.keyword e.before (ranges_of zs) (stmt_of e.body.value) e.span) (sym c.deref-in-Foreach.ensures.value)
     ∙ ap (λ z. t_foreach e.keyword e.before rs (stmt_of z) e.span) (sym c.deref-in-Foreach-2.ensures) in
     let asked = subst (λ z. Present a.on.now (stmt_asks a.on.now.answer z a.spot.slot.number)) seen c.requires.there in
-    let ranged = subst StmtRanged seen c.requires.ranged in
-    let some : 1 ≤ length c.deref-in-Foreach.result.now = subst (λ i. 1 ≤ i) (ranges_count c.deref-in-Foreach.result.now) ranged.0 in
     let size : stmt_nodes (stmt_of a.x.now) ≡ suc (nodes_of_all range_nodes rs + stmt_nodes x) = ap stmt_nodes seen in
     let many = ranges_count c.deref-in-Foreach.result.now in
     let low = ranges_low rs in
-    (omega (arith, size, many, low, c.decreases), (some, (asked.0, (asked.1, ranged.1))))
+    (omega (arith, size, many, low, c.decreases), (asked.0, asked.1))
 
 pub statement::stmt-returns-in-Foreach : goal.statement::stmt-returns-in-Foreach
 statement::stmt-returns-in-Foreach t c =
@@ -244,7 +271,7 @@ statement::ranges-outer_range-requires t c =
     let least = c.in_default.len_at_least in
     let long : 1 < length a.all.now = omega (arith, least) in
     let some : 0 < length rs = omega (arith, long, count) in
-    (omega (arith, c.decreases), (long, (sweep_there a.on.now a.it rs some c.requires.ranges, (c.requires.ranges, (c.requires.body, c.requires.ranged)))))
+    (omega (arith, c.decreases), (long, (sweep_there a.on.now a.it rs some c.requires.ranges, (c.requires.ranges, c.requires.body))))
 
 pub statement::last_range-returns : goal.statement::last_range-returns
 statement::last_range-returns t c =

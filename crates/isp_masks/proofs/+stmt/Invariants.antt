@@ -1,5 +1,5 @@
 -- The recursion goes down the tree, and from a range to those inside. In the loop: the statements so far, with their jumps to the end not written yet, and what
--- the others ask for is there, and they have ranges.
+-- the others ask for is there.
 use Rattle.std.proofs.Common.{◌≡◌, ◌+◌, ◌-◌, ◌*◌, take, drop, false, length}
 use Rattle.isp_typed.specs.Nodes.{stmt_nodes, block_nodes}
 use Rattle.isp_typed.specs.Typed.{t_stmts}
@@ -7,7 +7,6 @@ use Rattle.isp_typed.specs.Views.{block_of, stmt_of, stmts_of}
 use Rattle.isp_lower.specs.Emitted.{Present, layout}
 use Rattle.isp_masks.specs.Asks.{stmts_asks}
 use Rattle.isp_masks.specs.Awaited.{Awaits}
-use Rattle.isp_masks.specs.Ranged.{StmtsRanged}
 use Rattle.isp_masks.specs.Spots.{spot_of}
 use Rattle.isp_masks.specs.Statements.{stmts_places, stmts_texts}
 use Rattle.isp_masks.proofs.Lists.{flat, left_after}
@@ -20,19 +19,28 @@ abbrev pub decreases-statement::block : goal.decreases-statement::block
 decreases-statement::block l = 8 * block_nodes (block_of l.body.now) - 1
 
 abbrev pub decreases-branches::if_alone : goal.decreases-branches::if_alone
-decreases-branches::if_alone l = 8 * stmt_nodes (stmt_of l.then.now) + 4
+decreases-branches::if_alone l = 8 * stmt_nodes (stmt_of l.then.now) + 5
 
 abbrev pub decreases-branches::part_by : goal.decreases-branches::part_by
-decreases-branches::part_by l = 8 * stmt_nodes (stmt_of l.then.now) + 3
+decreases-branches::part_by l = 8 * stmt_nodes (stmt_of l.then.now) + 4
 
 abbrev pub decreases-branches::part_by_jump : goal.decreases-branches::part_by_jump
 decreases-branches::part_by_jump l = 8 * stmt_nodes (stmt_of l.then.now) + 2
 
 abbrev pub decreases-branches::part_by_mask : goal.decreases-branches::part_by_mask
-decreases-branches::part_by_mask l = 8 * stmt_nodes (stmt_of l.then.now) + 2
+decreases-branches::part_by_mask l = 8 * stmt_nodes (stmt_of l.then.now) + 3
+
+abbrev pub decreases-branches::part_kept : goal.decreases-branches::part_kept
+decreases-branches::part_kept l = 8 * stmt_nodes (stmt_of l.then.now) + 2
+
+abbrev pub decreases-branches::part_joined : goal.decreases-branches::part_joined
+decreases-branches::part_joined l = 8 * stmt_nodes (stmt_of l.then.now) + 2
 
 abbrev pub decreases-branches::part_widely : goal.decreases-branches::part_widely
 decreases-branches::part_widely l = 8 * stmt_nodes (stmt_of l.then.now) + 2
+
+abbrev pub decreases-branches::first_widely : goal.decreases-branches::first_widely
+decreases-branches::first_widely l = 8 * stmt_nodes (stmt_of l.then.now) + 1
 
 abbrev pub decreases-branches::under_mask : goal.decreases-branches::under_mask
 decreases-branches::under_mask l = 8 * stmt_nodes (stmt_of l.x.now) + 1
@@ -47,7 +55,13 @@ abbrev pub decreases-branches::one_of : goal.decreases-branches::one_of
 decreases-branches::one_of l = 8 * (stmt_nodes (stmt_of l.then.now) + stmt_nodes (stmt_of l.otherwise.now)) + 2
 
 abbrev pub decreases-branches::parted : goal.decreases-branches::parted
-decreases-branches::parted l = 8 * (stmt_nodes (stmt_of l.then.now) + stmt_nodes (stmt_of l.otherwise.now)) + 2
+decreases-branches::parted l = 8 * (stmt_nodes (stmt_of l.then.now) + stmt_nodes (stmt_of l.otherwise.now)) + 3
+
+abbrev pub decreases-branches::both_kept : goal.decreases-branches::both_kept
+decreases-branches::both_kept l = 8 * (stmt_nodes (stmt_of l.then.now) + stmt_nodes (stmt_of l.otherwise.now)) + 2
+
+abbrev pub decreases-branches::both_joined : goal.decreases-branches::both_joined
+decreases-branches::both_joined l = 8 * (stmt_nodes (stmt_of l.then.now) + stmt_nodes (stmt_of l.otherwise.now)) + 2
 
 abbrev pub decreases-branches::parted_widely : goal.decreases-branches::parted_widely
 decreases-branches::parted_widely l = 8 * (stmt_nodes (stmt_of l.then.now) + stmt_nodes (stmt_of l.otherwise.now)) + 3
@@ -108,4 +122,3 @@ invariant-statement::block-loop-x l =
     Awaits l.initial.b l.b l.jumps.items l.spot.masks.on.number (λ t pc z. flat l.on.answer (spot_of l.spot) t (layout l.on) false (stmts_of (take l.x-index l.x-items)) pc z) (stmts_places (layout l.on) (t_stmts (stmts_of (take l.x-index l.x-items)))) (stmts_texts (t_stmts (stmts_of (take l.x-index l.x-items))))
     × (l.left ≡ left_after false (stmts_of (take l.x-index l.x-items)))
     × Present l.on (stmts_asks l.on.answer (t_stmts (stmts_of (drop l.x-index l.x-items))) l.spot.slot.number)
-    × StmtsRanged (t_stmts (stmts_of (drop l.x-index l.x-items)))

@@ -3,7 +3,6 @@ use Rattle.std.specs.List.{All, list_all}
 use Rattle.std.proofs.lemmas.Result.{IfOk-weaker}
 use Rattle.isp_code.specs.Writable.{has_byte, place_fits}
 use Rattle.isp_lower.specs.Drafts.{Draft, all_routines, draft_of, finished}
-use Rattle.isp_typed.specs.Scoped.{ScopedFunction}
 use Rattle.isp_typed.specs.Views.{functions_of, program_of}
 use Rattle.isp_masks.specs.Lowered.{AreLowered, HasCode, IsFineFunction}
 use Rattle.isp_masks.proofs.Listings.{has_finished}
@@ -15,7 +14,6 @@ routines-requires c = record {
   none = ap all_routines c.new-e.ensures;
   tables = record { places = ap (λ (d : Draft). list_all place_fits d.places) c.new-e.ensures; texts = ap (λ (d : Draft). list_all has_byte d.texts) c.new-e.ensures };
   fine = subst (λ fs. All IsFineFunction (functions_of fs)) (sym c.deref.ensures.value) (λ k d lt. (functions_of c.args.program.now.functions.items, c.requires.fine.each k d lt));
-  scoped = subst (λ fs. All ScopedFunction (functions_of fs)) (sym c.deref.ensures.value) c.requires.scoped.each;
 }
 
 pub finish-requires : goal.finish-requires

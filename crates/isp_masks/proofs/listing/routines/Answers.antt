@@ -1,6 +1,5 @@
 use Rattle.std.proofs.Common.{◌∙◌, [], refl, sym, subst}
 use Rattle.isp_lower.specs.Drafts.{draft_of}
-use Rattle.isp_typed.specs.Scoped.{ScopedFunction}
 use Rattle.isp_typed.specs.Views.{function_of}
 use Rattle.isp_masks.specs.Lowered.{AreLowered, IsFineFunction}
 use Rattle.isp_masks.proofs.Listings.{all_at, tables_more, routine_more}
@@ -21,5 +20,4 @@ loop-f-preserved c =
 pub function-requires : goal.function-requires
 function-requires c = record {
   fine = all_at IsFineFunction c.args.functions.now c.loop-f.f-index c.f-item.result c.requires.fine c.loop-f-test.true c.f-item.is;
-  scoped = all_at ScopedFunction c.args.functions.now c.loop-f.f-index c.f-item.result c.requires.scoped c.loop-f-test.true c.f-item.is;
 }

@@ -2,7 +2,6 @@ use Rattle.std.proofs.Common.{refl}
 use Rattle.isp_lower.specs.Drafts.{draft_of}
 use Rattle.isp_typed.specs.Views.{function_of}
 use Rattle.isp_masks.proofs.Own.{body_own, heading_fits}
-use Rattle.isp_masks.proofs.Ranged.{body_ranged}
 use Rattle.isp_masks.proofs.Routines.{adds}
 use Rattle.isp_masks.proofs.routine.function.Goals as goal
 
@@ -17,6 +16,3 @@ reserve-requires-clause-own c = body_own c.requires.fine.0 (function_of c.args.f
 
 pub begin-requires : goal.begin-requires
 begin-requires c = heading_fits c.requires.fine.0 (function_of c.args.f.now) c.requires.fine.1
-
-pub body-requires-clause-ranged : goal.body-requires-clause-ranged
-body-requires-clause-ranged c = body_ranged (function_of c.args.f.now) c.requires.scoped
