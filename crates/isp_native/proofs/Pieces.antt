@@ -2,7 +2,7 @@
 use Rattle.std.specs.Prelude.{◌≡◌, ℕ, ◌+◌, List, [], ◌∷◌, ◌++◌, Some, codes}
 use Rattle.std.specs.Fmt.{decimal}
 use Rattle.std.specs.List.{flat_map, slice_get}
-use Rattle.std.proofs.Common.{refl, ap, ◌∙◌, append_assoc, drop, drop-cons, add-one}
+use Rattle.std.proofs.Common.{refl, ◌∙◌, append_assoc, drop, drop-cons, add-one}
 use Rattle.std.proofs.lemmas.Option.{slice_get_within, get_or_from_slice_get}
 use Rattle.isp_base.specs.Types.{gang_width}
 use Rattle.isp_code.specs.Listing.{Listing, Routine}
