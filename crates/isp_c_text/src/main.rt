@@ -54,7 +54,7 @@ fn main(rt: HostRuntime) -> ExitCode {
 
 fn printed(rt: &HostRuntime) -> Result<(), Failure> {
     let alloc = rt.alloc();
-    let asked = asked(rt)?;
+    let asked = asked_by(rt)?;
     let text = code_text(rt, &asked)?;
     let file = c_file(alloc, asked.is_header, text.as_str())?;
     match print!(rt; "{file}") {
@@ -70,7 +70,7 @@ fn system(alloc: Global, why: &str, status: u8) -> Failure {
     }
 }
 
-fn asked(rt: &HostRuntime) -> Result<Asked, Failure> {
+fn asked_by(rt: &HostRuntime) -> Result<Asked, Failure> {
     let alloc = rt.alloc();
     let Ok(words) = env::args(rt) else {
         return Err(system(alloc, "the words cannot be read", 2));
