@@ -407,7 +407,8 @@ ISP_INLINE bool ispm_run_inside(uint64_t i, uint64_t n)
 #define MANDN(d, x, y) ISP_SET(d, (x) & ~(y))
 #define MFULL(d) ISP_SET(d, ISP_FULL)
 #define MNONE(d) ISP_SET(d, (ispm_mask){0})
-#define MTEST(d, x, y) ISP_SET(d, ((x) != ISP_ZERO(x)) & (y))
+/* truths are 0 or 1 a lane: their negatives are a mask. (As a comparison, gcc 12 fails to compile it at times.) */
+#define MTEST(d, x, y) ISP_SET(d, -(ispm_mask)(x) & (y))
 #define MLOW(d, x) ISP_SET(d, ISP_LONE(ISP_LOWEST(x)) & (x))
 #define MFIRST(d, x) ISP_SET(d, ISP_LOWEST(x))
 /* the lanes p with x + p below y as whole numbers: those below y - x, which has no sign and fits where x is below y */
