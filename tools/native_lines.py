@@ -99,7 +99,7 @@ class Code:
 
     def text(self, places=((0, 1), (2, 5)), before=()):
         types = [f"s {' '.join(self.scalars)}"] * bool(self.scalars) + [f"v {' '.join(self.vectors)}"] * bool(self.vectors)
-        head = [f"isp 1 gang {self.gang}", *(f"place {a} {b}" for a, b in places), "text 68c3a90a", *before, "func f export void"]
+        head = [f"isp {2 if self.gang == 32 else 1} gang {self.gang}", *(f"place {a} {b}" for a, b in places), "text 68c3a90a", *before, "func f export void"]
         return "\n".join([*head, *self.params, *self.locals, *types, f"m {self.masks}", *self.body, "ret -", "end"]) + "\n"
 
 
