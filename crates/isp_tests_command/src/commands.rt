@@ -390,7 +390,7 @@ fn refused_words(rt: HostRuntime) -> Result<(), Fail> {
         ),
         (
             "isp --help",
-            "Compiles gang programs, and runs them\n\nUsage: isp <COMMAND>",
+            "Compiles kernels in the integer part of Intel ISPC, and runs them\n\nUsage: isp <COMMAND>",
         ),
         (
             "isp asm --help",

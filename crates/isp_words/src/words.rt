@@ -116,10 +116,14 @@ fn gang_of(inner: &ArgMatches<'_>) -> Option<Gang> {
     Gang::of_width(inner.get_str("gang")?.parse::<usize>().ok()?)
 }
 
+// What `isp --version` says behind the name.
+const VERSION: &str = "0.1.0";
+
 fn isp<'a>(alloc: Global) -> Result<Command<'a>, Error> {
     let named = Command::new(alloc, "isp")
         .bin_name("isp")?
-        .about("Compiles gang programs, and runs them")
+        .version(VERSION)
+        .about("Compiles kernels in the integer part of Intel ISPC, and runs them")
         .subcommand_required(true);
     let compiling = named.subcommand(run(alloc)?)?.subcommand(asm(alloc)?)?;
     let loading = compiling.subcommand(exec(alloc)?)?;
@@ -132,21 +136,21 @@ fn run<'a>(alloc: Global) -> Result<Command<'a>, AllocError> {
         .about("Compiles SOURCE, and runs ENTRY with ARGUMENTS")
         .arg(gang(alloc))?
         .arg(budget(alloc))?;
-    with_files(alloc, options, "SOURCE")
+    with_files(alloc, options, source(alloc))
 }
 
 fn asm<'a>(alloc: Global) -> Result<Command<'a>, AllocError> {
     Command::new(alloc, "asm")
         .about("Compiles SOURCE, and writes its code")
         .arg(gang(alloc))?
-        .arg(file(alloc, "SOURCE"))
+        .arg(source(alloc))
 }
 
 fn check<'a>(alloc: Global) -> Result<Command<'a>, AllocError> {
     Command::new(alloc, "check")
         .about("Says of each exported function of SOURCE whether its instances are independent")
         .arg(gang(alloc))?
-        .arg(file(alloc, "SOURCE"))
+        .arg(source(alloc))
 }
 
 fn solo<'a>(alloc: Global) -> Result<Command<'a>, AllocError> {
@@ -154,29 +158,37 @@ fn solo<'a>(alloc: Global) -> Result<Command<'a>, AllocError> {
         .about("Runs ENTRY of SOURCE with ARGUMENTS by each instance alone")
         .arg(gang(alloc))?
         .arg(turns(alloc))?;
-    with_files(alloc, options, "SOURCE")
+    with_files(alloc, options, source(alloc))
 }
 
 fn exec<'a>(alloc: Global) -> Result<Command<'a>, AllocError> {
     let options = Command::new(alloc, "exec")
         .about("Reads CODE, and runs ENTRY with ARGUMENTS")
         .arg(budget(alloc))?;
-    with_files(alloc, options, "CODE")
+    with_files(alloc, options, code(alloc))
 }
 
 // The three names that follow the options.
 fn with_files<'a>(
     alloc: Global,
     options: Command<'a>,
-    first: &'a str,
+    first: Arg<'a>,
 ) -> Result<Command<'a>, AllocError> {
     options
-        .arg(file(alloc, first))?
-        .arg(file(alloc, "ENTRY"))?
-        .arg(file(alloc, "ARGUMENTS"))
+        .arg(first)?
+        .arg(named(alloc, "ENTRY").help("Exported function to call"))?
+        .arg(named(alloc, "ARGUMENTS").help("File with the function's arguments, a JSON object"))
 }
 
-fn file<'a>(alloc: Global, name: &'a str) -> Arg<'a> {
+fn source<'a>(alloc: Global) -> Arg<'a> {
+    named(alloc, "SOURCE").help("File with the kernels, text in ISPC")
+}
+
+fn code<'a>(alloc: Global) -> Arg<'a> {
+    named(alloc, "CODE").help("File with code, as `isp asm` writes it")
+}
+
+fn named<'a>(alloc: Global, name: &'a str) -> Arg<'a> {
     Arg::new(alloc, name).required(true).action(ArgAction::Set)
 }
 
