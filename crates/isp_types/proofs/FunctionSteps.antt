@@ -22,11 +22,11 @@ use Rattle.isp_exprs.specs.declared.scope.Binding.{Binding}
 use Rattle.isp_exprs.specs.Callees.{Heading}
 use Rattle.isp_exprs.specs.Words.{value_said, answer_said}
 use Rattle.isp_exprs.specs.Rules.{second}
-use Rattle.isp_types.specs.Functions.{param_variable, param_fits, heading, is_free, variables_of, function_made, program_made, IsProgram, Breach}
+use Rattle.isp_types.specs.Functions.{param_variable, param_names, params_names, param_fits, heading, is_free, variables_of, function_made, program_made, IsProgram, Breach}
 use Rattle.isp_types.specs.reader.JudgeStmts.{twice}
 use Rattle.isp_types.specs.reader.JudgeFunctions.{judge_body, judge_function, judge_functions}
 use Rattle.isp_exprs.specs.reader.Lists.{and_one}
-use Rattle.isp_types.specs.reader.Lists.{fault_of, param_fault, param_names, function_of_parts}
+use Rattle.isp_types.specs.reader.Lists.{fault_of, param_fault, function_of_parts}
 use Rattle.isp_types.proofs.Functions.{program_right}
 use Rattle.isp_types.proofs.Joined.{joined, joined_step, beside_assoc}
 
@@ -65,6 +65,11 @@ module _ (gang : Gang) (hs : List Heading) where
       joined_step a (judge_function gang hs (fault_unless (is_free taken f.word.name) (fault NameTwice f.word.span)) (read_function f)) (judge_functions gang hs (taken ++ f.word.name ∷ []) (map read_function more))
       ∙ subst (λ (z : List rust_function.Function). joined a (judge_functions gang hs taken (map read_function z)) ≡ total) split h
 
+-- the names behind one more parameter
+pub params_names_step : (ns : List Binding) (vars : List Variable) (rest more : List rust_param.Param) (total : List Binding) (p : rust_param.Param) → rest ≡ p ∷ more
+    → params_names ns vars (map read_param rest) ≡ total → params_names (param_names ns vars (read_param p)) (vars ++ param_variable (read_param p) ∷ []) (map read_param more) ≡ total
+params_names_step ns vars rest more total p split e = subst (λ (z : List rust_param.Param). params_names ns vars (map read_param z) ≡ total) split e
+
 -- the names that are taken, with one more
 pub taken_step : (names : List (List ℕ)) (n w : List ℕ) (before after : Bool) → before ≡ list_any (λ z. bytes_eq z w) names → after ≡ cond (bytes_eq n w) true before
     → after ≡ list_any (λ z. bytes_eq z w) (names ++ n ∷ [])
@@ -89,19 +94,19 @@ module _ {A B D E : Type 0} (view : B → D) (make : A × D → E) (o : Option F
 
 -- a function of its parts, or the fault of them
 module _ (gang : Gang) (hs : List Heading) (f : Function) (taken : Option Fault) where
-  judged : (ans : Result (Option Ty) Fault) → ans ≡ answer_said f.answer → made (function_made gang f) (beside taken (both ans (judge_body gang hs ans [] [] f.params f.body))) ≡ judge_function gang hs taken f
-  judged ans e = ap (λ z. made (function_made gang f) (beside taken (both z (judge_body gang hs z [] [] f.params f.body)))) e
+  judged : (ans : Result (Option Ty) Fault) → ans ≡ answer_said f.answer → made (function_made gang hs f) (beside taken (both ans (judge_body gang hs ans [] [] f.params f.body))) ≡ judge_function gang hs taken f
+  judged ans e = ap (λ z. made (function_made gang hs f) (beside taken (both z (judge_body gang hs z [] [] f.params f.body)))) e
 
   pub function_found : {B : Type 0} (view : B → TBlock) (ans : Result (Option Ty) Fault) (w : Result B Fault) (g : TFunction) (vars : List Variable) (a : Option Ty) (b : B)
-      → g ≡ function_of_parts f a vars (view b) → vars ≡ variables_of gang f → ans ≡ answer_said f.answer
+      → g ≡ function_of_parts f a vars (view b) → vars ≡ variables_of gang hs f → ans ≡ answer_said f.answer
       → made view w ≡ judge_body gang hs ans [] [] f.params f.body → beside taken (both ans w) ≡ Ok (a, b) → Ok g ≡ judge_function gang hs taken f
   function_found view ans w g vars a b p q e m h =
       ap (λ z. Ok z) (p ∙ ap (λ z. function_of_parts f a z (view b)) q)
-      ∙ (parts_found view (function_made gang f) taken ans w (judge_body gang hs ans [] [] f.params f.body) a b m h ∙ judged ans e)
+      ∙ (parts_found view (function_made gang hs f) taken ans w (judge_body gang hs ans [] [] f.params f.body) a b m h ∙ judged ans e)
 
   pub function_fails : {B : Type 0} (view : B → TBlock) (ans : Result (Option Ty) Fault) (w : Result B Fault) (x : Fault) → ans ≡ answer_said f.answer
       → made view w ≡ judge_body gang hs ans [] [] f.params f.body → beside taken (both ans w) ≡ Err x → Err x ≡ judge_function gang hs taken f
-  function_fails view ans w x e m h = parts_fail view (function_made gang f) taken ans w (judge_body gang hs ans [] [] f.params f.body) x m h ∙ judged ans e
+  function_fails view ans w x e m h = parts_fail view (function_made gang hs f) taken ans w (judge_body gang hs ans [] [] f.params f.body) x m h ∙ judged ans e
 
 -- the body of a function, with the fault of its parameters
 pub body_seen : {B : Type 0} (view : B → TBlock) (seen : Option Fault) (w : Result B Fault) (inner whole : Result TBlock Fault) → made view w ≡ inner → beside seen inner ≡ whole → made view (beside seen w) ≡ whole

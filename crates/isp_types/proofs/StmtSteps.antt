@@ -66,14 +66,15 @@ module _ (gang : Gang) (hs : List Heading) (answer : Result (Option Ty) Fault) w
       → rest ≡ x ∷ more
       → joined a (judge_stmts gang hs answer ns start vars (all (stmts_of rest))) ≡ total
       → joined (made and_one (both a (judge_stmt gang hs answer ns start vars (stmt_of x))))
-      (judge_stmts gang hs answer (names_after gang ns vars (stmt_of x)) start (variables_after gang vars (stmt_of x)) (all (stmts_of more))) ≡ total
+      (judge_stmts gang hs answer (names_after gang ns vars (stmt_of x)) start (variables_after gang hs ns vars (stmt_of x)) (all (stmts_of more))) ≡ total
   stmts_step ns start vars rest more total a x split e =
-      joined_step a (judge_stmt gang hs answer ns start vars (stmt_of x)) (judge_stmts gang hs answer (names_after gang ns vars (stmt_of x)) start (variables_after gang vars (stmt_of x)) (all (stmts_of more)))
+      joined_step a (judge_stmt gang hs answer ns start vars (stmt_of x)) (judge_stmts gang hs answer (names_after gang ns vars (stmt_of x)) start (variables_after gang hs ns vars (stmt_of x)) (all (stmts_of more)))
       ∙ subst (λ (z : List rust.Stmt). joined a (judge_stmts gang hs answer ns start vars (all (stmts_of z))) ≡ total) split e
 
-pub variables_step : (gang : Gang) (vars : List Variable) (rest more : List rust.Stmt) (total : List Variable) (x : rust.Stmt) → rest ≡ x ∷ more
-    → stmts_variables gang vars (all (stmts_of rest)) ≡ total → stmts_variables gang (variables_after gang vars (stmt_of x)) (all (stmts_of more)) ≡ total
-variables_step gang vars rest more total x split e = subst (λ (z : List rust.Stmt). stmts_variables gang vars (all (stmts_of z)) ≡ total) split e
+pub variables_step : (gang : Gang) (hs : List Heading) (ns : List Binding) (vars : List Variable) (rest more : List rust.Stmt) (total : List Variable) (x : rust.Stmt) → rest ≡ x ∷ more
+    → stmts_variables gang hs ns vars (all (stmts_of rest)) ≡ total
+    → stmts_variables gang hs (names_after gang ns vars (stmt_of x)) (variables_after gang hs ns vars (stmt_of x)) (all (stmts_of more)) ≡ total
+variables_step gang hs ns vars rest more total x split e = subst (λ (z : List rust.Stmt). stmts_variables gang hs ns vars (all (stmts_of z)) ≡ total) split e
 
 -- what a last call answers, seen as what is promised
 pub answer_is : {T X E : Type 0} (r : Result T E) (view : T → X) (a b : X) → IfOk r (λ v. view v ≡ a) → a ≡ b → IfOk r (λ v. view v ≡ b)

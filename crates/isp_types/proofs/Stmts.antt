@@ -117,7 +117,7 @@ module _ (gang : Gang) (hs : List Heading) where
       stmt_right ns start vars (if_then f x a s) = made_right (if_stmt f (length vars) s) _ _ _
           (both_right _ _ _ _ _ _ (test_right ns x) (stmt_right ns (length ns) vars a))
       stmt_right ns start vars (if_else f x a b s) = made_right (if_else_stmt f (length vars) s) _ _ _
-          (both_right _ _ _ _ _ _ (test_right ns x) (both_right _ _ _ _ _ _ (stmt_right ns (length ns) vars a) (stmt_right ns (length ns) (variables_after gang vars a) b)))
+          (both_right _ _ _ _ _ _ (test_right ns x) (both_right _ _ _ _ _ _ (stmt_right ns (length ns) vars a) (stmt_right ns (length ns) (variables_after gang hs ns vars a) b)))
       stmt_right ns start vars (loop_while f x a s) = made_right (while_stmt f (length vars) s) _ _ _
           (both_right _ _ _ _ _ _ (test_right ns x) (stmt_right ns (length ns) vars a))
       stmt_right ns start vars (loop_do f a x s) = made_right (do_stmt f (length vars) s) _ _ _
@@ -147,4 +147,4 @@ module _ (gang : Gang) (hs : List Heading) where
           → RightTyping (judge_stmts gang hs answer ns start vars ss) (stmts_typing gang hs answer ns start vars ss)
       stmts_right ns start vars no_stmts = just_right t_no_stmts
       stmts_right ns start vars (stmt_then s ss) = made_right stmts_made _ _ _
-          (both_right _ _ _ _ _ _ (stmt_right ns start vars s) (stmts_right (names_after gang ns vars s) start (variables_after gang vars s) ss))
+          (both_right _ _ _ _ _ _ (stmt_right ns start vars s) (stmts_right (names_after gang ns vars s) start (variables_after gang hs ns vars s) ss))

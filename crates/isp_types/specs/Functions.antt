@@ -41,6 +41,14 @@ variable_for false w = value_variable w
 abbrev pub param_variable : Param → Variable
 param_variable p = variable_for p.is_array (param_words p)
 
+-- the names behind a parameter, and behind several
+abbrev pub param_names : List Binding → List Variable → Param → List Binding
+param_names ns vars p = with_name ns vars p.word.name (declared (value_said p.ty) (param_variable p))
+
+abbrev pub params_names : List Binding → List Variable → List Param → List Binding
+params_names ns vars [] = ns
+params_names ns vars (p ∷ ps) = params_names (param_names ns vars p) (vars ++ param_variable p ∷ []) ps
+
 -- what it asks of an argument; where its type is not found, that it has no `&`
 abbrev pub param_want : Param → Want
 param_want p = asked p.is_array (value_said p.ty)
@@ -80,16 +88,16 @@ abbrev pub is_export : Linkage → Bool
 is_export linkage.Export = true
 is_export l = false
 
--- the variables of a function, its parameters first
-abbrev pub variables_of : Gang → Function → List Variable
-variables_of gang f = block_variables gang (map param_variable f.params) f.body
+-- the variables of a function, its parameters first, where hs are the functions of the program as callers see them
+abbrev pub variables_of : Gang → List Heading → Function → List Variable
+variables_of gang hs f = block_variables gang hs (params_names [] [] f.params) (map param_variable f.params) f.body
 
 -- where the name of a parameter stands
 abbrev pub param_span : Param → Span
 param_span p = p.word.span
 
-abbrev pub function_made : Gang → Function → Option Ty × TBlock → TFunction
-function_made gang f p = record {
+abbrev pub function_made : Gang → List Heading → Function → Option Ty × TBlock → TFunction
+function_made gang hs f p = record {
   name = f.word.name;
   span = f.word.span;
   exported = list_any is_export f.linkages;
@@ -97,7 +105,7 @@ function_made gang f p = record {
   gives = option_map (λ t. t.elem) p.0;
   params = map param_span f.params;
   answer = p.0;
-  variables = variables_of gang f;
+  variables = variables_of gang hs f;
   body = p.1;
 }
 
@@ -108,11 +116,11 @@ module _ (gang : Gang) (hs : List Heading) where
   body_typing answer ns vars [] b = block_typing gang hs answer ns 0 vars b
   body_typing answer ns vars (p ∷ ps) b = provided (is_new p.word.name 0 ns) (fault NameTwice p.word.span) (provided (param_fits p) (fault Mismatch p.word.span)
       (made second (both (given (value_said p.ty))
-      (body_typing answer (with_name ns vars p.word.name (declared (value_said p.ty) (param_variable p))) (vars ++ param_variable p ∷ []) ps b))))
+      (body_typing answer (param_names ns vars p) (vars ++ param_variable p ∷ []) ps b))))
 
   -- a function behind earlier ones, of which the names are given; 21 at a name that is taken
   abbrev pub function_typing : List (List ℕ) → Function → Typing TFunction
-  function_typing earlier f = made (function_made gang f) (provided (is_free earlier f.word.name) (fault NameTwice f.word.span)
+  function_typing earlier f = made (function_made gang hs f) (provided (is_free earlier f.word.name) (fault NameTwice f.word.span)
       (both (given (answer_said f.answer)) (body_typing (answer_said f.answer) [] [] f.params f.body)))
 
   abbrev pub functions_typing : List (List ℕ) → List Function → Typing (List TFunction)

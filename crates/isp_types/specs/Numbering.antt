@@ -1,5 +1,6 @@
 -- What items declare, and which names and variables there are behind items and behind a statement.
 --     ns   the names in scope        vars   the variables that were declared so far, numbered where they stand in the text
+--     hs   the functions of the program, as callers see them
 use Rattle.std.specs.Prelude.{ℕ, List, [], ◌∷◌, ◌++◌, false, Option, Some, None, Result, Ok, Err}
 use Rattle.isp_base.specs.declared.types.Elem.TheVariants.{I32}
 use Rattle.isp_base.specs.declared.types.Gang.{Gang}
@@ -16,6 +17,7 @@ use Rattle.isp_exprs.specs.declared.scope.Binding.{Binding}
 use Rattle.isp_exprs.specs.declared.words.ValueWords.{ValueWords}
 use Rattle.isp_exprs.specs.Words.{value_said, type_declared}
 use Rattle.isp_exprs.specs.Scopes.{with_name}
+use Rattle.isp_exprs.specs.Callees.{Heading}
 
 -- ---- what an item declares
 
@@ -91,29 +93,31 @@ abbrev pub names_after : Gang → List Binding → List Variable → Stmt → Li
 names_after gang ns vars (declare d s) = items_names gang (value_said d.ty) ns vars d.items
 names_after gang ns vars s = ns
 
--- a variable is numbered where it stands in the text
-abbrev mutual
-  pub variables_after : Gang → List Variable → Stmt → List Variable
-  variables_after gang vars (block b) = block_variables gang vars b
-  variables_after gang vars (empty s) = vars
-  variables_after gang vars (declare d s) = items_variables gang (value_said d.ty) vars d.items
-  variables_after gang vars (simple p s) = vars
-  variables_after gang vars (if_then f x a s) = variables_after gang vars a
-  variables_after gang vars (if_else f x a b s) = variables_after gang (variables_after gang vars a) b
-  variables_after gang vars (loop_while f x a s) = variables_after gang vars a
-  variables_after gang vars (loop_do f a x s) = variables_after gang vars a
-  variables_after gang vars (loop_for f i x p a s) = variables_after gang (first_variables gang vars i) a
-  variables_after gang vars (foreach t k rs a s) = variables_after gang (range_variables vars rs) a
-  variables_after gang vars (foreach_active k w a s) = variables_after gang (vars ++ active_index ∷ []) a
-  variables_after gang vars (unmasked k b s) = block_variables gang vars b
-  variables_after gang vars (jump j k s) = vars
-  variables_after gang vars (returning k x s) = vars
-  variables_after gang vars (print k t p xs s) = vars
-  variables_after gang vars (assert x c s) = vars
+-- A variable is numbered where it stands in the text. Where a statement stands, the functions and the names in scope are known, as they
+-- are to the rules of statements.
+module _ (gang : Gang) (hs : List Heading) where
+  abbrev mutual
+    pub variables_after : List Binding → List Variable → Stmt → List Variable
+    variables_after ns vars (block b) = block_variables ns vars b
+    variables_after ns vars (empty s) = vars
+    variables_after ns vars (declare d s) = items_variables gang (value_said d.ty) vars d.items
+    variables_after ns vars (simple p s) = vars
+    variables_after ns vars (if_then f x a s) = variables_after ns vars a
+    variables_after ns vars (if_else f x a b s) = variables_after ns (variables_after ns vars a) b
+    variables_after ns vars (loop_while f x a s) = variables_after ns vars a
+    variables_after ns vars (loop_do f a x s) = variables_after ns vars a
+    variables_after ns vars (loop_for f i x p a s) = variables_after (first_names gang ns vars i) (first_variables gang vars i) a
+    variables_after ns vars (foreach t k rs a s) = variables_after (range_names ns vars rs) (range_variables vars rs) a
+    variables_after ns vars (foreach_active k w a s) = variables_after (with_name ns vars w.name (Ok active_index)) (vars ++ active_index ∷ []) a
+    variables_after ns vars (unmasked k b s) = block_variables ns vars b
+    variables_after ns vars (jump j k s) = vars
+    variables_after ns vars (returning k x s) = vars
+    variables_after ns vars (print k t p xs s) = vars
+    variables_after ns vars (assert x c s) = vars
 
-  pub block_variables : Gang → List Variable → Block → List Variable
-  block_variables gang vars (braces ss s) = stmts_variables gang vars ss
+    pub block_variables : List Binding → List Variable → Block → List Variable
+    block_variables ns vars (braces ss s) = stmts_variables ns vars ss
 
-  pub stmts_variables : Gang → List Variable → Stmts → List Variable
-  stmts_variables gang vars no_stmts = vars
-  stmts_variables gang vars (stmt_then s ss) = stmts_variables gang (variables_after gang vars s) ss
+    pub stmts_variables : List Binding → List Variable → Stmts → List Variable
+    stmts_variables ns vars no_stmts = vars
+    stmts_variables ns vars (stmt_then s ss) = stmts_variables (names_after gang ns vars s) (variables_after ns vars s) ss

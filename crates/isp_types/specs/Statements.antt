@@ -92,7 +92,7 @@ module _ (gang : Gang) (hs : List Heading) where
       stmt_typing ns start vars (simple p s) = made (simple_stmt s) (simple_typing gang hs ns p)
       stmt_typing ns start vars (if_then f x a s) = made (if_stmt f (length vars) s) (both (test_typing ns x) (stmt_typing ns (length ns) vars a))
       stmt_typing ns start vars (if_else f x a b s) = made (if_else_stmt f (length vars) s)
-          (both (test_typing ns x) (both (stmt_typing ns (length ns) vars a) (stmt_typing ns (length ns) (variables_after gang vars a) b)))
+          (both (test_typing ns x) (both (stmt_typing ns (length ns) vars a) (stmt_typing ns (length ns) (variables_after gang hs ns vars a) b)))
       stmt_typing ns start vars (loop_while f x a s) = made (while_stmt f (length vars) s) (both (test_typing ns x) (stmt_typing ns (length ns) vars a))
       stmt_typing ns start vars (loop_do f a x s) = made (do_stmt f (length vars) s) (both (stmt_typing ns (length ns) vars a) (test_typing ns x))
       stmt_typing ns start vars (loop_for f i x p a s) = made (for_stmt f (length vars) (length (first_variables gang vars i)) s)
@@ -118,4 +118,4 @@ module _ (gang : Gang) (hs : List Heading) where
       pub stmts_typing : List Binding → ℕ → List Variable → Stmts → Typing TStmts
       stmts_typing ns start vars no_stmts = exactly t_no_stmts
       stmts_typing ns start vars (stmt_then s ss) =
-          made stmts_made (both (stmt_typing ns start vars s) (stmts_typing (names_after gang ns vars s) start (variables_after gang vars s) ss))
+          made stmts_made (both (stmt_typing ns start vars s) (stmts_typing (names_after gang ns vars s) start (variables_after gang hs ns vars s) ss))

@@ -11,12 +11,12 @@ ghost use Rattle.isp_tree.specs.Tree.{Block};
 ghost use Rattle.isp_typed.specs.Verdicts.{beside, both, fault_unless, made};
 ghost use Rattle.isp_typed.specs.Views.{block_of, function_of, functions_of};
 ghost use Rattle.isp_exprs.specs.Callees.{Heading, library_named};
-ghost use Rattle.isp_types.specs.Functions.{heading, is_export, param_fits, param_span, param_variable, param_want, parameter_of, variable_for};
+ghost use Rattle.isp_types.specs.Functions.{heading, is_export, param_fits, param_names, param_span, param_variable, param_want, parameter_of, params_names, variable_for};
 ghost use Rattle.isp_exprs.specs.reader.Headings.{heading_of};
 ghost use Rattle.isp_types.specs.reader.JudgeFunctions.{judge_body, judge_function, judge_functions};
 ghost use Rattle.isp_types.specs.reader.JudgeStmts.{judge_block};
 ghost use Rattle.isp_exprs.specs.reader.Lists.{and_one};
-ghost use Rattle.isp_types.specs.reader.Lists.{fault_of, function_of_parts, param_fault, param_names};
+ghost use Rattle.isp_types.specs.reader.Lists.{fault_of, function_of_parts, param_fault};
 
 use crate::declaration::{declared, or_nothing, twice, value_variable};
 use crate::gathered;
@@ -164,6 +164,7 @@ fn declare_all(
     all: &[Param],
 ) -> Result<Option<Fault>, AllocError>
     ensures fault { IfOk result (λ o. (gang : Gang) (hs : List Heading) (answer : Result (Option Ty) Fault) (b : Block) → beside o (judge_block gang hs answer scope.new 0 variables.new.items b) ≡ judge_body gang hs answer scope.old variables.old.items (map read_param all.now) b) }
+    ensures names { IfOk result (λ o. scope.new ≡ params_names scope.old variables.old.items (map read_param all.now)) }
     ensures variables { IfOk result (λ o. variables.new.items ≡ variables.old.items ++ map param_variable (map read_param all.now)) }
 {
     let mut seen = None;

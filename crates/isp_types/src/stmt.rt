@@ -32,7 +32,7 @@ fn body(
 ) -> Result<Verdict<Box<TypedStmt>>, AllocError>
     ensures value { IfOk result (λ v. made (λ b. stmt_of b.value) v ≡ judge_stmt setting.now.gang setting.now.headers.now answer scope.old (length scope.old) variables.old.items (read_stmt s.now)) }
     ensures names { IfOk result (λ v. scope.new ≡ scope.old) }
-    ensures variables { IfOk result (λ v. variables.new.items ≡ variables_after setting.now.gang variables.old.items (read_stmt s.now)) }
+    ensures variables { IfOk result (λ v. variables.new.items ≡ variables_after setting.now.gang setting.now.headers.now scope.old variables.old.items (read_stmt s.now)) }
 {
     let start = scope.len();
     let found = stmt(setting, answer, scope, start, variables, s)?;
@@ -52,7 +52,7 @@ pub fn block(
 ) -> Result<Verdict<TypedBlock>, AllocError>
     ensures value { IfOk result (λ v. made block_of v ≡ judge_block setting.now.gang setting.now.headers.now answer scope.old start variables.old.items (read_block b.now)) }
     ensures names { IfOk result (λ v. take (length scope.old) scope.new ≡ scope.old) }
-    ensures variables { IfOk result (λ v. variables.new.items ≡ block_variables setting.now.gang variables.old.items (read_block b.now)) }
+    ensures variables { IfOk result (λ v. variables.new.items ≡ block_variables setting.now.gang setting.now.headers.now scope.old variables.old.items (read_block b.now)) }
 {
     let mut done = Ok(Vec::new(setting.alloc));
     for s in &b.statements {
@@ -73,7 +73,7 @@ fn inner_block(
 ) -> Result<Verdict<TypedBlock>, AllocError>
     ensures value { IfOk result (λ v. made block_of v ≡ judge_block setting.now.gang setting.now.headers.now answer scope.old (length scope.old) variables.old.items (read_block b.now)) }
     ensures names { IfOk result (λ v. scope.new ≡ scope.old) }
-    ensures variables { IfOk result (λ v. variables.new.items ≡ block_variables setting.now.gang variables.old.items (read_block b.now)) }
+    ensures variables { IfOk result (λ v. variables.new.items ≡ block_variables setting.now.gang setting.now.headers.now scope.old variables.old.items (read_block b.now)) }
 {
     let start = scope.len();
     let found = block(setting, answer, scope, start, variables, b)?;
@@ -94,7 +94,7 @@ fn branch(
     requires { IsTrue (is_branch (read_stmt s.now)) }
     ensures value { IfOk result (λ v. made stmt_of v ≡ judge_stmt setting.now.gang setting.now.headers.now answer scope.old start variables.old.items (read_stmt s.now)) }
     ensures names { IfOk result (λ v. scope.new ≡ names_after setting.now.gang scope.old variables.old.items (read_stmt s.now)) }
-    ensures variables { IfOk result (λ v. variables.new.items ≡ variables_after setting.now.gang variables.old.items (read_stmt s.now)) }
+    ensures variables { IfOk result (λ v. variables.new.items ≡ variables_after setting.now.gang setting.now.headers.now scope.old variables.old.items (read_stmt s.now)) }
 {
     let before = variables.len();
     match s {
@@ -137,7 +137,7 @@ fn repeated(
     requires { IsTrue (is_repeated (read_stmt s.now)) }
     ensures value { IfOk result (λ v. made stmt_of v ≡ judge_stmt setting.now.gang setting.now.headers.now answer scope.old start variables.old.items (read_stmt s.now)) }
     ensures names { IfOk result (λ v. scope.new ≡ names_after setting.now.gang scope.old variables.old.items (read_stmt s.now)) }
-    ensures variables { IfOk result (λ v. variables.new.items ≡ variables_after setting.now.gang variables.old.items (read_stmt s.now)) }
+    ensures variables { IfOk result (λ v. variables.new.items ≡ variables_after setting.now.gang setting.now.headers.now scope.old variables.old.items (read_stmt s.now)) }
 {
     let before = variables.len();
     match s {
@@ -178,7 +178,7 @@ fn for_loop(
     requires { IsTrue (is_for (read_stmt s.now)) }
     ensures value { IfOk result (λ v. made stmt_of v ≡ judge_stmt setting.now.gang setting.now.headers.now answer scope.old start variables.old.items (read_stmt s.now)) }
     ensures names { IfOk result (λ v. scope.new ≡ names_after setting.now.gang scope.old variables.old.items (read_stmt s.now)) }
-    ensures variables { IfOk result (λ v. variables.new.items ≡ variables_after setting.now.gang variables.old.items (read_stmt s.now)) }
+    ensures variables { IfOk result (λ v. variables.new.items ≡ variables_after setting.now.gang setting.now.headers.now scope.old variables.old.items (read_stmt s.now)) }
 {
     let Stmt::For {
         form,
@@ -214,7 +214,7 @@ fn foreach(
     requires { IsTrue (is_foreach (read_stmt s.now)) }
     ensures value { IfOk result (λ v. made stmt_of v ≡ judge_stmt setting.now.gang setting.now.headers.now answer scope.old start variables.old.items (read_stmt s.now)) }
     ensures names { IfOk result (λ v. scope.new ≡ names_after setting.now.gang scope.old variables.old.items (read_stmt s.now)) }
-    ensures variables { IfOk result (λ v. variables.new.items ≡ variables_after setting.now.gang variables.old.items (read_stmt s.now)) }
+    ensures variables { IfOk result (λ v. variables.new.items ≡ variables_after setting.now.gang setting.now.headers.now scope.old variables.old.items (read_stmt s.now)) }
 {
     let Stmt::Foreach {
         keyword,
@@ -247,7 +247,7 @@ fn foreach_active(
     requires { IsTrue (is_active (read_stmt s.now)) }
     ensures value { IfOk result (λ v. made stmt_of v ≡ judge_stmt setting.now.gang setting.now.headers.now answer scope.old start variables.old.items (read_stmt s.now)) }
     ensures names { IfOk result (λ v. scope.new ≡ names_after setting.now.gang scope.old variables.old.items (read_stmt s.now)) }
-    ensures variables { IfOk result (λ v. variables.new.items ≡ variables_after setting.now.gang variables.old.items (read_stmt s.now)) }
+    ensures variables { IfOk result (λ v. variables.new.items ≡ variables_after setting.now.gang setting.now.headers.now scope.old variables.old.items (read_stmt s.now)) }
 {
     let Stmt::ForeachActive {
         keyword,
@@ -280,7 +280,7 @@ fn called(
     requires { IsTrue (is_called (read_stmt s.now)) }
     ensures value { IfOk result (λ v. made stmt_of v ≡ judge_stmt setting.now.gang setting.now.headers.now answer scope.old start variables.old.items (read_stmt s.now)) }
     ensures names { IfOk result (λ v. scope.new ≡ names_after setting.now.gang scope.old variables.old.items (read_stmt s.now)) }
-    ensures variables { IfOk result (λ v. variables.new.items ≡ variables_after setting.now.gang variables.old.items (read_stmt s.now)) }
+    ensures variables { IfOk result (λ v. variables.new.items ≡ variables_after setting.now.gang setting.now.headers.now scope.old variables.old.items (read_stmt s.now)) }
 {
     match s {
         Stmt::Return {
@@ -326,7 +326,7 @@ fn stmt(
 ) -> Result<Verdict<TypedStmt>, AllocError>
     ensures value { IfOk result (λ v. made stmt_of v ≡ judge_stmt setting.now.gang setting.now.headers.now answer scope.old start variables.old.items (read_stmt s.now)) }
     ensures names { IfOk result (λ v. scope.new ≡ names_after setting.now.gang scope.old variables.old.items (read_stmt s.now)) }
-    ensures variables { IfOk result (λ v. variables.new.items ≡ variables_after setting.now.gang variables.old.items (read_stmt s.now)) }
+    ensures variables { IfOk result (λ v. variables.new.items ≡ variables_after setting.now.gang setting.now.headers.now scope.old variables.old.items (read_stmt s.now)) }
 {
     match s {
         Stmt::Block(b) => {

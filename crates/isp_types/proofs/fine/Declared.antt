@@ -70,13 +70,13 @@ module _ (gang : Gang) (hs : List Heading) where
 
   module _ (answer : Result (Option Ty) Fault) where
     mutual
-      stmt_declares : (ns : List Binding) (start : ℕ) (vars : List Variable) (s : Stmt) (t : TStmt) → (stmt_typing gang hs answer ns start vars s).is t → Declares vars (variables_after gang vars s)
+      stmt_declares : (ns : List Binding) (start : ℕ) (vars : List Variable) (s : Stmt) (t : TStmt) → (stmt_typing gang hs answer ns start vars s).is t → Declares vars (variables_after gang hs ns vars s)
       stmt_declares ns start vars (block b) t i = block_declares ns _ vars b i.0 i.1
       stmt_declares ns start vars (empty s) t i = none vars
       stmt_declares ns start vars (declare d s) t i = let p = i.1 in said_declares (value_said d.ty) p.0.0 p.1.0 start ns vars d.items p.0.1 p.1.1
       stmt_declares ns start vars (simple p s) t i = none vars
       stmt_declares ns start vars (if_then f x a s) t i = stmt_declares ns _ vars a i.0.1 i.1.1
-      stmt_declares ns start vars (if_else f x a b s) t i = later _ _ _ (stmt_declares ns _ vars a i.0.1.0 i.1.1.0) (stmt_declares ns _ (variables_after gang vars a) b i.0.1.1 i.1.1.1)
+      stmt_declares ns start vars (if_else f x a b s) t i = later _ _ _ (stmt_declares ns _ vars a i.0.1.0 i.1.1.0) (stmt_declares ns _ (variables_after gang hs ns vars a) b i.0.1.1 i.1.1.1)
       stmt_declares ns start vars (loop_while f x a s) t i = stmt_declares ns _ vars a i.0.1 i.1.1
       stmt_declares ns start vars (loop_do f a x s) t i = stmt_declares ns _ vars a i.0.0 i.1.0
       stmt_declares ns start vars (loop_for f j x p a s) t i = later _ _ _ (first_declares _ ns vars j i.0.0 i.1.0) (stmt_declares _ _ (first_variables gang vars j) a i.0.1.1.1 i.1.1.1.1)
@@ -88,10 +88,10 @@ module _ (gang : Gang) (hs : List Heading) where
       stmt_declares ns start vars (print k w p xs s) t i = none vars
       stmt_declares ns start vars (assert x c s) t i = none vars
 
-      pub block_declares : (ns : List Binding) (start : ℕ) (vars : List Variable) (b : Block) (t : TBlock) → (block_typing gang hs answer ns start vars b).is t → Declares vars (block_variables gang vars b)
+      pub block_declares : (ns : List Binding) (start : ℕ) (vars : List Variable) (b : Block) (t : TBlock) → (block_typing gang hs answer ns start vars b).is t → Declares vars (block_variables gang hs ns vars b)
       block_declares ns start vars (braces ss s) t i = stmts_declare ns start vars ss i.0 i.1
 
-      stmts_declare : (ns : List Binding) (start : ℕ) (vars : List Variable) (ss : Stmts) (t : TStmts) → (stmts_typing gang hs answer ns start vars ss).is t → Declares vars (stmts_variables gang vars ss)
+      stmts_declare : (ns : List Binding) (start : ℕ) (vars : List Variable) (ss : Stmts) (t : TStmts) → (stmts_typing gang hs answer ns start vars ss).is t → Declares vars (stmts_variables gang hs ns vars ss)
       stmts_declare ns start vars no_stmts t i = none vars
       stmts_declare ns start vars (stmt_then s ss) t i =
-          later _ _ _ (stmt_declares ns start vars s i.0.0 i.1.0) (stmts_declare (names_after gang ns vars s) start (variables_after gang vars s) ss i.0.1 i.1.1)
+          later _ _ _ (stmt_declares ns start vars s i.0.0 i.1.0) (stmts_declare (names_after gang ns vars s) start (variables_after gang hs ns vars s) ss i.0.1 i.1.1)

@@ -10,11 +10,8 @@ use Rattle.isp_typed.specs.declared.variable.Variable.{Variable}
 use Rattle.isp_typed.specs.Typed.{TBlock, TFunction}
 use Rattle.isp_typed.specs.Fine.{all_new}
 use Rattle.isp_exprs.specs.declared.scope.Binding.{Binding}
-use Rattle.isp_exprs.specs.Words.{value_said}
-use Rattle.isp_exprs.specs.Scopes.{with_name}
 use Rattle.isp_exprs.specs.Callees.{Heading, library_named}
-use Rattle.isp_types.specs.Numbering.{declared}
-use Rattle.isp_types.specs.Functions.{param_variable, parameter_of, body_typing, functions_typing}
+use Rattle.isp_types.specs.Functions.{param_variable, param_names, parameter_of, body_typing, functions_typing}
 
 both : (a b : Bool) → a ≡ true → b ≡ true → (a && b) ≡ true
 both a b p q = rw (p, q) refl
@@ -36,7 +33,7 @@ pub params_differ : (gang : Gang) (hs : List Heading) (answer : Result (Option T
 params_differ gang hs answer ns vars [] b t i = refl
 params_differ gang hs answer ns vars (p ∷ ps) b t i =
     let q = i.1.1 in
-    let more = with_name ns vars p.word.name (declared (value_said p.ty) (param_variable p)) in
+    let more = param_names ns vars p in
     both _ _ (ap not (sym (any_named p.word.name ns)) ∙ i.0)
     (subst (λ z. all_new z (map (λ p. p.name) (map parameter_of ps)) ≡ true) (named_more ns _)
     (params_differ gang hs answer more (vars ++ param_variable p ∷ []) ps b q.0.1 q.1.1))

@@ -23,12 +23,12 @@ use Rattle.isp_exprs.specs.Scopes.{with_name}
 use Rattle.isp_exprs.specs.Places.{variable_at, element_at}
 use Rattle.isp_exprs.specs.Passing.{Called, gives, runs}
 use Rattle.isp_exprs.specs.Callees.{Heading}
-use Rattle.isp_types.specs.Numbering.{declared, or_nothing, item_names, item_variables, first_names, first_variables, range_names, range_variables, names_after, variables_after}
+use Rattle.isp_types.specs.Numbering.{or_nothing, item_names, item_variables, first_names, first_variables, range_names, range_variables, names_after, variables_after}
 use Rattle.isp_types.specs.Declarations.{item_typing, items_typing, declaration_typing}
 use Rattle.isp_types.specs.Simple.{stated, assigned_by, assignment_operator, target_typing, simple_typing}
 use Rattle.isp_types.specs.Statements.{as_answer, first_typing, test_typing, ranges_typing, values_typing, returned_typing, stmt_typing, block_typing, stmts_typing}
 use Rattle.isp_typed.specs.Fine.{foreach_index as index, active_index}
-use Rattle.isp_types.specs.Functions.{param_variable, param_span, body_typing, function_typing, functions_typing}
+use Rattle.isp_types.specs.Functions.{param_variable, param_names, param_span, body_typing, function_typing, functions_typing}
 use Rattle.isp_types.proofs.fine.Simples.{open_is}
 use Rattle.isp_types.proofs.fine.Passed.{no_ok}
 use Rattle.isp_types.proofs.fine.FewExprs.{FewPlace, converted_few, place_few, element_few, called_nodes, call_of_few, expr_few}
@@ -129,7 +129,7 @@ module _ (gang : Gang) (hs : List Heading) where
       stmt_few ns start vars (simple p s) t i = rw i.2 (omega (arith, simple_few ns p i.0 i.1))
       stmt_few ns start vars (if_then f x a s) t i = rw i.2 (omega (arith, test_few ns x i.0.0 i.1.0, stmt_few ns (length ns) vars a i.0.1 i.1.1))
       stmt_few ns start vars (if_else f x a b s) t i =
-          rw i.2 (omega (arith, test_few ns x i.0.0 i.1.0, stmt_few ns (length ns) vars a i.0.1.0 i.1.1.0, stmt_few ns (length ns) (variables_after gang vars a) b i.0.1.1 i.1.1.1))
+          rw i.2 (omega (arith, test_few ns x i.0.0 i.1.0, stmt_few ns (length ns) vars a i.0.1.0 i.1.1.0, stmt_few ns (length ns) (variables_after gang hs ns vars a) b i.0.1.1 i.1.1.1))
       stmt_few ns start vars (loop_while f x a s) t i = rw i.2 (omega (arith, test_few ns x i.0.0 i.1.0, stmt_few ns (length ns) vars a i.0.1 i.1.1))
       stmt_few ns start vars (loop_do f a x s) t i = rw i.2 (omega (arith, test_few ns x i.0.1 i.1.1, stmt_few ns (length ns) vars a i.0.0 i.1.0))
       stmt_few ns start vars (loop_for f j x p a s) t i =
@@ -157,13 +157,13 @@ module _ (gang : Gang) (hs : List Heading) where
       stmts_few : (ns : List Binding) (start : ℕ) (vars : List Variable) (ss : Stmts) (t : TStmts) → (stmts_typing gang hs answer ns start vars ss).is t → stmts_nodes t ≤ 3 * nodes_of_stmts ss
       stmts_few ns start vars no_stmts t i = rw i (omega arith)
       stmts_few ns start vars (stmt_then s ss) t i =
-          rw i.2 (omega (arith, stmt_few ns start vars s i.0.0 i.1.0, stmts_few (names_after gang ns vars s) start (variables_after gang vars s) ss i.0.1 i.1.1))
+          rw i.2 (omega (arith, stmt_few ns start vars s i.0.0 i.1.0, stmts_few (names_after gang ns vars s) start (variables_after gang hs ns vars s) ss i.0.1 i.1.1))
 
     body_few : (ns : List Binding) (vars : List Variable) (ps : List Param) (b : Block) (t : TBlock) → (body_typing gang hs answer ns vars ps b).is t → block_nodes t ≤ 3 * nodes_of_block b
     body_few ns vars [] b t i = block_few ns 0 vars b t i
     body_few ns vars (p ∷ ps) b t i =
         let q = i.1.1 in
-        rw q.2 (body_few (with_name ns vars p.word.name (declared (value_said p.ty) (param_variable p))) (vars ++ param_variable p ∷ []) ps b q.0.1 q.1.1)
+        rw q.2 (body_few (param_names ns vars p) (vars ++ param_variable p ∷ []) ps b q.0.1 q.1.1)
 
   function_few : (earlier : List (List ℕ)) (f : Function) (g : TFunction) → (function_typing gang hs earlier f).is g → function_nodes g ≤ 3 * nodes_of_function f
   function_few earlier f g i = rw i.2 (omega (arith, length-map f.params param_span, body_few (answer_said f.answer) [] [] f.params f.body i.0.1 i.1.1.1))

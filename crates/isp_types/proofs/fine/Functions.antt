@@ -19,7 +19,7 @@ use Rattle.isp_exprs.specs.Words.{value_said, answer_said, type_declared}
 use Rattle.isp_exprs.specs.Scopes.{with_name}
 use Rattle.isp_exprs.specs.Callees.{Heading}
 use Rattle.isp_types.specs.Numbering.{declared, block_variables}
-use Rattle.isp_types.specs.Functions.{param_variable, param_want, parameter_of, heading, variables_of, param_span, body_typing, function_typing, functions_typing, IsProgram}
+use Rattle.isp_types.specs.Functions.{param_variable, param_names, params_names, param_want, parameter_of, heading, variables_of, param_span, body_typing, function_typing, functions_typing, IsProgram}
 use Rattle.isp_types.proofs.NamesKept.{Grown, same, then as and_then}
 use Rattle.isp_types.proofs.fine.Names.{InScope, no_names, name_added}
 use Rattle.isp_types.proofs.fine.Callees.{IsWant, AreWants, Headed}
@@ -77,31 +77,31 @@ all_seen (p ∷ ps) = (seen p, all_seen ps)
 module _ (gang : Gang) (hs : List Heading) where
   body_said : (answer : Result (Option Ty) Fault) (ns : List Binding) (vars : List Variable) (ps : List Param) (b : Block) (t : TBlock) → (body_typing gang hs answer ns vars ps b).is t → AreSaid ps
   body_said answer ns vars [] b t i = tt
-  body_said answer ns vars (p ∷ ps) b t i = let q = i.1.1 in ((q.0.0, q.1.0), body_said answer (with_name ns vars p.word.name (declared (value_said p.ty) (param_variable p))) (vars ++ param_variable p ∷ []) ps b q.0.1 q.1.1)
+  body_said answer ns vars (p ∷ ps) b t i = let q = i.1.1 in ((q.0.0, q.1.0), body_said answer (param_names ns vars p) (vars ++ param_variable p ∷ []) ps b q.0.1 q.1.1)
 
   body_declares : (answer : Result (Option Ty) Fault) (ns : List Binding) (vars : List Variable) (ps : List Param) (b : Block) (t : TBlock) → (body_typing gang hs answer ns vars ps b).is t
-      → Declares (params_after vars ps) (block_variables gang (params_after vars ps) b)
+      → Declares (params_after vars ps) (block_variables gang hs (params_names ns vars ps) (params_after vars ps) b)
   body_declares answer ns vars [] b t i = block_declares gang hs answer ns 0 vars b t i
-  body_declares answer ns vars (p ∷ ps) b t i = let q = i.1.1 in body_declares answer (with_name ns vars p.word.name (declared (value_said p.ty) (param_variable p))) (vars ++ param_variable p ∷ []) ps b q.0.1 q.1.1
+  body_declares answer ns vars (p ∷ ps) b t i = let q = i.1.1 in body_declares answer (param_names ns vars p) (vars ++ param_variable p ∷ []) ps b q.0.1 q.1.1
 
   module _ (gs : List TFunction) (all : List Variable) (headed : Headed hs gs) (answer : Option Ty) where
-    body_fine : (ns : List Binding) (vars : List Variable) (ps : List Param) (b : Block) → IsSoundBlock b → InScope all ns → Grown (block_variables gang (params_after vars ps) b) all
+    body_fine : (ns : List Binding) (vars : List Variable) (ps : List Param) (b : Block) → IsSoundBlock b → InScope all ns → Grown (block_variables gang hs (params_names ns vars ps) (params_after vars ps) b) all
         → (t : TBlock) → (body_typing gang hs (Ok answer) ns vars ps b).is t → FineBlock gs all answer t
     body_fine ns vars [] b h scope g t i = block_fine gang hs gs all headed answer ns 0 vars b h scope g t i
     body_fine ns vars (p ∷ ps) b h scope g t i =
         let q = i.1.1 in
-        let g1 : Grown (vars ++ param_variable p ∷ []) all = and_then _ _ _ (params_grow (vars ++ param_variable p ∷ []) ps) (and_then _ _ _ (block_grows gang (params_after (vars ++ param_variable p ∷ []) ps) b) g) in
-        let scope1 : InScope all (with_name ns vars p.word.name (declared (value_said p.ty) (param_variable p))) = subst (λ r. InScope all (with_name ns vars p.word.name r)) (sym (declared_is (value_said p.ty) q.0.0 (param_variable p) q.1.0)) (name_added all ns vars p.word.name (param_variable p) scope g1) in
-        subst (FineBlock gs all answer) (sym q.2) (body_fine (with_name ns vars p.word.name (declared (value_said p.ty) (param_variable p))) (vars ++ param_variable p ∷ []) ps b h scope1 g q.0.1 q.1.1)
+        let g1 : Grown (vars ++ param_variable p ∷ []) all = and_then _ _ _ (params_grow (vars ++ param_variable p ∷ []) ps) (and_then _ _ _ (block_grows gang hs (params_names (param_names ns vars p) (vars ++ param_variable p ∷ []) ps) (params_after (vars ++ param_variable p ∷ []) ps) b) g) in
+        let scope1 : InScope all (param_names ns vars p) = subst (λ r. InScope all (with_name ns vars p.word.name r)) (sym (declared_is (value_said p.ty) q.0.0 (param_variable p) q.1.0)) (name_added all ns vars p.word.name (param_variable p) scope g1) in
+        subst (FineBlock gs all answer) (sym q.2) (body_fine (param_names ns vars p) (vars ++ param_variable p ∷ []) ps b h scope1 g q.0.1 q.1.1)
 
 -- ---- functions
 
 -- the variables of a function are its parameters and what its body declares
 variables_split : (gang : Gang) (hs : List Heading) (f : Function) (t : TBlock) → (body_typing gang hs (answer_said f.answer) [] [] f.params f.body).is t
-    → (take (length (map param_span f.params)) (variables_of gang f) ≡ map param_variable f.params) × All IsDeclared (drop (length (map param_span f.params)) (variables_of gang f))
+    → (take (length (map param_span f.params)) (variables_of gang hs f) ≡ map param_variable f.params) × All IsDeclared (drop (length (map param_span f.params)) (variables_of gang hs f))
 variables_split gang hs f t i =
     let d = body_declares gang hs (answer_said f.answer) [] [] f.params f.body t i in
-    let is : variables_of gang f ≡ map param_variable f.params ++ d.more = rw (params_are [] f.params) at d.is in
+    let is : variables_of gang hs f ≡ map param_variable f.params ++ d.more = rw (params_are [] f.params) at d.is in
     let n : length (map param_span f.params) ≡ length (map param_variable f.params) = length-map f.params param_span ∙ sym (length-map f.params param_variable) in
     (rw (n, is) (take-append_seam (map param_variable f.params) d.more), rw (n, is) (subst (All IsDeclared) (sym (drop-append_seam (map param_variable f.params) d.more)) d.each))
 
@@ -114,7 +114,7 @@ module _ (gang : Gang) (hs : List Heading) (gs : List TFunction) (headed : Heade
         declared = split.1;
         gives = refl;
         names = params_differ gang hs (answer_said f.answer) [] [] f.params f.body i.0.1 i.1.1.1;
-        body = body_fine gang hs gs (variables_of gang f) headed i.0.0 [] [] f.params f.body h.body (no_names (variables_of gang f)) (rw (params_are [] f.params) (same (variables_of gang f))) i.0.1
+        body = body_fine gang hs gs (variables_of gang hs f) headed i.0.0 [] [] f.params f.body h.body (no_names (variables_of gang hs f)) (rw (params_are [] f.params) (same (variables_of gang hs f))) i.0.1
             (subst (λ r. (body_typing gang hs r [] [] f.params f.body).is i.0.1) i.1.1.0 i.1.1.1);
       })
 

@@ -27,32 +27,32 @@ use Rattle.isp_types.proofs.fine.Simples.{items_grow_variables, ranges_grow_vari
 
 -- ---- variables only grow
 
-module _ (gang : Gang) where
+module _ (gang : Gang) (hs : List Heading) where
   mutual
-    pub stmt_grows : (vars : List Variable) (s : Stmt) → Grown vars (variables_after gang vars s)
-    stmt_grows vars (block b) = block_grows vars b
-    stmt_grows vars (empty s) = same vars
-    stmt_grows vars (declare d s) = items_grow_variables gang (value_said d.ty) vars d.items
-    stmt_grows vars (simple p s) = same vars
-    stmt_grows vars (if_then f x a s) = stmt_grows vars a
-    stmt_grows vars (if_else f x a b s) = and_then _ _ _ (stmt_grows vars a) (stmt_grows (variables_after gang vars a) b)
-    stmt_grows vars (loop_while f x a s) = stmt_grows vars a
-    stmt_grows vars (loop_do f a x s) = stmt_grows vars a
-    stmt_grows vars (loop_for f i x p a s) = and_then _ _ _ (first_grows_variables gang vars i) (stmt_grows (first_variables gang vars i) a)
-    stmt_grows vars (foreach t k rs a s) = and_then _ _ _ (ranges_grow_variables vars rs) (stmt_grows (range_variables vars rs) a)
-    stmt_grows vars (foreach_active k w a s) = and_then _ _ _ (one_more vars active_index) (stmt_grows (vars ++ active_index ∷ []) a)
-    stmt_grows vars (unmasked k b s) = block_grows vars b
-    stmt_grows vars (jump j k s) = same vars
-    stmt_grows vars (returning k x s) = same vars
-    stmt_grows vars (print k t p xs s) = same vars
-    stmt_grows vars (assert x c s) = same vars
+    pub stmt_grows : (ns : List Binding) (vars : List Variable) (s : Stmt) → Grown vars (variables_after gang hs ns vars s)
+    stmt_grows ns vars (block b) = block_grows ns vars b
+    stmt_grows ns vars (empty s) = same vars
+    stmt_grows ns vars (declare d s) = items_grow_variables gang (value_said d.ty) vars d.items
+    stmt_grows ns vars (simple p s) = same vars
+    stmt_grows ns vars (if_then f x a s) = stmt_grows ns vars a
+    stmt_grows ns vars (if_else f x a b s) = and_then _ _ _ (stmt_grows ns vars a) (stmt_grows ns (variables_after gang hs ns vars a) b)
+    stmt_grows ns vars (loop_while f x a s) = stmt_grows ns vars a
+    stmt_grows ns vars (loop_do f a x s) = stmt_grows ns vars a
+    stmt_grows ns vars (loop_for f i x p a s) = and_then _ _ _ (first_grows_variables gang vars i) (stmt_grows (first_names gang ns vars i) (first_variables gang vars i) a)
+    stmt_grows ns vars (foreach t k rs a s) = and_then _ _ _ (ranges_grow_variables vars rs) (stmt_grows (range_names ns vars rs) (range_variables vars rs) a)
+    stmt_grows ns vars (foreach_active k w a s) = and_then _ _ _ (one_more vars active_index) (stmt_grows (with_name ns vars w.name (Ok active_index)) (vars ++ active_index ∷ []) a)
+    stmt_grows ns vars (unmasked k b s) = block_grows ns vars b
+    stmt_grows ns vars (jump j k s) = same vars
+    stmt_grows ns vars (returning k x s) = same vars
+    stmt_grows ns vars (print k t p xs s) = same vars
+    stmt_grows ns vars (assert x c s) = same vars
 
-    pub block_grows : (vars : List Variable) (b : Block) → Grown vars (block_variables gang vars b)
-    block_grows vars (braces ss s) = stmts_grow vars ss
+    pub block_grows : (ns : List Binding) (vars : List Variable) (b : Block) → Grown vars (block_variables gang hs ns vars b)
+    block_grows ns vars (braces ss s) = stmts_grow ns vars ss
 
-    pub stmts_grow : (vars : List Variable) (ss : Stmts) → Grown vars (stmts_variables gang vars ss)
-    stmts_grow vars no_stmts = same vars
-    stmts_grow vars (stmt_then s ss) = and_then _ _ _ (stmt_grows vars s) (stmts_grow (variables_after gang vars s) ss)
+    pub stmts_grow : (ns : List Binding) (vars : List Variable) (ss : Stmts) → Grown vars (stmts_variables gang hs ns vars ss)
+    stmts_grow ns vars no_stmts = same vars
+    stmts_grow ns vars (stmt_then s ss) = and_then _ _ _ (stmt_grows ns vars s) (stmts_grow (names_after gang ns vars s) (variables_after gang hs ns vars s) ss)
 
 module _ (gang : Gang) (hs : List Heading) (gs : List TFunction) (all : List Variable) (headed : Headed hs gs) (answer : Option Ty) where
   low : (vars after : List Variable) → Grown vars after → Grown after all → length vars ≤ length all
@@ -90,7 +90,7 @@ module _ (gang : Gang) (hs : List Heading) (gs : List TFunction) (all : List Var
   values_length ns (x ∷ xs) ts i = ap suc (values_length ns xs i.0.1 i.1.1) ∙ ap length (sym i.2)
 
   -- the names after a statement are those of variables too
-  names_scope : (ns : List Binding) (start : ℕ) (vars : List Variable) (s : Stmt) → IsSoundStmt s → InScope all ns → Grown (variables_after gang vars s) all → (t : TStmt) → (stmt_typing gang hs (Ok answer) ns start vars s).is t
+  names_scope : (ns : List Binding) (start : ℕ) (vars : List Variable) (s : Stmt) → IsSoundStmt s → InScope all ns → Grown (variables_after gang hs ns vars s) all → (t : TStmt) → (stmt_typing gang hs (Ok answer) ns start vars s).is t
       → InScope all (names_after gang ns vars s)
   names_scope ns start vars (declare d s) h scope g t i = (declaration_fine gang hs gs all headed start ns vars d h.0 scope g i.0 i.1).1
   names_scope ns start vars (block b) h scope g t i = scope
@@ -110,26 +110,26 @@ module _ (gang : Gang) (hs : List Heading) (gs : List TFunction) (all : List Var
   names_scope ns start vars (assert x c s) h scope g t i = scope
 
   mutual
-    pub stmt_fine : (ns : List Binding) (start : ℕ) (vars : List Variable) (s : Stmt) → IsSoundStmt s → InScope all ns → Grown (variables_after gang vars s) all → (t : TStmt) → (stmt_typing gang hs (Ok answer) ns start vars s).is t
+    pub stmt_fine : (ns : List Binding) (start : ℕ) (vars : List Variable) (s : Stmt) → IsSoundStmt s → InScope all ns → Grown (variables_after gang hs ns vars s) all → (t : TStmt) → (stmt_typing gang hs (Ok answer) ns start vars s).is t
         → FineStmt gs all answer t
     stmt_fine ns start vars (block b) h scope g t i = subst (FineStmt gs all answer) (sym i.2) (block_fine ns (length ns) vars b h scope g i.0 i.1)
     stmt_fine ns start vars (empty s) h scope g t i = subst (FineStmt gs all answer) (sym i) tt
     stmt_fine ns start vars (declare d s) h scope g t i = subst (FineStmt gs all answer) (sym i.2) (declaration_fine gang hs gs all headed start ns vars d h.0 scope g i.0 i.1).0
     stmt_fine ns start vars (simple p s) h scope g t i = subst (FineStmt gs all answer) (sym i.2) (simple_fine gang hs gs all headed ns scope p h.0 i.0 i.1)
     stmt_fine ns start vars (if_then f x a s) h scope g t i = subst (FineStmt gs all answer) (sym i.2)
-        (low vars _ (stmt_grows gang vars a) g, test_fine ns scope x h.0 i.0.0 i.1.0, stmt_fine ns (length ns) vars a h.1 scope g i.0.1 i.1.1)
+        (low vars _ (stmt_grows gang hs ns vars a) g, test_fine ns scope x h.0 i.0.0 i.1.0, stmt_fine ns (length ns) vars a h.1 scope g i.0.1 i.1.1)
     stmt_fine ns start vars (if_else f x a b s) h scope g t i = subst (FineStmt gs all answer) (sym i.2) (
-      low vars _ (stmt_grows gang vars (if_else f x a b s)) g,
+      low vars _ (stmt_grows gang hs ns vars (if_else f x a b s)) g,
       test_fine ns scope x h.0 i.0.0 i.1.0,
-      stmt_fine ns (length ns) vars a h.1 scope (and_then _ _ _ (stmt_grows gang (variables_after gang vars a) b) g) i.0.1.0 i.1.1.0,
-      stmt_fine ns (length ns) (variables_after gang vars a) b h.2 scope g i.0.1.1 i.1.1.1,
+      stmt_fine ns (length ns) vars a h.1 scope (and_then _ _ _ (stmt_grows gang hs ns (variables_after gang hs ns vars a) b) g) i.0.1.0 i.1.1.0,
+      stmt_fine ns (length ns) (variables_after gang hs ns vars a) b h.2 scope g i.0.1.1 i.1.1.1,
     )
     stmt_fine ns start vars (loop_while f x a s) h scope g t i = subst (FineStmt gs all answer) (sym i.2)
-        (low vars _ (stmt_grows gang vars a) g, test_fine ns scope x h.0 i.0.0 i.1.0, stmt_fine ns (length ns) vars a h.1 scope g i.0.1 i.1.1)
+        (low vars _ (stmt_grows gang hs ns vars a) g, test_fine ns scope x h.0 i.0.0 i.1.0, stmt_fine ns (length ns) vars a h.1 scope g i.0.1 i.1.1)
     stmt_fine ns start vars (loop_do f a x s) h scope g t i = subst (FineStmt gs all answer) (sym i.2)
-        (low vars _ (stmt_grows gang vars a) g, stmt_fine ns (length ns) vars a h.0 scope g i.0.0 i.1.0, test_fine ns scope x h.1 i.0.1 i.1.1)
+        (low vars _ (stmt_grows gang hs ns vars a) g, stmt_fine ns (length ns) vars a h.0 scope g i.0.0 i.1.0, test_fine ns scope x h.1 i.0.1 i.1.1)
     stmt_fine ns start vars (loop_for f j x p a s) h scope g t i =
-        let after = stmt_grows gang (first_variables gang vars j) a in
+        let after = stmt_grows gang hs (first_names gang ns vars j) (first_variables gang vars j) a in
         let first = maybe_first (length ns) ns vars scope j h.0 (and_then _ _ _ after g) i.0.0 i.1.0 in
         subst (FineStmt gs all answer) (sym i.2) (
           grown_length vars _ (first_grows_variables gang vars j),
@@ -140,15 +140,15 @@ module _ (gang : Gang) (hs : List Heading) (gs : List TFunction) (all : List Var
           stmt_fine (first_names gang ns vars j) (length (first_names gang ns vars j)) (first_variables gang vars j) a h.3 first.1 g i.0.1.1.1 i.1.1.1.1,
         )
     stmt_fine ns start vars (foreach k w rs a s) h scope g t i =
-        let after = stmt_grows gang (range_variables vars rs) a in
+        let after = stmt_grows gang hs (range_names ns vars rs) (range_variables vars rs) a in
         let ranges = ranges_fine gang hs gs all headed (length ns) ns ns vars rs h.1.each scope scope (and_then _ _ _ after g) i.0.0 i.1.0 in
         subst (FineStmt gs all answer) (sym i.2) (
-          low vars _ (stmt_grows gang vars (foreach k w rs a s)) g,
+          low vars _ (stmt_grows gang hs ns vars (foreach k w rs a s)) g,
           ranges.0,
           stmt_fine (range_names ns vars rs) (length (range_names ns vars rs)) (range_variables vars rs) a h.2 ranges.1 g i.0.1 i.1.1,
         )
     stmt_fine ns start vars (foreach_active k w a s) h scope g t i =
-        let g1 = and_then _ _ _ (stmt_grows gang (vars ++ active_index ∷ []) a) g in
+        let g1 = and_then _ _ _ (stmt_grows gang hs (with_name ns vars w.name (Ok active_index)) (vars ++ active_index ∷ []) a) g in
         subst (FineStmt gs all answer) (sym i.2) (
           low vars _ (one_more vars active_index) g1,
           get_next vars active_index all g1,
@@ -161,16 +161,16 @@ module _ (gang : Gang) (hs : List Heading) (gs : List TFunction) (all : List Var
         (eqb-true (places w) (length xs) i.1.0 ∙ values_length ns xs i.0 i.1.1, values_fine gang hs gs all headed ns scope xs h.2 i.0 i.1.1)
     stmt_fine ns start vars (assert x c s) h scope g t i = subst (FineStmt gs all answer) (sym i.2) (test_fine ns scope x h.0 i.0 i.1, h.1)
 
-    pub block_fine : (ns : List Binding) (start : ℕ) (vars : List Variable) (b : Block) → IsSoundBlock b → InScope all ns → Grown (block_variables gang vars b) all → (t : TBlock) → (block_typing gang hs (Ok answer) ns start vars b).is t
+    pub block_fine : (ns : List Binding) (start : ℕ) (vars : List Variable) (b : Block) → IsSoundBlock b → InScope all ns → Grown (block_variables gang hs ns vars b) all → (t : TBlock) → (block_typing gang hs (Ok answer) ns start vars b).is t
         → FineBlock gs all answer t
     block_fine ns start vars (braces ss s) h scope g t i = subst (FineBlock gs all answer) (sym i.2) (stmts_fine ns start vars ss h.0 scope g i.0 i.1)
 
-    stmts_fine : (ns : List Binding) (start : ℕ) (vars : List Variable) (ss : Stmts) → AreSoundStmts ss → InScope all ns → Grown (stmts_variables gang vars ss) all → (t : TStmts) → (stmts_typing gang hs (Ok answer) ns start vars ss).is t
+    stmts_fine : (ns : List Binding) (start : ℕ) (vars : List Variable) (ss : Stmts) → AreSoundStmts ss → InScope all ns → Grown (stmts_variables gang hs ns vars ss) all → (t : TStmts) → (stmts_typing gang hs (Ok answer) ns start vars ss).is t
         → FineStmts gs all answer t
     stmts_fine ns start vars no_stmts h scope g t i = subst (FineStmts gs all answer) (sym i) tt
     stmts_fine ns start vars (stmt_then s ss) h scope g t i =
-        let g1 = and_then _ _ _ (stmts_grow gang (variables_after gang vars s) ss) g in
+        let g1 = and_then _ _ _ (stmts_grow gang hs (names_after gang ns vars s) (variables_after gang hs ns vars s) ss) g in
         subst (FineStmts gs all answer) (sym i.2) (
           stmt_fine ns start vars s h.0 scope g1 i.0.0 i.1.0,
-          stmts_fine (names_after gang ns vars s) start (variables_after gang vars s) ss h.1 (names_scope ns start vars s h.0 scope g1 i.0.0 i.1.0) g i.0.1 i.1.1,
+          stmts_fine (names_after gang ns vars s) start (variables_after gang hs ns vars s) ss h.1 (names_scope ns start vars s h.0 scope g1 i.0.0 i.1.0) g i.0.1 i.1.1,
         )

@@ -19,8 +19,8 @@ use Rattle.isp_exprs.specs.declared.scope.Binding.{Binding}
 use Rattle.isp_exprs.specs.Words.{value_said}
 use Rattle.isp_exprs.specs.Scopes.{with_name}
 use Rattle.isp_exprs.specs.Callees.{Heading}
-use Rattle.isp_types.specs.Numbering.{declared, block_variables}
-use Rattle.isp_types.specs.Functions.{param_variable, parameter_of, heading, param_span, body_typing, function_typing, functions_typing, IsProgram}
+use Rattle.isp_types.specs.Numbering.{block_variables}
+use Rattle.isp_types.specs.Functions.{param_variable, param_names, params_names, parameter_of, heading, param_span, body_typing, function_typing, functions_typing, IsProgram}
 use Rattle.isp_types.proofs.Meanings.{none_known, known_mapped, known_added}
 use Rattle.isp_types.proofs.fine.Simples.{no_all}
 use Rattle.isp_types.proofs.fine.Functions.{params_after, params_are, declared_is}
@@ -44,15 +44,15 @@ param_added ns vars w x scope =
 
 module _ (gang : Gang) (hs : List Heading) (answer : Result (Option Ty) Fault) where
   body_scoped : (ns : List Binding) (vars : List Variable) (ps : List Param) (b : Block) → IsSoundBlock b → AllIn (below (length vars)) ns → (t : TBlock) → (body_typing gang hs answer ns vars ps b).is t
-      → BlockDone (below (length (params_after vars ps))) (length (params_after vars ps)) (block_variables gang (params_after vars ps) b) t
+      → BlockDone (below (length (params_after vars ps))) (length (params_after vars ps)) (block_variables gang hs (params_names ns vars ps) (params_after vars ps) b) t
   body_scoped ns vars [] b h scope t i = block_scoped gang hs answer (below (length vars)) ns 0 vars (length vars) b h scope refl t i
   body_scoped ns vars (p ∷ ps) b h scope t i =
       let q = i.1.1 in
-      let inner = with_name ns vars p.word.name (declared (value_said p.ty) (param_variable p)) in
+      let inner = param_names ns vars p in
       let more = vars ++ param_variable p ∷ [] in
       let known : AllIn (below (length more)) inner =
       subst (λ r. AllIn (below (length more)) (with_name ns vars p.word.name r)) (sym (declared_is (value_said p.ty) q.0.0 (param_variable p) q.1.0)) (param_added ns vars p.word.name (param_variable p) scope) in
-      subst (BlockDone (below (length (params_after more ps))) (length (params_after more ps)) (block_variables gang (params_after more ps) b)) (sym q.2) (body_scoped inner more ps b h known q.0.1 q.1.1)
+      subst (BlockDone (below (length (params_after more ps))) (length (params_after more ps)) (block_variables gang hs (params_names inner more ps) (params_after more ps) b)) (sym q.2) (body_scoped inner more ps b h known q.0.1 q.1.1)
 
 -- the names of parameters are words
 param_words : (ps : List Param) → All IsSoundParam ps → All (λ p. IsWord p.name) (map parameter_of ps)
@@ -69,8 +69,8 @@ module _ (gang : Gang) (hs : List Heading) where
       let done = body_scoped gang hs _ [] [] ps f.body h.body (none_known (IsIn (below 0))) i.0.1 i.1.1.1 in
       subst ScopedFunction (sym i.2) (record {
         body = subst (λ n. BlockAt (below n) n i.0.1) (params_counted ps) done.0;
-        all = subst (λ n. number_after_block n i.0.1 ≡ length (block_variables gang (params_after [] ps) f.body)) (params_counted ps) done.1
-            ∙ ap (λ vars. length (block_variables gang vars f.body)) (params_are [] ps);
+        all = subst (λ n. number_after_block n i.0.1 ≡ length (block_variables gang hs (params_names [] [] ps) (params_after [] ps) f.body)) (params_counted ps) done.1
+            ∙ ap (λ vars. length (block_variables gang hs (params_names [] [] ps) vars f.body)) (params_are [] ps);
         name = h.word.word;
         words = param_words ps h.params;
       })

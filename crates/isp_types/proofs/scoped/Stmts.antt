@@ -65,61 +65,61 @@ module _ (gang : Gang) (hs : List Heading) (answer : Result (Option Ty) Fault) w
 
   mutual
     stmt_scoped : (v : Scope) (ns : List Binding) (start : ℕ) (vars : List Variable) (n : ℕ) (s : Stmt) → IsSoundStmt s → AllIn v ns → n ≡ length vars → (t : TStmt) → (stmt_typing gang hs answer ns start vars s).is t
-        → StmtDone v n (names_after gang ns vars s) (variables_after gang vars s) t
+        → StmtDone v n (names_after gang ns vars s) (variables_after gang hs ns vars s) t
     stmt_scoped v ns start vars n (block b) h scope e t i =
         let b1 = block_scoped v ns (length ns) vars n b h scope e i.0 i.1 in
-        subst (StmtDone v n ns (block_variables gang vars b)) (sym i.2) (b1.0, b1.1, scope)
+        subst (StmtDone v n ns (block_variables gang hs ns vars b)) (sym i.2) (b1.0, b1.1, scope)
     stmt_scoped v ns start vars n (empty s) h scope e t i = subst (StmtDone v n ns vars) (sym i) (tt, e, scope)
     stmt_scoped v ns start vars n (declare d s) h scope e t i =
-        subst (StmtDone v n (names_after gang ns vars (declare d s)) (variables_after gang vars (declare d s))) (sym i.2) (declaration_at gang hs start v ns vars n d scope e i.0 i.1)
+        subst (StmtDone v n (names_after gang ns vars (declare d s)) (variables_after gang hs ns vars (declare d s))) (sym i.2) (declaration_at gang hs start v ns vars n d scope e i.0 i.1)
     stmt_scoped v ns start vars n (simple p s) h scope e t i = subst (StmtDone v n ns vars) (sym i.2) (simple_in gang hs v ns scope p i.0 i.1, e, scope)
     stmt_scoped v ns start vars n (if_then f x a s) h scope e t i =
         let a1 = stmt_scoped v ns (length ns) vars n a h.1 scope e i.0.1 i.1.1 in
-        subst (StmtDone v n ns (variables_after gang vars a)) (sym i.2) ((sym e, test_in v ns scope x i.0.0 i.1.0, a1.0), a1.1, scope)
+        subst (StmtDone v n ns (variables_after gang hs ns vars a)) (sym i.2) ((sym e, test_in v ns scope x i.0.0 i.1.0, a1.0), a1.1, scope)
     stmt_scoped v ns start vars n (if_else f x a b s) h scope e t i =
         let a1 = stmt_scoped v ns (length ns) vars n a h.1 scope e i.0.1.0 i.1.1.0 in
-        let b1 = stmt_scoped v ns (length ns) (variables_after gang vars a) (number_after_stmt n i.0.1.0) b h.2 scope a1.1 i.0.1.1 i.1.1.1 in
-        subst (StmtDone v n ns (variables_after gang (variables_after gang vars a) b)) (sym i.2) ((sym e, test_in v ns scope x i.0.0 i.1.0, a1.0, b1.0), b1.1, scope)
+        let b1 = stmt_scoped v ns (length ns) (variables_after gang hs ns vars a) (number_after_stmt n i.0.1.0) b h.2 scope a1.1 i.0.1.1 i.1.1.1 in
+        subst (StmtDone v n ns (variables_after gang hs ns (variables_after gang hs ns vars a) b)) (sym i.2) ((sym e, test_in v ns scope x i.0.0 i.1.0, a1.0, b1.0), b1.1, scope)
     stmt_scoped v ns start vars n (loop_while f x a s) h scope e t i =
         let a1 = stmt_scoped v ns (length ns) vars n a h.1 scope e i.0.1 i.1.1 in
-        subst (StmtDone v n ns (variables_after gang vars a)) (sym i.2) ((sym e, test_in v ns scope x i.0.0 i.1.0, a1.0), a1.1, scope)
+        subst (StmtDone v n ns (variables_after gang hs ns vars a)) (sym i.2) ((sym e, test_in v ns scope x i.0.0 i.1.0, a1.0), a1.1, scope)
     stmt_scoped v ns start vars n (loop_do f a x s) h scope e t i =
         let a1 = stmt_scoped v ns (length ns) vars n a h.0 scope e i.0.0 i.1.0 in
-        subst (StmtDone v n ns (variables_after gang vars a)) (sym i.2) ((sym e, a1.0, test_in v ns scope x i.0.1 i.1.1), a1.1, scope)
+        subst (StmtDone v n ns (variables_after gang hs ns vars a)) (sym i.2) ((sym e, a1.0, test_in v ns scope x i.0.1 i.1.1), a1.1, scope)
     stmt_scoped v ns start vars n (loop_for f j x p a s) h scope e t i =
         let inner = first_names gang ns vars j in
         let first = maybe_first (length ns) v ns vars n scope e j i.0.0 i.1.0 in
         let w = scope_after_first v n i.0.0 in
         let a1 = stmt_scoped w inner (length inner) (first_variables gang vars j) (number_after_first n i.0.0) a h.3 first.2 first.1 i.0.1.1.1 i.1.1.1.1 in
-        subst (StmtDone v n ns (variables_after gang (first_variables gang vars j) a)) (sym i.2)
+        subst (StmtDone v n ns (variables_after gang hs inner (first_variables gang vars j) a)) (sym i.2)
         ((sym e, first.0, sym first.1, maybe_test w inner first.2 x i.0.1.0 i.1.1.0, maybe_simple w inner first.2 p i.0.1.1.0 i.1.1.1.0, subst (λ m. StmtAt w m i.0.1.1.1) first.1 a1.0), a1.1, scope)
     stmt_scoped v ns start vars n (foreach k w rs a s) h scope e t i =
         let inner = range_names ns vars rs in
         let ranges = ranges_at gang hs (length ns) v v ns ns vars n rs scope scope e i.0.0 i.1.0 in
         let a1 = stmt_scoped (scope_after v n i.0.0) inner (length inner) (range_variables vars rs) (number_after n i.0.0) a h.2 ranges.2 ranges.1 i.0.1 i.1.1 in
-        subst (StmtDone v n ns (variables_after gang (range_variables vars rs) a)) (sym i.2)
+        subst (StmtDone v n ns (variables_after gang hs inner (range_variables vars rs) a)) (sym i.2)
         ((sym e, subst (λ l. 1 ≤ l) ranges.3 h.1.some, subst (λ l. l ≤ 3) ranges.3 h.1.few, ranges.0, a1.0), a1.1, scope)
     stmt_scoped v ns start vars n (foreach_active k w a s) h scope e t i =
         let inner = with_name ns vars w.name (Ok active_index) in
         let a1 = stmt_scoped (declared n v) inner (length inner) (vars ++ active_index ∷ []) (suc n) a h.2 (scope_added v ns vars n w.name active_index scope e) (one_longer vars active_index n e) i.0 i.1 in
-        subst (StmtDone v n ns (variables_after gang (vars ++ active_index ∷ []) a)) (sym i.2) ((sym e, sym e, a1.0), a1.1, scope)
+        subst (StmtDone v n ns (variables_after gang hs inner (vars ++ active_index ∷ []) a)) (sym i.2) ((sym e, sym e, a1.0), a1.1, scope)
     stmt_scoped v ns start vars n (unmasked k b s) h scope e t i =
         let b1 = block_scoped v ns (length ns) vars n b h.1 scope e i.0 i.1 in
-        subst (StmtDone v n ns (block_variables gang vars b)) (sym i.2) (b1.0, b1.1, scope)
+        subst (StmtDone v n ns (block_variables gang hs ns vars b)) (sym i.2) (b1.0, b1.1, scope)
     stmt_scoped v ns start vars n (jump j k s) h scope e t i = subst (StmtDone v n ns vars) (sym i) (tt, e, scope)
     stmt_scoped v ns start vars n (returning k x s) h scope e t i = subst (StmtDone v n ns vars) (sym i.2) (returned_in v ns scope k x i.0 i.1, e, scope)
     stmt_scoped v ns start vars n (print k w p xs s) h scope e t i = subst (StmtDone v n ns vars) (sym i.2) (values_in gang hs v ns scope xs i.0 i.1.1, e, scope)
     stmt_scoped v ns start vars n (assert x c s) h scope e t i = subst (StmtDone v n ns vars) (sym i.2) (test_in v ns scope x i.0 i.1, e, scope)
 
     pub block_scoped : (v : Scope) (ns : List Binding) (start : ℕ) (vars : List Variable) (n : ℕ) (b : Block) → IsSoundBlock b → AllIn v ns → n ≡ length vars → (t : TBlock) → (block_typing gang hs answer ns start vars b).is t
-        → BlockDone v n (block_variables gang vars b) t
+        → BlockDone v n (block_variables gang hs ns vars b) t
     block_scoped v ns start vars n (braces ss s) h scope e t i =
-        subst (BlockDone v n (stmts_variables gang vars ss)) (sym i.2) (stmts_scoped v ns start vars n ss h.0 scope e i.0 i.1)
+        subst (BlockDone v n (stmts_variables gang hs ns vars ss)) (sym i.2) (stmts_scoped v ns start vars n ss h.0 scope e i.0 i.1)
 
     stmts_scoped : (v : Scope) (ns : List Binding) (start : ℕ) (vars : List Variable) (n : ℕ) (ss : Stmts) → AreSoundStmts ss → AllIn v ns → n ≡ length vars → (t : TStmts) → (stmts_typing gang hs answer ns start vars ss).is t
-        → StmtsDone v n (stmts_variables gang vars ss) t
+        → StmtsDone v n (stmts_variables gang hs ns vars ss) t
     stmts_scoped v ns start vars n no_stmts h scope e t i = subst (StmtsDone v n vars) (sym i) (tt, e)
     stmts_scoped v ns start vars n (stmt_then s ss) h scope e t i =
         let s1 = stmt_scoped v ns start vars n s h.0 scope e i.0.0 i.1.0 in
-        let more = stmts_scoped (scope_after_stmt v n i.0.0) (names_after gang ns vars s) start (variables_after gang vars s) (number_after_stmt n i.0.0) ss h.1 s1.2 s1.1 i.0.1 i.1.1 in
-        subst (StmtsDone v n (stmts_variables gang (variables_after gang vars s) ss)) (sym i.2) ((s1.0, more.0), more.1)
+        let more = stmts_scoped (scope_after_stmt v n i.0.0) (names_after gang ns vars s) start (variables_after gang hs ns vars s) (number_after_stmt n i.0.0) ss h.1 s1.2 s1.1 i.0.1 i.1.1 in
+        subst (StmtsDone v n (stmts_variables gang hs (names_after gang ns vars s) (variables_after gang hs ns vars s) ss)) (sym i.2) ((s1.0, more.0), more.1)

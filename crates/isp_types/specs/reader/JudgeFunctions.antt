@@ -11,21 +11,19 @@ use Rattle.isp_typed.specs.Verdicts.{both, made, beside, fault_unless}
 use Rattle.isp_typed.specs.Typed.{TBlock, TFunction, Program}
 use Rattle.isp_exprs.specs.declared.scope.Binding.{Binding}
 use Rattle.isp_exprs.specs.Words.{value_said, answer_said}
-use Rattle.isp_exprs.specs.Scopes.{with_name}
 use Rattle.isp_exprs.specs.Callees.{Heading}
 use Rattle.isp_exprs.specs.Rules.{second, pair_then}
-use Rattle.isp_types.specs.Numbering.{declared}
-use Rattle.isp_types.specs.Functions.{param_variable, param_fits, heading, is_free, function_made, program_made}
+use Rattle.isp_types.specs.Functions.{param_variable, param_names, param_fits, heading, is_free, function_made, program_made}
 use Rattle.isp_types.specs.reader.JudgeStmts.{twice, judge_block}
 
 module _ (gang : Gang) (hs : List Heading) where
   abbrev pub judge_body : Result (Option Ty) Fault → List Binding → List Variable → List Param → Block → Result TBlock Fault
   judge_body answer ns vars [] b = judge_block gang hs answer ns 0 vars b
   judge_body answer ns vars (p ∷ ps) b = beside (twice p.word 0 ns) (beside (fault_unless (param_fits p) (fault Mismatch p.word.span))
-      (made second (both (value_said p.ty) (judge_body answer (with_name ns vars p.word.name (declared (value_said p.ty) (param_variable p))) (vars ++ param_variable p ∷ []) ps b))))
+      (made second (both (value_said p.ty) (judge_body answer (param_names ns vars p) (vars ++ param_variable p ∷ []) ps b))))
 
   abbrev pub judge_function : Option Fault → Function → Result TFunction Fault
-  judge_function taken f = made (function_made gang f) (beside taken (both (answer_said f.answer) (judge_body (answer_said f.answer) [] [] f.params f.body)))
+  judge_function taken f = made (function_made gang hs f) (beside taken (both (answer_said f.answer) (judge_body (answer_said f.answer) [] [] f.params f.body)))
 
   abbrev pub judge_functions : List (List ℕ) → List Function → Result (List TFunction) Fault
   judge_functions earlier [] = Ok []

@@ -97,7 +97,7 @@ module _ (gang : Gang) (hs : List Heading) where
       judge_stmt ns start vars (simple p s) = made (simple_stmt s) (judge_simple ns p)
       judge_stmt ns start vars (if_then f x a s) = made (if_stmt f (length vars) s) (both (judge_test ns x) (judge_stmt ns (length ns) vars a))
       judge_stmt ns start vars (if_else f x a b s) = made (if_else_stmt f (length vars) s)
-          (both (judge_test ns x) (both (judge_stmt ns (length ns) vars a) (judge_stmt ns (length ns) (variables_after gang vars a) b)))
+          (both (judge_test ns x) (both (judge_stmt ns (length ns) vars a) (judge_stmt ns (length ns) (variables_after gang hs ns vars a) b)))
       judge_stmt ns start vars (loop_while f x a s) = made (while_stmt f (length vars) s) (both (judge_test ns x) (judge_stmt ns (length ns) vars a))
       judge_stmt ns start vars (loop_do f a x s) = made (do_stmt f (length vars) s) (both (judge_stmt ns (length ns) vars a) (judge_test ns x))
       judge_stmt ns start vars (loop_for f i x p a s) = made (for_stmt f (length vars) (length (first_variables gang vars i)) s)
@@ -122,4 +122,4 @@ module _ (gang : Gang) (hs : List Heading) where
       pub judge_stmts : List Binding → ℕ → List Variable → Stmts → Result TStmts Fault
       judge_stmts ns start vars no_stmts = Ok t_no_stmts
       judge_stmts ns start vars (stmt_then s ss) =
-          made stmts_made (both (judge_stmt ns start vars s) (judge_stmts (names_after gang ns vars s) start (variables_after gang vars s) ss))
+          made stmts_made (both (judge_stmt ns start vars s) (judge_stmts (names_after gang ns vars s) start (variables_after gang hs ns vars s) ss))

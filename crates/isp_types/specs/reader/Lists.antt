@@ -13,11 +13,10 @@ use Rattle.isp_typed.specs.Typed.{TExpr, TItem, t_plain, TBlock, TFunction}
 use Rattle.isp_exprs.specs.declared.scope.Binding.{Binding}
 use Rattle.isp_exprs.specs.declared.words.ValueWords.{ValueWords}
 use Rattle.isp_exprs.specs.Words.{value_said, type_declared}
-use Rattle.isp_exprs.specs.Scopes.{Meaning, with_name}
+use Rattle.isp_exprs.specs.Scopes.{Meaning}
 use Rattle.isp_exprs.specs.Callees.{Heading}
-use Rattle.isp_types.specs.Numbering.{declared}
 use Rattle.isp_types.specs.Declarations.{array_sized, with_initial, sized_item}
-use Rattle.isp_types.specs.Functions.{param_variable, param_fits, parameter_of, param_span, is_export}
+use Rattle.isp_types.specs.Functions.{param_fits, parameter_of, param_span, is_export}
 use Rattle.isp_exprs.specs.reader.Judge.{judge}
 use Rattle.isp_types.specs.reader.JudgeStmts.{twice}
 
@@ -48,12 +47,9 @@ abbrev pub fault_of : {A : Type 0} → Result A Fault → Option Fault
 fault_of (Ok a) = None
 fault_of (Err f) = Some f
 
--- the first fault of a parameter, and the names after it
+-- the first fault of a parameter
 abbrev pub param_fault : List Binding → Param → Option Fault
 param_fault ns p = first_of (first_of (twice p.word 0 ns) (fault_unless (param_fits p) (fault Mismatch p.word.span))) (fault_of (value_said p.ty))
-
-abbrev pub param_names : List Binding → List Variable → Param → List Binding
-param_names ns vars p = with_name ns vars p.word.name (declared (value_said p.ty) (param_variable p))
 
 -- a function of its result, variables and body
 abbrev pub function_of_parts : Function → Option Ty → List Variable → TBlock → TFunction

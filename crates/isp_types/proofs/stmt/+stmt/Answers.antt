@@ -46,7 +46,7 @@ block-loop-s-preserved t c =
     let split = split_at xs i x c.loop-s-test.true c.s-item.is in
     record {
       names = rw v.names (kept_then gang _ c.loop-s.scope c.loop-s.variables.items (read_stmt x) h.names);
-      variables = rw v.variables (variables_step gang c.loop-s.variables.items (drop i xs) (drop (i + 1) xs) _ x split h.variables);
+      variables = rw (v.names, v.variables) (variables_step gang hs c.loop-s.scope c.loop-s.variables.items (drop i xs) (drop (i + 1) xs) _ x split h.variables);
       value = rw (c.in_ok-done.ensures, v.value, v.names, v.variables)
           (stmts_step gang hs c.args.answer c.loop-s.scope c.args.start c.loop-s.variables.items (drop i xs) (drop (i + 1) xs) _ _ x split h.value);
     }
@@ -66,7 +66,7 @@ block-returns t c =
     record {
       value = c.braces.ensures ∙ (ap (made (braces_made b.span)) (sym (joined_none _) ∙ j) ∙ rw c.deref-s-items.ensures.value (sym (ap (judge_block gang hs c.args.answer ns c.args.start vars) (block_view b))));
       names = h.names;
-      variables = k ∙ rw c.deref-s-items.ensures.value (sym (ap (block_variables gang vars) (block_view b)));
+      variables = k ∙ rw c.deref-s-items.ensures.value (sym (ap (block_variables gang hs ns vars) (block_view b)));
     }
 
 pub branch-returns-in_ok-found-in-If-clause-value : goal.branch-returns-in_ok-found-in-If-clause-value
@@ -95,10 +95,10 @@ branch-returns-in_ok-found-in-IfElse-clause-value t c =
     let a = read_stmt c.in-IfElse.then.value in
     let b = read_stmt c.in-IfElse.otherwise.value in
     let first = chosen.value ∙ ap (λ z. judge_stmt gang hs answer ns (length ns) vars (read_stmt z)) c.deref-in-IfElse.ensures in
-    let then = chosen.variables ∙ ap (λ z. variables_after gang vars (read_stmt z)) c.deref-in-IfElse.ensures in
-    let otherwise = body_judged gang hs answer _ _ ns _ (variables_after gang vars a) _ b other.value chosen.names then (ap read_stmt c.deref-in-IfElse-2.ensures) in
+    let then = chosen.variables ∙ ap (λ z. variables_after gang hs ns vars (read_stmt z)) c.deref-in-IfElse.ensures in
+    let otherwise = body_judged gang hs answer _ _ ns _ (variables_after gang hs ns vars a) _ b other.value chosen.names then (ap read_stmt c.deref-in-IfElse-2.ensures) in
     let bodies = pair_seen (λ z. typed_stmt_of z.value) (λ z. typed_stmt_of z.value) c.in_ok-chosen-in-IfElse.chosen c.in_ok-other-in-IfElse.other c.both.result c.both.ensures in
-    let judged = both_are _ (judge_stmt gang hs answer ns (length ns) vars a) _ (judge_stmt gang hs answer ns (length ns) (variables_after gang vars a) b) first otherwise in
+    let judged = both_are _ (judge_stmt gang hs answer ns (length ns) vars a) _ (judge_stmt gang hs answer ns (length ns) (variables_after gang hs ns vars a) b) first otherwise in
     joined_parts (λ n. if_else_stmt c.in-IfElse.form n c.in-IfElse.span) _ _ (length vars) _ (judge_test gang hs ns x) _ _
     c.if_else_stmt.ensures (c.len-before.ensures ∙ c.args.variables.now.ok.0) (test_judged gang hs _ _ ns x c.in_ok-found-in-IfElse.ensures (other.names ∙ chosen.names)) (bodies ∙ judged)
     ∙ sym (ap (judge_stmt gang hs answer ns c.args.start vars) (ap read_stmt c.in-IfElse.is ∙ if_else_view c.in-IfElse.form c.in-IfElse.x c.in-IfElse.then c.in-IfElse.otherwise c.in-IfElse.span))
