@@ -66,6 +66,13 @@ impl<'a> Here<'a> {
         &self.function.code[pc]
     }
 
+    /// The instructions.
+    pub(crate) fn list(&self) -> &'a [Instr]
+        ensures { result.now ≡ self.now.routine.code }
+    {
+        self.function.code.as_slice()
+    }
+
     /// The number of instructions.
     pub(crate) fn count(&self) -> usize
         ensures { result ≡ length self.now.routine.code }

@@ -20,6 +20,7 @@ mod returns;
 mod run;
 mod says;
 mod scalars;
+mod sprint;
 mod start;
 mod step;
 mod stop;

@@ -1,5 +1,5 @@
 //! Instructions that write a scalar register.
-ghost use Rattle.std.specs.Prelude.{◌≡◌, ◌+◌, ◌<◌, ◌^◌, ℕ, List, Ok, Err, IfOk, IfErr, if◌then◌else◌, true, slice_get, length};
+ghost use Rattle.std.specs.Prelude.{◌≡◌, ◌+◌, ◌<◌, ◌^◌, ℕ, List, Ok, Err, IfOk, IfErr, IfSome, if◌then◌else◌, true, slice_get, length};
 ghost use Rattle.isp_base.specs.Types.{gang_width};
 ghost use Rattle.isp_base.specs.Unary.{unary_bits};
 ghost use Rattle.isp_base.specs.Values.{width, number, wrap, convert_bits, op_bits};
@@ -12,7 +12,7 @@ ghost use Rattle.isp_machine.specs.Moves.{ScalarIs, Goes, Fails};
 ghost use Rattle.isp_machine.specs.Shapes.{Shaped, Opened};
 ghost use Rattle.isp_machine.specs.Views.{conf_of, scalars_at};
 ghost use Rattle.isp_machine.specs.reader.Instructions.{load_of};
-ghost use Rattle.isp_store.specs.Held.{shapes};
+ghost use Rattle.isp_store.specs.Held.{Held, shapes};
 ghost use Rattle.isp_base.specs.declared.types.Elem.{Elem};
 
 use crate::cross::{extract, reduce};
@@ -77,6 +77,41 @@ fn select<const N: usize>(
         here.scalar(frame, x)
     } else {
         here.scalar(frame, y)
+    }
+}
+
+/// What an instruction that cannot fail gives, where a sprint does it.
+#[inline(always)]
+pub(crate) fn sure_scalar<const N: usize>(
+    here: &Here,
+    frame: &Frame<N>,
+    d: Register,
+    instr: &ScalarInstr,
+) -> Option<u64>
+    requires gang { N ≡ gang_width here.now.code.gang }
+    requires shaped { Shaped here.now.routine frame.now }
+    requires operands { AllFine here.now.code here.now.routine (scalar_operands d instr.now) }
+    ensures value { IfSome result (λ bits. (s : Held) → ScalarIs here.now s frame.now d instr.now (Ok bits)) }
+    ensures fits { IfSome result (λ bits. bits < 2 ^ width (elem_of here.now.routine d)) }
+{
+    match instr {
+        ScalarInstr::Constant(number) => Some(constant(here.elem(d), *number)),
+        ScalarInstr::Copy(x) => Some(here.scalar(frame, *x)),
+        ScalarInstr::Convert(x) => {
+            let bits = here.scalar(frame, *x);
+            Some(converted(here.elem(*x), here.elem(d), bits))
+        }
+        ScalarInstr::Binary { op, left, right } => {
+            let x = here.scalar(frame, *left);
+            let y = here.scalar(frame, *right);
+            Some(binary(*op, here.elem(d), x, y))
+        }
+        ScalarInstr::Compare { op, left, right } => {
+            let x = here.scalar(frame, *left);
+            let y = here.scalar(frame, *right);
+            Some(u64::from(compare(*op, here.elem(*left), x, y)))
+        }
+        _ => None,
     }
 }
 

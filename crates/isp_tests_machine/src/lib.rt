@@ -24,4 +24,6 @@ mod registers;
 #[cfg(test)]
 mod runs;
 #[cfg(test)]
+mod sprints;
+#[cfg(test)]
 mod texts;
