@@ -1,0 +1,11 @@
+mod LoneSets
+mod LoneSims
+mod LoneFair
+mod LoneHeld
+mod LoneValues
+mod LoneSteps
+mod LoneLoops
+mod LoneDoes
+mod LoneAsked
+mod LoneCalls
+mod LoneWhole
