@@ -1,5 +1,5 @@
 -- What accepted code that looks at nobody has, one line a node.
-use Rattle.std.proofs.Common.{◌≡◌, ℕ, zero, suc, ◌<◌, ◌⊎◌, inl, inr, Bool, true, false, refl, sym, ap, ◌∙◌, subst, true≢false}
+use Rattle.std.proofs.Common.{◌≡◌, ℕ, zero, suc, inl, inr, Bool, true, false, refl, sym, ap, ◌∙◌, subst, true≢false}
 use Rattle.std.specs.Prelude.{List, [], ◌∷◌, ◌++◌, Option, Some, None, Contains, not, take, length, slice_get}
 use Rattle.std.specs.List.{All}
 use Rattle.std.proofs.lemmas.List.Elements.{All-head, All-tail, Contains-append_left, Contains-append_right, Contains-push}
@@ -28,7 +28,7 @@ use Rattle.isp_rates.specs.Exits.{in_loop, in_foreach_active, ItemBreach, Simple
 use Rattle.isp_rates.specs.Rates.{goes_to, rate_held, variables_of, RateBreach, DemandBreach, ExprBreach, PlaceBreach, ArgumentBreach, CallBreach, ArgumentsBreach, ValuesBreach}
 use Rattle.isp_independence.specs.declared.dependence.Dependence.{Dependence}
 use Rattle.isp_independence.specs.declared.dependence.Restriction.TheVariants.{Crossing}
-use Rattle.isp_independence.specs.Crossing.{looks_across, Cross, CrossPlace, CrossCall, CrossArguments, CrossArgument, CrossAll}
+use Rattle.isp_independence.specs.Crossing.{looks_across, CrossPlace, CrossCall, CrossArguments, CrossArgument, CrossAll}
 use Rattle.isp_independence.specs.Dependences.{at}
 use Rattle.isp_independence.specs.Reaches.{expr_calls, place_calls, call_calls, argument_calls, arguments_calls, values_calls, item_calls, simple_calls, first_calls, calls_of_any, calls_of_each, stmt_calls, block_calls, stmts_calls}
 use Rattle.isp_meaning.specs.Calls.{size_of, shared_sizes, size_at}

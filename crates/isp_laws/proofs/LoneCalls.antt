@@ -1,12 +1,12 @@
 -- Calls over the set of one instance come to what that instance's do alone, by induction on the levels that are left.
-use Rattle.std.proofs.Common.{◌≡◌, ℕ, zero, suc, ◌<◌, ◌≤◌, ◌⊎◌, inl, inr, Bool, true, false, refl, sym, ap, ◌∙◌, subst, arith, true≢false}
+use Rattle.std.proofs.Common.{◌≡◌, ℕ, zero, suc, ◌<◌, ◌≤◌, inl, inr, Bool, true, refl, sym, ap, ◌∙◌, subst, arith}
 use Rattle.std.proofs.Math.Path.{fun_ext}
 use Rattle.std.proofs.lemmas.Bool.Decides.{nat_tests}
 use Rattle.std.proofs.lemmas.List.Elements.{All-head, All-tail}
 use Rattle.std.specs.List.{All}
 use Rattle.std.specs.Prelude.{List, [], ◌∷◌, ◌+◌, Option, Some, None, Contains, take, drop, length, slice_get, nat_lt, if◌then◌else◌}
 use Rattle.isp_base.specs.Cross.{or_zero}
-use Rattle.isp_base.specs.Maps.{on, over, or_old}
+use Rattle.isp_base.specs.Maps.{over}
 use Rattle.isp_base.specs.Sets.{lone}
 use Rattle.isp_base.specs.Traps.{trap}
 use Rattle.isp_base.specs.Types.{gang_width}
@@ -23,13 +23,13 @@ use Rattle.isp_typed.specs.declared.variable.Variable.{Variable as AVar}
 use Rattle.isp_typed.specs.Fine.{HoldsArray, array_type, params_of, IsDeclared, FineFunction}
 use Rattle.isp_typed.specs.Typed.{TFunction, Program}
 use Rattle.isp_rates.specs.Breaches.{OfEach}
-use Rattle.isp_rates.specs.Exits.{at_start, BlockBreach}
+use Rattle.isp_rates.specs.Exits.{at_start}
 use Rattle.isp_rates.specs.Program.{IsAccepted, FunctionBreach}
 use Rattle.isp_independence.specs.Reaches.{Reaches, itself, by_call, Calls, block_calls}
-use Rattle.isp_meaning.specs.Calls.{shared_sizes, store_or, same_rate, is_value, one_passed, each_passed, frame_of, begun, answer_at, answer_of, resumed, ended, called, calls_at}
+use Rattle.isp_meaning.specs.Calls.{shared_sizes, store_or, same_rate, is_value, one_passed, each_passed, frame_of, begun, answer_at, answer_of, ended, called, calls_at}
 use Rattle.isp_meaning.specs.Expressions.{Passed, Values, Store}
 use Rattle.isp_meaning.specs.Outcomes.{Res, Went, Trapped, Cut}
-use Rattle.isp_meaning.specs.Payloads.{Payload, One, Each, sole, spread}
+use Rattle.isp_meaning.specs.Payloads.{One, Each, sole, spread}
 use Rattle.isp_meaning.specs.State.{State, Frame, below}
 use Rattle.isp_meaning.specs.Statements.{block}
 use Rattle.isp_alone.specs.Alone.{Alone}
@@ -37,13 +37,13 @@ use Rattle.isp_alone.specs.Answers.{End, Does, Dies, Lasts}
 use Rattle.isp_alone.specs.Calls.{value_passed, begun as own_begun, ended as own_ended, called as own_called, own_calls}
 use Rattle.isp_alone.specs.Does.{does_block}
 use Rattle.isp_laws.specs.Lone.{LooksAtNobody, SharesNone, IsFrameOf, World, ResultAt, ResultIs, Stands, Shares, IsValue, IsAnswer}
-use Rattle.isp_laws.proofs.LoneSets.{just, just_is, just_here, lowest_lone}
-use Rattle.isp_laws.proofs.LoneSims.{CameTo, Left, not_uniform, uniform_value, spread_value}
+use Rattle.isp_laws.proofs.LoneSets.{just_is, lowest_lone}
+use Rattle.isp_laws.proofs.LoneSims.{CameTo, Left, not_uniform, uniform_value}
 use Rattle.isp_laws.proofs.LoneFair.{IsOpen, FairBlock}
 use Rattle.isp_laws.proofs.LoneHeld.{over_there}
 use Rattle.isp_laws.proofs.LoneValues.{PassedIs, AllPassed, CallsAgree}
 use Rattle.isp_laws.proofs.LoneDoes.{block_left}
-use Rattle.isp_laws.proofs.LoneAsked.{local_varies, none_is, fair_block}
+use Rattle.isp_laws.proofs.LoneAsked.{local_varies, fair_block}
 
 -- ---- what an accepted program promises of each function
 
@@ -242,9 +242,9 @@ module _ (w : World) where
       go k x t is ty u (holds.Given e) d q r h i = handed_store x e k d q r i h
       go k x t is ty u (holds.Local v n) d q r h i =
           absurd (not_uniform (sym (local_varies g.variables none k x v n is d) ∙ ap (λ (z : Option Ty). rate_in z) (sym (ap array_type d) ∙ ty) ∙ u)) where
-        rate_in : Option Ty → Rate
-        rate_in None = Varying
-        rate_in (Some z) = z.rate
+            rate_in : Option Ty → Rate
+            rate_in None = Varying
+            rate_in (Some z) = z.rate
 
     -- it begins with what was passed and zeros
     no_result : (o : Option Ty) → ResultIs o 0 0 0
@@ -308,16 +308,16 @@ module _ (program : Program) (most : ℕ) (accepted : IsAccepted program) where
       subst (λ o. CameTo w (IsAnswer w.instance g.answer) (called program most (calls_at program most left) o (lone (Some w.instance)) xs w.frame s) (own_called program most w.begin w.instance (own_calls program most w.begin w.instance left) o ys w.frame t)) (sym found)
       (subst (λ fr. CameTo w (IsAnswer w.instance g.answer) (ended g.answer w.frame (lone (Some w.instance)) s (block gang (frame_of g xs w.frame) (calls_at program most left) most g.body (lone (Some w.instance)) (begun g xs w.frame (lone (Some w.instance)) s))) (own_ended t (does_block gang w.begin w.instance fr (own_calls program most w.begin w.instance left) most g.body (own_begun g ys t)))) (sym (same_frame w g xs ys none at))
       (ended_came w g xs ys none at s t st _ _ (block_left (inner w g xs ys none at) gang lt program.functions (LooksAtNobody program) (calls_at program most left) (own_calls program most w.begin w.instance left) (below (inner w g xs ys none at) lt) most g.body body_fair (begun g xs w.frame (lone (Some w.instance)) s) (own_begun g ys t) (begun_stands w g xs ys none at s t st)))) where
-    none : SharesNone g.variables
-    none = looks.arrays k g itself found
+        none : SharesNone g.variables
+        none = looks.arrays k g itself found
 
-    at : (j : ℕ) → HandedAt w (slice_get g.variables j) (slice_get xs j) (slice_get ys j)
-    at = handed_at w (length g.params) g.variables xs ys passed (declared_at (length g.params) g.variables (fine k g found).declared)
+        at : (j : ℕ) → HandedAt w (slice_get g.variables j) (slice_get xs j) (slice_get ys j)
+        at = handed_at w (length g.params) g.variables xs ys passed (declared_at (length g.params) g.variables (fine k g found).declared)
 
-    body_fair : FairBlock (frame_of g xs w.frame) program.functions (LooksAtNobody program) g.body
-    body_fair =
-        fair_block (frame_of g xs w.frame) program.functions (LooksAtNobody program) g.variables (frame_opens (frame_of g xs w.frame) g (frame_is w g xs ys none at)) none g.answer refl at_start g.body (fine k g found).body
-        (λ z b. accepted.sound z (breach_of (FunctionBreach program.functions) program.functions k g found z (inr b))) (looks.body k g itself found) (callees program k g found looks)
+        body_fair : FairBlock (frame_of g xs w.frame) program.functions (LooksAtNobody program) g.body
+        body_fair =
+            fair_block (frame_of g xs w.frame) program.functions (LooksAtNobody program) g.variables (frame_opens (frame_of g xs w.frame) g (frame_is w g xs ys none at)) none g.answer refl at_start g.body (fine k g found).body
+            (λ z b. accepted.sound z (breach_of (FunctionBreach program.functions) program.functions k g found z (inr b))) (looks.body k g itself found) (callees program k g found looks)
 
   pub calls_agree : (left : ℕ) (w : World) → w.instance < gang → Level left w
   calls_agree zero w lt = record { go = λ k g sp xs ys s t found looks passed st. record { by = (ap (λ o. trap Depth sp (or_zero o)) (lowest_lone w.instance gang lt), st.4) } }

@@ -1,17 +1,15 @@
 -- Variables and elements: what is held at a place and what is kept there, by the set of one instance and by it alone.
-use Rattle.std.proofs.Common.{◌≡◌, ℕ, ◌<◌, ◌⊎◌, inl, inr, ⊎_elim, Bool, true, false, refl, sym, ap, ap₂, ◌∙◌, subst, true≢false, eq-eqb}
+use Rattle.std.proofs.Common.{◌≡◌, ℕ, ◌<◌, inl, inr, ⊎_elim, Bool, true, false, refl, sym, ap, ap₂, ◌∙◌, subst, true≢false, eq-eqb}
 use Rattle.std.proofs.Math.Path.{fun_ext}
 use Rattle.std.proofs.lemmas.Bool.{cases_eq}
 use Rattle.std.specs.Prelude.{Option, Some, None, ◌&&◌, if◌then◌else◌, nat_eq}
 use Rattle.isp_base.specs.Access.{is_outside, element, scatter}
-use Rattle.isp_base.specs.Maps.{Lanes, Map, on, over, or_old, each1, holds, put}
+use Rattle.isp_base.specs.Maps.{Lanes, Map, over, or_old, each1, holds, put}
 use Rattle.isp_base.specs.Sets.{lone}
 use Rattle.isp_base.specs.Traps.{trap}
 use Rattle.isp_base.specs.declared.types.Elem.{Elem}
 use Rattle.isp_base.specs.declared.types.Rate.{Rate}
 use Rattle.isp_base.specs.declared.types.Rate.TheVariants.{Uniform, Varying}
-use Rattle.isp_base.specs.declared.types.Span.{Span}
-use Rattle.isp_base.specs.declared.types.Ty.{Ty}
 use Rattle.isp_base.specs.declared.trap.TrapKind.TheVariants.{Index}
 use Rattle.isp_typed.specs.declared.variable.ArrayVariable.{ArrayVariable}
 use Rattle.isp_typed.specs.Typed.{TPlace, t_variable, t_element, elem_of, rate_of, place_type, place_span}
@@ -19,13 +17,13 @@ use Rattle.isp_meaning.specs.Outcomes.{Gives, checked}
 use Rattle.isp_meaning.specs.Payloads.{Payload, One, Each, sole, spread, mapped}
 use Rattle.isp_meaning.specs.Places.{Place, Variable, Element, variable, written, stored, own_stored, elements, with_elements, outside, held, kept}
 use Rattle.isp_meaning.specs.Simple.{cleared}
-use Rattle.isp_meaning.specs.State.{State, Frame, extent}
+use Rattle.isp_meaning.specs.State.{State, extent}
 use Rattle.isp_alone.specs.Alone.{Alone, put_in, variable as own_variable, written as own_written}
-use Rattle.isp_alone.specs.Answers.{Has, Bad, choose, unless}
+use Rattle.isp_alone.specs.Answers.{Bad, choose}
 use Rattle.isp_alone.specs.Places.{Spot, AVariable, AnElement, outside as own_outside, element_kept, kept as own_kept, cleared as own_cleared_at}
 use Rattle.isp_alone.specs.Values.{found, held as own_held}
-use Rattle.isp_laws.specs.Lone.{World, Shares, Stands, IsValue}
-use Rattle.isp_laws.proofs.LoneSets.{eq_itself, eq_true, eq_turned, just, just_is, just_here, each_just, scatter_lone}
+use Rattle.isp_laws.specs.Lone.{World, Stands, IsValue}
+use Rattle.isp_laws.proofs.LoneSets.{eq_itself, eq_true, eq_turned, just, just_is, just_here, scatter_lone}
 use Rattle.isp_laws.proofs.LoneSims.{CameTo, Follows, not_uniform, as_rate, mapped_value, spread_value, uniform_value, offender_value, some_if}
 use Rattle.isp_laws.proofs.LoneFair.{IsOpen, FairPlace}
 
@@ -71,13 +69,13 @@ module _ (w : World) where
       record { by = (as_rate w.instance t q _ _ j (subst (IsValue w.instance q _) (st.4.0 (w.frame.named b.number) (element e y) o) at), st) }
   elements_value Varying q t b e m y s u o i j h st =
       record { by = (inr (varying t i, ap Each (fun_ext (λ k. ap (each1 (λ x. s.own b.number (element e x) k)) (ap (λ f. f k) (spread_value w.instance q m y h)) ∙ each_on k (nat_eq k w.instance)) ∙ just_is w.instance (s.own b.number (element e y)) (u.own b.number (element e y)) (st.2 b.number (element e y)))), st) } where
-    varying : (r : Rate) → Follows r Varying → r ≡ Varying
-    varying Varying f = refl
-    varying Uniform f = absurd (not_uniform (f refl))
+        varying : (r : Rate) → Follows r Varying → r ≡ Varying
+        varying Varying f = refl
+        varying Uniform f = absurd (not_uniform (f refl))
 
-    each_on : (k : ℕ) (c : Bool) → each1 (λ x. s.own b.number (element e x) k) (if c then Some y else None) ≡ (if c then Some (s.own b.number (element e y) k) else None)
-    each_on k true = refl
-    each_on k false = refl
+        each_on : (k : ℕ) (c : Bool) → each1 (λ x. s.own b.number (element e x) k) (if c then Some y else None) ≡ (if c then Some (s.own b.number (element e y) k) else None)
+        each_on k true = refl
+        each_on k false = refl
 
   -- stored
   stored_at : (gang : ℕ) → w.instance < gang → (q r : Rate) (m n : Payload) (i y : ℕ) (f : Lanes) → IsValue w.instance q m i → IsValue w.instance r n y → stored gang (lone (Some w.instance)) m n f ≡ put f i y
@@ -140,11 +138,11 @@ module _ (w : World) where
       rw (r.0, r.1) (record { by = (variable_value t.rate k s u st, st) })
   held_came gang lt (t_element b i t sp) fs c f x z s u r st =
       rw (r.2, r.3) (
-        let off = offender_value w.instance gang lt (is_outside (elem_of i) (extent w.frame b)) (rate_of i) r.0 r.1 r.4 in
-        rw off (at (is_outside (elem_of i) (extent w.frame b) r.1))) where
-    at : (k : Bool) → CameTo w (IsValue w.instance t.rate) (checked (some_if w.instance k) Index sp s (elements w.frame b (elem_of i) r.0 (lone (Some w.instance)) b.ty.rate s)) (choose k (Bad (trap Index sp w.instance)) (found w.begin w.instance w.frame b.ty.rate b (element (elem_of i) r.1)) u)
-    at true = record { by = (refl, st.4) }
-    at false = elements_value b.ty.rate (rate_of i) t.rate b (elem_of i) r.0 r.1 s u f.1 f.2 f.3 r.4 st
+      let off = offender_value w.instance gang lt (is_outside (elem_of i) (extent w.frame b)) (rate_of i) r.0 r.1 r.4 in
+      rw off (at (is_outside (elem_of i) (extent w.frame b) r.1))) where
+        at : (k : Bool) → CameTo w (IsValue w.instance t.rate) (checked (some_if w.instance k) Index sp s (elements w.frame b (elem_of i) r.0 (lone (Some w.instance)) b.ty.rate s)) (choose k (Bad (trap Index sp w.instance)) (found w.begin w.instance w.frame b.ty.rate b (element (elem_of i) r.1)) u)
+        at true = record { by = (refl, st.4) }
+        at false = elements_value b.ty.rate (rate_of i) t.rate b (elem_of i) r.0 r.1 s u f.1 f.2 f.3 r.4 st
 
   -- the index is outside in both or in none
   pub outside_is : (gang : ℕ) → w.instance < gang → (q : TPlace) (x : Place) (z : Spot) → PlaceIs w.instance q x z → outside gang w.frame x (lone (Some w.instance)) ≡ some_if w.instance (own_outside w.frame z)

@@ -1,7 +1,7 @@
 -- Loops of the set of one instance, and of that instance alone: as many turns, by induction on those that are left.
-use Rattle.std.proofs.Common.{◌≡◌, ℕ, zero, suc, ◌<◌, Bool, true, false, refl, sym, ap, ◌∙◌, subst}
-use Rattle.std.specs.Prelude.{Some, if◌then◌else◌}
-use Rattle.isp_base.specs.Sets.{Mask, nobody, union, without, any, lone}
+use Rattle.std.proofs.Common.{ℕ, zero, suc, ◌<◌, Bool, true, false, sym, ap, subst}
+use Rattle.std.specs.Prelude.{Some}
+use Rattle.isp_base.specs.Sets.{Mask, nobody, union, any, lone}
 use Rattle.isp_meaning.specs.State.{State, tick}
 use Rattle.isp_meaning.specs.Payloads.{Payload, is_true, kept_by}
 use Rattle.isp_meaning.specs.Outcomes.{Val, Res, Went, Trapped, Cut, Done, go_on, if_so}
@@ -10,7 +10,7 @@ use Rattle.isp_alone.specs.Alone.{Alone}
 use Rattle.isp_alone.specs.Answers.{Answer, How, Going, Broke, Continued, Returned, End, Does, Dies, Lasts, Done as OwnDone, choose}
 use Rattle.isp_alone.specs.Loops.{tested as own_tested, stepped as own_stepped, turned as own_turned, turns as own_turns}
 use Rattle.isp_base.specs.declared.types.Rate.TheVariants.{Varying}
-use Rattle.isp_laws.specs.Lone.{World, Stands, IsValue, left}
+use Rattle.isp_laws.specs.Lone.{World, Stands, left}
 use Rattle.isp_laws.proofs.LoneSets.{any_nobody, any_lone, union_nobody, without_nobody, without_itself, lone_if}
 use Rattle.isp_laws.proofs.LoneSims.{CameTo, Left, left_with, kept_value, any_if}
 use Rattle.isp_laws.proofs.LoneSteps.{Anything, Tests}
@@ -22,9 +22,9 @@ module _ (w : World) (gang : ℕ) (lt : w.instance < gang) where
   -- ---- the test, the body and the step as functions of the state
 
   module _ (test : Mask → State → Val Payload) (own_test : Alone → Answer ℕ) (body : Mask → State → Res) (own_body : Alone → End) (step : Mask → State → Val Done) (own_step : Alone → Answer OwnDone)
-    (tests : (s : State) (t : Alone) → Stands w s t → CameTo w (Tests w.instance) (test us s) (own_test t))
-    (does : (s : State) (t : Alone) → Stands w s t → Left w (body us s) (own_body t))
-    (steps : (s : State) (t : Alone) → Stands w s t → CameTo w Anything (step us s) (own_step t)) where
+      (tests : (s : State) (t : Alone) → Stands w s t → CameTo w (Tests w.instance) (test us s) (own_test t))
+      (does : (s : State) (t : Alone) → Stands w s t → Left w (body us s) (own_body t))
+      (steps : (s : State) (t : Alone) → Stands w s t → CameTo w Anything (step us s) (own_step t)) where
     -- it ends
     over : (s : State) (t : Alone) → Stands w s t → Left w (loop_end gang test body step us nobody s) (Does t Going)
     over s t st = record { by = (ap (λ z. Went s z nobody nobody nobody) (without_nobody us), st) }
@@ -55,14 +55,14 @@ module _ (w : World) (gang : ℕ) (lt : w.instance < gang) where
         → Left w (go_on v (λ s1 g b c q. if_so (any gang (union g c)) (turn (union g c) (union nobody q)) (loop_end gang test body step us (union nobody q)) s1)) (own_turned own_test own_body own_step r own)
     turned_left (Went s g b c q) (Does t how) turn own h k =
         subst (λ z. Left w (go_on z (λ s1 g b c q. if_so (any gang (union g c)) (turn (union g c) (union nobody q)) (loop_end gang test body step us (union nobody q)) s1)) (own_turned own_test own_body own_step (Does t how) own)) (sym h.by.0) (at how) where
-      goes : (Mask → Mask → State → Res) → Left w (turn us nobody s) (own t) → Left w (if_so (any gang us) (turn us nobody) (loop_end gang test body step us nobody) s) (own t)
-      goes f x = subst (λ z. Left w (if_so z (turn us nobody) (loop_end gang test body step us nobody) s) (own t)) (sym (any_lone w.instance gang lt)) x
+          goes : (Mask → Mask → State → Res) → Left w (turn us nobody s) (own t) → Left w (if_so (any gang us) (turn us nobody) (loop_end gang test body step us nobody) s) (own t)
+          goes f x = subst (λ z. Left w (if_so z (turn us nobody) (loop_end gang test body step us nobody) s) (own t)) (sym (any_lone w.instance gang lt)) x
 
-      at : (how : How) → Left w (go_on (left w.instance how s) (λ s1 g b c q. if_so (any gang (union g c)) (turn (union g c) (union nobody q)) (loop_end gang test body step us (union nobody q)) s1)) (own_turned own_test own_body own_step (Does t how) own)
-      at Going = subst (λ z. Left w (if_so (any gang z) (turn z nobody) (loop_end gang test body step us nobody) s) (own t)) (sym (union_nobody us)) (goes turn (k s t h.by.1))
-      at Broke = subst (λ z. Left w (if_so z (turn nobody nobody) (loop_end gang test body step us nobody) s) (Does t Going)) (sym (any_nobody gang)) (over s t h.by.1)
-      at Continued = goes turn (k s t h.by.1)
-      at Returned = subst (λ z. Left w (if_so z (turn nobody us) (loop_end gang test body step us us) s) (Does t Returned)) (sym (any_nobody gang)) (over_back s t h.by.1)
+          at : (how : How) → Left w (go_on (left w.instance how s) (λ s1 g b c q. if_so (any gang (union g c)) (turn (union g c) (union nobody q)) (loop_end gang test body step us (union nobody q)) s1)) (own_turned own_test own_body own_step (Does t how) own)
+          at Going = subst (λ z. Left w (if_so (any gang z) (turn z nobody) (loop_end gang test body step us nobody) s) (own t)) (sym (union_nobody us)) (goes turn (k s t h.by.1))
+          at Broke = subst (λ z. Left w (if_so z (turn nobody nobody) (loop_end gang test body step us nobody) s) (Does t Going)) (sym (any_nobody gang)) (over s t h.by.1)
+          at Continued = goes turn (k s t h.by.1)
+          at Returned = subst (λ z. Left w (if_so z (turn nobody us) (loop_end gang test body step us us) s) (Does t Returned)) (sym (any_nobody gang)) (over_back s t h.by.1)
     turned_left (Trapped e s) (Dies d t) turn own h k = record { by = h.by }
     turned_left (Cut s) (Lasts t) turn own h k = record { by = h.by }
     turned_left (Went s g b c q) (Dies d t) turn own h k = absurd h.by

@@ -1,7 +1,7 @@
 -- The set of one instance, and values in that instance alone.
-use Rattle.std.proofs.Common.{◌≡◌, ℕ, zero, suc, ◌<◌, ⊎_elim, ◌⊎◌, inl, inr, Bool, true, false, refl, sym, ap, ap₂, ◌∙◌, subst, arith, true≢false, eq-eqb, ne_eqb}
+use Rattle.std.proofs.Common.{◌≡◌, ℕ, zero, suc, ◌<◌, ⊎_elim, Bool, true, false, refl, sym, ap, ◌∙◌, arith, true≢false, eq-eqb, ne_eqb}
 use Rattle.std.proofs.Math.Path.{fun_ext}
-use Rattle.std.specs.Prelude.{List, [], ◌∷◌, ◌++◌, Option, Some, None, ◌&&◌, ◌||◌, not, if◌then◌else◌, nat_eq}
+use Rattle.std.specs.Prelude.{[], ◌∷◌, ◌++◌, Some, None, ◌&&◌, ◌||◌, not, if◌then◌else◌, nat_eq}
 use Rattle.std.proofs.lemmas.Bool.{cases_eq}
 use Rattle.isp_base.specs.Sets.{Mask, nobody, union, without, any, lowest, or_this, lone}
 use Rattle.isp_base.specs.Maps.{Lanes, Map, on, holds, each1, each2, map1, map2, where_true, put}

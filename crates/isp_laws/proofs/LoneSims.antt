@@ -1,20 +1,18 @@
 -- How one goes on from another: where the gang comes over the set of one instance to what that instance does alone.
-use Rattle.std.proofs.Common.{◌≡◌, ℕ, ◌<◌, ◌⊎◌, inl, inr, Bool, true, false, refl, sym, ap, ap₂, ◌∙◌, subst, true≢false}
-use Rattle.std.specs.Prelude.{Option, Some, None, not, if◌then◌else◌}
-use Rattle.isp_base.specs.Maps.{Lanes, Map, on, where_true, lowest_failing}
+use Rattle.std.proofs.Common.{◌≡◌, ℕ, ◌<◌, inl, inr, Bool, true, false, refl, sym, ap, ap₂, ◌∙◌, subst}
+use Rattle.std.specs.Prelude.{Option, Some, None, if◌then◌else◌}
 use Rattle.isp_base.specs.Sets.{Mask, nobody, union, without, any, lowest, lone}
-use Rattle.isp_base.specs.Traps.{trap}
 use Rattle.isp_base.specs.declared.trap.TrapKind.{TrapKind}
 use Rattle.isp_base.specs.declared.types.Rate.{Rate}
 use Rattle.isp_base.specs.declared.types.Rate.TheVariants.{Uniform, Varying}
 use Rattle.isp_base.specs.declared.types.Span.{Span}
 use Rattle.isp_meaning.specs.Outcomes.{Val, Gives, Fails, Stops, Res, Went, Trapped, Cut, bind, with_value, checked, go_on, went_all, then_run, both_sides, if_so, unless_empty, value_unless_empty}
-use Rattle.isp_meaning.specs.Payloads.{Payload, One, Each, is_true, is_false, sole, spread, nothing, mapped, joined, kept_by, selected, layer, first_of_two, offender, if_fails}
+use Rattle.isp_meaning.specs.Payloads.{Payload, One, Each, is_true, spread, nothing, mapped, joined, kept_by, offender, if_fails}
 use Rattle.isp_meaning.specs.State.{State}
 use Rattle.isp_meaning.specs.Statements.{branches}
 use Rattle.isp_alone.specs.Alone.{Alone}
 use Rattle.isp_alone.specs.Answers.{Answer, Has, Bad, Long, How, Going, Broke, Continued, Returned, End, Does, Dies, Lasts, and_then, with_answer, unless, choose, then_on}
-use Rattle.isp_laws.specs.Lone.{World, Shares, Stands, Comes, IsValue, left, ComesTo}
+use Rattle.isp_laws.specs.Lone.{World, Stands, Comes, IsValue, left, ComesTo}
 use Rattle.isp_laws.proofs.LoneSets.{any_nobody, any_lone, lowest_nobody, lowest_lone, just, each_just, both_just, where_just, lone_if, union_nobody, without_nobody, without_itself}
 
 -- the relations, as records
@@ -209,15 +207,15 @@ module _ (w : World) where
   left_branches gang lt r m y first second own other s t (inr e) h k =
       subst (λ z. Left w (branches gang (lone (Some w.instance)) first second z s) (choose (is_true y) own other t)) (sym e.1)
       (subst (λ z. Left w (both_sides (unless_empty gang z s first) (λ s1. unless_empty gang (without (lone (Some w.instance)) z) s1 second)) (choose (is_true y) own other t)) (sym (where_just w.instance is_true y)) (at (is_true y))) where
-    at : (b : Bool) → Left w (both_sides (unless_empty gang (lone_if w.instance b) s first) (λ s1. unless_empty gang (without (lone (Some w.instance)) (lone_if w.instance b)) s1 second)) (choose b own other t)
-    at true =
-        subst (λ z. Left w (both_sides (unless_empty gang (lone (Some w.instance)) s first) (λ s1. unless_empty gang z s1 second)) (own t)) (sym (without_itself (lone (Some w.instance))))
-        (subst (λ z. Left w (both_sides z (λ s1. unless_empty gang nobody s1 second)) (own t)) (sym (lone_runs gang lt first s))
-        (subst (λ b. Left w (both_sides (first (lone (Some w.instance)) s) (λ s1. if_so b (second nobody) (went_all nobody) s1)) (own t)) (sym (any_nobody gang)) (before_nobody _ _ h)))
-    at false =
-        subst (λ z. Left w (both_sides (unless_empty gang nobody s first) (λ s1. unless_empty gang z s1 second)) (other t)) (sym (without_nobody (lone (Some w.instance))))
-        (subst (λ z. Left w (both_sides z (λ s1. unless_empty gang (lone (Some w.instance)) s1 second)) (other t)) (sym (nobody_runs gang first s))
-        (subst (λ z. Left w (go_on z (λ s1 g b c q. Went s1 (union nobody g) (union nobody b) (union nobody c) (union nobody q))) (other t)) (sym (lone_runs gang lt second s)) (after_nobody _ _ k)))
+        at : (b : Bool) → Left w (both_sides (unless_empty gang (lone_if w.instance b) s first) (λ s1. unless_empty gang (without (lone (Some w.instance)) (lone_if w.instance b)) s1 second)) (choose b own other t)
+        at true =
+            subst (λ z. Left w (both_sides (unless_empty gang (lone (Some w.instance)) s first) (λ s1. unless_empty gang z s1 second)) (own t)) (sym (without_itself (lone (Some w.instance))))
+            (subst (λ z. Left w (both_sides z (λ s1. unless_empty gang nobody s1 second)) (own t)) (sym (lone_runs gang lt first s))
+            (subst (λ b. Left w (both_sides (first (lone (Some w.instance)) s) (λ s1. if_so b (second nobody) (went_all nobody) s1)) (own t)) (sym (any_nobody gang)) (before_nobody _ _ h)))
+        at false =
+            subst (λ z. Left w (both_sides (unless_empty gang nobody s first) (λ s1. unless_empty gang z s1 second)) (other t)) (sym (without_nobody (lone (Some w.instance))))
+            (subst (λ z. Left w (both_sides z (λ s1. unless_empty gang (lone (Some w.instance)) s1 second)) (other t)) (sym (nobody_runs gang first s))
+            (subst (λ z. Left w (go_on z (λ s1 g b c q. Went s1 (union nobody g) (union nobody b) (union nobody c) (union nobody q))) (other t)) (sym (lone_runs gang lt second s)) (after_nobody _ _ k)))
 
   -- the next statement, if this instance went on
   pub left_then : (gang : ℕ) → w.instance < gang → (v : Res) (r : End) (next : Mask → State → Res) (own : Alone → End) → Left w v r → ((s : State) (t : Alone) → Stands w s t → Left w (next (lone (Some w.instance)) s) (own t))

@@ -1,5 +1,5 @@
 -- Assignments and declarations by the set of one instance, and by that instance alone.
-use Rattle.std.proofs.Common.{◌≡◌, ℕ, ◌<◌, inl, refl, sym}
+use Rattle.std.proofs.Common.{ℕ, ◌<◌, inl, refl}
 use Rattle.std.specs.Prelude.{List, [], ◌∷◌, Option, Some, None}
 use Rattle.isp_base.specs.Access.{is_zero}
 use Rattle.isp_base.specs.Sets.{lone}
@@ -7,7 +7,7 @@ use Rattle.isp_base.specs.Values.{op_bits}
 use Rattle.isp_base.specs.declared.operators.BinOp.{BinOp}
 use Rattle.isp_base.specs.declared.types.Elem.{Elem}
 use Rattle.isp_base.specs.declared.types.Rate.{Rate}
-use Rattle.isp_base.specs.declared.types.Rate.TheVariants.{Uniform, Varying}
+use Rattle.isp_base.specs.declared.types.Rate.TheVariants.{Varying}
 use Rattle.isp_base.specs.declared.types.Span.{Span}
 use Rattle.isp_base.specs.declared.trap.TrapKind.TheVariants.{Divide, Index}
 use Rattle.isp_tree.specs.Sound.{IfAny}

@@ -1,12 +1,12 @@
 -- An expression over the set of one instance comes to what that instance answers alone. One line a node.
-use Rattle.std.proofs.Common.{◌≡◌, ℕ, ◌<◌, ◌⊎◌, inl, inr, Bool, true, false, refl, sym, ap, ap₂, ◌∙◌, subst, true≢false}
+use Rattle.std.proofs.Common.{◌≡◌, ℕ, ◌<◌, inl, inr, Bool, true, false, refl, sym, ap, ap₂, ◌∙◌, subst, true≢false}
 use Rattle.std.proofs.Math.Path.{fun_ext}
-use Rattle.std.specs.Prelude.{List, [], ◌∷◌, Option, Some, None, not, get_or, slice_get, ◌%◌, ◌^◌, if◌then◌else◌, nat_eq}
+use Rattle.std.specs.Prelude.{List, [], ◌∷◌, Option, Some, None, not, get_or, slice_get, if◌then◌else◌, nat_eq}
 use Rattle.isp_base.specs.Access.{is_zero}
-use Rattle.isp_base.specs.Maps.{Map, on, where_true}
-use Rattle.isp_base.specs.Sets.{Mask, lone, nobody}
+use Rattle.isp_base.specs.Maps.{where_true}
+use Rattle.isp_base.specs.Sets.{Mask, lone}
 use Rattle.isp_base.specs.Unary.{unary_bits}
-use Rattle.isp_base.specs.Values.{width, op_bits, compare_bits}
+use Rattle.isp_base.specs.Values.{op_bits, compare_bits}
 use Rattle.isp_base.specs.declared.operators.BinOp.TheVariants as op
 use Rattle.isp_base.specs.declared.operators.UnaryOp.TheVariants.{Absolute}
 use Rattle.isp_base.specs.declared.types.Elem.{Elem}
@@ -14,7 +14,7 @@ use Rattle.isp_base.specs.declared.types.Rate.{Rate}
 use Rattle.isp_base.specs.declared.types.Rate.TheVariants.{Uniform, Varying}
 use Rattle.isp_base.specs.declared.types.Span.{Span}
 use Rattle.isp_base.specs.declared.types.Ty.{Ty}
-use Rattle.isp_base.specs.declared.trap.TrapKind.TheVariants.{Divide, Index}
+use Rattle.isp_base.specs.declared.trap.TrapKind.TheVariants.{Divide}
 use Rattle.isp_typed.specs.Fine.{params_of, rates_of}
 use Rattle.isp_typed.specs.declared.library.Library.{Library}
 use Rattle.isp_typed.specs.declared.library.Library.TheVariants as library
@@ -22,21 +22,19 @@ use Rattle.isp_typed.specs.declared.variable.Holds.{Holds}
 use Rattle.isp_typed.specs.declared.variable.Holds.TheVariants as holds
 use Rattle.isp_typed.specs.declared.variable.Logic.{Logic}
 use Rattle.isp_typed.specs.declared.variable.Variable.{Variable as AVar}
-use Rattle.isp_typed.specs.Typed.{TExpr, t_constant, t_program_index, t_place, t_convert, t_cast, t_unary, t_binary, t_compare, t_logic, t_choose, t_call, t_library, t_packed_store, t_packed_load, TPlace, t_variable, t_element, TArgument, t_by_value, t_by_name, TCall, t_called, TArguments, t_no_arguments, t_argument_then, TExprs, t_no_exprs, t_expr_then, TFunction, rate_of, rate_or, elem_of, place_span, place_type}
+use Rattle.isp_typed.specs.Typed.{TExpr, t_constant, t_program_index, t_place, t_convert, t_cast, t_unary, t_binary, t_compare, t_logic, t_choose, t_call, t_library, t_packed_store, t_packed_load, TPlace, t_variable, t_element, TArgument, t_by_value, t_by_name, TCall, t_called, TArguments, t_no_arguments, t_argument_then, TExprs, t_no_exprs, t_expr_then, TFunction, rate_of, rate_or, elem_of}
 use Rattle.isp_independence.specs.Crossing.{looks_across}
-use Rattle.isp_meaning.specs.State.{State, Frame, tick}
-use Rattle.isp_meaning.specs.Payloads.{Payload, One, Each, converted, is_true, is_false, spread, nothing, kept_by, layer, first_of_two, selected, mapped, joined}
+use Rattle.isp_meaning.specs.State.{State, tick}
+use Rattle.isp_meaning.specs.Payloads.{Payload, One, Each, converted, is_true, is_false, spread, nothing, kept_by, layer, first_of_two, selected}
 use Rattle.isp_meaning.specs.Outcomes.{Val, Gives, bind, if_so, value_unless_empty}
-use Rattle.isp_meaning.specs.Places.{Place, Variable, Element}
 use Rattle.isp_meaning.specs.Library.{library_value, argument, chosen_by, chosen_one}
 use Rattle.isp_meaning.specs.Expressions.{Passed, Values, Store, Calls, needs, settled, value, place, values, call, arguments, passed}
 use Rattle.isp_alone.specs.Alone.{Alone}
-use Rattle.isp_alone.specs.Answers.{Answer, Has, and_then, choose}
-use Rattle.isp_alone.specs.Places.{Spot, AVariable, AnElement}
+use Rattle.isp_alone.specs.Answers.{Answer, Has, choose}
 use Rattle.isp_alone.specs.Values.{OwnCalls, by_instance, answer, spot, answers, answer_call, arguments as own_arguments, passed as own_passed}
 use Rattle.isp_laws.specs.Lone.{World, Stands, IsValue, IsAnswer}
 use Rattle.isp_laws.proofs.LoneSets.{just, just_is, where_just, lone_if}
-use Rattle.isp_laws.proofs.LoneSims.{CameTo, Follows, not_uniform, rated, as_rate, one_value, mapped_value, joined_value, spread_value, kept_value, offender_value, came_has, came_then, came_as, came_alone, came_unless, came_checked}
+use Rattle.isp_laws.proofs.LoneSims.{CameTo, Follows, not_uniform, rated, as_rate, mapped_value, joined_value, spread_value, kept_value, offender_value, came_has, came_then, came_as, came_alone, came_unless, came_checked}
 use Rattle.isp_laws.proofs.LoneFair.{Fair, FairPlace, FairAll, FairCall, FairArguments, FairArgument}
 use Rattle.isp_laws.proofs.LoneHeld.{PlaceIs, held_came}
 
@@ -141,10 +139,10 @@ module _ (p : ℕ) where
     at false = k
   chosen_value r c m n i x z (inr d) h k =
       inr (d.0, ap (λ y. chosen_by (lone (Some p)) y m n) d.1 ∙ ap₂ (λ y j. Each (λ q. chosen_one (just p i q) (y q) (j q))) (spread_value p r m x h) (spread_value p r n z k) ∙ ap Each (fun_ext (λ q. at (nat_eq q p) (is_true i) refl))) where
-    at : (b t : Bool) → is_true i ≡ t → chosen_one (if b then Some i else None) (if b then Some x else None) (if b then Some z else None) ≡ (if b then Some (if t then x else z) else None)
-    at true true e = ap (λ t. if t then Some x else Some z) e
-    at true false e = ap (λ t. if t then Some x else Some z) e
-    at false t e = refl
+        at : (b t : Bool) → is_true i ≡ t → chosen_one (if b then Some i else None) (if b then Some x else None) (if b then Some z else None) ≡ (if b then Some (if t then x else z) else None)
+        at true true e = ap (λ t. if t then Some x else Some z) e
+        at true false e = ap (λ t. if t then Some x else Some z) e
+        at false t e = refl
 
   library_is : (gang : ℕ) (f : Library) (t : Elem) (r : Rate) (ms : List Payload) (ys : List ℕ) → looks_across f ≡ false → AllValues r ms ys
       → IsValue p r (library_value gang t (lone (Some p)) f (argument ms 0) (argument ms 1) (argument ms 2)) (by_instance f t (get_or ys 0 0) (get_or ys 1 0) (get_or ys 2 0))

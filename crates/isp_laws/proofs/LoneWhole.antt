@@ -1,5 +1,5 @@
 -- The law: expressions, statements and whole runs.
-use Rattle.std.proofs.Common.{◌≡◌, ℕ, zero, suc, ◌<◌, inl, Bool, true, false, refl, sym, ◌∙◌, arith, true≢false}
+use Rattle.std.proofs.Common.{◌≡◌, ℕ, zero, suc, inl, Bool, true, false, refl, sym, ◌∙◌, arith, true≢false}
 use Rattle.std.specs.Prelude.{List, [], ◌∷◌, ◌+◌, take, length, not, ◌&&◌}
 use Rattle.isp_base.specs.Arguments.{rows}
 use Rattle.isp_base.specs.Binding.{is_for, has_signature}
@@ -12,7 +12,7 @@ use Rattle.isp_typed.specs.declared.variable.Holds.TheVariants as holds
 use Rattle.isp_typed.specs.declared.variable.Variable.{Variable as AVar}
 use Rattle.isp_typed.specs.Fine.{IsParam, AreParams}
 use Rattle.isp_meaning.specs.Calls.{calls_at}
-use Rattle.isp_meaning.specs.Expressions.{Passed, Values, Store}
+use Rattle.isp_meaning.specs.Expressions.{Values, Store}
 use Rattle.isp_meaning.specs.Payloads.{One}
 use Rattle.isp_meaning.specs.Runs.{handed, first_frame, first_state, no_place}
 use Rattle.isp_alone.specs.Calls.{own_calls}

@@ -1,5 +1,5 @@
 -- The gang's meaning over a set of one instance, beside what that instance does alone: it comes to the same.
-use Rattle.std.specs.Prelude.{◌≡◌, ℕ, ◌<◌, ◌⊎◌, List, [], ◌∷◌, Option, Some, None, true, slice_get, Contains}
+use Rattle.std.specs.Prelude.{◌≡◌, ℕ, ◌<◌, ◌⊎◌, List, [], Option, Some, None, slice_get, Contains}
 use Rattle.std.specs.List.{All}
 use Rattle.isp_base.specs.Maps.{on, or_old}
 use Rattle.isp_base.specs.Sets.{lone, nobody}
@@ -36,8 +36,8 @@ use Rattle.isp_alone.specs.Does.{does}
 use Rattle.isp_alone.specs.Runs.{solo_run, bound}
 use Rattle.isp_alone.specs.Values.{answer}
 
--- ---- what looks at nobody: no call that looks across the gang, no `foreach`, no `unmasked` and no `print`. (`foreach_active` over
--- a set of one makes its one turn.)
+-- ---- what looks at nobody: no call that looks across the gang, no `print`, no `foreach` and no `unmasked`, in which others take
+-- part. (A `foreach_active` over a set of one makes its one turn.)
 
 abbrev pub NoCross : TExpr → Type 0
 NoCross x = (d : Dependence) → Cross x d → ⊥
@@ -113,6 +113,7 @@ pub record IsFrameOf (frame : Frame) (g : TFunction) : Type 0 where
 
 -- ---- when the gang's state stands for that of the instance
 
+-- what the last `return` gave: one value for all, or this instance's own
 abbrev pub ResultAt : Rate → ℕ → ℕ → ℕ → Type 0
 ResultAt Uniform one mine x = one ≡ x
 ResultAt Varying one mine x = mine ≡ x
@@ -180,16 +181,38 @@ pub record LonelyStmt (program : Program) (g : TFunction) (around : Within) (x :
   pub arrays : SharesNone g.variables
   pub calls : (k : ℕ) → Contains (stmt_calls x) k → LooksAtNobody program k
 
+-- The gang's meaning over the set of this instance, and what it does alone: where each loop makes at most so many turns each
+-- time it is entered, and so many levels of calls are left.
+module _ (program : Program) (most levels : ℕ) (w : World) where
+  abbrev pub among : TExpr → State → Val Payload
+  among x s = value (gang_width program.gang) w.frame (calls_at program most levels) x (lone (Some w.instance)) s
+
+  abbrev pub alone : TExpr → Alone → Answer ℕ
+  alone x t = answer w.begin w.instance w.frame (own_calls program most w.begin w.instance levels) x t
+
+  abbrev pub run_among : TStmt → State → Res
+  run_among x s = run (gang_width program.gang) w.frame (calls_at program most levels) most x (lone (Some w.instance)) s
+
+  abbrev pub does_alone : TStmt → Alone → End
+  does_alone x t = does (gang_width program.gang) w.begin w.instance w.frame (own_calls program most w.begin w.instance levels) most x t
+
+-- the call that begins a run, by the set of instance p, and where it runs
+abbrev pub lone_run : Program → ℕ → ℕ → List Argument → ℕ → Val Payload
+lone_run program f most xs p = calls_at program most most_calls f no_place (lone (Some p)) (handed 0 xs) (first_frame xs) (first_state xs)
+
+abbrev pub whole_world : List Argument → ℕ → World
+whole_world xs p = record { instance = p; begin = bound xs; out = []; frame = first_frame xs }
+
 -- Over the set of one instance, from a state that stands for its own, an expression, a statement and a whole run come in the
 -- gang's meaning to exactly what that instance does alone: the value, the way it leaves and the state, or the trap with its
 -- kind, its place and the instance, or a cut, with as many turns and levels of calls.
 pub record LoneIsAlone : Type 0 where
   pub expression : (program : Program) (most levels : ℕ) (w : World) (g : TFunction) (x : TExpr) (s : State) (t : Alone)
       → IsAccepted program → w.instance < gang_width program.gang → IsFrameOf w.frame g → LonelyExpr program g x → Stands w s t
-      → Comes w (IsValue w.instance (rate_of x)) (value (gang_width program.gang) w.frame (calls_at program most levels) x (lone (Some w.instance)) s) (answer w.begin w.instance w.frame (own_calls program most w.begin w.instance levels) x t)
+      → Comes w (IsValue w.instance (rate_of x)) (among program most levels w x s) (alone program most levels w x t)
   pub statement : (program : Program) (most levels : ℕ) (w : World) (g : TFunction) (around : Within) (x : TStmt) (s : State) (t : Alone)
       → IsAccepted program → w.instance < gang_width program.gang → IsFrameOf w.frame g → LonelyStmt program g around x → Stands w s t
-      → ComesTo w (run (gang_width program.gang) w.frame (calls_at program most levels) most x (lone (Some w.instance)) s) (does (gang_width program.gang) w.begin w.instance w.frame (own_calls program most w.begin w.instance levels) most x t)
+      → ComesTo w (run_among program most levels w x s) (does_alone program most levels w x t)
   pub whole : (program : Program) (name : List ℕ) (f most : ℕ) (h : TFunction) (xs : List Argument) (p : ℕ)
       → IsAccepted program → IsEntry program name xs f h → LooksAtNobody program f → p < gang_width program.gang
-      → Comes (record { instance = p; begin = bound xs; out = []; frame = first_frame xs }) (IsAnswer p h.answer) (calls_at program most most_calls f no_place (lone (Some p)) (handed 0 xs) (first_frame xs) (first_state xs)) (solo_run program f most xs (bound xs) p)
+      → Comes (whole_world xs p) (IsAnswer p h.answer) (lone_run program f most xs p) (solo_run program f most xs (bound xs) p)
