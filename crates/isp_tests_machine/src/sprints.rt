@@ -65,24 +65,22 @@ static SUMMED: [Routine<'static>; 1] = [Routine {
     ],
 }];
 
-const BEFORE: [u64; 2] = [7, 8];
+static BEFORE: [&'static [u64]; 1] = [&[7, 8]];
 
-const AFTER: [u64; 2] = [1, 8];
+static AFTER: [&'static [u64]; 1] = [&[1, 8]];
 
 // Three instructions, two turns of five, and two that leave the loop; then the text, the store and the return.
 #[test]
 fn loop_in_parts(rt: HostRuntime) -> Result<(), Fail> {
     let alloc = rt.alloc();
-    let before: [&[u64]; 1] = [&BEFORE];
-    let after: [&[u64]; 1] = [&AFTER];
     let mut all = Vec::new(alloc);
     for _ in 0..16u32 {
-        all.push(seen(Wanted::Running, "", &before))?;
+        all.push(seen(Wanted::Running, "", &BEFORE))?;
     }
-    all.push(seen(Wanted::Running, "1", &before))?;
-    all.push(seen(Wanted::Running, "1", &after))?;
-    all.push(seen(Wanted::Ended, "1", &after))?;
-    let given = [Given::Array(Elem::I32, &BEFORE), Given::Value(Elem::I32, 2)];
+    all.push(seen(Wanted::Running, "1", &BEFORE))?;
+    all.push(seen(Wanted::Running, "1", &AFTER))?;
+    all.push(seen(Wanted::Ended, "1", &AFTER))?;
+    let given = [Given::Array(Elem::I32, &[7, 8]), Given::Value(Elem::I32, 2)];
     for gang in &Gang::ALL {
         let code = verified(alloc, *gang, &SUMMED)?;
         assert!(rt;
