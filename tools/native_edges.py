@@ -77,7 +77,7 @@ int main(int count, char **words)
         fprintf(stderr, "isp: budget used\\n");
     if (end == ISP_TRAPPED)
         fprintf(stderr, "isp: trap %s at %u..%u, instance %u\\n", kinds[run.kind], run.place.start, run.place.end, run.instance);
-    if (end == ISP_ENDED || end == ISP_TRAPPED)
+    if (end == ISP_ENDED)
         printf("{\\"arrays\\":{\\"a\\":[%d,%d,%d,%d]},\\"result\\":null}\\n", a[0], a[1], a[2], a[3]);
     return end == ISP_ENDED ? 0 : end == ISP_TRAPPED ? 3 : end == ISP_NO_STEPS ? 4 : 7;
 }
