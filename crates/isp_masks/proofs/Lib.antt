@@ -50,6 +50,7 @@ mod Lists
 mod Writing
 mod Awaiting
 mod Forms
+mod Splits
 mod Sifting
 mod JumpsWritten
 mod WidelyWritten

@@ -27,3 +27,4 @@ pub mod Awaited
 pub mod Asks
 pub mod Lowered
 pub mod Agreed
+pub mod reader

@@ -12,16 +12,17 @@ ghost use Rattle.isp_masks.specs.Asks.{part_asks, part_slot, parts_asks, parts_s
 ghost use Rattle.isp_masks.specs.Exits.{both_go_on, leaving_of, only_jump};
 ghost use Rattle.isp_masks.specs.Written.{Writes, first_widely_at, guarded_at, if_at, if_else_at, others_at, part_at, parts_at};
 
-use crate::exits::{Leaving, both_go_on, leaving_of};
+use crate::exits::Leaving;
 use crate::looping::{join_where, join_widely};
 use crate::masks::{Masks, Spot};
+use crate::part::Part;
 use crate::sets::{leave_by, part, part_aside, set_apart_unless_all, unite};
 use crate::statement::stmt;
 use isp_base::Rate;
 use isp_code::{Instr, JumpTest};
 use isp_lower::{Body, MaskNumber, RegisterNumber, Scope, Site, expr, mask, scalar, where_so};
 use isp_tree::Form;
-use isp_typed::{TypedExpr, TypedStmt};
+use isp_typed::TypedExpr;
 use std::alloc::AllocError;
 
 /// The form of an `if`, and its test.
@@ -45,13 +46,13 @@ pub(crate) fn if_alone(
     b: &mut Body,
     on: &Scope,
     by: Condition<'_>,
-    then: &TypedStmt,
+    then: Part<'_>,
     spot: Spot,
 ) -> Result<(), AllocError>
     requires test { Present on.now (expr_asks (expr_of by.test.now) spot.slot.number) }
     requires part { Present on.now (part_asks by.form (type_of (expr_of by.test.now)).rate spot.slot.number) }
-    requires then { Present on.now (stmt_asks on.now.answer (stmt_of then.now) (part_slot by.form (type_of (expr_of by.test.now)).rate spot.slot.number)) }
-    ensures { OnOk result (Writes b.old b.new (if_at on.now by.entry.form (expr_of by.entry.test.now) (stmt_of then.now) spot)) }
+    requires then { Present on.now (stmt_asks on.now.answer (stmt_of then.stmt.now) (part_slot by.form (type_of (expr_of by.test.now)).rate spot.slot.number)) }
+    ensures { OnOk result (Writes b.old b.new (if_at on.now by.entry.form (expr_of by.entry.test.now) (stmt_of then.entry.stmt.now) spot)) }
 {
     let tested = expr(b, on, by.test, spot.site())?;
     let given = Given {
@@ -69,12 +70,12 @@ fn part_by(
     b: &mut Body,
     on: &Scope,
     by: Given,
-    then: &TypedStmt,
+    then: Part<'_>,
     spot: Spot,
 ) -> Result<(), AllocError>
     requires part { Present on.now (part_asks by.form by.rate spot.slot.number) }
-    requires then { Present on.now (stmt_asks on.now.answer (stmt_of then.now) (part_slot by.form by.rate spot.slot.number)) }
-    ensures { OnOk result (Writes b.old b.new (part_at on.now (leaving_of (stmt_of then.now)) by.form by.rate by.register.number (stmt_of then.now) spot)) }
+    requires then { Present on.now (stmt_asks on.now.answer (stmt_of then.stmt.now) (part_slot by.form by.rate spot.slot.number)) }
+    ensures { OnOk result (Writes b.old b.new (part_at on.now (leaving_of (stmt_of then.entry.stmt.now)) by.form by.rate by.register.number (stmt_of then.entry.stmt.now) spot)) }
 {
     match (by.rate, by.form) {
         (Rate::Uniform, _) => part_by_jump(b, on, by.register, then, spot),
@@ -89,11 +90,11 @@ fn part_by_jump(
     b: &mut Body,
     on: &Scope,
     tested: RegisterNumber,
-    then: &TypedStmt,
+    then: Part<'_>,
     spot: Spot,
 ) -> Result<(), AllocError>
-    requires there { Present on.now (stmt_asks on.now.answer (stmt_of then.now) spot.slot.number) }
-    ensures { OnOk result (Writes b.old b.new (part_at on.now Maybe Plain Uniform tested.number (stmt_of then.now) spot)) }
+    requires there { Present on.now (stmt_asks on.now.answer (stmt_of then.stmt.now) spot.slot.number) }
+    ensures { OnOk result (Writes b.old b.new (part_at on.now Maybe Plain Uniform tested.number (stmt_of then.entry.stmt.now) spot)) }
 {
     let at = b.code.len();
     b.push(Instr::JumpIf {
@@ -112,14 +113,14 @@ fn part_by_mask(
     b: &mut Body,
     on: &Scope,
     tested: RegisterNumber,
-    then: &TypedStmt,
+    then: Part<'_>,
     spot: Spot,
 ) -> Result<(), AllocError>
     requires slots { spot.slot.number + 1 < 4294967296 }
-    requires then { Present on.now (stmt_asks on.now.answer (stmt_of then.now) (spot.slot.number + 1)) }
-    ensures { OnOk result (Writes b.old b.new (part_at on.now (leaving_of (stmt_of then.now)) Plain Varying tested.number (stmt_of then.now) spot)) }
+    requires then { Present on.now (stmt_asks on.now.answer (stmt_of then.stmt.now) (spot.slot.number + 1)) }
+    ensures { OnOk result (Writes b.old b.new (part_at on.now (leaving_of (stmt_of then.entry.stmt.now)) Plain Varying tested.number (stmt_of then.entry.stmt.now) spot)) }
 {
-    match leaving_of(then) {
+    match then.leaving() {
         Leaving::Never => part_kept(b, on, tested, then, spot),
         Leaving::Always(jump) => leave_by(b, jump, tested, spot.masks, spot.slot.mask()),
         Leaving::Maybe => part_joined(b, on, tested, then, spot),
@@ -132,12 +133,12 @@ fn part_kept(
     b: &mut Body,
     on: &Scope,
     tested: RegisterNumber,
-    then: &TypedStmt,
+    then: Part<'_>,
     spot: Spot,
 ) -> Result<(), AllocError>
     requires slots { spot.slot.number + 1 < 4294967296 }
-    requires then { Present on.now (stmt_asks on.now.answer (stmt_of then.now) (spot.slot.number + 1)) }
-    ensures { OnOk result (Writes b.old b.new (part_at on.now Never Plain Varying tested.number (stmt_of then.now) spot)) }
+    requires then { Present on.now (stmt_asks on.now.answer (stmt_of then.stmt.now) (spot.slot.number + 1)) }
+    ensures { OnOk result (Writes b.old b.new (part_at on.now Never Plain Varying tested.number (stmt_of then.entry.stmt.now) spot)) }
 {
     let passed = spot.slot.mask();
     b.push(where_so(passed, tested, spot.masks.on))?;
@@ -155,12 +156,12 @@ fn part_joined(
     b: &mut Body,
     on: &Scope,
     tested: RegisterNumber,
-    then: &TypedStmt,
+    then: Part<'_>,
     spot: Spot,
 ) -> Result<(), AllocError>
     requires slots { spot.slot.number + 1 < 4294967296 }
-    requires then { Present on.now (stmt_asks on.now.answer (stmt_of then.now) (spot.slot.number + 1)) }
-    ensures { OnOk result (Writes b.old b.new (part_at on.now Maybe Plain Varying tested.number (stmt_of then.now) spot)) }
+    requires then { Present on.now (stmt_asks on.now.answer (stmt_of then.stmt.now) (spot.slot.number + 1)) }
+    ensures { OnOk result (Writes b.old b.new (part_at on.now Maybe Plain Varying tested.number (stmt_of then.entry.stmt.now) spot)) }
 {
     part(b, spot.slot.mask(), tested, spot.masks.on)?;
     let site = Site {
@@ -178,12 +179,12 @@ fn part_widely(
     b: &mut Body,
     on: &Scope,
     tested: RegisterNumber,
-    then: &TypedStmt,
+    then: Part<'_>,
     spot: Spot,
 ) -> Result<(), AllocError>
     requires slots { spot.slot.number + 1 + 1 < 4294967296 }
-    requires then { Present on.now (stmt_asks on.now.answer (stmt_of then.now) (spot.slot.number + 1 + 1)) }
-    ensures { OnOk result (Writes b.old b.new (part_at on.now Maybe Coherent Varying tested.number (stmt_of then.now) spot)) }
+    requires then { Present on.now (stmt_asks on.now.answer (stmt_of then.stmt.now) (spot.slot.number + 1 + 1)) }
+    ensures { OnOk result (Writes b.old b.new (part_at on.now Maybe Coherent Varying tested.number (stmt_of then.entry.stmt.now) spot)) }
 {
     first_widely(b, on, tested, then, spot)?;
     let passed = spot.slot.mask();
@@ -199,12 +200,12 @@ fn first_widely(
     b: &mut Body,
     on: &Scope,
     tested: RegisterNumber,
-    then: &TypedStmt,
+    then: Part<'_>,
     spot: Spot,
 ) -> Result<(), AllocError>
     requires slots { spot.slot.number + 1 + 1 < 4294967296 }
-    requires then { Present on.now (stmt_asks on.now.answer (stmt_of then.now) (spot.slot.number + 1 + 1)) }
-    ensures { OnOk result (Writes b.old b.new (first_widely_at on.now tested.number (stmt_of then.now) spot)) }
+    requires then { Present on.now (stmt_asks on.now.answer (stmt_of then.stmt.now) (spot.slot.number + 1 + 1)) }
+    ensures { OnOk result (Writes b.old b.new (first_widely_at on.now tested.number (stmt_of then.entry.stmt.now) spot)) }
 {
     let k = spot.masks.on;
     let passed = spot.slot.mask();
@@ -224,12 +225,12 @@ fn first_widely(
 fn under_mask(
     b: &mut Body,
     on: &Scope,
-    x: &TypedStmt,
+    x: Part<'_>,
     spot: Spot,
     site: Site,
 ) -> Result<(), AllocError>
-    requires there { Present on.now (stmt_asks on.now.answer (stmt_of x.now) site.slot.number) }
-    ensures { OnOk result (Writes b.old b.new (guarded_at on.now (stmt_of x.now) spot site.mask.number site.slot.number)) }
+    requires there { Present on.now (stmt_asks on.now.answer (stmt_of x.stmt.now) site.slot.number) }
+    ensures { OnOk result (Writes b.old b.new (guarded_at on.now (stmt_of x.entry.stmt.now) spot site.mask.number site.slot.number)) }
 {
     let masks = Masks {
         on: site.mask,
@@ -254,15 +255,15 @@ pub(crate) fn if_else(
     b: &mut Body,
     on: &Scope,
     by: Condition<'_>,
-    then: &TypedStmt,
-    otherwise: &TypedStmt,
+    then: Part<'_>,
+    otherwise: Part<'_>,
     spot: Spot,
 ) -> Result<(), AllocError>
     requires test { Present on.now (expr_asks (expr_of by.test.now) spot.slot.number) }
     requires part { Present on.now (parts_asks (type_of (expr_of by.test.now)).rate spot.slot.number) }
-    requires then { Present on.now (stmt_asks on.now.answer (stmt_of then.now) (parts_slot (type_of (expr_of by.test.now)).rate spot.slot.number)) }
-    requires otherwise { Present on.now (stmt_asks on.now.answer (stmt_of otherwise.now) (parts_slot (type_of (expr_of by.test.now)).rate spot.slot.number)) }
-    ensures { OnOk result (Writes b.old b.new (if_else_at on.now by.entry.form (expr_of by.entry.test.now) (stmt_of then.now) (stmt_of otherwise.now) spot)) }
+    requires then { Present on.now (stmt_asks on.now.answer (stmt_of then.stmt.now) (parts_slot (type_of (expr_of by.test.now)).rate spot.slot.number)) }
+    requires otherwise { Present on.now (stmt_asks on.now.answer (stmt_of otherwise.stmt.now) (parts_slot (type_of (expr_of by.test.now)).rate spot.slot.number)) }
+    ensures { OnOk result (Writes b.old b.new (if_else_at on.now by.entry.form (expr_of by.entry.test.now) (stmt_of then.entry.stmt.now) (stmt_of otherwise.entry.stmt.now) spot)) }
 {
     let tested = expr(b, on, by.test, spot.site())?;
     let given = Given {
@@ -280,14 +281,14 @@ fn parts_by(
     b: &mut Body,
     on: &Scope,
     by: Given,
-    then: &TypedStmt,
-    otherwise: &TypedStmt,
+    then: Part<'_>,
+    otherwise: Part<'_>,
     spot: Spot,
 ) -> Result<(), AllocError>
     requires part { Present on.now (parts_asks by.rate spot.slot.number) }
-    requires then { Present on.now (stmt_asks on.now.answer (stmt_of then.now) (parts_slot by.rate spot.slot.number)) }
-    requires otherwise { Present on.now (stmt_asks on.now.answer (stmt_of otherwise.now) (parts_slot by.rate spot.slot.number)) }
-    ensures { OnOk result (Writes b.old b.new (parts_at on.now (both_go_on (stmt_of then.now) (stmt_of otherwise.now)) by.form by.rate by.register.number (stmt_of then.now) (stmt_of otherwise.now) spot)) }
+    requires then { Present on.now (stmt_asks on.now.answer (stmt_of then.stmt.now) (parts_slot by.rate spot.slot.number)) }
+    requires otherwise { Present on.now (stmt_asks on.now.answer (stmt_of otherwise.stmt.now) (parts_slot by.rate spot.slot.number)) }
+    ensures { OnOk result (Writes b.old b.new (parts_at on.now (both_go_on (stmt_of then.entry.stmt.now) (stmt_of otherwise.entry.stmt.now)) by.form by.rate by.register.number (stmt_of then.entry.stmt.now) (stmt_of otherwise.entry.stmt.now) spot)) }
 {
     match (by.rate, by.form) {
         (Rate::Uniform, _) => one_of(b, on, by.register, then, otherwise, spot),
@@ -302,13 +303,13 @@ fn one_of(
     b: &mut Body,
     on: &Scope,
     tested: RegisterNumber,
-    then: &TypedStmt,
-    otherwise: &TypedStmt,
+    then: Part<'_>,
+    otherwise: Part<'_>,
     spot: Spot,
 ) -> Result<(), AllocError>
-    requires then { Present on.now (stmt_asks on.now.answer (stmt_of then.now) spot.slot.number) }
-    requires otherwise { Present on.now (stmt_asks on.now.answer (stmt_of otherwise.now) spot.slot.number) }
-    ensures { OnOk result (Writes b.old b.new (parts_at on.now false Plain Uniform tested.number (stmt_of then.now) (stmt_of otherwise.now) spot)) }
+    requires then { Present on.now (stmt_asks on.now.answer (stmt_of then.stmt.now) spot.slot.number) }
+    requires otherwise { Present on.now (stmt_asks on.now.answer (stmt_of otherwise.stmt.now) spot.slot.number) }
+    ensures { OnOk result (Writes b.old b.new (parts_at on.now false Plain Uniform tested.number (stmt_of then.entry.stmt.now) (stmt_of otherwise.entry.stmt.now) spot)) }
 {
     let at = b.code.len();
     b.push(Instr::JumpIf {
@@ -331,16 +332,16 @@ fn parted(
     b: &mut Body,
     on: &Scope,
     tested: RegisterNumber,
-    then: &TypedStmt,
-    otherwise: &TypedStmt,
+    then: Part<'_>,
+    otherwise: Part<'_>,
     spot: Spot,
 ) -> Result<(), AllocError>
     requires slots { spot.slot.number + 1 + 1 < 4294967296 }
-    requires then { Present on.now (stmt_asks on.now.answer (stmt_of then.now) (spot.slot.number + 1 + 1)) }
-    requires otherwise { Present on.now (stmt_asks on.now.answer (stmt_of otherwise.now) (spot.slot.number + 1 + 1)) }
-    ensures { OnOk result (Writes b.old b.new (parts_at on.now (both_go_on (stmt_of then.now) (stmt_of otherwise.now)) Plain Varying tested.number (stmt_of then.now) (stmt_of otherwise.now) spot)) }
+    requires then { Present on.now (stmt_asks on.now.answer (stmt_of then.stmt.now) (spot.slot.number + 1 + 1)) }
+    requires otherwise { Present on.now (stmt_asks on.now.answer (stmt_of otherwise.stmt.now) (spot.slot.number + 1 + 1)) }
+    ensures { OnOk result (Writes b.old b.new (parts_at on.now (both_go_on (stmt_of then.entry.stmt.now) (stmt_of otherwise.entry.stmt.now)) Plain Varying tested.number (stmt_of then.entry.stmt.now) (stmt_of otherwise.entry.stmt.now) spot)) }
 {
-    if both_go_on(then, otherwise) {
+    if then.both_go_on(otherwise) {
         both_kept(b, on, tested, then, otherwise, spot)
     } else {
         both_joined(b, on, tested, then, otherwise, spot)
@@ -353,14 +354,14 @@ fn both_kept(
     b: &mut Body,
     on: &Scope,
     tested: RegisterNumber,
-    then: &TypedStmt,
-    otherwise: &TypedStmt,
+    then: Part<'_>,
+    otherwise: Part<'_>,
     spot: Spot,
 ) -> Result<(), AllocError>
     requires slots { spot.slot.number + 1 + 1 < 4294967296 }
-    requires then { Present on.now (stmt_asks on.now.answer (stmt_of then.now) (spot.slot.number + 1 + 1)) }
-    requires otherwise { Present on.now (stmt_asks on.now.answer (stmt_of otherwise.now) (spot.slot.number + 1 + 1)) }
-    ensures { OnOk result (Writes b.old b.new (parts_at on.now true Plain Varying tested.number (stmt_of then.now) (stmt_of otherwise.now) spot)) }
+    requires then { Present on.now (stmt_asks on.now.answer (stmt_of then.stmt.now) (spot.slot.number + 1 + 1)) }
+    requires otherwise { Present on.now (stmt_asks on.now.answer (stmt_of otherwise.stmt.now) (spot.slot.number + 1 + 1)) }
+    ensures { OnOk result (Writes b.old b.new (parts_at on.now true Plain Varying tested.number (stmt_of then.entry.stmt.now) (stmt_of otherwise.entry.stmt.now) spot)) }
 {
     let passed = spot.slot.mask();
     let beside = spot.slot.next().mask();
@@ -379,14 +380,14 @@ fn both_joined(
     b: &mut Body,
     on: &Scope,
     tested: RegisterNumber,
-    then: &TypedStmt,
-    otherwise: &TypedStmt,
+    then: Part<'_>,
+    otherwise: Part<'_>,
     spot: Spot,
 ) -> Result<(), AllocError>
     requires slots { spot.slot.number + 1 + 1 < 4294967296 }
-    requires then { Present on.now (stmt_asks on.now.answer (stmt_of then.now) (spot.slot.number + 1 + 1)) }
-    requires otherwise { Present on.now (stmt_asks on.now.answer (stmt_of otherwise.now) (spot.slot.number + 1 + 1)) }
-    ensures { OnOk result (Writes b.old b.new (parts_at on.now false Plain Varying tested.number (stmt_of then.now) (stmt_of otherwise.now) spot)) }
+    requires then { Present on.now (stmt_asks on.now.answer (stmt_of then.stmt.now) (spot.slot.number + 1 + 1)) }
+    requires otherwise { Present on.now (stmt_asks on.now.answer (stmt_of otherwise.stmt.now) (spot.slot.number + 1 + 1)) }
+    ensures { OnOk result (Writes b.old b.new (parts_at on.now false Plain Varying tested.number (stmt_of then.entry.stmt.now) (stmt_of otherwise.entry.stmt.now) spot)) }
 {
     part(b, spot.slot.mask(), tested, spot.masks.on)?;
     let slot = spot.slot.next().next();
@@ -410,14 +411,14 @@ fn parted_widely(
     b: &mut Body,
     on: &Scope,
     tested: RegisterNumber,
-    then: &TypedStmt,
-    otherwise: &TypedStmt,
+    then: Part<'_>,
+    otherwise: Part<'_>,
     spot: Spot,
 ) -> Result<(), AllocError>
     requires slots { spot.slot.number + 1 + 1 < 4294967296 }
-    requires then { Present on.now (stmt_asks on.now.answer (stmt_of then.now) (spot.slot.number + 1 + 1)) }
-    requires otherwise { Present on.now (stmt_asks on.now.answer (stmt_of otherwise.now) (spot.slot.number + 1 + 1)) }
-    ensures { OnOk result (Writes b.old b.new (parts_at on.now false Coherent Varying tested.number (stmt_of then.now) (stmt_of otherwise.now) spot)) }
+    requires then { Present on.now (stmt_asks on.now.answer (stmt_of then.stmt.now) (spot.slot.number + 1 + 1)) }
+    requires otherwise { Present on.now (stmt_asks on.now.answer (stmt_of otherwise.stmt.now) (spot.slot.number + 1 + 1)) }
+    ensures { OnOk result (Writes b.old b.new (parts_at on.now false Coherent Varying tested.number (stmt_of then.entry.stmt.now) (stmt_of otherwise.entry.stmt.now) spot)) }
 {
     first_widely(b, on, tested, then, spot)?;
     let passed = spot.slot.mask();
@@ -434,13 +435,13 @@ fn parted_widely(
 fn others(
     b: &mut Body,
     on: &Scope,
-    x: &TypedStmt,
+    x: Part<'_>,
     spot: Spot,
     passed: MaskNumber,
     site: Site,
 ) -> Result<(), AllocError>
-    requires there { Present on.now (stmt_asks on.now.answer (stmt_of x.now) site.slot.number) }
-    ensures { OnOk result (Writes b.old b.new (others_at on.now (stmt_of x.now) spot passed.number site.mask.number site.slot.number)) }
+    requires there { Present on.now (stmt_asks on.now.answer (stmt_of x.stmt.now) site.slot.number) }
+    ensures { OnOk result (Writes b.old b.new (others_at on.now (stmt_of x.entry.stmt.now) spot passed.number site.mask.number site.slot.number)) }
 {
     let at = b.code.len();
     b.push(Instr::JumpIf {

@@ -1,7 +1,7 @@
 //! Who leaves a statement.
-ghost use Rattle.std.specs.Prelude.{◌≡◌};
+ghost use Rattle.std.specs.Prelude.{◌≡◌, true};
 ghost use Rattle.isp_typed.specs.Views.{block_of, stmt_of};
-ghost use Rattle.isp_masks.specs.Exits.{all_go_on, block_exits, block_jump, both_go_on, either_leaves, exits_of, jump_exits, leaving_of, nobody_leaves, none_leave, only_jump, only_returns};
+ghost use Rattle.isp_masks.specs.Exits.{block_jump, either_leaves, jump_exits, nobody_leaves, none_leave, only_jump, only_returns};
 
 use isp_tree::Jump;
 use isp_typed::{TypedBlock, TypedStmt};
@@ -26,7 +26,7 @@ pub(crate) enum Leaving {
 }
 
 impl Exits {
-    fn none() -> Exits
+    pub(crate) fn none() -> Exits
         ensures { result ≡ none_leave }
     {
         Exits {
@@ -36,7 +36,18 @@ impl Exits {
         }
     }
 
-    fn or(self, other: Exits) -> Exits
+    /// Of a `return`.
+    pub(crate) fn returned() -> Exits
+        ensures { result ≡ record none_leave { returns = true } }
+    {
+        Exits {
+            breaks: false,
+            continues: false,
+            returns: true,
+        }
+    }
+
+    pub(crate) fn or(self, other: Exits) -> Exits
         ensures { result ≡ either_leaves self other }
     {
         Exits {
@@ -47,7 +58,7 @@ impl Exits {
     }
 
     /// Of a loop, which keeps those that break and continue.
-    fn of_loop(self) -> Exits
+    pub(crate) fn of_loop(self) -> Exits
         ensures { result ≡ only_returns self }
     {
         Exits {
@@ -65,7 +76,7 @@ impl Exits {
     }
 }
 
-fn jump(jump: Jump) -> Exits
+pub(crate) fn jump(jump: Jump) -> Exits
     ensures { result ≡ jump_exits jump }
 {
     match jump {
@@ -82,66 +93,9 @@ fn jump(jump: Jump) -> Exits
     }
 }
 
-/// Whether instances may break, continue or return from a statement.
-#[cycle(exits_of)]
-pub(crate) fn exits_of(x: &TypedStmt) -> Exits
-    ensures { result ≡ exits_of (stmt_of x.now) }
-{
-    match x {
-        TypedStmt::Block(b) => block_exits(b),
-        TypedStmt::If { then, .. } => exits_of(then),
-        TypedStmt::IfElse {
-            then,
-            otherwise,
-            ..
-        } => exits_of(then).or(exits_of(otherwise)),
-        TypedStmt::While { body, .. } | TypedStmt::Do { body, .. } | TypedStmt::For { body, .. } =>
-            { exits_of(body).of_loop() }
-        TypedStmt::Jump { jump: to, .. } => jump(*to),
-        TypedStmt::Return { .. } => Exits {
-            breaks: false,
-            continues: false,
-            returns: true,
-        },
-        TypedStmt::Declare { .. }
-        | TypedStmt::Simple { .. }
-        | TypedStmt::Foreach { .. }
-        | TypedStmt::ForeachActive { .. }
-        | TypedStmt::Unmasked { .. }
-        | TypedStmt::Print { .. }
-        | TypedStmt::Assert { .. } => Exits::none(),
-    }
-}
-
-/// The same of a block.
-#[cycle(exits_of)]
-fn block_exits(b: &TypedBlock) -> Exits
-    ensures { result ≡ block_exits (block_of b.now) }
-{
-    let mut seen = Exits::none();
-    for x in &b.statements {
-        seen = seen.or(exits_of(x));
-    }
-    seen
-}
-
-/// Whether all instances of a set with members go on after a statement, whatever happens.
-pub(crate) fn all_go_on(x: &TypedStmt) -> bool
-    ensures { result ≡ all_go_on (stmt_of x.now) }
-{
-    exits_of(x).is_none()
-}
-
-/// Whether nobody leaves either of two statements.
-pub(crate) fn both_go_on(x: &TypedStmt, y: &TypedStmt) -> bool
-    ensures { result ≡ both_go_on (stmt_of x.now) (stmt_of y.now) }
-{
-    all_go_on(x) && all_go_on(y)
-}
-
 /// The jump that a statement is, in braces or not.
 #[cycle(only_jump)]
-fn only_jump(x: &TypedStmt) -> Option<Jump>
+pub(crate) fn only_jump(x: &TypedStmt) -> Option<Jump>
     ensures { result ≡ only_jump (stmt_of x.now) }
 {
     match x {
@@ -171,16 +125,5 @@ fn block_jump(b: &TypedBlock) -> Option<Jump>
     match b.statements.as_slice() {
         [x] => only_jump(x),
         _ => None,
-    }
-}
-
-/// How instances leave a part.
-pub(crate) fn leaving_of(x: &TypedStmt) -> Leaving
-    ensures { result ≡ leaving_of (stmt_of x.now) }
-{
-    match only_jump(x) {
-        Some(jump) => Leaving::Always(jump),
-        None if all_go_on(x) => Leaving::Never,
-        None => Leaving::Maybe,
     }
 }

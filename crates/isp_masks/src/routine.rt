@@ -11,6 +11,7 @@ ghost use Rattle.isp_masks.specs.Written.{Writes, function_at};
 
 use crate::masks::{Masks, Spot};
 use crate::reserved;
+use crate::seen::block_seen;
 use crate::statement::block;
 use isp_base::Rate;
 use isp_code::{Instr, Register};
@@ -47,7 +48,8 @@ fn body(b: &mut Body, on: &Scope, x: &TypedBlock) -> Result<(), AllocError>
         returned: MaskNumber { number: 2 },
     };
     let slot = Slot { number: 3 };
-    block(b, on, x, Spot { masks, slot })?;
+    let seen = block_seen(*b.code.allocator(), x)?;
+    block(b, on, x, seen.as_slice(), Spot { masks, slot })?;
     b.push(Instr::Return(returned(on)))?;
     Ok(())
 }

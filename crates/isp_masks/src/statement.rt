@@ -1,6 +1,6 @@
 //! The code of statements. A mask has the lanes that run a statement, and afterwards those that went on; those that
 //! continued and those that returned are added to two others.
-ghost use Rattle.std.specs.Prelude.{◌<◌, ◌+◌, length, option_map, OnOk};
+ghost use Rattle.std.specs.Prelude.{◌≡◌, ◌<◌, ◌+◌, length, option_map, OnOk};
 ghost use Rattle.isp_base.specs.declared.types.Elem.TheVariants.{I64};
 ghost use Rattle.isp_base.specs.declared.types.Rate.TheVariants.{Uniform};
 ghost use Rattle.isp_typed.specs.Views.{block_of, expr_of, ranges_of, simple_of, stmt_of};
@@ -9,17 +9,18 @@ ghost use Rattle.isp_lower.specs.Emitted.{Present};
 ghost use Rattle.isp_lower.specs.Rows.{Variable};
 ghost use Rattle.isp_masks.specs.Asks.{block_asks, ranges_asks, step_asks, stmt_asks, test_part_asks};
 ghost use Rattle.isp_masks.specs.Ranges.{runs_slot};
+ghost use Rattle.isp_masks.specs.reader.Seen.{block_seen};
 ghost use Rattle.isp_masks.specs.Written.{Writes, active_at, block_at, do_at, for_turn_at, foreach_at, last_asks, last_range_at, last_run_at, outer_turn_at, passed_at, ranges_at, stepped_at, stmt_at, sweep_asks, sweeps_asks, turn_at, turns_at, unmasked_at, while_at, while_turn_at};
 
 use crate::asserting::asserts;
 use crate::awaited::{land_all, leave_room};
 use crate::branches::{Condition, if_alone, if_else};
-use crate::exits::{all_go_on, exits_of};
 use crate::looping::{
     ForTest, Loop, Test, back, clear_where, copy_mask, enter, inside, is_wide, is_wide_by,
     land_sift, leave_loop, next, rejoin, sift,
 };
 use crate::masks::{Masks, Spot};
+use crate::part::{Part, split};
 use crate::printing::prints;
 use crate::ranges::{
     OuterIndex, Sweep, begin, bounds, go_on, index, last_index, measures, outer_indices,
@@ -27,6 +28,7 @@ use crate::ranges::{
 };
 use crate::returned::returns;
 use crate::rounds::{fill_mask, take_lane};
+use crate::seen::Seen;
 use crate::sets::jump;
 use crate::steps::{first_part, live_again, step_back};
 use isp_base::{Elem, Rate, Ty};
@@ -38,18 +40,18 @@ use std::alloc::AllocError;
 
 /// The code of a statement.
 #[cycle(stmt)]
-pub(crate) fn stmt(b: &mut Body, on: &Scope, x: &TypedStmt, spot: Spot) -> Result<(), AllocError>
-    requires there { Present on.now (stmt_asks on.now.answer (stmt_of x.now) spot.slot.number) }
-    ensures { OnOk result (Writes b.old b.new (stmt_at on.now (stmt_of x.now) spot)) }
+pub(crate) fn stmt(b: &mut Body, on: &Scope, x: Part<'_>, spot: Spot) -> Result<(), AllocError>
+    requires there { Present on.now (stmt_asks on.now.answer (stmt_of x.stmt.now) spot.slot.number) }
+    ensures { OnOk result (Writes b.old b.new (stmt_at on.now (stmt_of x.entry.stmt.now) spot)) }
 {
-    match x {
-        TypedStmt::Block(body) => block(b, on, body, spot),
+    match x.stmt {
+        TypedStmt::Block(body) => block(b, on, body, x.inside(), spot),
         TypedStmt::Declare { items, .. } => {
             declared(b, on, items, spot.site())?;
             Ok(())
         }
-        TypedStmt::Simple { simple: x, .. } => {
-            simple(b, on, x, spot.site())?;
+        TypedStmt::Simple { simple: own, .. } => {
+            simple(b, on, own, spot.site())?;
             Ok(())
         }
         TypedStmt::If {
@@ -57,21 +59,18 @@ pub(crate) fn stmt(b: &mut Body, on: &Scope, x: &TypedStmt, spot: Spot) -> Resul
             test,
             then,
             ..
-        } => if_alone(b, on, Condition { form: *form, test }, then, spot),
+        } => if_alone(b, on, Condition { form: *form, test }, x.only(then), spot),
         TypedStmt::IfElse {
             form,
             test,
             then,
             otherwise,
             ..
-        } => if_else(
-            b,
-            on,
-            Condition { form: *form, test },
-            then,
-            otherwise,
-            spot,
-        ),
+        } => {
+            let by = Condition { form: *form, test };
+            let (then, otherwise) = x.two(then, otherwise);
+            if_else(b, on, by, then, otherwise, spot)
+        }
         TypedStmt::Jump { jump: j, .. } => {
             jump(b, *j, spot.masks)?;
             Ok(())
@@ -86,13 +85,13 @@ pub(crate) fn stmt(b: &mut Body, on: &Scope, x: &TypedStmt, spot: Spot) -> Resul
             test,
             body,
             ..
-        } => while_loop(b, on, *form, test, body, spot),
+        } => while_loop(b, on, *form, test, x.only(body), spot),
         TypedStmt::Do {
             form,
             body,
             test,
             ..
-        } => do_loop(b, on, *form, body, test, spot),
+        } => do_loop(b, on, *form, x.only(body), test, spot),
         TypedStmt::For {
             form,
             first,
@@ -102,11 +101,14 @@ pub(crate) fn stmt(b: &mut Body, on: &Scope, x: &TypedStmt, spot: Spot) -> Resul
             ..
         } => {
             first_part(b, on, first, spot.site())?;
-            turns(b, on, ForTest { form: *form, test }, step, body, spot)
+            let by = ForTest { form: *form, test };
+            turns(b, on, by, step, x.only(body), spot)
         }
-        TypedStmt::ForeachActive { index, body, .. } => active_loop(b, on, *index, body, spot),
-        TypedStmt::Unmasked { body, .. } => unmasked(b, on, body, spot),
-        TypedStmt::Foreach { ranges, body, .. } => foreach(b, on, ranges, body, spot),
+        TypedStmt::ForeachActive { index, body, .. } => {
+            active_loop(b, on, *index, x.only(body), spot)
+        }
+        TypedStmt::Unmasked { body, .. } => unmasked(b, on, body, x.inside(), spot),
+        TypedStmt::Foreach { ranges, body, .. } => foreach(b, on, ranges, x.only(body), spot),
         TypedStmt::Assert {
             test,
             call_span,
@@ -129,17 +131,22 @@ pub(crate) fn block(
     b: &mut Body,
     on: &Scope,
     body: &TypedBlock,
+    seen: &[Seen],
     spot: Spot,
 ) -> Result<(), AllocError>
+    requires seen { seen.now ≡ block_seen (block_of body.now) }
     requires there { Present on.now (block_asks on.now.answer (block_of body.now) spot.slot.number) }
     ensures { OnOk result (Writes b.old b.new (block_at on.now (block_of body.now) spot)) }
 {
     let mut jumps = Vec::new(*b.code.allocator());
     let mut left = false;
+    let mut rest = seen;
     for x in &body.statements {
         leave_room(b, &mut jumps, left, spot.masks.on)?;
-        stmt(b, on, x, spot)?;
-        left = !all_go_on(x);
+        let (part, behind) = split(x, rest);
+        stmt(b, on, part, spot)?;
+        left = !part.all_go_on();
+        rest = behind;
     }
     land_all(b, jumps.as_slice(), spot.masks.on);
     Ok(())
@@ -147,10 +154,10 @@ pub(crate) fn block(
 
 /// A turn: those that continue in it come back behind the body.
 #[cycle(stmt)]
-fn turn(b: &mut Body, on: &Scope, body: &TypedStmt, it: Loop) -> Result<(), AllocError>
+fn turn(b: &mut Body, on: &Scope, body: Part<'_>, it: Loop) -> Result<(), AllocError>
     requires slots { it.slot.number + 3 < 4294967296 }
-    requires body { Present on.now (stmt_asks on.now.answer (stmt_of body.now) (it.slot.number + 3)) }
-    ensures { OnOk result (Writes b.old b.new (turn_at on.now (stmt_of body.now) it)) }
+    requires body { Present on.now (stmt_asks on.now.answer (stmt_of body.stmt.now) (it.slot.number + 3)) }
+    ensures { OnOk result (Writes b.old b.new (turn_at on.now (stmt_of body.entry.stmt.now) it)) }
 {
     let masks = Masks {
         on: it.slot.mask(),
@@ -171,15 +178,15 @@ fn while_loop(
     on: &Scope,
     form: Form,
     test: &TypedExpr,
-    body: &TypedStmt,
+    body: Part<'_>,
     spot: Spot,
 ) -> Result<(), AllocError>
     requires slots { spot.slot.number + 3 < 4294967296 }
     requires test { Present on.now (expr_asks (expr_of test.now) (spot.slot.number + 3)) }
-    requires body { Present on.now (stmt_asks on.now.answer (stmt_of body.now) (spot.slot.number + 3)) }
-    ensures { OnOk result (Writes b.old b.new (while_at on.now form (expr_of test.now) (stmt_of body.now) spot)) }
+    requires body { Present on.now (stmt_asks on.now.answer (stmt_of body.stmt.now) (spot.slot.number + 3)) }
+    ensures { OnOk result (Writes b.old b.new (while_at on.now form (expr_of test.now) (stmt_of body.entry.stmt.now) spot)) }
 {
-    let exits = exits_of(body);
+    let exits = body.exits();
     enter(b, exits, spot.masks.on, spot.slot)?;
     let it = Loop {
         wide: is_wide(form, test.ty().rate),
@@ -203,12 +210,12 @@ fn while_turn(
     b: &mut Body,
     on: &Scope,
     test: Test,
-    body: &TypedStmt,
+    body: Part<'_>,
     it: Loop,
 ) -> Result<(), AllocError>
     requires slots { it.slot.number + 3 < 4294967296 }
-    requires body { Present on.now (stmt_asks on.now.answer (stmt_of body.now) (it.slot.number + 3)) }
-    ensures { OnOk result (Writes b.old b.new (while_turn_at on.now test (stmt_of body.now) it)) }
+    requires body { Present on.now (stmt_asks on.now.answer (stmt_of body.stmt.now) (it.slot.number + 3)) }
+    ensures { OnOk result (Writes b.old b.new (while_turn_at on.now test (stmt_of body.entry.stmt.now) it)) }
 {
     sift(b, test, it.slot)?;
     let at = b.code.len();
@@ -225,16 +232,16 @@ fn do_loop(
     b: &mut Body,
     on: &Scope,
     form: Form,
-    body: &TypedStmt,
+    body: Part<'_>,
     test: &TypedExpr,
     spot: Spot,
 ) -> Result<(), AllocError>
     requires slots { spot.slot.number + 3 < 4294967296 }
     requires test { Present on.now (expr_asks (expr_of test.now) (spot.slot.number + 3)) }
-    requires body { Present on.now (stmt_asks on.now.answer (stmt_of body.now) (spot.slot.number + 3)) }
-    ensures { OnOk result (Writes b.old b.new (do_at on.now form (stmt_of body.now) (expr_of test.now) spot)) }
+    requires body { Present on.now (stmt_asks on.now.answer (stmt_of body.stmt.now) (spot.slot.number + 3)) }
+    ensures { OnOk result (Writes b.old b.new (do_at on.now form (stmt_of body.entry.stmt.now) (expr_of test.now) spot)) }
 {
-    let exits = exits_of(body);
+    let exits = body.exits();
     enter(b, exits, spot.masks.on, spot.slot)?;
     let it = Loop {
         wide: is_wide(form, test.ty().rate),
@@ -250,14 +257,21 @@ fn do_loop(
 
 /// `unmasked`: the block, for all lanes.
 #[cycle(stmt)]
-fn unmasked(b: &mut Body, on: &Scope, body: &TypedBlock, spot: Spot) -> Result<(), AllocError>
+fn unmasked(
+    b: &mut Body,
+    on: &Scope,
+    body: &TypedBlock,
+    seen: &[Seen],
+    spot: Spot,
+) -> Result<(), AllocError>
+    requires seen { seen.now ≡ block_seen (block_of body.now) }
     requires slots { spot.slot.number + 3 < 4294967296 }
     requires body { Present on.now (block_asks on.now.answer (block_of body.now) (spot.slot.number + 3)) }
     ensures { OnOk result (Writes b.old b.new (unmasked_at on.now (block_of body.now) spot)) }
 {
     b.push(fill_mask(spot.slot.mask()))?;
     let inner = on.outside();
-    block(b, &inner, body, Spot::own(spot.slot))?;
+    block(b, &inner, body, seen, Spot::own(spot.slot))?;
     Ok(())
 }
 
@@ -267,13 +281,13 @@ fn active_loop(
     b: &mut Body,
     on: &Scope,
     index: usize,
-    body: &TypedStmt,
+    body: Part<'_>,
     spot: Spot,
 ) -> Result<(), AllocError>
     requires slots { spot.slot.number + 1 + 3 < 4294967296 }
     requires index { Present on.now (Ask Uniform (Variable index) I64) }
-    requires body { Present on.now (stmt_asks on.now.answer (stmt_of body.now) (spot.slot.number + 1 + 3)) }
-    ensures { OnOk result (Writes b.old b.new (active_at on.now index (stmt_of body.now) spot)) }
+    requires body { Present on.now (stmt_asks on.now.answer (stmt_of body.stmt.now) (spot.slot.number + 1 + 3)) }
+    ensures { OnOk result (Writes b.old b.new (active_at on.now index (stmt_of body.entry.stmt.now) spot)) }
 {
     b.push(copy_mask(spot.slot.mask(), spot.masks.on))?;
     let top = next(b);
@@ -298,16 +312,16 @@ fn turns(
     on: &Scope,
     by: ForTest<'_>,
     step: &Option<TypedSimple>,
-    body: &TypedStmt,
+    body: Part<'_>,
     spot: Spot,
 ) -> Result<(), AllocError>
     requires slots { spot.slot.number + 3 < 4294967296 }
     requires test { Present on.now (test_part_asks (option_map expr_of by.test.now) (spot.slot.number + 3)) }
     requires step { Present on.now (step_asks (option_map simple_of step.now) (spot.slot.number + 3)) }
-    requires body { Present on.now (stmt_asks on.now.answer (stmt_of body.now) (spot.slot.number + 3)) }
-    ensures { OnOk result (Writes b.old b.new (turns_at on.now by.entry.form (option_map expr_of by.entry.test.now) (option_map simple_of step.now) (stmt_of body.now) spot)) }
+    requires body { Present on.now (stmt_asks on.now.answer (stmt_of body.stmt.now) (spot.slot.number + 3)) }
+    ensures { OnOk result (Writes b.old b.new (turns_at on.now by.entry.form (option_map expr_of by.entry.test.now) (option_map simple_of step.now) (stmt_of body.entry.stmt.now) spot)) }
 {
-    let exits = exits_of(body);
+    let exits = body.exits();
     enter(b, exits, spot.masks.on, spot.slot)?;
     let it = Loop {
         wide: is_wide_by(by.form, by.test),
@@ -330,14 +344,14 @@ fn for_turn(
     on: &Scope,
     test: &TypedExpr,
     step: &Option<TypedSimple>,
-    body: &TypedStmt,
+    body: Part<'_>,
     it: Loop,
 ) -> Result<(), AllocError>
     requires slots { it.slot.number + 3 < 4294967296 }
     requires test { Present on.now (expr_asks (expr_of test.now) (it.slot.number + 3)) }
     requires step { Present on.now (step_asks (option_map simple_of step.now) (it.slot.number + 3)) }
-    requires body { Present on.now (stmt_asks on.now.answer (stmt_of body.now) (it.slot.number + 3)) }
-    ensures { OnOk result (Writes b.old b.new (for_turn_at on.now (expr_of test.now) (option_map simple_of step.now) (stmt_of body.now) it)) }
+    requires body { Present on.now (stmt_asks on.now.answer (stmt_of body.stmt.now) (it.slot.number + 3)) }
+    ensures { OnOk result (Writes b.old b.new (for_turn_at on.now (expr_of test.now) (option_map simple_of step.now) (stmt_of body.entry.stmt.now) it)) }
 {
     let tested = expr(b, on, test, inside(it.slot))?;
     let given = Test {
@@ -355,13 +369,13 @@ fn passed_turn(
     on: &Scope,
     test: Test,
     step: &Option<TypedSimple>,
-    body: &TypedStmt,
+    body: Part<'_>,
     it: Loop,
 ) -> Result<(), AllocError>
     requires slots { it.slot.number + 3 < 4294967296 }
     requires step { Present on.now (step_asks (option_map simple_of step.now) (it.slot.number + 3)) }
-    requires body { Present on.now (stmt_asks on.now.answer (stmt_of body.now) (it.slot.number + 3)) }
-    ensures { OnOk result (Writes b.old b.new (passed_at on.now test (option_map simple_of step.now) (stmt_of body.now) it)) }
+    requires body { Present on.now (stmt_asks on.now.answer (stmt_of body.stmt.now) (it.slot.number + 3)) }
+    ensures { OnOk result (Writes b.old b.new (passed_at on.now test (option_map simple_of step.now) (stmt_of body.entry.stmt.now) it)) }
 {
     sift(b, test, it.slot)?;
     let at = b.code.len();
@@ -377,13 +391,13 @@ fn stepped_turn(
     b: &mut Body,
     on: &Scope,
     step: &Option<TypedSimple>,
-    body: &TypedStmt,
+    body: Part<'_>,
     it: Loop,
 ) -> Result<(), AllocError>
     requires slots { it.slot.number + 3 < 4294967296 }
     requires step { Present on.now (step_asks (option_map simple_of step.now) (it.slot.number + 3)) }
-    requires body { Present on.now (stmt_asks on.now.answer (stmt_of body.now) (it.slot.number + 3)) }
-    ensures { OnOk result (Writes b.old b.new (stepped_at on.now (option_map simple_of step.now) (stmt_of body.now) it)) }
+    requires body { Present on.now (stmt_asks on.now.answer (stmt_of body.stmt.now) (it.slot.number + 3)) }
+    ensures { OnOk result (Writes b.old b.new (stepped_at on.now (option_map simple_of step.now) (stmt_of body.entry.stmt.now) it)) }
 {
     turn(b, on, body, it)?;
     step_back(b, on, step, it)?;
@@ -396,12 +410,12 @@ fn foreach(
     b: &mut Body,
     on: &Scope,
     all: &[TypedRange],
-    body: &TypedStmt,
+    body: Part<'_>,
     spot: Spot,
 ) -> Result<(), AllocError>
     requires ranges { Present on.now (ranges_asks (ranges_of all.now) spot.slot.number) }
-    requires body { Present on.now (stmt_asks on.now.answer (stmt_of body.now) (runs_slot spot.slot.number (ranges_of all.now) + 3)) }
-    ensures { OnOk result (Writes b.old b.new (foreach_at on.now (ranges_of all.now) (stmt_of body.now) spot)) }
+    requires body { Present on.now (stmt_asks on.now.answer (stmt_of body.stmt.now) (runs_slot spot.slot.number (ranges_of all.now) + 3)) }
+    ensures { OnOk result (Writes b.old b.new (foreach_at on.now (ranges_of all.now) (stmt_of body.entry.stmt.now) spot)) }
 {
     let it = Sweep::first(spot.slot, all);
     let site = Site {
@@ -421,13 +435,13 @@ fn ranges(
     b: &mut Body,
     on: &Scope,
     all: &[TypedRange],
-    body: &TypedStmt,
+    body: Part<'_>,
     set: Vec<OuterIndex>,
     it: Sweep,
 ) -> Result<(), AllocError>
     requires ranges { Present on.now (sweeps_asks (ranges_of all.now) it) }
-    requires body { Present on.now (stmt_asks on.now.answer (stmt_of body.now) (it.masks.number + 3)) }
-    ensures { OnOk result (Writes b.old b.new (ranges_at on.now (ranges_of all.now) (stmt_of body.now) set.items it)) }
+    requires body { Present on.now (stmt_asks on.now.answer (stmt_of body.stmt.now) (it.masks.number + 3)) }
+    ensures { OnOk result (Writes b.old b.new (ranges_at on.now (ranges_of all.now) (stmt_of body.entry.stmt.now) set.items it)) }
 {
     match all {
         [] => stmt(b, on, body, Spot::own(it.masks)),
@@ -442,14 +456,14 @@ fn last_range(
     b: &mut Body,
     on: &Scope,
     variable: usize,
-    body: &TypedStmt,
+    body: Part<'_>,
     set: Vec<OuterIndex>,
     it: Sweep,
 ) -> Result<(), AllocError>
     requires range { Present on.now (sweep_asks it) }
     requires index { Present on.now (last_asks variable it) }
-    requires body { Present on.now (stmt_asks on.now.answer (stmt_of body.now) (it.masks.number + 3)) }
-    ensures { OnOk result (Writes b.old b.new (last_range_at on.now variable (stmt_of body.now) set.items it)) }
+    requires body { Present on.now (stmt_asks on.now.answer (stmt_of body.stmt.now) (it.masks.number + 3)) }
+    ensures { OnOk result (Writes b.old b.new (last_range_at on.now variable (stmt_of body.entry.stmt.now) set.items it)) }
 {
     begin(b, on, it)?;
     let top = next(b);
@@ -468,14 +482,14 @@ fn last_run(
     b: &mut Body,
     on: &Scope,
     variable: usize,
-    body: &TypedStmt,
+    body: Part<'_>,
     set: Vec<OuterIndex>,
     it: Sweep,
 ) -> Result<(), AllocError>
     requires range { Present on.now (sweep_asks it) }
     requires index { Present on.now (last_asks variable it) }
-    requires body { Present on.now (stmt_asks on.now.answer (stmt_of body.now) (it.masks.number + 3)) }
-    ensures { OnOk result (Writes b.old b.new (last_run_at on.now variable (stmt_of body.now) set.items it)) }
+    requires body { Present on.now (stmt_asks on.now.answer (stmt_of body.stmt.now) (it.masks.number + 3)) }
+    ensures { OnOk result (Writes b.old b.new (last_run_at on.now variable (stmt_of body.entry.stmt.now) set.items it)) }
 {
     outer_indices(b, &set, it.masks.mask())?;
     last_index(b, on, variable, it)?;
@@ -490,15 +504,15 @@ fn outer_range(
     b: &mut Body,
     on: &Scope,
     all: &[TypedRange],
-    body: &TypedStmt,
+    body: Part<'_>,
     set: Vec<OuterIndex>,
     it: Sweep,
 ) -> Result<(), AllocError>
     requires many { 1 < length all.now }
     requires range { Present on.now (sweep_asks it) }
     requires ranges { Present on.now (sweeps_asks (ranges_of all.now) it) }
-    requires body { Present on.now (stmt_asks on.now.answer (stmt_of body.now) (it.masks.number + 3)) }
-    ensures { OnOk result (Writes b.old b.new (ranges_at on.now (ranges_of all.now) (stmt_of body.now) set.items it)) }
+    requires body { Present on.now (stmt_asks on.now.answer (stmt_of body.stmt.now) (it.masks.number + 3)) }
+    ensures { OnOk result (Writes b.old b.new (ranges_at on.now (ranges_of all.now) (stmt_of body.entry.stmt.now) set.items it)) }
 {
     begin(b, on, it)?;
     let top = next(b);
@@ -517,15 +531,15 @@ fn outer_turn(
     b: &mut Body,
     on: &Scope,
     all: &[TypedRange],
-    body: &TypedStmt,
+    body: Part<'_>,
     set: Vec<OuterIndex>,
     it: Sweep,
 ) -> Result<(), AllocError>
     requires many { 1 < length all.now }
     requires range { Present on.now (sweep_asks it) }
     requires ranges { Present on.now (sweeps_asks (ranges_of all.now) it) }
-    requires body { Present on.now (stmt_asks on.now.answer (stmt_of body.now) (it.masks.number + 3)) }
-    ensures { OnOk result (Writes b.old b.new (outer_turn_at on.now (ranges_of all.now) (stmt_of body.now) set.items it)) }
+    requires body { Present on.now (stmt_asks on.now.answer (stmt_of body.stmt.now) (it.masks.number + 3)) }
+    ensures { OnOk result (Writes b.old b.new (outer_turn_at on.now (ranges_of all.now) (stmt_of body.entry.stmt.now) set.items it)) }
 {
     let [range, inner @ ..] = all else {
         unreachable!();

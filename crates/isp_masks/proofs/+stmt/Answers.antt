@@ -14,7 +14,7 @@ use Rattle.isp_tree.specs.Nodes.{nodes_of_all}
 use Rattle.std.proofs.lemmas.List.{drop_all, drop_more}
 use Rattle.std.proofs.lemmas.Result.{on_ok_weaker}
 use Rattle.isp_masks.specs.Awaited.{AreBelow, Awaits, set_all}
-use Rattle.isp_masks.specs.Exits.{nobody_leaves}
+use Rattle.isp_masks.specs.Exits.{all_go_on, nobody_leaves}
 use Rattle.isp_masks.specs.Fors.{first_code, first_places}
 use Rattle.isp_masks.specs.Loops.{back_code, copy_mask, jump_all, sift_jump}
 use Rattle.isp_masks.specs.Sets.{unite}
@@ -26,6 +26,7 @@ use Rattle.isp_masks.proofs.Forms.{list_step, nodes_low, stmts_more}
 use Rattle.isp_masks.proofs.JumpsWritten.{left_written}
 use Rattle.isp_masks.proofs.WidelyWritten.{first_widely_written}
 use Rattle.isp_masks.proofs.Lists.{flat, flat_is}
+use Rattle.isp_masks.proofs.Splits.{seen_begins, seen_rest}
 use Rattle.isp_masks.proofs.Sifting.{for_written, sifted}
 use Rattle.isp_masks.proofs.Views.{block_view}
 use Rattle.isp_masks.proofs.Writing.{chosen_of, landed_over, writes_adding, writes_back, writes_past}
@@ -49,7 +50,7 @@ statement::stmt-returns-in-If t c =
     let e = c.in-If in
     let so = λ (z : TStmt). Writes a.b.now c.if_alone.new.b (stmt_at a.on.now z a.spot) in
     on_ok_weaker c.if_alone.result
-    (λ w. subst so (sym (ap stmt_of e.is ∙ if_view e.form e.before e.test e.then e.span)) (subst (λ y. so (t_if e.form e.before (expr_of e.test) (stmt_of y) e.span)) c.deref-in-If.ensures w))
+    (λ w. subst so (sym (ap stmt_of e.is ∙ if_view e.form e.before e.test e.then e.span)) (subst (λ y. so (t_if e.form e.before (expr_of e.test) (stmt_of y) e.span)) (c.only.ensures ∙ c.deref-in-If.ensures) w))
     c.if_alone.ensures
 
 pub statement::stmt-returns-in-IfElse : goal.statement::stmt-returns-in-IfElse
@@ -61,15 +62,15 @@ statement::stmt-returns-in-IfElse t c =
     let so = λ (z : TStmt). Writes a.b.now c.if_else.new.b (stmt_at a.on.now z a.spot) in
     on_ok_weaker c.if_else.result
     (λ w. subst so (sym (ap stmt_of e.is ∙ if_else_view e.form e.before e.test e.then e.otherwise e.span))
-    (subst (λ y. so (t_if_else e.form e.before (expr_of e.test) (stmt_of y) (stmt_of e.otherwise.value) e.span)) c.deref-in-IfElse.ensures
-    (subst (λ y. so (t_if_else e.form e.before (expr_of e.test) (stmt_of c.deref-in-IfElse.result.now) (stmt_of y) e.span)) c.deref-in-IfElse-2.ensures w)))
+    (subst (λ y. so (t_if_else e.form e.before (expr_of e.test) (stmt_of y) (stmt_of e.otherwise.value) e.span)) (c.two.ensures.first ∙ c.deref-in-IfElse.ensures)
+    (subst (λ y. so (t_if_else e.form e.before (expr_of e.test) (stmt_of c.two.result.0.stmt.now) (stmt_of y) e.span)) (c.two.ensures.second ∙ c.deref-in-IfElse-2.ensures) w)))
     c.if_else.ensures
 
 pub branches::under_mask-returns : goal.branches::under_mask-returns
 branches::under_mask-returns t c =
     let a = c.args in
     let l = layout a.on.now in
-    let x = stmt_of a.x.now in
+    let x = stmt_of a.x.stmt.now in
     landed_over a.b.now c.push.new.self c.stmt.new.b c.land.new.self c.len-at.result _ (jump_off a.site.mask.number)
     (record { code = λ pc z. stmt_code l a.on.now.answer x pc z (record (spot_of a.spot) { on = a.site.mask.number; slot = a.site.slot.number }); places = stmt_places l x; texts = stmt_texts x })
     (c.len-at.ensures ∙ a.b.now.code.ok.0) c.in_ok-push.ensures c.in_ok-stmt.ensures (cc) c.land.ensures.places c.land.ensures.texts
@@ -77,15 +78,15 @@ branches::under_mask-returns t c =
 pub branches::part_by_mask-returns-in-Always : goal.branches::part_by_mask-returns-in-Always
 branches::part_by_mask-returns-in-Always t c =
     let a = c.args in
-    let x = stmt_of a.then.now in
+    let x = stmt_of a.then.stmt.now in
     let j = c.in-Always.jump in
     let to = λ (k : MaskNumber). Appends a.b.now c.leave_by.new.b (λ pc p. left_code j a.tested.number a.spot.masks.on.number a.spot.masks.continued.number k.number) [] in
-    on_ok_weaker c.leave_by.result (λ w. left_written a.on.now a.b.now c.leave_by.new.b x a.spot a.tested.number j (sym c.leaving_of.ensures ∙ c.in-Always.is) (subst to c.mask.ensures w)) c.leave_by.ensures
+    on_ok_weaker c.leave_by.result (λ w. left_written a.on.now a.b.now c.leave_by.new.b x a.spot a.tested.number j (sym c.leaving.ensures ∙ c.in-Always.is) (subst to c.mask.ensures w)) c.leave_by.ensures
 
 pub branches::first_widely-returns : goal.branches::first_widely-returns
 branches::first_widely-returns t c =
     let a = c.args in
-    let x = stmt_of a.then.now in
+    let x = stmt_of a.then.stmt.now in
     let l = layout a.on.now in
     let k = a.spot.masks.on.number in
     let n = a.spot.slot.number in
@@ -106,14 +107,14 @@ branches::first_widely-returns t c =
 pub branches::part_by_jump-returns : goal.branches::part_by_jump-returns
 branches::part_by_jump-returns t c =
     let a = c.args in
-    landed_over a.b.now c.push.new.self c.stmt.new.b c.land.new.self c.len-at.result _ (jump_on jump.False a.tested.number) (stmt_at a.on.now (stmt_of a.then.now) a.spot)
+    landed_over a.b.now c.push.new.self c.stmt.new.b c.land.new.self c.len-at.result _ (jump_on jump.False a.tested.number) (stmt_at a.on.now (stmt_of a.then.stmt.now) a.spot)
     (c.len-at.ensures ∙ a.b.now.code.ok.0) c.in_ok-push.ensures c.in_ok-stmt.ensures (cc) c.land.ensures.places c.land.ensures.texts
 
 pub branches::one_of-returns : goal.branches::one_of-returns
 branches::one_of-returns t c =
     let a = c.args in
     chosen_of a.b.now c.push.new.self c.stmt.new.b c.push-2.new.self c.land.new.self c.stmt-2.new.b c.land_always.new.self c.len-at.result c.len-over.result _ _ (jump_on jump.False a.tested.number)
-    (stmt_at a.on.now (stmt_of a.then.now) a.spot) (stmt_at a.on.now (stmt_of a.otherwise.now) a.spot)
+    (stmt_at a.on.now (stmt_of a.then.stmt.now) a.spot) (stmt_at a.on.now (stmt_of a.otherwise.stmt.now) a.spot)
     (c.len-at.ensures ∙ a.b.now.code.ok.0) c.in_ok-push.ensures c.in_ok-stmt.ensures (c.len-over.ensures ∙ c.stmt.new.b.code.ok.0) c.in_ok-push-2.ensures
     (cc) c.land.ensures.places c.land.ensures.texts c.in_ok-stmt-2.ensures c.land_always.ensures.code c.land_always.ensures.places c.land_always.ensures.texts
 
@@ -122,7 +123,7 @@ branches::others-returns t c =
     let a = c.args in
     let all = a.spot.masks.on.number in
     let k = a.site.mask.number in
-    let part = guarded_at a.on.now (stmt_of a.x.now) a.spot k a.site.slot.number in
+    let part = guarded_at a.on.now (stmt_of a.x.stmt.now) a.spot k a.site.slot.number in
     let both = writes_back c.push.new.self c.under_mask.new.b c.join_where.new.b part (λ pc p. unite all all k ∷ []) c.in_ok-under_mask.ensures c.in_ok-join_where.ensures in
     let whole : Piece = record { code = λ pc z. part.code pc z ++ unite all all k ∷ []; places = part.places; texts = part.texts } in
     landed_over a.b.now c.push.new.self c.join_where.new.b c.land.new.self c.len-at.result _ (jump_all a.passed.number) whole
@@ -136,7 +137,12 @@ statement::block-stmt-requires t c =
     let all : block_nodes (block_of a.body.now) ≡ suc (stmts_nodes (t_stmts (stmts_of items))) =
     ap block_nodes (block_view a.body.now) ∙ ap (λ zs. suc (stmts_nodes (t_stmts (stmts_of zs)))) (sym c.deref-x-items.ensures.value) in
     let asked = subst (Present a.on.now) (stmts_more a.on.now.answer a.spot.slot.number items c.loop-x.x-index c.x-item.result c.loop-x-test.true c.x-item.is) c.loop-x.invariant.2 in
-    (omega (arith, low, all, c.decreases), asked.0)
+    let same = ap (λ z. stmt_nodes (stmt_of z)) c.split.ensures.part in
+    (omega (arith, low, all, same, c.decreases), subst (λ z. Present a.on.now (stmt_asks a.on.now.answer (stmt_of z) a.spot.slot.number)) (sym c.split.ensures.part) asked.0)
+
+pub statement::block-split-requires : goal.statement::block-split-requires
+statement::block-split-requires t c =
+    seen_begins c.deref-x-items.result.now c.loop-x.x-index c.x-item.result c.loop-x.rest.now c.loop-x-test.true c.x-item.is c.loop-x.invariant.3
 
 pub statement::block-land_all-requires : goal.statement::block-land_all-requires
 statement::block-land_all-requires t c = subst (AreBelow (length c.loop-x.b.code.items)) (sym c.as_slice.ensures.value) c.loop-x.invariant.0.low
@@ -145,10 +151,13 @@ pub statement::block-loop-x-preserved : goal.statement::block-loop-x-preserved
 statement::block-loop-x-preserved t c =
     let a = c.args in
     let items = c.deref-x-items.result.now in
+    let part = c.split.ensures.part in
+    let wrote = subst (λ z. Writes c.leave_room.new.b c.stmt.new.b (stmt_at a.on.now (stmt_of z) a.spot)) part c.in_ok-stmt.ensures in
+    let gone = ap not (c.all_go_on-left.ensures ∙ ap (λ z. all_go_on (stmt_of z)) part) in
     let step = list_step a.on.now.answer (spot_of a.spot) (layout a.on.now) a.b.now c.loop-x.b c.leave_room.new.b c.stmt.new.b c.loop-x.jumps.items c.leave_room.new.jumps.items c.loop-x.left _ items c.loop-x.x-index c.x-item.result
-    c.loop-x-test.true c.x-item.is c.loop-x.invariant.0 c.loop-x.invariant.1 c.in_ok-leave_room.ensures c.in_ok-stmt.ensures (ap not c.all_go_on-left.ensures) in
+    c.loop-x-test.true c.x-item.is c.loop-x.invariant.0 c.loop-x.invariant.1 c.in_ok-leave_room.ensures wrote gone in
     let asked = subst (Present a.on.now) (stmts_more a.on.now.answer a.spot.slot.number items c.loop-x.x-index c.x-item.result c.loop-x-test.true c.x-item.is) c.loop-x.invariant.2 in
-    (step.0, step.1, asked.1)
+    (step.0, step.1, asked.1, seen_rest items c.loop-x.x-index c.x-item.result c.loop-x.rest.now c.split.result.1.now c.loop-x-test.true c.x-item.is c.loop-x.invariant.3 c.split.ensures.rest)
 
 pub statement::block-returns : goal.statement::block-returns
 statement::block-returns t c =
@@ -175,13 +184,13 @@ statement::stmt-returns-in-While t c =
     let e = c.in-While in
     let so = λ (z : TStmt). Writes a.b.now c.while_loop.new.b (stmt_at a.on.now z a.spot) in
     on_ok_weaker c.while_loop.result
-    (λ w. subst so (sym (ap stmt_of e.is ∙ while_view e.form e.before e.test e.body e.span)) (subst (λ y. so (t_while e.form e.before (expr_of e.test) (stmt_of y) e.span)) c.deref-in-While.ensures w))
+    (λ w. subst so (sym (ap stmt_of e.is ∙ while_view e.form e.before e.test e.body e.span)) (subst (λ y. so (t_while e.form e.before (expr_of e.test) (stmt_of y) e.span)) (c.only-in-While.ensures ∙ c.deref-in-While.ensures) w))
     c.while_loop.ensures
 
 pub statement::while_turn-returns : goal.statement::while_turn-returns
 statement::while_turn-returns t c =
     let a = c.args in
-    let x = stmt_of a.body.now in
+    let x = stmt_of a.body.stmt.now in
     let n = a.it.slot.number in
     let r = a.test.rate in
     let d = a.test.register.number in
@@ -196,7 +205,7 @@ pub statement::passed_turn-returns : goal.statement::passed_turn-returns
 statement::passed_turn-returns t c =
     let a = c.args in
     let n = a.it.slot.number in
-    let turn = stepped_at a.on.now (option_map simple_of a.step.now) (stmt_of a.body.now) a.it in
+    let turn = stepped_at a.on.now (option_map simple_of a.step.now) (stmt_of a.body.stmt.now) a.it in
     sifted a.b.now c.sift.new.b c.land_sift.new.b a.test.rate a.test.register.number n turn c.in_ok-sift.ensures
     (landed_over c.sift.new.b c.push.new.self c.stepped_turn.new.b c.land_sift.new.b c.len-at.result _ (sift_jump a.test.rate a.test.register.number n) turn
     (c.len-at.ensures ∙ c.sift.new.b.code.ok.0) c.in_ok-push.ensures c.in_ok-stepped_turn.ensures (cc) c.land_sift.ensures.places c.land_sift.ensures.texts)
@@ -211,12 +220,12 @@ statement::stmt-returns-in_ok-first_part-in-For t c =
     let first = option_map first_of e.first in
     let o = option_map expr_of e.test in
     let y = option_map simple_of e.step in
-    let x = stmt_of c.deref-in-For.result.now in
+    let x = stmt_of c.only-in-For.result.stmt.now in
     let begun = subst (λ (z : Site). Appends a.b.now c.first_part.new.b (λ pc p. first_code l first pc p z.mask.number z.slot.number) (first_places l first)) c.site-in-For.ensures c.in_ok-first_part-in-For.ensures in
     let so = λ (z : TStmt). Writes a.b.now c.turns.new.b (stmt_at a.on.now z a.spot) in
     on_ok_weaker c.turns.result
     (λ w. subst so (sym (ap stmt_of e.is ∙ for_view e.form e.before e.first e.test e.step e.inside e.body e.span))
-    (subst (λ z. so (t_for e.form e.before first o y e.inside (stmt_of z) e.span)) c.deref-in-For.ensures
+    (subst (λ z. so (t_for e.form e.before first o y e.inside (stmt_of z) e.span)) (c.only-in-For.ensures ∙ c.deref-in-For.ensures)
     (for_written a.b.now c.turns.new.b l h e.form e.before first o y e.inside x e.span s
     (writes_past a.b.now c.first_part.new.b c.turns.new.b (λ pc p. first_code l first pc p s.on s.slot) (first_places l first) (turns_at a.on.now e.form o y x a.spot) begun w))))
     c.turns.ensures
@@ -226,12 +235,12 @@ statement::stmt-foreach-requires t c =
     let a = c.args in
     let e = c.in-Foreach in
     let rs = ranges_of c.deref-in-Foreach.result.now in
-    let x = stmt_of c.deref-in-Foreach-2.result.now in
-    let seen : stmt_of a.x.now ≡ t_foreach e.keyword e.before rs x e.span =
+    let x = stmt_of c.only-in-Foreach.result.stmt.now in
+    let seen : stmt_of a.x.stmt.now ≡ t_foreach e.keyword e.before rs x e.span =
     ap stmt_of e.is ∙ foreach_view e.keyword e.before e.ranges e.body e.span ∙ ap (λ zs. t_foreach e.keyword e.before (ranges_of zs) (stmt_of e.body.value) e.span) (sym c.deref-in-Foreach.ensures.value)
-    ∙ ap (λ z. t_foreach e.keyword e.before rs (stmt_of z) e.span) (sym c.deref-in-Foreach-2.ensures) in
+    ∙ ap (λ z. t_foreach e.keyword e.before rs (stmt_of z) e.span) (sym (c.only-in-Foreach.ensures ∙ c.deref-in-Foreach-2.ensures)) in
     let asked = subst (λ z. Present a.on.now (stmt_asks a.on.now.answer z a.spot.slot.number)) seen c.requires.there in
-    let size : stmt_nodes (stmt_of a.x.now) ≡ suc (nodes_of_all range_nodes rs + stmt_nodes x) = ap stmt_nodes seen in
+    let size : stmt_nodes (stmt_of a.x.stmt.now) ≡ suc (nodes_of_all range_nodes rs + stmt_nodes x) = ap stmt_nodes seen in
     let many = ranges_count c.deref-in-Foreach.result.now in
     let low = ranges_low rs in
     (omega (arith, size, many, low, c.decreases), (asked.0, asked.1))
@@ -244,7 +253,7 @@ statement::stmt-returns-in-Foreach t c =
     on_ok_weaker c.foreach.result
     (λ w. subst so (sym (ap stmt_of e.is ∙ foreach_view e.keyword e.before e.ranges e.body e.span))
     (subst (λ zs. so (t_foreach e.keyword e.before (ranges_of zs) (stmt_of e.body.value) e.span)) c.deref-in-Foreach.ensures.value
-    (subst (λ y. so (t_foreach e.keyword e.before (ranges_of c.deref-in-Foreach.result.now) (stmt_of y) e.span)) c.deref-in-Foreach-2.ensures w)))
+    (subst (λ y. so (t_foreach e.keyword e.before (ranges_of c.deref-in-Foreach.result.now) (stmt_of y) e.span)) (c.only-in-Foreach.ensures ∙ c.deref-in-Foreach-2.ensures) w)))
     c.foreach.ensures
 
 pub statement::foreach-returns : goal.statement::foreach-returns
@@ -252,7 +261,7 @@ statement::foreach-returns t c =
     let a = c.args in
     let l = layout a.on.now in
     let rs = ranges_of a.all.now in
-    let x = stmt_of a.body.now in
+    let x = stmt_of a.body.stmt.now in
     let n = a.spot.slot.number in
     let k = a.spot.masks.on.number in
     let h = runs_slot n rs in
@@ -279,7 +288,7 @@ statement::last_range-returns t c =
     let l = layout a.on.now in
     let h = a.it.masks.number in
     let n = a.it.measures.number in
-    let x = stmt_of a.body.now in
+    let x = stmt_of a.body.stmt.now in
     let after = c.go_on.new.b.code.items in
     let code = ap (λ r. slice_set after c.len-at.result (instr.JumpIf jump.Off r (length after))) (c.mask-2.ensures ∙ ap (λ (k : MaskNumber). mask_register k.number) c.mask.ensures) in
     sweep_written a.b.now c.begin.new.b c.test_run.new.b c.push.new.self c.last_run.new.b c.go_on.new.b c.land.new.self
@@ -296,7 +305,7 @@ statement::outer_range-returns t c =
     let e = a.it.bounds.number in
     let n = a.it.measures.number in
     let rs = ranges_of a.all.now in
-    let x = stmt_of a.body.now in
+    let x = stmt_of a.body.stmt.now in
     let set = index_codes h a.set.items in
     let body = λ (z : Numbers). body_code (body_layout l rs) a.on.now.answer x h z in
     let many : 1 < length rs = subst (λ i. 1 < i) (sym (ranges_count a.all.now)) c.requires.many in
@@ -317,7 +326,7 @@ pub statement::stepped_turn-returns : goal.statement::stepped_turn-returns
 statement::stepped_turn-returns t c =
     let a = c.args in
     let back = step_back_at a.on.now (nobody_leaves a.it.exits) (option_map simple_of a.step.now) a.it in
-    writes_adding a.b.now c.turn.new.b c.step_back.new.b (turn_at a.on.now (stmt_of a.body.now) a.it) back.code back.places c.in_ok-turn.ensures c.in_ok-step_back.ensures
+    writes_adding a.b.now c.turn.new.b c.step_back.new.b (turn_at a.on.now (stmt_of a.body.stmt.now) a.it) back.code back.places c.in_ok-turn.ensures c.in_ok-step_back.ensures
 
 pub statement::ranges-returns-in-len1 : goal.statement::ranges-returns-in-len1
 statement::ranges-returns-in-len1 t c =
@@ -327,13 +336,13 @@ statement::ranges-returns-in-len1 t c =
     let below = c.in-len1.len_below in
     let is : a.all.now ≡ r ∷ [] = drop_more a.all.now 0 r (omega (arith, least)) ∙ ap (λ z. z ∷ drop 1 a.all.now) (sym c.last-item.is) ∙ ap (λ rs. r ∷ rs) (drop_all 1 a.all.now (omega (arith, below))) in
     on_ok_weaker c.last_range.result
-    (λ w. subst (λ (rs : List TypedRange). Writes a.b.now c.last_range.new.b (ranges_at a.on.now (ranges_of rs) (stmt_of a.body.now) a.set.items a.it)) (sym is) w)
+    (λ w. subst (λ (rs : List TypedRange). Writes a.b.now c.last_range.new.b (ranges_at a.on.now (ranges_of rs) (stmt_of a.body.stmt.now) a.set.items a.it)) (sym is) w)
     c.last_range.ensures
 
 pub statement::outer_turn-returns : goal.statement::outer_turn-returns
 statement::outer_turn-returns t c =
     let a = c.args in
-    let x = stmt_of a.body.now in
+    let x = stmt_of a.body.stmt.now in
     let r = c.range-item.result in
     let inner = drop 1 a.all.now in
     let least = c.in-len1-up.len_at_least in
