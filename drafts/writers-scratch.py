@@ -15,7 +15,7 @@ import sys
 CLONE, TARGET = sys.argv[1], sys.argv[2]
 BELOW = ["isp_base", "isp_lex", "isp_tree", "isp_typed", "isp_independence", "isp_rates", "isp_meaning", "isp_code", "isp_verify"]
 LOWER, MASKS = TARGET + "/crates/isp_lower/", TARGET + "/crates/isp_masks/"
-GONE = ["assigned", "changed", "expressed", "laws", "written", "packed", "emitter", "closing", "listing", "apart", "beginning", "located", "truths"]
+GONE = ["assigned", "changed", "expressed", "laws", "written", "packed", "emitter", "closing", "listing", "apart", "beginning", "located", "truths", "elements"]
 
 
 def read(path):
@@ -106,7 +106,7 @@ write(TARGET + "/crates.txt", "".join(l + "\n" for l in read(CLONE + "/crates.tx
 
 stub(LOWER + "src/expression.rt", {"expr", "operand", "index"})
 stub(LOWER + "src/statements.rt", {"simple", "declared"})
-stub(LOWER + "src/reserve.rt", {"spare", "mask", "next", "test", "expr", "operand", "simple", "items"}, "    ")
+stub(LOWER + "src/reserve.rt", {"spare", "mask", "next", "place", "test", "expr", "operand", "simple", "items"}, "    ")
 stub(LOWER + "src/reserve.rt", set())
 without(LOWER, GONE)
 for name in ["+expr", "statements", "reserve", "types"]:
