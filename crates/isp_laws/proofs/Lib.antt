@@ -9,3 +9,10 @@ mod LoneDoes
 mod LoneAsked
 mod LoneCalls
 mod LoneWhole
+pub mod Lists
+pub mod Dealt
+pub mod Fine
+pub mod Depending
+pub mod Apart
+pub mod Needed
+pub mod Sampled

@@ -1,1 +1,5 @@
 pub mod Lone
+pub mod Deals
+pub mod Words
+pub mod Rules
+pub mod Samples

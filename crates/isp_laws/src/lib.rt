@@ -1,6 +1,15 @@
-//! Laws that pin the meanings: what holds between the gang's meaning and that of one instance alone.
+//! Laws that pin the meanings of programs, in words other than the definitions': no code is run.
 #![tactic(auto)]
 
+mod deals;
 mod lone;
+mod rules;
+mod samples;
 
+pub use deals::dealt_once;
 pub use lone::lone_is_alone;
+pub use rules::{
+    crossing_is_needed, foreach_is_needed, outside_is_needed, printing_is_needed, return_is_needed,
+    shared_array_is_needed, turned_is_needed,
+};
+pub use samples::premises_of_samples;
