@@ -185,6 +185,8 @@ class Edges:
             return
         status, whole, counts = self.said(program, "0", "0")
         self.check(f"{compiler}: nothing refused", status, 3)
+        if status != 3:
+            return
         grown, written = map(int, counts.split())
         self.check(f"{compiler}: growths and pieces of output", grown > 6 and written > 6, True)
         for growth in range(1, grown + 1):
