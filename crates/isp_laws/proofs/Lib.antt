@@ -9,6 +9,10 @@ mod LoneDoes
 mod LoneAsked
 mod LoneCalls
 mod LoneWhole
+mod MemberSets
+mod MemberValues
+mod MemberRuns
+mod MemberWhole
 pub mod Lists
 pub mod Dealt
 pub mod Fine

@@ -1,4 +1,5 @@
 pub mod Lone
+pub mod Members
 pub mod Deals
 pub mod Words
 pub mod Rules

@@ -3,11 +3,13 @@
 
 mod deals;
 mod lone;
+mod members;
 mod rules;
 mod samples;
 
 pub use deals::dealt_once;
 pub use lone::lone_is_alone;
+pub use members::a_trap_names_a_member;
 pub use rules::{
     crossing_is_needed, foreach_is_needed, outside_is_needed, printing_is_needed, return_is_needed,
     shared_array_is_needed, turned_is_needed,
