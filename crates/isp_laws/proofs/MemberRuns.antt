@@ -38,7 +38,8 @@ module _ (gang : ℕ) (m : Mask) where
   branches_named : (a : Mask) (f g : Mask → State → Res) → Sub gang m a → any gang a ≡ true → Runs f → Runs g → (y : Payload) (s : State) → NoneOut a y → NamedRes gang m (branches gang a f g y s)
   branches_named a f g sub e h k (One c) s i = if_named gang m (is_true c) (f a) (g a) s (λ _. h a s sub e) (λ _. k a s sub e)
   branches_named a f g sub e h k (Each c) s i =
-      then_named gang m _ _ (unless_named (where_true is_true c) s f (sub_inside gang m a _ sub (kept_inside is_true a (Each c) i)) h) (λ s1 g1 b c1 r. then_named gang m _ _ (unless_named (without a (where_true is_true c)) s1 g (sub_inside gang m a _ sub (and_inside a _)) k) (λ s2 g2 b2 c2 r2. record { by = tt }))
+      then_named gang m _ _ (unless_named (where_true is_true c) s f (sub_inside gang m a _ sub (kept_inside is_true a (Each c) i)) h)
+      (λ s1 g1 b c1 r. then_named gang m _ _ (unless_named (without a (where_true is_true c)) s1 g (sub_inside gang m a _ sub (and_inside a _)) k) (λ s2 g2 b2 c2 r2. record { by = tt }))
 
   module _ (test : Mask → State → Val Payload) (body : Mask → State → Res) (step : Mask → State → Val Done) (all : Mask)
       (tests : (a : Mask) (s : State) → Sub gang m a → any gang a ≡ true → Named gang m (NoneOut a) (test a s)) (bodies : Runs body)
@@ -48,12 +49,15 @@ module _ (gang : ℕ) (m : Mask) where
 
     pub tested_named : (turn : Mask → Mask → State → Res) → Turn turn → (live r : Mask) (s : State) → Sub gang m live → any gang live ≡ true → NamedRes gang m (tested gang test body step all turn live r s)
     tested_named turn h live r s sub e =
-        with_named gang m (NoneOut live) (test live s) _ (tests live s sub e) (λ y s1 k. if_named gang m (any gang (kept_by is_true live y)) (turn (kept_by is_true live y) r) (loop_end gang test body step all r) s1 (λ i. h (kept_by is_true live y) r s1 (sub_inside gang m live _ sub (kept_inside is_true live y k)) i) (λ _. record { by = tt }))
+        with_named gang m (NoneOut live) (test live s) _ (tests live s sub e) (λ y s1 k. if_named gang m (any gang (kept_by is_true live y)) (turn (kept_by is_true live y) r) (loop_end gang test body step all r) s1
+        (λ i. h (kept_by is_true live y) r s1 (sub_inside gang m live _ sub (kept_inside is_true live y k)) i) (λ _. record { by = tt }))
 
     pub turns_named : (n : ℕ) → Turn (turns gang test body step all n)
     turns_named zero k r s sub e = record { by = tt }
     turns_named (suc n) k r s sub e =
-        go_named gang m k (body k (tick s)) _ (bodies k (tick s) sub e) (parts k (tick s)) (λ s1 g b c r1 i j. let live : Sub gang m (union g c) = sub_inside gang m k (union g c) sub (union_inside k g c i j) in if_named gang m (any gang (union g c)) (stepped gang test body step all (turns gang test body step all n) (union g c) (union r r1)) (loop_end gang test body step all (union r r1)) s1 (λ o. with_named gang m Free (step (union g c) s1) _ (steps (union g c) s1 live o) (λ _ s2 _. tested_named (turns gang test body step all n) (turns_named n) (union g c) (union r r1) s2 live o)) (λ _. record { by = tt }))
+        go_named gang m k (body k (tick s)) _ (bodies k (tick s) sub e) (parts k (tick s)) (λ s1 g b c r1 i j. let live : Sub gang m (union g c) = sub_inside gang m k (union g c) sub (union_inside k g c i j)
+        in if_named gang m (any gang (union g c)) (stepped gang test body step all (turns gang test body step all n) (union g c) (union r r1)) (loop_end gang test body step all (union r r1)) s1
+        (λ o. with_named gang m Free (step (union g c) s1) _ (steps (union g c) s1 live o) (λ _ s2 _. tested_named (turns gang test body step all n) (turns_named n) (union g c) (union r r1) s2 live o)) (λ _. record { by = tt }))
 
   -- ---- rounds
 
@@ -139,21 +143,28 @@ module _ (program : Program) (most left : ℕ) (m : Mask) (Ok : ℕ → Type 0) 
         with_named N m (NoneOut a) _ _ (value_of x (lhs (expr_calls x) (stmt_calls y) c) a (tick s) h e) (λ v s1 i. branches_named N m a _ _ h e (run_named y f (rhs (expr_calls x) (stmt_calls y) c)) (λ b s2 _ _. went_named N m b s2) v s1 i)
     run_named (t_if_else o k x y z sp) f c a s h e =
         let d = lhs (expr_calls x ++ stmt_calls y) (stmt_calls z) c in
-        with_named N m (NoneOut a) _ _ (value_of x (lhs (expr_calls x) (stmt_calls y) d) a (tick s) h e) (λ v s1 i. branches_named N m a _ _ h e (run_named y (fst_of f) (rhs (expr_calls x) (stmt_calls y) d)) (run_named z (snd_of f) (rhs (expr_calls x ++ stmt_calls y) (stmt_calls z) c)) v s1 i)
+        with_named N m (NoneOut a) _ _ (value_of x (lhs (expr_calls x) (stmt_calls y) d) a (tick s) h e)
+        (λ v s1 i. branches_named N m a _ _ h e (run_named y (fst_of f) (rhs (expr_calls x) (stmt_calls y) d)) (run_named z (snd_of f) (rhs (expr_calls x ++ stmt_calls y) (stmt_calls z) c)) v s1 i)
     run_named (t_while o k x y sp) f c a s h e =
         let t = value_of x (lhs (expr_calls x) (stmt_calls y) c) in let b = run_named y f (rhs (expr_calls x) (stmt_calls y) c) in
-        tested_named N m (value N frame (calls_at program most left) x) (run N frame (calls_at program most left) most y) no_step a t b (parts y) no_step_named _ (turns_named N m (value N frame (calls_at program most left) x) (run N frame (calls_at program most left) most y) no_step a t b (parts y) no_step_named most) a nobody (tick s) h e
+        tested_named N m (value N frame (calls_at program most left) x) (run N frame (calls_at program most left) most y) no_step a t b (parts y) no_step_named _
+        (turns_named N m (value N frame (calls_at program most left) x) (run N frame (calls_at program most left) most y) no_step a t b (parts y) no_step_named most) a nobody (tick s) h e
     run_named (t_do o k y x sp) f c a s h e =
-        turns_named N m (value N frame (calls_at program most left) x) (run N frame (calls_at program most left) most y) no_step a (value_of x (rhs (stmt_calls y) (expr_calls x) c)) (run_named y f (lhs (stmt_calls y) (expr_calls x) c)) (parts y) no_step_named most a nobody (tick s) h e
+        turns_named N m (value N frame (calls_at program most left) x) (run N frame (calls_at program most left) most y) no_step a
+        (value_of x (rhs (stmt_calls y) (expr_calls x) c)) (run_named y f (lhs (stmt_calls y) (expr_calls x) c)) (parts y) no_step_named most a nobody (tick s) h e
     run_named (t_for o k i x p j y sp) f c a s h e =
         let ci = calls_of_any first_calls i in let cx = calls_of_any expr_calls x in let cp = calls_of_any simple_calls p in
         let c2 = lhs ((ci ++ cx) ++ cp) (stmt_calls y) c in let c1 = lhs (ci ++ cx) cp c2 in
         let t = test_part_out program most left m Ok calls frame x (rhs ci cx c1) in
         let n = step_part_named program most left m Ok calls frame p (rhs (ci ++ cx) cp c2) in
         let b = run_named y f (rhs ((ci ++ cx) ++ cp) (stmt_calls y) c) in
-        with_named N m Free _ _ (first_part_named program most left m Ok calls frame i (lhs ci cx c1) a (tick s) h e) (λ _ s1 _. tested_named N m (test_part N frame (calls_at program most left) x) (run N frame (calls_at program most left) most y) (step_part N frame (calls_at program most left) p) a t b (parts y) n _ (turns_named N m (test_part N frame (calls_at program most left) x) (run N frame (calls_at program most left) most y) (step_part N frame (calls_at program most left) p) a t b (parts y) n most) a nobody s1 h e)
+        with_named N m Free _ _ (first_part_named program most left m Ok calls frame i (lhs ci cx c1) a (tick s) h e)
+        (λ _ s1 _. tested_named N m (test_part N frame (calls_at program most left) x) (run N frame (calls_at program most left) most y) (step_part N frame (calls_at program most left) p) a t b (parts y) n _
+        (turns_named N m (test_part N frame (calls_at program most left) x) (run N frame (calls_at program most left) most y) (step_part N frame (calls_at program most left) p) a t b (parts y) n most) a nobody s1 h e)
     run_named (t_foreach w k rs y sp) f c a s h e =
-        with_named N m Free _ _ (ranges_named program most left m Ok calls frame rs (lhs (calls_of_each range_calls rs) (stmt_calls y) c) a (tick s) h e) (λ xs s1 _. runs_named N m (run N frame (calls_at program most left) most y) a (whole_of f) (run_named y (inl (whole_of f)) (rhs (calls_of_each range_calls rs) (stmt_calls y) c)) (runs_of N xs) (runs_some N m (some_gang N a e) xs) _)
+        with_named N m Free _ _ (ranges_named program most left m Ok calls frame rs (lhs (calls_of_each range_calls rs) (stmt_calls y) c) a (tick s) h e)
+        (λ xs s1 _. runs_named N m (run N frame (calls_at program most left) most y) a (whole_of f)
+        (run_named y (inl (whole_of f)) (rhs (calls_of_each range_calls rs) (stmt_calls y) c)) (runs_of N xs) (runs_some N m (some_gang N a e) xs) _)
     run_named (t_foreach_active w k i y sp) f c a s h e =
         active_named N m (run N frame (calls_at program most left) most y) a i (run_named y f c) (members N a) (members_on N m N a (omega arith) h) (tick s)
     run_named (t_unmasked w b sp) f c a s h e =
@@ -173,4 +184,5 @@ module _ (program : Program) (most left : ℕ) (m : Mask) (Ok : ℕ → Type 0) 
     all_named : (xs : TStmts) → Whole ⊎ MaskedAll xs → Each_of Ok (stmts_calls xs) → Runs N m (run_all N frame (calls_at program most left) most xs)
     all_named t_no_stmts f c a s h e = went_named N m a s
     all_named (t_stmt_then x xs) f c a s h e =
-        go_named N m a _ _ (run_named x (fst_of f) (lhs (stmt_calls x) (stmts_calls xs) c) a s h e) (parts x a s) (λ s1 g b c' r i j. then_named N m _ _ (unless_named N m g s1 _ (sub_inside N m a g h i) (all_named xs (snd_of f) (rhs (stmt_calls x) (stmts_calls xs) c))) (λ s2 g2 b2 c2 r2. record { by = tt }))
+        go_named N m a _ _ (run_named x (fst_of f) (lhs (stmt_calls x) (stmts_calls xs) c) a s h e) (parts x a s)
+        (λ s1 g b c' r i j. then_named N m _ _ (unless_named N m g s1 _ (sub_inside N m a g h i) (all_named xs (snd_of f) (rhs (stmt_calls x) (stmts_calls xs) c))) (λ s2 g2 b2 c2 r2. record { by = tt }))

@@ -98,20 +98,27 @@ module _ (program : Program) (most left : ℕ) (m : Mask) (Ok : ℕ → Type 0) 
     value_named (t_cast x t sp) c a s h e = value_named x c a (tick s) h e
     value_named (t_unary op x t sp) c a s h e = then Free Free _ _ (value_named x c a (tick s) h e) (λ y s1 _. done _ s1)
     value_named (t_binary op x y t sp) c a s h e =
-        then Free Free _ _ (value_named x (left_of _ _ c) a (tick s) h e) (λ i s1 _. then (NoneOut a) Free _ _ (none_out y a s1 (value_named y (right_of (expr_calls x) _ c) a s1 h e)) (λ j s2 k. offender_checked N m Free (is_zero op t.elem) a j Divide sp s2 _ h k tt))
+        then Free Free _ _ (value_named x (left_of _ _ c) a (tick s) h e) (λ i s1 _. then (NoneOut a) Free _ _ (none_out y a s1 (value_named y (right_of (expr_calls x) _ c) a s1 h e))
+        (λ j s2 k. offender_checked N m Free (is_zero op t.elem) a j Divide sp s2 _ h k tt))
     value_named (t_compare o x y r sp) c a s h e =
         then Free Free _ _ (value_named x (left_of _ _ c) a (tick s) h e) (λ i s1 _. then Free Free _ _ (value_named y (right_of (expr_calls x) _ c) a s1 h e) (λ j s2 _. done _ s2))
     value_named (t_logic l x y r sp) c a s h e =
-        then (NoneOut a) Free _ _ (none_out x a (tick s) (value_named x (left_of _ _ c) a (tick s) h e)) (λ i s1 k. then Free Free _ _ (needed (needs l) a i s1 (value N frame K y) h k (value_named y (right_of (expr_calls x) _ c))) (λ j s2 _. done _ s2))
+        then (NoneOut a) Free _ _ (none_out x a (tick s) (value_named x (left_of _ _ c) a (tick s) h e)) (λ i s1 k. then Free Free _ _ (needed (needs l) a i s1 (value N frame K y) h k (value_named y (right_of (expr_calls x) _ c)))
+        (λ j s2 _. done _ s2))
     value_named (t_choose x y z t sp) c a s h e =
         let d = left_of (expr_calls x ++ expr_calls y) (expr_calls z) c in
-        then (NoneOut a) Free _ _ (none_out x a (tick s) (value_named x (left_of (expr_calls x) (expr_calls y) d) a (tick s) h e)) (λ i s1 k. then Free Free _ _ (needed is_true a i s1 (value N frame K y) h k (value_named y (right_of (expr_calls x) (expr_calls y) d))) (λ j s2 _. then Free Free _ _ (needed is_false a i s2 (value N frame K z) h k (value_named z (right_of (expr_calls x ++ expr_calls y) (expr_calls z) c))) (λ n s3 _. done _ s3)))
+        then (NoneOut a) Free _ _ (none_out x a (tick s) (value_named x (left_of (expr_calls x) (expr_calls y) d) a (tick s) h e))
+        (λ i s1 k. then Free Free _ _ (needed is_true a i s1 (value N frame K y) h k (value_named y (right_of (expr_calls x) (expr_calls y) d)))
+        (λ j s2 _. then Free Free _ _ (needed is_false a i s2 (value N frame K z) h k (value_named z (right_of (expr_calls x ++ expr_calls y) (expr_calls z) c))) (λ n s3 _. done _ s3)))
     value_named (t_call x t) c a s h e = call_named x c a s h e
     value_named (t_library f t xs r sp) c a s h e = then Free Free _ _ (values_named xs c a (tick s) h e) (λ ys s1 _. done _ s1)
     value_named (t_packed_store b x sp) c a s h e =
-        then Free Free _ _ (first_named b (left_of _ _ c) a (tick s) h e) (λ z s1 _. then Free Free _ _ (value_named x (right_of (base_calls b) _ c) a s1 h e) (λ y s2 _. then Free Free _ _ (lowest_checked N m Free (packed_outside (extent frame (base_array b)) z a) Index sp s2 y (sub_inside N m a _ h (and_inside a (λ p. is_beyond (extent frame (base_array b)) (packed_index z a p)))) tt) (λ n s3 _. done _ _)))
+        then Free Free _ _ (first_named b (left_of _ _ c) a (tick s) h e) (λ z s1 _. then Free Free _ _ (value_named x (right_of (base_calls b) _ c) a s1 h e)
+        (λ y s2 _. then Free Free _ _ (lowest_checked N m Free (packed_outside (extent frame (base_array b)) z a) Index sp s2 y (sub_inside N m a _ h (and_inside a (λ p. is_beyond (extent frame (base_array b)) (packed_index z a p)))) tt)
+        (λ n s3 _. done _ _)))
     value_named (t_packed_load b v sp) c a s h e =
-        then Free Free _ _ (first_named b c a (tick s) h e) (λ z s1 _. then Free Free _ _ (lowest_checked N m Free (packed_outside (extent frame (base_array b)) z a) Index sp (tick s1) _ (sub_inside N m a _ h (and_inside a (λ p. is_beyond (extent frame (base_array b)) (packed_index z a p)))) tt) (λ n s2 _. done _ _))
+        then Free Free _ _ (first_named b c a (tick s) h e) (λ z s1 _. then Free Free _ _ (lowest_checked N m Free (packed_outside (extent frame (base_array b)) z a) Index sp (tick s1) _ (sub_inside N m a _ h (and_inside a
+        (λ p. is_beyond (extent frame (base_array b)) (packed_index z a p)))) tt) (λ n s2 _. done _ _))
 
     place_named : (q : TPlace) → Each_of Ok (place_calls q) → (a : Mask) (s : State) → Sub N m a → any N a ≡ true → Safe (PlaceOut a) (place N frame K q a s)
     place_named (t_variable v t sp) c a s h e = gives_named N m (PlaceOut a) _ (tick s) tt
@@ -162,7 +169,8 @@ module _ (program : Program) (most left : ℕ) (m : Mask) (Ok : ℕ → Type 0) 
   simple_named (t_value x) c a s h e = then Free Free _ _ (value_named x c a (tick s) h e) (λ y s1 _. done _ s1)
   simple_named (t_run x) c a s h e = then Free Free _ _ (call_named x c a (tick s) h e) (λ y s1 _. done _ s1)
   simple_named (t_assign q x sp) c a s h e =
-      then (PlaceOut a) Free _ _ (place_named q (left_of _ _ c) a (tick s) h e) (λ r s1 k. then Free Free _ _ (value_named x (right_of (place_calls q) _ c) a s1 h e) (λ y s2 _. then Free Free _ _ (outside_checked Free r a (place_span q) s2 y h k tt) (λ n s3 _. done _ _)))
+      then (PlaceOut a) Free _ _ (place_named q (left_of _ _ c) a (tick s) h e) (λ r s1 k. then Free Free _ _ (value_named x (right_of (place_calls q) _ c) a s1 h e)
+      (λ y s2 _. then Free Free _ _ (outside_checked Free r a (place_span q) s2 y h k tt) (λ n s3 _. done _ _)))
   simple_named (t_update op t q x sp) c a s h e =
       then (PlaceOut a) Free _ _ (place_named q (left_of _ _ c) a (tick s) h e) (λ r s1 k. then (NoneOut a) Free _ _ (value_out x (right_of (place_calls q) _ c) a s1 h e) (λ y s2 i. update_named op t q r y sp a s2 h k i))
   simple_named (t_step op t q sp) c a s h e =
@@ -194,4 +202,5 @@ module _ (program : Program) (most left : ℕ) (m : Mask) (Ok : ℕ → Type 0) 
   ranges_named [] c a s h e = done _ s
   ranges_named (r ∷ rs) c a s h e =
       let both = left_of (range_calls r) (calls_of_each range_calls rs) c in
-      then Free Free _ _ (value_named r.start (left_of (expr_calls r.start) (expr_calls r.end) both) a s h e) (λ y s1 _. then Free Free _ _ (value_named r.end (right_of (expr_calls r.start) (expr_calls r.end) both) a s1 h e) (λ z s2 _. then Free Free _ _ (ranges_named rs (right_of (range_calls r) _ c) a s2 h e) (λ xs s3 _. done _ s3)))
+      then Free Free _ _ (value_named r.start (left_of (expr_calls r.start) (expr_calls r.end) both) a s h e) (λ y s1 _. then Free Free _ _ (value_named r.end (right_of (expr_calls r.start) (expr_calls r.end) both) a s1 h e)
+      (λ z s2 _. then Free Free _ _ (ranges_named rs (right_of (range_calls r) _ c) a s2 h e) (λ xs s3 _. done _ s3)))

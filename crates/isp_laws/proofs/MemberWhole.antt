@@ -98,8 +98,11 @@ pub a_trap_names_a_member : ATrapNamesAMember
 a_trap_names_a_member =
     record {
       expression = λ program most levels frame x a s masked some. fails_in _ a _ (value_free program most levels a (Ok program most a) (calls_named program most a levels) frame x (λ k c. inr (λ j g r e. masked k j g c r e)) a s (λ p lt e. e) some);
-      statement = λ program most levels frame x a s m masked some. traps_in _ a _ (run_named program most levels a (Ok program most a) (calls_named program most a levels) frame x (inr m) (λ k c. inr (λ j g r e. masked k j g c r e)) a s (λ p lt e. e) some);
-      any_expression = λ program most levels frame x a s some. let m = everyone (gang_width program.gang) in fails_in _ m _ (value_free program most levels m (Ok program most m) (calls_named program most m levels) frame x (λ k c. inl (is_below _)) a s (λ p lt e. is_below _ p lt) some);
-      any_statement = λ program most levels frame x a s some. let m = everyone (gang_width program.gang) in traps_in _ m _ (run_named program most levels m (Ok program most m) (calls_named program most m levels) frame x (inl (is_below _)) (λ k c. inl (is_below _)) a s (λ p lt e. is_below _ p lt) some);
+      statement = λ program most levels frame x a s m masked some. traps_in _ a _ (run_named program most levels a (Ok program most a) (calls_named program most a levels) frame x (inr m) (λ k c. inr (λ j g r e. masked k j g c r e)) a s
+          (λ p lt e. e) some);
+      any_expression = λ program most levels frame x a s some. let m = everyone (gang_width program.gang) in fails_in _ m _ (value_free program most levels m (Ok program most m) (calls_named program most m levels) frame x
+          (λ k c. inl (is_below _)) a s (λ p lt e. is_below _ p lt) some);
+      any_statement = λ program most levels frame x a s some. let m = everyone (gang_width program.gang) in traps_in _ m _ (run_named program most levels m (Ok program most m) (calls_named program most m levels) frame x (inl (is_below _))
+          (λ k c. inl (is_below _)) a s (λ p lt e. is_below _ p lt) some);
       whole_run = λ program f most xs t arrays out e. subst (λ o. Below (gang_width program.gang) o) e (whole_run program f most xs);
     }

@@ -37,21 +37,29 @@ abbrev pub MaskedFrom : Program → List ℕ → Type 0
 MaskedFrom program ks =
     (k j : ℕ) (g : TFunction) → Contains ks k → Reaches program.functions k j → slice_get program.functions j ≡ Some g → MaskedBlock g.body
 
+-- what an expression and a statement come to over a set, with so many levels of calls left
+module _ (program : Program) (most levels : ℕ) (frame : Frame) where
+  abbrev pub value_over : TExpr → Mask → State → Val Payload
+  value_over x a s = value (gang_width program.gang) frame (calls_at program most levels) x a s
+
+  abbrev pub run_over : TStmt → Mask → State → Res
+  run_over x a s = run (gang_width program.gang) frame (calls_at program most levels) most x a s
+
 -- The trap of an expression or a statement over a set names a member of that set, whatever it calls, if all that runs is of the
 -- set: no `foreach` and no `unmasked` stands in it or in what it calls. With these the trap names an instance of the gang, and so
 -- does that of every run. (The set is not empty: over an empty set nothing is evaluated and nothing runs.)
 pub record ATrapNamesAMember : Type 0 where
   pub expression : (program : Program) (most levels : ℕ) (frame : Frame) (x : TExpr) (a : Mask) (s : State)
       → MaskedFrom program (expr_calls x) → any (gang_width program.gang) a ≡ true
-      → FailsIn (gang_width program.gang) a (value (gang_width program.gang) frame (calls_at program most levels) x a s)
+      → FailsIn (gang_width program.gang) a (value_over program most levels frame x a s)
   pub statement : (program : Program) (most levels : ℕ) (frame : Frame) (x : TStmt) (a : Mask) (s : State)
       → Masked x → MaskedFrom program (stmt_calls x) → any (gang_width program.gang) a ≡ true
-      → TrapsIn (gang_width program.gang) a (run (gang_width program.gang) frame (calls_at program most levels) most x a s)
+      → TrapsIn (gang_width program.gang) a (run_over program most levels frame x a s)
   pub any_expression : (program : Program) (most levels : ℕ) (frame : Frame) (x : TExpr) (a : Mask) (s : State)
       → any (gang_width program.gang) a ≡ true
-      → FailsIn (gang_width program.gang) (everyone (gang_width program.gang)) (value (gang_width program.gang) frame (calls_at program most levels) x a s)
+      → FailsIn (gang_width program.gang) (everyone (gang_width program.gang)) (value_over program most levels frame x a s)
   pub any_statement : (program : Program) (most levels : ℕ) (frame : Frame) (x : TStmt) (a : Mask) (s : State)
       → any (gang_width program.gang) a ≡ true
-      → TrapsIn (gang_width program.gang) (everyone (gang_width program.gang)) (run (gang_width program.gang) frame (calls_at program most levels) most x a s)
+      → TrapsIn (gang_width program.gang) (everyone (gang_width program.gang)) (run_over program most levels frame x a s)
   pub whole_run : (program : Program) (f most : ℕ) (xs : List Argument) (t : Trap) (arrays : List Row) (out : List ℕ)
       → run_of program f most xs ≡ Traps t arrays out → t.instance < gang_width program.gang
