@@ -1,6 +1,7 @@
 -- Statements of the code that hold statements, seen as trees.
 use Rattle.std.proofs.Common.{◌≡◌, ℕ, sym, ap, ◌∙◌, Vec, Global, Box, Option}
 use Rattle.std.specs.Prelude.{option_map}
+use Rattle.isp_base.specs.declared.types.Elem.{Elem}
 use Rattle.isp_base.specs.declared.types.Span.{Span}
 use Rattle.isp_tree.specs.declared.stmt.Form.{Form}
 use Rattle.isp_typed.specs.declared.expr.TypedExpr.{TypedExpr}
@@ -10,7 +11,7 @@ use Rattle.isp_typed.specs.declared.stmt.TypedSimple.{TypedSimple}
 use Rattle.isp_typed.specs.declared.stmt.TypedStmt.{TypedStmt}
 use Rattle.isp_typed.specs.declared.stmt.TypedStmt.TheVariants as variant
 use Rattle.isp_typed.specs.declared.stmt.TypedStmt.TheFolds.{fold-roll-TypedStmt}
-use Rattle.isp_typed.specs.Typed.{TStmt, TBlock, t_if, t_if_else, t_while, t_do, t_for, t_foreach, t_foreach_active}
+use Rattle.isp_typed.specs.Typed.{TStmt, TBlock, t_if, t_if_else, t_while, t_do, t_for, t_foreach, t_foreach_active, t_foreach_unique}
 use Rattle.isp_typed.specs.Views.{expr_of, first_of, simple_of, ranges_of, stmt_step, block_step, stmt_of}
 
 pub if_view : (f : Form) (n : ℕ) (x : TypedExpr) (a : Box TypedStmt Global) (s : Span) → stmt_of (variant.If f n x a s) ≡ t_if f n (expr_of x) (stmt_of a.value) s
@@ -36,3 +37,7 @@ foreach_view k n rs a s = ap stmt_of (sym (variant.rolls-Foreach k n rs a s)) �
 
 pub active_view : (k : Span) (n i : ℕ) (a : Box TypedStmt Global) (s : Span) → stmt_of (variant.ForeachActive k n i a s) ≡ t_foreach_active k n i (stmt_of a.value) s
 active_view k n i a s = ap stmt_of (sym (variant.rolls-ForeachActive k n i a s)) ∙ fold-roll-TypedStmt TStmt TBlock stmt_step block_step _
+
+pub unique_view : (k : Span) (n i : ℕ) (e : Elem) (x : TypedExpr) (a : Box TypedStmt Global) (s : Span)
+    → stmt_of (variant.ForeachUnique k n i e x a s) ≡ t_foreach_unique k n i e (expr_of x) (stmt_of a.value) s
+unique_view k n i e x a s = ap stmt_of (sym (variant.rolls-ForeachUnique k n i e x a s)) ∙ fold-roll-TypedStmt TStmt TBlock stmt_step block_step _

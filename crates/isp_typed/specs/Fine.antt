@@ -27,7 +27,7 @@ use Rattle.isp_typed.specs.Library.{parts, part_elem, library_type}
 use Rattle.isp_typed.specs.Nodes.{program_nodes}
 use Rattle.isp_typed.specs.Typed.{TExpr, t_constant, t_program_index, t_place, t_convert, t_cast, t_unary, t_binary, t_compare, t_logic, t_choose, t_call, t_library, t_packed_store, t_packed_load, TPlace, t_variable, t_element, TBase, t_whole, t_from, base_array, TArgument, t_by_value, t_by_name, TCall, t_called, TArguments, t_no_arguments, t_argument_then, TExprs, t_no_exprs, t_expr_then, type_of, elem_of, rate_of, rate_or, place_type, ty_of}
 use Rattle.isp_typed.specs.Typed.{TItem, t_plain, t_with_value, t_with_size, TSimple, t_value, t_run, t_assign, t_update, t_step, TFirst, t_first_declare, t_first_simple, TRange}
-use Rattle.isp_typed.specs.Typed.{TStmt, t_block, t_declare, t_simple, t_if, t_if_else, t_while, t_do, t_for, t_foreach, t_foreach_active, t_unmasked, t_jump, t_return, t_print, t_assert, TBlock, t_braces, TStmts, t_no_stmts, t_stmt_then, TFunction, Program}
+use Rattle.isp_typed.specs.Typed.{TStmt, t_block, t_declare, t_simple, t_if, t_if_else, t_while, t_do, t_for, t_foreach, t_foreach_active, t_foreach_unique, t_unmasked, t_jump, t_return, t_print, t_assert, TBlock, t_braces, TStmts, t_no_stmts, t_stmt_then, TFunction, Program}
 
 -- a type of whole numbers
 abbrev pub IsWhole : Elem → Type 0
@@ -61,12 +61,16 @@ pub record IsSized (n : ℕ) : Type 0 where
   pub some : 1 ≤ n
   pub few : n ≤ 65536
 
--- the index of a `foreach` is a constant varying int32, that of a `foreach_active` a constant uniform int64
+-- the index of a `foreach` is a constant varying int32, that of a `foreach_unique` a constant uniform of the type of its
+-- value, that of a `foreach_active` a constant uniform int64
 abbrev pub foreach_index : Variable
 foreach_index = record { holds = holds.Value (ty_of Varying I32); constant = true }
 
+abbrev pub unique_index : Elem → Variable
+unique_index e = record { holds = holds.Value (ty_of Uniform e); constant = true }
+
 abbrev pub active_index : Variable
-active_index = record { holds = holds.Value (ty_of Uniform I64); constant = true }
+active_index = unique_index I64
 
 -- ---- operators
 
@@ -223,6 +227,8 @@ module _ (fs : List TFunction) (vars : List Variable) where
           (n ≤ m) × (m ≤ length vars) × IfAny FineFirst i × IfAny (FineValue Truth) x × IfAny FineSimple p × FineStmt a
       FineStmt (t_foreach k n rs a s) = (n ≤ length vars) × All FineRange rs × FineStmt a
       FineStmt (t_foreach_active k n i a s) = (n ≤ length vars) × (slice_get vars i ≡ Some active_index) × FineStmt a
+      FineStmt (t_foreach_unique k n i e x a s) =
+          (n ≤ length vars) × (slice_get vars i ≡ Some (unique_index e)) × FineValue (operand e) x × FineStmt a
       FineStmt (t_unmasked k b s) = FineBlock b
       FineStmt (t_jump j k s) = Unit {0}
       FineStmt (t_return k x s) = FineReturned answer x

@@ -3,7 +3,7 @@ use Rattle.std.specs.Prelude.{ℕ, suc, ◌+◌, length}
 use Rattle.isp_tree.specs.Nodes.{nodes_of_option, nodes_of_all}
 use Rattle.isp_typed.specs.Typed.{TExpr, t_constant, t_program_index, t_place, t_convert, t_cast, t_unary, t_binary, t_compare, t_logic, t_choose, t_call, t_library, t_packed_store, t_packed_load, TPlace, t_variable, t_element, TBase, t_whole, t_from, TArgument, t_by_value, t_by_name, TCall, t_called, TArguments, t_no_arguments, t_argument_then, TExprs, t_no_exprs, t_expr_then}
 use Rattle.isp_typed.specs.Typed.{TItem, t_plain, t_with_value, t_with_size, TSimple, t_value, t_run, t_assign, t_update, t_step, TFirst, t_first_declare, t_first_simple, TRange}
-use Rattle.isp_typed.specs.Typed.{TStmt, t_block, t_declare, t_simple, t_if, t_if_else, t_while, t_do, t_for, t_foreach, t_foreach_active, t_unmasked, t_jump, t_return, t_print, t_assert, TBlock, t_braces, TStmts, t_no_stmts, t_stmt_then, TFunction, Program}
+use Rattle.isp_typed.specs.Typed.{TStmt, t_block, t_declare, t_simple, t_if, t_if_else, t_while, t_do, t_for, t_foreach, t_foreach_active, t_foreach_unique, t_unmasked, t_jump, t_return, t_print, t_assert, TBlock, t_braces, TStmts, t_no_stmts, t_stmt_then, TFunction, Program}
 
 abbrev mutual
   pub typed_nodes : TExpr → ℕ
@@ -80,6 +80,7 @@ abbrev mutual
       suc (nodes_of_option first_nodes i + (nodes_of_option typed_nodes x + (nodes_of_option step_nodes p + stmt_nodes a)))
   stmt_nodes (t_foreach k n rs a s) = suc (nodes_of_all range_nodes rs + stmt_nodes a)
   stmt_nodes (t_foreach_active k n i a s) = suc (stmt_nodes a)
+  stmt_nodes (t_foreach_unique k n i e x a s) = suc (typed_nodes x + stmt_nodes a)
   stmt_nodes (t_unmasked k b s) = suc (block_nodes b)
   stmt_nodes (t_jump j k s) = 1
   stmt_nodes (t_return k x s) = suc (nodes_of_option typed_nodes x)

@@ -175,6 +175,8 @@ mutual
     t_for : (form : Form) (before : ℕ) (first : Option TFirst) (test : Option TExpr) (step : Option TSimple) (inside : ℕ) (body : TStmt) (span : Span) → TStmt
     t_foreach : (keyword : Span) (before : ℕ) (ranges : List TRange) (body : TStmt) (span : Span) → TStmt
     t_foreach_active : (keyword : Span) (before index : ℕ) (body : TStmt) (span : Span) → TStmt
+    -- the value is of the type in which operators work on `elem`, the index of `elem` itself
+    t_foreach_unique : (keyword : Span) (before index : ℕ) (elem : Elem) (value : TExpr) (body : TStmt) (span : Span) → TStmt
     t_unmasked : (keyword : Span) (body : TBlock) (span : Span) → TStmt
     t_jump : (jump : Jump) (keyword span : Span) → TStmt
     t_return : (keyword : Span) (value : Option TExpr) (span : Span) → TStmt

@@ -150,6 +150,17 @@ pub enum TypedStmt {
         body: Box<TypedStmt>,
         span: Span,
     },
+    /// The body runs for each distinct value. The value is of the type in which operators work on `elem`;
+    /// the index, by its number, is a constant uniform of `elem`.
+    ForeachUnique {
+        keyword: Span,
+        before: usize,
+        index: usize,
+        elem: Elem,
+        value: TypedExpr,
+        body: Box<TypedStmt>,
+        span: Span,
+    },
     Unmasked {
         keyword: Span,
         body: TypedBlock,
