@@ -3,10 +3,10 @@
 use Rattle.std.specs.Prelude.{◌≡◌, ℕ, zero, suc, ◌+◌, List, [], ◌∷◌, Some, None, codes}
 use Rattle.std.proofs.Common.{refl}
 use Rattle.std.specs.Fmt.{digits}
-use Rattle.isp_base.specs.Values.{number_to, wrap_to}
+use Rattle.isp_base.specs.Values.{not_zero, number_to, wrap_to}
 use Rattle.isp_base.specs.Outcomes.{Outcome, Ends, Traps, GoesOn}
 use Rattle.isp_base.specs.Traps.{trap}
-use Rattle.isp_base.specs.declared.types.Elem.TheVariants.{I32}
+use Rattle.isp_base.specs.declared.types.Elem.TheVariants.{Bool as Truth, I32}
 use Rattle.isp_base.specs.declared.types.Rate.TheVariants.{Uniform, Varying}
 use Rattle.isp_base.specs.declared.types.Span.{Span}
 use Rattle.isp_base.specs.declared.trap.TrapKind.TheVariants as kind
@@ -16,7 +16,7 @@ use Rattle.isp_tree.specs.declared.stmt.Form.TheVariants.{Plain}
 use Rattle.isp_typed.specs.declared.library.Library.TheVariants as library
 use Rattle.isp_typed.specs.declared.variable.Holds.TheVariants.{Local}
 use Rattle.isp_typed.specs.declared.variable.Logic.TheVariants.{And}
-use Rattle.isp_typed.specs.Typed.{t_binary, t_logic, t_choose, t_library, t_exprs, t_packed_store, t_packed_load, t_whole, t_called, t_arguments, TStmt, t_declare, t_with_size, t_simple, t_run, t_value, t_step, t_update, t_variable, t_element, t_do, t_unmasked, t_foreach_active, t_assert, TFunction, t_by_value, t_by_name, ty_of}
+use Rattle.isp_typed.specs.Typed.{t_binary, t_logic, t_choose, t_library, t_exprs, t_packed_store, t_packed_load, t_whole, t_called, t_arguments, TStmt, t_declare, t_with_size, t_simple, t_run, t_value, t_step, t_update, t_variable, t_element, t_do, t_unmasked, t_foreach_active, t_foreach_unique, t_assert, TFunction, t_by_value, t_by_name, ty_of, t_convert, t_place}
 use Rattle.isp_meaning.specs.Runs.{run_of, work_of}
 use Rattle.isp_meaning.proofs.Programs.{at, number, truth, index, varying, uniform, array, item, own_item, join, plus, test, call, set, set_item, set_own, body, block, if_then, if_else, while, count, range, foreach, break, continue, return, print, holding, each, one, given, function, program, row, with_row}
 
@@ -166,6 +166,45 @@ depth_counted = refl
 active_in_order : answers (if_then (test Greater index (number 1)) (t_foreach_active at 0 3 (print (codes "% ") (uniform 3 ∷ [])) at ∷ []) ∷ []) 9 ≡ prints (codes "2 3 ")
 unfolding digits number_to wrap_to
 active_in_order = refl
+
+-- x = a[programIndex]; foreach_unique (v in x) print("% % ", v, x); of 7, 3, 7, 3: in the order of the lowest instances
+unique : run_of (program (entry (set 1 (item 0 index) ∷ t_foreach_unique at 0 3 I32 (varying 1) (print (codes "% % ") (uniform 3 ∷ varying 1 ∷ [])) at ∷ []) ∷ [])) 0 9 (with_row (7 ∷ 3 ∷ 7 ∷ 3 ∷ [])) ≡ Ends (row (7 ∷ 3 ∷ 7 ∷ 3 ∷ []) ∷ []) None (codes "7 [7,_,7,_] 3 [_,3,_,3] ")
+unfolding digits number_to wrap_to
+unique = refl
+
+-- x = programIndex & 1; foreach_unique (v in x) { if (programIndex == 0) continue; x = 5; } x = x + 1: the value is taken
+-- once, so 3, whose x is 5 only behind the second turn, has its turn; who continued goes on behind the statement
+unique_once : answers (set 1 (join op.And index (number 1)) ∷ t_foreach_unique at 0 3 I32 (varying 1) (block (if_then (test Equal index (number 0)) (continue ∷ []) ∷ set 1 (number 5) ∷ [])) at ∷ set 1 (plus (varying 1) (number 1)) ∷ give ∷ []) 9 ≡ gives 1 6 6 6
+unfolding digits number_to wrap_to
+unique_once = refl
+
+-- if (programIndex > 0) foreach_unique (v in programIndex < 2) print("%: % ", v, programIndex): 1 is true, 2 and 3 are not
+unique_bool : answers (if_then (test Greater index (number 0)) (t_foreach_unique at 0 3 Truth (t_convert I32 (test Less index (number 2))) (print (codes "%: % ") (t_place (t_variable 3 (ty_of Uniform Truth) at) ∷ index ∷ [])) at ∷ []) ∷ []) 9 ≡ prints (codes "true: [_,1,_,_] false: [_,_,2,3] ")
+unfolding digits not_zero number_to wrap_to
+unique_bool = refl
+
+-- x = a[programIndex]; foreach_unique (v in x) { if (programIndex == 0) continue; u++; } x = u: the turn of 0 alone counts
+-- nothing
+abbrev counts_turns : TStmt
+counts_turns = block (if_then (test Equal index (number 0)) (continue ∷ []) ∷ t_simple (t_step op.Add I32 (t_variable 2 (ty_of Uniform I32) at) at) at ∷ [])
+
+abbrev counted : List ℕ → Outcome
+counted xs =
+    run_of (program (entry (set 1 (item 0 index) ∷ t_foreach_unique at 0 3 I32 (varying 1) counts_turns at ∷ set 1 (uniform 2) ∷ give ∷ []) ∷ [])) 0 9 (with_row xs)
+
+unique_counts : (counted (7 ∷ 3 ∷ 7 ∷ 3 ∷ []) ≡ gives 2 2 2 2) × (counted (7 ∷ 3 ∷ 3 ∷ 3 ∷ []) ≡ gives 1 1 1 1)
+unfolding digits number_to wrap_to
+unique_counts = (refl, refl)
+
+-- a uniform value has one turn, of all: foreach_unique (v in 7) x = v
+unique_uniform : answers (t_foreach_unique at 0 3 I32 (number 7) (set 1 (uniform 3)) at ∷ give ∷ []) 9 ≡ gives 7 7 7 7
+unfolding digits number_to wrap_to
+unique_uniform = refl
+
+-- its work: body 1, foreach_unique 1, the value 3, two turns 2, the empty body twice 2
+unique_work : work (t_foreach_unique at 0 3 I32 (join op.And index (number 1)) (block []) at ∷ []) ≡ 9
+unfolding digits number_to wrap_to
+unique_work = refl
 
 -- while (true) print("y"); with two turns
 cut : answers (while (truth) (print (codes "y") [] ∷ []) ∷ []) 2 ≡ GoesOn (codes "yy")

@@ -4,7 +4,7 @@ use Rattle.std.proofs.Common.{refl, ap, arith}
 use Rattle.isp_base.specs.Access.{is_zero}
 use Rattle.isp_base.specs.Prefixes.{IsPrefix}
 use Rattle.isp_base.specs.Sets.{Mask, nobody, everyone, union, without, any, lowest}
-use Rattle.isp_base.specs.Maps.{where_true}
+use Rattle.isp_base.specs.Maps.{Map, where_true}
 use Rattle.isp_base.specs.Types.{gang_width}
 use Rattle.isp_base.specs.declared.operators.BinOp.{BinOp}
 use Rattle.isp_base.specs.declared.signature.Argument.{Argument}
@@ -16,17 +16,17 @@ use Rattle.isp_base.specs.declared.types.Ty.{Ty}
 use Rattle.isp_base.specs.declared.trap.TrapKind.TheVariants.{Divide, Index, Assert}
 use Rattle.isp_tree.specs.declared.stmt.Jump.{Jump}
 use Rattle.isp_tree.specs.declared.stmt.Jump.TheVariants.{Break, Continue}
-use Rattle.isp_typed.specs.Typed.{TExpr, t_constant, t_program_index, t_place, t_convert, t_cast, t_unary, t_binary, t_compare, t_logic, t_choose, t_call, t_library, t_packed_store, t_packed_load, TPlace, t_variable, t_element, TBase, t_whole, t_from, TArgument, t_by_value, t_by_name, TCall, t_called, TArguments, t_no_arguments, t_argument_then, TExprs, t_exprs, t_no_exprs, t_expr_then, place_span}
-use Rattle.isp_typed.specs.Typed.{TItem, t_plain, t_with_value, t_with_size, TSimple, t_value, t_run, t_assign, t_update, t_step, TFirst, t_first_declare, t_first_simple, TRange, TStmt, t_block, t_declare, t_simple, t_if, t_if_else, t_while, t_do, t_for, t_foreach, t_foreach_active, t_unmasked, t_jump, t_return, t_print, t_assert, TBlock, t_braces, TStmts, t_no_stmts, t_stmt_then, TFunction, Program}
+use Rattle.isp_typed.specs.Typed.{TExpr, t_constant, t_program_index, t_place, t_convert, t_cast, t_unary, t_binary, t_compare, t_logic, t_choose, t_call, t_library, t_packed_store, t_packed_load, TPlace, t_variable, t_element, TBase, t_whole, t_from, TArgument, t_by_value, t_by_name, TCall, t_called, TArguments, t_no_arguments, t_argument_then, TExprs, t_exprs, t_no_exprs, t_expr_then, place_span, elem_of}
+use Rattle.isp_typed.specs.Typed.{TItem, t_plain, t_with_value, t_with_size, TSimple, t_value, t_run, t_assign, t_update, t_step, TFirst, t_first_declare, t_first_simple, TRange, TStmt, t_block, t_declare, t_simple, t_if, t_if_else, t_while, t_do, t_for, t_foreach, t_foreach_active, t_foreach_unique, t_unmasked, t_jump, t_return, t_print, t_assert, TBlock, t_braces, TStmts, t_no_stmts, t_stmt_then, TFunction, Program}
 use Rattle.isp_meaning.specs.State.{State, Frame, tick, extent}
-use Rattle.isp_meaning.specs.Payloads.{Payload, One, Each, is_true, is_false, kept_by, offender}
+use Rattle.isp_meaning.specs.Payloads.{Payload, One, Each, is_true, is_false, kept_by, offender, spread}
 use Rattle.isp_meaning.specs.Outcomes.{Val, Gives, Fails, Stops, Res, Went, Trapped, Cut, Done, go_on, if_so}
 use Rattle.isp_meaning.specs.Places.{Place, Variable, Element, written, with_elements, outside, kept}
 use Rattle.isp_base.specs.Cross.{packed_outside}
 use Rattle.isp_meaning.specs.Expressions.{Passed, Calls, needs, base_array, value, place, first_element, values, call, arguments, passed}
 use Rattle.isp_meaning.specs.Simple.{cleared, update, simple, item, items, first_part, step_part}
 use Rattle.isp_meaning.specs.Loops.{loop_end, tested, stepped, turns}
-use Rattle.isp_meaning.specs.Rounds.{Round, rounds, round_of_one, active_rounds, members, Run, round_of_run, runs_of, foreach_rounds, set_indices, counted}
+use Rattle.isp_meaning.specs.Rounds.{Round, rounds, round_of_one, active_rounds, members, firsts, round_of_value, unique_rounds, Run, round_of_run, runs_of, foreach_rounds, set_indices, counted}
 use Rattle.isp_base.specs.Prints.{print_text}
 use Rattle.isp_meaning.specs.Printing.{shown_all}
 use Rattle.isp_meaning.specs.Statements.{all_go, branches, answered, answered_at, jumped, ranges, test_part, run, block, run_all}
@@ -218,6 +218,10 @@ active_quiet : (index : ℕ) (ps : List ℕ) → Quiet (map (round_of_one index)
 active_quiet index [] = tt
 active_quiet index (p ∷ ps) = (λ s. prefix_self s.out, active_quiet index ps)
 
+unique_quiet : (u t : Elem) (x : Map) (index : ℕ) (ps : List ℕ) → Quiet (map (round_of_value u t x index) ps)
+unique_quiet u t x index [] = tt
+unique_quiet u t x index (p ∷ ps) = (λ s. prefix_self s.out, unique_quiet u t x index ps)
+
 runs_quiet : (xs : List Run) → Quiet (map round_of_run xs)
 runs_quiet [] = tt
 runs_quiet (x ∷ xs) = (λ s. indices_out x.members x.indices s, runs_quiet xs)
@@ -253,6 +257,8 @@ module _ (gang : ℕ) (frame : Frame) (calls calls' : Calls) (grow : CallsGrow c
     run_grows (t_foreach w k rs x sp) a s =
         with_grown s.out _ _ _ _ (ranges_grow gang frame calls calls' grow rs a (tick s)) (λ xs s1. rounds_grow _ _ (run_grows x) a (foreach_rounds gang xs) (runs_quiet (runs_of gang xs)) (record s1 { work = s1.work + counted gang 1 xs }))
     run_grows (t_foreach_active w k i x sp) a s = rounds_grow _ _ (run_grows x) a (active_rounds gang i a) (active_quiet i (members gang a)) (tick s)
+    run_grows (t_foreach_unique w k i t e x sp) a s =
+        with_grown s.out _ _ _ _ (value_grows gang frame calls calls' grow e a (tick s)) (λ m s1. rounds_grow _ _ (run_grows x) a (unique_rounds gang (elem_of e) t i (spread a m)) (unique_quiet (elem_of e) t (spread a m) i (members gang (firsts (elem_of e) (spread a m)))) s1)
     run_grows (t_unmasked w b sp) a s = go_grown s.out _ _ _ _ (block_grows b (everyone gang) (tick s)) (λ s1 g b' c r. went_grown s1 _ _ _ _)
     run_grows (t_jump j w sp) a s = jumped_grows j a (tick s)
     run_grows (t_return w None sp) a s = went_grown (tick s) _ _ _ _

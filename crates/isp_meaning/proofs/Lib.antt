@@ -10,3 +10,5 @@ pub mod Parts
 pub mod Others
 pub mod Loads
 pub mod RunsFor
+pub mod Members
+pub mod Distinct

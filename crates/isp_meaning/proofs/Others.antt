@@ -4,7 +4,7 @@ use Rattle.std.proofs.Common.{refl, sym, ap, ◌∙◌, arith}
 use Rattle.std.proofs.lemmas.Bool.{ne_eqb}
 use Rattle.isp_base.specs.Access.{is_zero}
 use Rattle.isp_base.specs.Sets.{Mask, nobody, union, without, any, lone}
-use Rattle.isp_base.specs.Maps.{or_old, holds, where_true}
+use Rattle.isp_base.specs.Maps.{Map, or_old, holds, where_true}
 use Rattle.isp_base.specs.Types.{gang_width}
 use Rattle.isp_base.specs.declared.operators.BinOp.{BinOp}
 use Rattle.isp_base.specs.declared.types.Elem.{Elem}
@@ -15,15 +15,15 @@ use Rattle.isp_base.specs.declared.types.Ty.{Ty}
 use Rattle.isp_base.specs.declared.trap.TrapKind.TheVariants.{Divide, Index, Assert}
 use Rattle.isp_tree.specs.declared.stmt.Jump.{Jump}
 use Rattle.isp_tree.specs.declared.stmt.Jump.TheVariants.{Break, Continue}
-use Rattle.isp_typed.specs.Typed.{TExpr, t_exprs, TPlace, place_type, place_span, TItem, t_plain, t_with_value, t_with_size, TSimple, t_value, t_run, t_assign, t_update, t_step, TFirst, t_first_declare, t_first_simple, TStmt, t_block, t_declare, t_simple, t_if, t_if_else, t_while, t_do, t_for, t_foreach, t_foreach_active, t_unmasked, t_jump, t_return, t_print, t_assert, TBlock, t_braces, TStmts, t_no_stmts, t_stmt_then}
+use Rattle.isp_typed.specs.Typed.{TExpr, t_exprs, elem_of, TPlace, place_type, place_span, TItem, t_plain, t_with_value, t_with_size, TSimple, t_value, t_run, t_assign, t_update, t_step, TFirst, t_first_declare, t_first_simple, TStmt, t_block, t_declare, t_simple, t_if, t_if_else, t_while, t_do, t_for, t_foreach, t_foreach_active, t_foreach_unique, t_unmasked, t_jump, t_return, t_print, t_assert, TBlock, t_braces, TStmts, t_no_stmts, t_stmt_then}
 use Rattle.isp_meaning.specs.State.{State, Frame, tick}
-use Rattle.isp_meaning.specs.Payloads.{Payload, One, Each, is_true, is_false, kept_by, offender, mapped, converted}
+use Rattle.isp_meaning.specs.Payloads.{Payload, One, Each, is_true, is_false, kept_by, offender, mapped, converted, spread}
 use Rattle.isp_meaning.specs.Outcomes.{Val, Gives, Fails, Stops, Res, Went, Trapped, Cut, Done, with_value, checked, go_on, went_all, if_so, unless_empty}
 use Rattle.isp_meaning.specs.Places.{Place, outside, held}
 use Rattle.isp_meaning.specs.Expressions.{Calls, value, values}
 use Rattle.isp_meaning.specs.Simple.{update, simple, item, items, first_part, step_part}
 use Rattle.isp_meaning.specs.Loops.{loop_end, tested, turns}
-use Rattle.isp_meaning.specs.Rounds.{rounds, round_of_one, members, if_listed}
+use Rattle.isp_meaning.specs.Rounds.{rounds, round_of_one, members, if_listed, firsts, holders, round_of_value}
 use Rattle.isp_meaning.specs.Statements.{all_go, answered, answered_at, branches, jumped, test_part, run, block, run_all}
 use Rattle.isp_meaning.specs.Calls.{calls_at}
 use Rattle.isp_meaning.specs.Laws.{Untouched, Masked, MaskedBlock, MaskedAll, LeavesBy, Leaves, OthersStay}
@@ -166,6 +166,12 @@ module _ (p : ℕ) where
   active_stay body all index (q ∷ qs) h i k s =
       go_stays s _ _ (stays_on s ((round_of_one index q).begins s) _ (same p s) (h (lone (Some q)) ((round_of_one index q).begins s) k.0)) (λ s1 g b c r e1 e2 e3 e4. active_stay body all index qs h i k.1 s1)
 
+  -- those that hold a value: the instance has none
+  unique_stay : (body : Mask → State → Res) (all : Mask) (u t : Elem) (x : Map) (index : ℕ) (qs : List ℕ) → BodyStays body → all p ≡ false → x p ≡ None → (s : State) → Stays s (rounds body all (map (round_of_value u t x index) qs) s)
+  unique_stay body all u t x index [] h i k s = all_stays all s i
+  unique_stay body all u t x index (q ∷ qs) h i k s =
+      go_stays s _ _ (stays_on s ((round_of_value u t x index q).begins s) _ (same p s) (h (holders u x q) ((round_of_value u t x index q).begins s) (ap (holds _) k))) (λ s1 g b c r e1 e2 e3 e4. unique_stay body all u t x index qs h i k s1)
+
   answered_off : (t : Option Ty) (a : Mask) (m : Payload) (s : State) → a p ≡ false → Absent p m → Untouched p s (answered t a m s)
   answered_off None a m s h k = same p s
   answered_off (Some t) a m s h k = by t.rate
@@ -200,6 +206,8 @@ module _ (p : ℕ) where
       run_stays (t_foreach w k rs x sp) m a s h = absurd m
       run_stays (t_foreach_active w k i x sp) m a s h =
           stays_on s (tick s) _ (same p s) (active_stay (run gang frame calls most x) a i (members gang a) (run_stays x m) h (members_other gang a h) (tick s))
+      run_stays (t_foreach_unique w k i t e x sp) m a s h =
+          with_stays (Absent p) s (value gang frame calls e a (tick s)) _ (value_off gang frame calls off p e a (tick s) h) (λ v s1 j. unique_stay (run gang frame calls most x) a (elem_of e) t (spread a v) i (members gang (firsts (elem_of e) (spread a v))) (run_stays x m) h (spread_none p a v h j) s1)
       run_stays (t_unmasked w b sp) m a s h = absurd m
       run_stays (t_jump j w sp) m a s h = stays_on s (tick s) _ (same p s) (jumped_stays j a (tick s) h)
       run_stays (t_return w None sp) m a s h = record { by = (same p s, refl, refl, refl, h) }

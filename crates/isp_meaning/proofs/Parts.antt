@@ -7,14 +7,14 @@ use Rattle.isp_base.specs.Types.{gang_width}
 use Rattle.isp_base.specs.declared.trap.TrapKind.TheVariants.{Assert}
 use Rattle.isp_tree.specs.declared.stmt.Jump.{Jump}
 use Rattle.isp_tree.specs.declared.stmt.Jump.TheVariants.{Break, Continue}
-use Rattle.isp_typed.specs.Typed.{TExpr, t_exprs, TStmt, t_block, t_declare, t_simple, t_if, t_if_else, t_while, t_do, t_for, t_foreach, t_foreach_active, t_unmasked, t_jump, t_return, t_print, t_assert, TBlock, t_braces, TStmts, t_no_stmts, t_stmt_then}
+use Rattle.isp_typed.specs.Typed.{TExpr, t_exprs, elem_of, TStmt, t_block, t_declare, t_simple, t_if, t_if_else, t_while, t_do, t_for, t_foreach, t_foreach_active, t_foreach_unique, t_unmasked, t_jump, t_return, t_print, t_assert, TBlock, t_braces, TStmts, t_no_stmts, t_stmt_then}
 use Rattle.isp_meaning.specs.State.{State, Frame, tick}
-use Rattle.isp_meaning.specs.Payloads.{Payload, One, Each, is_true, is_false, bit, kept_by, offender}
+use Rattle.isp_meaning.specs.Payloads.{Payload, One, Each, is_true, is_false, bit, kept_by, offender, spread}
 use Rattle.isp_meaning.specs.Outcomes.{Val, Gives, Fails, Stops, Res, Went, Trapped, Cut, Done, with_value, checked, go_on, went_all, if_so, unless_empty}
 use Rattle.isp_meaning.specs.Expressions.{Calls, value, values}
 use Rattle.isp_meaning.specs.Simple.{simple, items, first_part, step_part}
 use Rattle.isp_meaning.specs.Loops.{loop_end, tested, turns}
-use Rattle.isp_meaning.specs.Rounds.{Round, rounds, foreach_rounds, counted}
+use Rattle.isp_meaning.specs.Rounds.{Round, rounds, unique_rounds, foreach_rounds, counted}
 use Rattle.isp_meaning.specs.Statements.{all_go, answered, branches, jumped, ranges, test_part, run, block, run_all}
 use Rattle.isp_base.specs.Prints.{print_text}
 use Rattle.isp_meaning.specs.Printing.{shown_all}
@@ -209,6 +209,7 @@ module _ (p : ℕ) where
           any_parted a (first_part gang frame calls first a (tick s)) _ (λ _ s1. tested_parted gang (test_part gang frame calls e) (run gang frame calls most x) (step_part gang frame calls step) a (test_off e) (run_parted x) _ (turns_parted gang (test_part gang frame calls e) (run gang frame calls most x) (step_part gang frame calls step) a (test_off e) (run_parted x) most) a nobody s1 (λ z. z) (λ z. refl))
       run_parted (t_foreach w k rs x sp) a s = any_parted a (ranges gang frame calls rs a (tick s)) _ (λ xs s1. rounds_parted (run gang frame calls most x) a (foreach_rounds gang xs) (record s1 { work = s1.work + counted gang 1 xs }))
       run_parted (t_foreach_active w k i x sp) a s = rounds_parted (run gang frame calls most x) a _ (tick s)
+      run_parted (t_foreach_unique w k i t e x sp) a s = any_parted a (value gang frame calls e a (tick s)) _ (λ m s1. rounds_parted (run gang frame calls most x) a (unique_rounds gang (elem_of e) t i (spread a m)) s1)
       run_parted (t_unmasked w b sp) a s = round_parted a (block gang frame calls most b (everyone gang) (tick s)) (went_all a) (all_parted a)
       run_parted (t_jump j w sp) a s = jumped_parted j a (tick s)
       run_parted (t_return w None sp) a s = record { by = in_last (a p) }

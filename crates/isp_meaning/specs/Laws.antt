@@ -16,7 +16,7 @@ use Rattle.isp_base.specs.declared.types.Gang.{Gang}
 use Rattle.isp_base.specs.declared.types.Gang.TheVariants.{W4}
 use Rattle.isp_tree.specs.declared.stmt.Form.{Form}
 use Rattle.isp_base.specs.declared.types.Span.{Span}
-use Rattle.isp_typed.specs.Typed.{Program, TExpr, TStmt, t_block, t_declare, t_simple, t_if, t_if_else, t_while, t_do, t_for, t_foreach, t_foreach_active, t_unmasked, t_jump, t_return, t_print, t_assert, TBlock, t_braces, TStmts, t_no_stmts, t_stmt_then}
+use Rattle.isp_typed.specs.Typed.{Program, TExpr, TStmt, t_block, t_declare, t_simple, t_if, t_if_else, t_while, t_do, t_for, t_foreach, t_foreach_active, t_foreach_unique, t_unmasked, t_jump, t_return, t_print, t_assert, TBlock, t_braces, TStmts, t_no_stmts, t_stmt_then}
 use Rattle.isp_meaning.specs.State.{State, Frame, tick}
 use Rattle.isp_base.specs.Types.{gang_width}
 use Rattle.isp_meaning.specs.Payloads.{Payload, One, Each, bit, is_true}
@@ -69,6 +69,7 @@ abbrev mutual
   Masked (t_for f k first e step i x sp) = Masked x
   Masked (t_foreach w k rs x sp) = ⊥
   Masked (t_foreach_active w k i x sp) = Masked x
+  Masked (t_foreach_unique w k i t e x sp) = Masked x
   Masked (t_unmasked w b sp) = ⊥
   Masked (t_jump j w sp) = Unit {0}
   Masked (t_return w x sp) = Unit {0}

@@ -8,6 +8,7 @@ pub mod Simple
 pub mod Loops
 pub mod Nodes
 pub mod Rounds
+pub mod Distinct
 pub mod Printing
 pub mod Statements
 pub mod Calls

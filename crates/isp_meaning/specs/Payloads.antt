@@ -62,6 +62,10 @@ first_of_two (Some x) y = Some x
 abbrev pub layer : Map → Map → Map
 layer x y p = first_of_two (x p) (y p)
 
+-- the values of those that are not of a set
+abbrev pub except : Map → Mask → Map
+except x a p = if a p then None else x p
+
 -- the values of a choice: m where the test is true, n where it is false
 abbrev pub selected : Mask → Payload → Payload → Payload → Payload
 selected a (One c) m n = if is_true c then m else n

@@ -1,13 +1,16 @@
--- Bodies that run over each of a list of sets: `foreach` and `foreach_active`.
-use Rattle.std.specs.Prelude.{ℕ, zero, suc, ◌+◌, ◌-◌, ◌*◌, ◌/◌, List, [], ◌∷◌, ◌++◌, map, Bool, true, false, ◌&&◌, nat_lt, ℤ, pos, negsuc, ◌+ℤ◌, ◌-ℤ◌, int_lt}
-use Rattle.isp_base.specs.Sets.{Mask, lone}
-use Rattle.isp_base.specs.Maps.{on}
-use Rattle.isp_base.specs.Values.{wrap}
+-- Bodies that run over each of a list of sets: `foreach`, `foreach_active` and `foreach_unique`.
+use Rattle.std.specs.Prelude.{ℕ, zero, suc, ◌+◌, ◌-◌, ◌*◌, ◌/◌, List, [], ◌∷◌, ◌++◌, map, Bool, true, false, not, ◌&&◌, nat_lt, ℤ, pos, negsuc, ◌+ℤ◌, ◌-ℤ◌, int_lt}
+use Rattle.isp_base.specs.Cross.{or_zero}
+use Rattle.isp_base.specs.Sets.{Mask, any, lone}
+use Rattle.isp_base.specs.Maps.{Map, on, where_true}
+use Rattle.isp_base.specs.Values.{number, wrap, compare_to}
+use Rattle.isp_base.specs.declared.operators.Compare.TheVariants.{Equal}
+use Rattle.isp_base.specs.declared.types.Elem.{Elem}
 use Rattle.isp_base.specs.declared.types.Elem.TheVariants.{I32}
 use Rattle.isp_base.specs.declared.types.Rate.TheVariants.{Uniform, Varying}
 use Rattle.std.specs.Prelude.{Some}
 use Rattle.isp_meaning.specs.State.{State, tick}
-use Rattle.isp_meaning.specs.Payloads.{One, Each}
+use Rattle.isp_meaning.specs.Payloads.{One, Each, converted}
 use Rattle.isp_meaning.specs.Outcomes.{Res, go_on, went_all}
 use Rattle.isp_meaning.specs.Places.{written}
 
@@ -38,6 +41,32 @@ round_of_one index p = record { members = lone (Some p); begins = λ s. written 
 
 abbrev pub active_rounds : ℕ → ℕ → Mask → List Round
 active_rounds gang index a = map (round_of_one index) (members gang a)
+
+-- ---- foreach_unique: for each distinct value those that hold it, in the order of the lowest that holds it
+
+-- who has a value
+abbrev pub have : Map → Mask
+have x = where_true (λ b. true) x
+
+-- who holds a number, in the type u
+abbrev pub holding : Elem → ℤ → Map → Mask
+holding u z x = where_true (λ b. compare_to Equal (number u b) z) x
+
+-- who holds the value of p
+abbrev pub holders : Elem → Map → ℕ → Mask
+holders u x p = holding u (number u (or_zero (x p))) x
+
+-- who holds a value that no lower one holds
+abbrev pub firsts : Elem → Map → Mask
+firsts u x p = have x p && not (any p (holders u x p))
+
+-- its turn counts; the index is uniform, the value in the type t
+abbrev pub round_of_value : Elem → Elem → Map → ℕ → ℕ → Round
+round_of_value u t x index p =
+    record { members = holders u x p; begins = λ s. written Uniform index (holders u x p) (One (converted u t (or_zero (x p)))) (tick s) }
+
+abbrev pub unique_rounds : ℕ → Elem → Elem → ℕ → Map → List Round
+unique_rounds gang u t index x = map (round_of_value u t x index) (members gang (firsts u x))
 
 -- ---- foreach: runs over ranges
 

@@ -10,14 +10,14 @@ use Rattle.isp_base.specs.declared.types.Ty.{Ty}
 use Rattle.isp_base.specs.declared.trap.TrapKind.TheVariants.{Assert}
 use Rattle.isp_tree.specs.declared.stmt.Jump.{Jump}
 use Rattle.isp_tree.specs.declared.stmt.Jump.TheVariants.{Break, Continue}
-use Rattle.isp_typed.specs.Typed.{TExpr, t_exprs, TRange, TStmt, t_block, t_declare, t_simple, t_if, t_if_else, t_while, t_do, t_for, t_foreach, t_foreach_active, t_unmasked, t_jump, t_return, t_print, t_assert, TBlock, t_braces, TStmts, t_no_stmts, t_stmt_then}
+use Rattle.isp_typed.specs.Typed.{TExpr, t_exprs, elem_of, TRange, TStmt, t_block, t_declare, t_simple, t_if, t_if_else, t_while, t_do, t_for, t_foreach, t_foreach_active, t_foreach_unique, t_unmasked, t_jump, t_return, t_print, t_assert, TBlock, t_braces, TStmts, t_no_stmts, t_stmt_then}
 use Rattle.isp_meaning.specs.State.{State, Frame, tick}
 use Rattle.isp_meaning.specs.Payloads.{Payload, One, Each, is_true, is_false, sole, spread, offender}
 use Rattle.isp_meaning.specs.Outcomes.{Val, Gives, Res, Went, Done, bind, with_value, checked, go_on, went_all, then_run, both_sides, unless_empty, if_so}
 use Rattle.isp_meaning.specs.Expressions.{Calls, value, values}
 use Rattle.isp_meaning.specs.Simple.{simple, items, first_part, no_step, step_part}
 use Rattle.isp_meaning.specs.Loops.{do_turns, while_turns}
-use Rattle.isp_meaning.specs.Rounds.{Range, rounds, active_rounds, foreach_rounds, counted}
+use Rattle.isp_meaning.specs.Rounds.{Range, rounds, active_rounds, unique_rounds, foreach_rounds, counted}
 use Rattle.isp_base.specs.Prints.{print_text}
 use Rattle.isp_meaning.specs.Printing.{shown_all}
 
@@ -79,6 +79,9 @@ module _ (gang : ℕ) (frame : Frame) (calls : Calls) (most : ℕ) where
     run (t_foreach w k rs x sp) a s =
         with_value (ranges gang frame calls rs a (tick s)) (λ xs s1. rounds (run x) a (foreach_rounds gang xs) (record s1 { work = s1.work + counted gang 1 xs }))
     run (t_foreach_active w k i x sp) a s = rounds (run x) a (active_rounds gang i a) (tick s)
+    -- the value is taken once
+    run (t_foreach_unique w k i t e x sp) a s =
+        with_value (value gang frame calls e a (tick s)) (λ m s1. rounds (run x) a (unique_rounds gang (elem_of e) t i (spread a m)) s1)
     run (t_unmasked w b sp) a s = go_on (block b (everyone gang) (tick s)) (λ s1 g b' c r. went_all a s1)
     run (t_jump j w sp) a s = jumped j a (tick s)
     run (t_return w None sp) a s = Went (tick s) nobody nobody nobody a

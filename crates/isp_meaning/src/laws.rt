@@ -1,4 +1,5 @@
 //! What holds of every program. No code is run here: each function carries a law in its contract.
+ghost use Rattle.isp_meaning.specs.Distinct.{EachValueOnce};
 ghost use Rattle.isp_meaning.specs.Laws.{CountsWork, EachHasOne, FourSets, IdleBranches, MoreTurns, NobodyActs, OthersStay};
 ghost use Rattle.isp_meaning.specs.Loads.{VariablesStay};
 ghost use Rattle.isp_meaning.specs.Nodes.{StraightWork};
@@ -50,6 +51,12 @@ pub fn others_stay()
 /// called.
 pub fn each_has_one()
     ensures { EachHasOne }
+{}
+
+/// In a `foreach_unique` each instance that has a value is in exactly one turn, together with all that hold the same and with
+/// nobody else; the index is that value. The turns come in the order of the lowest instance of each.
+pub fn each_value_once()
+    ensures { EachValueOnce }
 {}
 
 /// A value changes no variable but those that a packed load in it writes, whatever is called: the
