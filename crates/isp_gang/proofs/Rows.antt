@@ -7,7 +7,7 @@ use Rattle.isp_base.specs.Sets.{flag_of}
 use Rattle.isp_base.specs.Maps.{Lanes, Map, each1, each2, holds, lane_of, map1, map2, on, over, or_old, where_true}
 use Rattle.isp_base.specs.Types.{widest}
 use Rattle.isp_meaning.specs.Library.{chosen_one}
-use Rattle.isp_meaning.specs.Payloads.{first_of_two, layer}
+use Rattle.isp_meaning.specs.Payloads.{except, first_of_two, layer}
 use Rattle.isp_gang.specs.Seen.{map_of}
 use Rattle.isp_gang.proofs.Made.{Made, begins, made, past, repeated}
 
@@ -31,6 +31,9 @@ over_made xs old lanes long long' m = made 0 _ lanes widest m (λ p h. ap₂ or_
 
 pub layer_made : (xs ys zs : List (Option ℕ)) → length xs ≡ widest → length ys ≡ widest → Made None (layer (map_of xs) (map_of ys)) zs widest → map_of zs ≡ layer (map_of xs) (map_of ys)
 layer_made xs ys zs long long' m = made None _ zs widest m (λ p h. ap₂ first_of_two (none_past xs long p h) (none_past ys long' p h))
+
+pub except_made : (xs zs : List (Option ℕ)) (set : List Bool) → length xs ≡ widest → length set ≡ widest → Made None (except (map_of xs) (flag_of set)) zs widest → map_of zs ≡ except (map_of xs) (flag_of set)
+except_made xs zs set long long' m = made None _ zs widest m (λ p h. ap₂ (λ b o. if b then None else o) (past set p false (omega (arith, long', h))) (none_past xs long p h))
 
 pub map1_made : (f : ℕ → ℕ) (xs zs : List (Option ℕ)) → length xs ≡ widest → Made None (map1 f (map_of xs)) zs widest → map_of zs ≡ map1 f (map_of xs)
 map1_made f xs zs long m = made None _ zs widest m (λ p h. ap (each1 f) (none_past xs long p h))

@@ -5,8 +5,9 @@ ghost use Rattle.isp_base.specs.Cross.{or_zero};
 ghost use Rattle.isp_base.specs.Maps.{holds, lane_of, map1, map2, on, over, where_true};
 ghost use Rattle.isp_base.specs.Sets.{flag_of};
 ghost use Rattle.isp_base.specs.Unary.{unary_bits};
-ghost use Rattle.isp_base.specs.Values.{compare_bits, op_bits};
-ghost use Rattle.isp_meaning.specs.Payloads.{converted, layer};
+ghost use Rattle.isp_base.specs.Values.{compare_bits, number, op_bits};
+ghost use Rattle.isp_meaning.specs.Payloads.{converted, except, layer};
+ghost use Rattle.isp_meaning.specs.Rounds.{have, holding};
 ghost use Rattle.isp_gang.specs.Seen.{is_bool, map_of};
 
 use crate::sets::{Active, WIDEST};
@@ -98,6 +99,18 @@ pub fn layer(first: &Row, second: &Row) -> Row
         };
     }
     row
+}
+
+/// The values of the instances that are not of a set.
+#[tactic(auto, using(crate::proofs::Rows::except_made))]
+pub fn except(row: &Row, set: &Active) -> Row
+    ensures { map_of result ≡ except (map_of row.now) (flag_of set.now) }
+{
+    let mut rest = [None; WIDEST];
+    for instance in 0..WIDEST {
+        rest[instance] = if set[instance] { None } else { row[instance] };
+    }
+    rest
 }
 
 /// Each value converted to another element type.
@@ -198,6 +211,33 @@ pub fn where_zero(operator: BinOp, elem: Elem, row: &Row) -> Active
     for instance in 0..WIDEST {
         set[instance] = match row[instance] {
             Some(bits) => operator.divides() && low_bits(elem, bits) == 0,
+            None => false,
+        };
+    }
+    set
+}
+
+/// The instances that have a value.
+#[tactic(auto, using(crate::proofs::Rows::where_made))]
+pub fn who_have(row: &Row) -> Active
+    ensures { flag_of result ≡ have (map_of row.now) }
+{
+    let mut set = [false; WIDEST];
+    for instance in 0..WIDEST {
+        set[instance] = row[instance].is_some();
+    }
+    set
+}
+
+/// The instances whose value is the number that `bits` stands for in the element type.
+#[tactic(auto, using(crate::proofs::Rows::where_made))]
+pub fn where_same(elem: Elem, bits: u64, row: &Row) -> Active
+    ensures { flag_of result ≡ holding elem (number elem bits) (map_of row.now) }
+{
+    let mut set = [false; WIDEST];
+    for instance in 0..WIDEST {
+        set[instance] = match row[instance] {
+            Some(value) => compare(Compare::Equal, elem, value, bits),
             None => false,
         };
     }
