@@ -17,6 +17,7 @@ lookers = record {
   packed = (search (inl, inr) depth 9, λ e h. grind (arith, h));
   unmasked = (search (inl, inr) depth 9, λ e h. grind (arith, h));
   active = (search (inl, inr) depth 9, λ e h. grind (arith, h));
+  unique = (search (inl, inr) depth 9, λ e h. grind (arith, h));
   print = (search (inl, inr) depth 9, λ e h. grind (arith, h));
   shared = (search (inl, inr) depth 9, λ e h. grind (arith, h));
   own = independent_alone W4 _ refl (λ d h. grind (arith, h));

@@ -3,7 +3,7 @@ use Rattle.std.specs.Prelude.{true, false, not, nat_lt, ◌&&◌, ◌||◌, Some
 use Rattle.isp_base.specs.declared.types.Span.{Span}
 use Rattle.isp_typed.specs.Typed.{rate_of, TExpr, t_constant, t_program_index, t_place, t_convert, t_cast, t_unary, t_binary, t_compare, t_logic, t_choose, t_call, t_library, t_packed_store, t_packed_load, TPlace, t_variable, t_element, TBase, t_whole, t_from, TArgument, t_by_value, t_by_name, TCall, t_called, TArguments, t_no_arguments, t_argument_then, TExprs, t_no_exprs, t_expr_then}
 use Rattle.isp_typed.specs.Typed.{TItem, t_plain, t_with_value, t_with_size, TSimple, t_value, t_run, t_assign, t_update, t_step, TFirst, t_first_declare, t_first_simple, TRange}
-use Rattle.isp_typed.specs.Typed.{TStmt, t_block, t_declare, t_simple, t_if, t_if_else, t_while, t_do, t_for, t_foreach, t_foreach_active, t_unmasked, t_jump, t_return, t_print, t_assert, TBlock, t_braces, TStmts, t_no_stmts, t_stmt_then, TFunction}
+use Rattle.isp_typed.specs.Typed.{TStmt, t_block, t_declare, t_simple, t_if, t_if_else, t_while, t_do, t_for, t_foreach, t_foreach_active, t_foreach_unique, t_unmasked, t_jump, t_return, t_print, t_assert, TBlock, t_braces, TStmts, t_no_stmts, t_stmt_then, TFunction}
 use Rattle.isp_independence.specs.declared.control.Control.{Control}
 use Rattle.isp_independence.specs.declared.dependence.Restriction.TheVariants.{Crossing, Printing, SharedArray, Outside, Turned, Foreach, Return}
 use Rattle.isp_independence.specs.Dependences.{at, Answered}
@@ -98,6 +98,8 @@ mutual
       either_answered _ _ _ _ (unmet_answered (not (w.incomplete || w.varying)) (at Foreach k))
       (either_answered _ _ _ _ (each_answered range_answer RangeDepends range_answered rs) (stmt_answered (round n w) a))
   stmt_answered w (t_foreach_active k n i a s) = either_answered _ _ _ _ (some_answered (at Crossing k)) (stmt_answered w a)
+  stmt_answered w (t_foreach_unique k n i e x a s) =
+      either_answered _ _ _ _ (some_answered (at Crossing k)) (either_answered _ _ _ _ (expr_answered x) (stmt_answered w a))
   stmt_answered w (t_unmasked k b s) = either_answered _ _ _ _ (some_answered (at Crossing k)) (block_answered w b)
   stmt_answered w (t_jump j k s) = none_answered
   stmt_answered w (t_return k x s) = either_answered _ _ _ _ (unmet_answered (not (w.together && w.varying)) (at Return k)) (any_answered expr_answer Cross expr_answered x)

@@ -1,7 +1,7 @@
 -- Independent entries: no restriction is broken in the entry, nor in a function that is called from it.
 use Rattle.std.specs.Prelude.{◌≡◌, ◌⊎◌, ℕ, List, Option, Some, Bool, true, false, ◌||◌, option_map, slice_get, length}
 use Rattle.isp_independence.specs.declared.dependence.Dependence.{Dependence}
-use Rattle.isp_typed.specs.Typed.{rate_of, TStmt, t_block, t_declare, t_simple, t_if, t_if_else, t_while, t_do, t_for, t_foreach, t_foreach_active, t_unmasked, t_jump, t_return, t_print, t_assert, TBlock, t_braces, TStmts, t_no_stmts, t_stmt_then, TFunction, Program}
+use Rattle.isp_typed.specs.Typed.{rate_of, TStmt, t_block, t_declare, t_simple, t_if, t_if_else, t_while, t_do, t_for, t_foreach, t_foreach_active, t_foreach_unique, t_unmasked, t_jump, t_return, t_print, t_assert, TBlock, t_braces, TStmts, t_no_stmts, t_stmt_then, TFunction, Program}
 use Rattle.isp_independence.specs.declared.control.Control.{Control}
 use Rattle.isp_independence.specs.Dependences.{Answered}
 use Rattle.isp_independence.specs.Control.{start, branch, loop, turn, round}
@@ -21,6 +21,7 @@ abbrev mutual
   leaves_early w (t_for f n i x p m a s) = leaves_early (turn m a (loop (option_map rate_of x) n a w)) a
   leaves_early w (t_foreach k n rs a s) = leaves_early (round n w) a
   leaves_early w (t_foreach_active k n i a s) = leaves_early w a
+  leaves_early w (t_foreach_unique k n i e x a s) = leaves_early w a
   leaves_early w (t_unmasked k b s) = leaves_early_block w b
   leaves_early w (t_jump j k s) = false
   leaves_early w (t_return k x s) = w.varying

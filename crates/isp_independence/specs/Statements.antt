@@ -5,7 +5,7 @@ use Rattle.isp_base.specs.declared.types.Span.{Span}
 use Rattle.isp_independence.specs.declared.dependence.Dependence.{Dependence}
 use Rattle.isp_independence.specs.declared.dependence.Restriction.TheVariants.{Crossing, Printing, SharedArray, Outside, Turned, Foreach, Return}
 use Rattle.isp_typed.specs.Typed.{rate_of, TPlace, t_variable, t_element, TItem, t_plain, t_with_value, t_with_size, TSimple, t_value, t_run, t_assign, t_update, t_step, TFirst, t_first_declare, t_first_simple, TRange}
-use Rattle.isp_typed.specs.Typed.{TStmt, t_block, t_declare, t_simple, t_if, t_if_else, t_while, t_do, t_for, t_foreach, t_foreach_active, t_unmasked, t_jump, t_return, t_print, t_assert, TBlock, t_braces, TStmts, t_no_stmts, t_stmt_then}
+use Rattle.isp_typed.specs.Typed.{TStmt, t_block, t_declare, t_simple, t_if, t_if_else, t_while, t_do, t_for, t_foreach, t_foreach_active, t_foreach_unique, t_unmasked, t_jump, t_return, t_print, t_assert, TBlock, t_braces, TStmts, t_no_stmts, t_stmt_then}
 use Rattle.isp_independence.specs.Dependences.{at, Unmet, OfAny, OfEach}
 use Rattle.isp_independence.specs.Exits.{is_varying}
 use Rattle.isp_independence.specs.declared.control.Control.{Control}
@@ -57,6 +57,7 @@ abbrev mutual
   StmtDepends w (t_foreach k n rs a s) d =
       Unmet (not (w.incomplete || w.varying)) (at Foreach k) d ⊎ OfEach RangeDepends rs d ⊎ StmtDepends (round n w) a d
   StmtDepends w (t_foreach_active k n i a s) d = (d ≡ at Crossing k) ⊎ StmtDepends w a d
+  StmtDepends w (t_foreach_unique k n i e x a s) d = (d ≡ at Crossing k) ⊎ Cross x d ⊎ StmtDepends w a d
   StmtDepends w (t_unmasked k b s) d = (d ≡ at Crossing k) ⊎ BlockDepends w b d
   StmtDepends w (t_jump j k s) d = ⊥
   -- all return a uniform result

@@ -8,7 +8,8 @@ use isp_base::Span;
 /// The rules that an independent entry keeps, in their order from 1 to 7 (docs/INDEPENDENCE.md), by what breaks each.
 #[derive(Clone, Copy, Debug, PartialEq, Eq)]
 pub enum Restriction {
-    /// 1: a call of the library that looks across the gang, a packed call, `foreach_active`, `unmasked`.
+    /// 1: a call of the library that looks across the gang, a packed call, `foreach_active`, `foreach_unique`,
+    /// `unmasked`.
     Crossing,
     /// 2: `print`.
     Printing,

@@ -58,7 +58,8 @@ fn leaves_early(control: Control, s: &TypedStmt) -> bool
             leaves_early(around.turn(*inside, body), body)
         }
         TypedStmt::Foreach { before, body, .. } => leaves_early(control.round(*before), body),
-        TypedStmt::ForeachActive { body, .. } => leaves_early(control, body),
+        TypedStmt::ForeachActive { body, .. } | TypedStmt::ForeachUnique { body, .. } =>
+            leaves_early(control, body),
         TypedStmt::Return { .. } => control.varying,
         TypedStmt::Declare { .. }
         | TypedStmt::Simple { .. }

@@ -46,6 +46,7 @@ fn has(jump: Jump, s: &TypedStmt) -> bool
         | TypedStmt::For { .. }
         | TypedStmt::Foreach { .. }
         | TypedStmt::ForeachActive { .. }
+        | TypedStmt::ForeachUnique { .. }
         | TypedStmt::Unmasked { .. }
         | TypedStmt::Return { .. }
         | TypedStmt::Print { .. }
@@ -91,6 +92,7 @@ pub fn has_varying(jump: Jump, s: &TypedStmt) -> bool
         | TypedStmt::For { .. }
         | TypedStmt::Foreach { .. }
         | TypedStmt::ForeachActive { .. }
+        | TypedStmt::ForeachUnique { .. }
         | TypedStmt::Unmasked { .. }
         | TypedStmt::Jump { .. }
         | TypedStmt::Return { .. }

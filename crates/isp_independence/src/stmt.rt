@@ -113,6 +113,16 @@ fn stmt(control: Control, s: &TypedStmt) -> Option<Dependence>
         TypedStmt::ForeachActive { keyword, body, .. } => {
             first(crossing(*keyword), stmt(control, body))
         }
+        TypedStmt::ForeachUnique {
+            keyword,
+            value,
+            body,
+            ..
+        } => {
+            let asked = expr(value);
+            let inner = stmt(control, body);
+            first(crossing(*keyword), first(asked, inner))
+        }
         TypedStmt::Unmasked { keyword, body, .. } => {
             first(crossing(*keyword), block(control, body))
         }
