@@ -16,7 +16,7 @@ use Rattle.isp_typed.specs.declared.library.Library.TheVariants.{Broadcast}
 use Rattle.isp_typed.specs.declared.variable.Variable.{Variable}
 use Rattle.isp_typed.specs.declared.variable.Holds.TheVariants.{Value}
 use Rattle.isp_typed.specs.Typed.{TExpr, t_place, t_cast, t_library, t_call, t_called, t_arguments, t_by_value, t_exprs, t_variable, t_value, t_update, ty_of}
-use Rattle.isp_typed.specs.Typed.{TStmt, t_simple, t_while, t_foreach, t_foreach_active, t_unmasked, t_jump, t_return, t_braces, t_stmts, Program}
+use Rattle.isp_typed.specs.Typed.{TStmt, t_simple, t_while, t_foreach, t_foreach_active, t_foreach_unique, t_unmasked, t_jump, t_return, t_braces, t_stmts, Program}
 use Rattle.isp_rates.specs.reader.Faults.{program_fault}
 
 abbrev at : ℕ → ℕ → Span
@@ -101,6 +101,13 @@ loop_in_unmasked c = refl
 -- continue; of a foreach_active
 pub turn : program_fault (program (t_foreach_active (at 31 45) 2 2 (t_jump Continue (at 50 58) (at 50 59)) (at 31 59) ∷ [])) ≡ None
 turn = refl
+
+-- continue; and break; of a foreach_unique over y
+pub unique_turn : program_fault (program (t_foreach_unique (at 31 45) 2 2 I32 (y 52) (t_jump Continue (at 55 63) (at 55 64)) (at 31 64) ∷ [])) ≡ None
+unique_turn = refl
+
+pub unique_break : program_fault (program (t_foreach_unique (at 31 45) 2 2 I32 (y 52) (t_jump Break (at 55 60) (at 55 61)) (at 31 61) ∷ [])) ≡ Some (fault BadExit (at 55 60))
+unique_break = refl
 
 -- a foreach in a foreach, through a foreach_active; and return in it, whose word ends later
 pub nested : program_fault (program (t_foreach (at 31 38) 2 [] (t_foreach_active (at 40 54) 2 2 (t_foreach (at 57 64) 3 [] (t_return (at 66 72) None (at 66 73)) (at 57 73)) (at 40 73)) (at 31 73) ∷ []))

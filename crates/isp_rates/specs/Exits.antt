@@ -9,9 +9,9 @@ use Rattle.isp_lex.specs.Faults.{fault}
 use Rattle.isp_tree.specs.declared.stmt.Jump.{Jump}
 use Rattle.isp_tree.specs.declared.stmt.Jump.TheVariants.{Break, Continue}
 use Rattle.isp_typed.specs.Typed.{TExpr, place_type, TItem, t_plain, t_with_value, t_with_size, TSimple, t_value, t_run, t_assign, t_update, t_step, TFirst, t_first_declare, t_first_simple, TRange}
-use Rattle.isp_typed.specs.Typed.{TStmt, t_block, t_declare, t_simple, t_if, t_if_else, t_while, t_do, t_for, t_foreach, t_foreach_active, t_unmasked, t_jump, t_return, t_print, t_assert, TBlock, t_braces, TStmts, t_no_stmts, t_stmt_then, TFunction}
+use Rattle.isp_typed.specs.Typed.{TStmt, t_block, t_declare, t_simple, t_if, t_if_else, t_while, t_do, t_for, t_foreach, t_foreach_active, t_foreach_unique, t_unmasked, t_jump, t_return, t_print, t_assert, TBlock, t_braces, TStmts, t_no_stmts, t_stmt_then, TFunction}
 use Rattle.isp_rates.specs.declared.exits.Around.{Around}
-use Rattle.isp_rates.specs.declared.exits.Around.TheVariants.{Body, Loop, Foreach, ForeachActive, Unmasked}
+use Rattle.isp_rates.specs.declared.exits.Around.TheVariants.{Body, Loop, Foreach, Turns, Unmasked}
 use Rattle.isp_rates.specs.declared.exits.Within.{Within}
 use Rattle.isp_rates.specs.Breaches.{Unmet, OfAny, OfEach}
 use Rattle.isp_rates.specs.Rates.{DemandBreach, ExprBreach, PlaceBreach, CallBreach}
@@ -27,14 +27,15 @@ in_loop w = record { nearest = Loop; returns = w.returns; in_foreach = w.in_fore
 abbrev pub in_foreach : Within → Within
 in_foreach w = record { nearest = Foreach; returns = false; in_foreach = true }
 
-abbrev pub in_foreach_active : Within → Within
-in_foreach_active w = record { nearest = ForeachActive; returns = false; in_foreach = w.in_foreach }
+-- of a `foreach_active` or a `foreach_unique`
+abbrev pub in_turns : Within → Within
+in_turns w = record { nearest = Turns; returns = false; in_foreach = w.in_foreach }
 
 abbrev pub in_unmasked : Within → Within
 in_unmasked w = record { nearest = Unmasked; returns = false; in_foreach = w.in_foreach }
 
--- `break` ends the nearest loop, and `continue` a turn of the nearest loop, `foreach` or `foreach_active`, where nothing
--- else of these four stands between
+-- `break` ends the nearest loop, and `continue` a turn of the nearest loop, `foreach`, `foreach_active` or `foreach_unique`,
+-- where no `unmasked` and nothing else of these stands between
 abbrev pub may_jump : Jump → Around → Bool
 may_jump Break Loop = true
 may_jump Break a = false
@@ -91,10 +92,12 @@ module _ (fs : List TFunction) where
       StmtBreach w (t_for c n i x p m a s) f = OfAny FirstBreach i f ⊎ OfAny (ExprBreach fs) x f ⊎ OfAny SimpleBreach p f ⊎ StmtBreach (in_loop w) a f
       -- no `foreach` stands in the body of another
       StmtBreach w (t_foreach k n rs a s) f = Unmet (not w.in_foreach) (fault NestedForeach k) f ⊎ OfEach RangeBreach rs f ⊎ StmtBreach (in_foreach w) a f
-      StmtBreach w (t_foreach_active k n i a s) f = StmtBreach (in_foreach_active w) a f
+      StmtBreach w (t_foreach_active k n i a s) f = StmtBreach (in_turns w) a f
+      -- a value of any rate
+      StmtBreach w (t_foreach_unique k n i e x a s) f = ExprBreach fs x f ⊎ StmtBreach (in_turns w) a f
       StmtBreach w (t_unmasked k b s) f = BlockBreach (in_unmasked w) b f
       StmtBreach w (t_jump j k s) f = Unmet (may_jump j w.nearest) (fault BadExit k) f
-      -- no `return` stands in a `foreach`, a `foreach_active` or an `unmasked`
+      -- no `return` stands in a `foreach`, a `foreach_active`, a `foreach_unique` or an `unmasked`
       StmtBreach w (t_return k x s) f = Unmet w.returns (fault BadExit k) f ⊎ OfAny ReturnBreach x f
       StmtBreach w (t_print k t xs s) f = OfEach (ExprBreach fs) xs f
       StmtBreach w (t_assert x c s) f = ExprBreach fs x f

@@ -238,6 +238,14 @@ fn stmt(found: &mut Vec<usize>, s: &TypedStmt) -> Result<(), AllocError>
             stmt(found, body)
         }
         TypedStmt::ForeachActive { body, .. } => stmt(found, body),
+        TypedStmt::ForeachUnique {
+            value: part,
+            body,
+            ..
+        } => {
+            expr(found, part)?;
+            stmt(found, body)
+        }
         TypedStmt::Unmasked { body, .. } => block(found, body),
         TypedStmt::Jump { .. } => Ok(()),
         TypedStmt::Return { value: part, .. } => value(found, part),

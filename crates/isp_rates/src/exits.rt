@@ -10,7 +10,8 @@ pub enum Around {
     Body,
     Loop,
     Foreach,
-    ForeachActive,
+    /// A `foreach_active` or a `foreach_unique`.
+    Turns,
     Unmasked,
 }
 
@@ -18,7 +19,8 @@ pub enum Around {
 #[derive(Clone, Copy)]
 pub struct Within {
     pub nearest: Around,
-    /// Whether a `return` may stand there: no `foreach`, `foreach_active` or `unmasked` is around.
+    /// Whether a `return` may stand there: no `foreach`, `foreach_active`, `foreach_unique` or
+    /// `unmasked` is around.
     pub returns: bool,
     /// Whether a `foreach` is around.
     pub in_foreach: bool,
@@ -37,7 +39,7 @@ pub fn may_jump(jump: Jump, nearest: Around) -> bool
 }
 
 impl Within {
-    ghost use Rattle.isp_rates.specs.Exits.{at_start, in_foreach, in_foreach_active, in_loop, in_unmasked};
+    ghost use Rattle.isp_rates.specs.Exits.{at_start, in_foreach, in_turns, in_loop, in_unmasked};
 
     /// At the start of a function's body.
     pub fn start() -> Within
@@ -71,12 +73,12 @@ impl Within {
         }
     }
 
-    /// In the body of a `foreach_active` that stands there.
-    pub fn of_foreach_active(self) -> Within
-        ensures { result ≡ in_foreach_active self }
+    /// In the body of a `foreach_active` or a `foreach_unique` that stands there.
+    pub fn of_turns(self) -> Within
+        ensures { result ≡ in_turns self }
     {
         Within {
-            nearest: Around::ForeachActive,
+            nearest: Around::Turns,
             returns: false,
             ..self
         }

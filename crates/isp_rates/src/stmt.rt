@@ -139,7 +139,11 @@ fn stmt(
             first(word, first(bounds, inner))
         }
         TypedStmt::ForeachActive { body, .. } => {
-            stmt(functions, answer, within.of_foreach_active(), body)
+            stmt(functions, answer, within.of_turns(), body)
+        }
+        TypedStmt::ForeachUnique { value, body, .. } => {
+            let before = expr(functions, value);
+            first(before, stmt(functions, answer, within.of_turns(), body))
         }
         TypedStmt::Unmasked { body, .. } => block(functions, answer, within.of_unmasked(), body),
         TypedStmt::Jump { jump, keyword, .. } => jumps(within, *jump, *keyword),

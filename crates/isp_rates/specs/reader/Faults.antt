@@ -14,10 +14,10 @@ use Rattle.isp_typed.specs.Verdicts.{first_of, fault_unless}
 use Rattle.isp_typed.specs.Typed.{TExpr, t_constant, t_program_index, t_place, t_convert, t_cast, t_unary, t_binary, t_compare, t_logic, t_choose, t_call, t_library, t_packed_store, t_packed_load, type_of, span_of, place_type}
 use Rattle.isp_typed.specs.Typed.{TPlace, t_variable, t_element, TBase, t_whole, t_from, TArgument, t_by_value, t_by_name, TCall, t_called, TArguments, t_no_arguments, t_argument_then, TExprs, t_no_exprs, t_expr_then, TFunction, Program}
 use Rattle.isp_typed.specs.Typed.{TItem, t_plain, t_with_value, t_with_size, TSimple, t_value, t_run, t_assign, t_update, t_step, TFirst, t_first_declare, t_first_simple, TRange}
-use Rattle.isp_typed.specs.Typed.{TStmt, t_block, t_declare, t_simple, t_if, t_if_else, t_while, t_do, t_for, t_foreach, t_foreach_active, t_unmasked, t_jump, t_return, t_print, t_assert, TBlock, t_braces, TStmts, t_no_stmts, t_stmt_then}
+use Rattle.isp_typed.specs.Typed.{TStmt, t_block, t_declare, t_simple, t_if, t_if_else, t_while, t_do, t_for, t_foreach, t_foreach_active, t_foreach_unique, t_unmasked, t_jump, t_return, t_print, t_assert, TBlock, t_braces, TStmts, t_no_stmts, t_stmt_then}
 use Rattle.isp_rates.specs.declared.exits.Within.{Within}
 use Rattle.isp_rates.specs.Rates.{goes_to, rate_held, variables_of, next_rate, later, next_part}
-use Rattle.isp_rates.specs.Exits.{at_start, in_loop, in_foreach, in_foreach_active, in_unmasked, may_jump, returned_rate}
+use Rattle.isp_rates.specs.Exits.{at_start, in_loop, in_foreach, in_turns, in_unmasked, may_jump, returned_rate}
 
 -- of what may be left out, and of several
 abbrev pub of_any : {A : Type 0} → (A → Option Fault) → Option A → Option Fault
@@ -115,7 +115,8 @@ module _ (fs : List TFunction) where
       stmt_fault w (t_do c n a x s) = first_of (stmt_fault (in_loop w) a) (expr_fault x)
       stmt_fault w (t_for c n i x p m a s) = first_of (of_any first_fault i) (first_of (of_any expr_fault x) (first_of (of_any simple_fault p) (stmt_fault (in_loop w) a)))
       stmt_fault w (t_foreach k n rs a s) = first_of (fault_unless (not w.in_foreach) (fault NestedForeach k)) (first_of (of_each range_fault rs) (stmt_fault (in_foreach w) a))
-      stmt_fault w (t_foreach_active k n i a s) = stmt_fault (in_foreach_active w) a
+      stmt_fault w (t_foreach_active k n i a s) = stmt_fault (in_turns w) a
+      stmt_fault w (t_foreach_unique k n i e x a s) = first_of (expr_fault x) (stmt_fault (in_turns w) a)
       stmt_fault w (t_unmasked k b s) = block_fault (in_unmasked w) b
       stmt_fault w (t_jump j k s) = fault_unless (may_jump j w.nearest) (fault BadExit k)
       stmt_fault w (t_return k x s) = first_of (fault_unless w.returns (fault BadExit k)) (of_any return_fault x)
