@@ -4,7 +4,8 @@ use Rattle.std.specs.List.{All}
 use Rattle.std.proofs.Common.{refl, ap, subst, arith, pow_pos, inl, inr}
 use Rattle.std.proofs.lemmas.List.Elements.{All-head, All-tail}
 use Rattle.isp_base.specs.Access.{is_zero}
-use Rattle.isp_base.specs.Maps.{on, where_true}
+use Rattle.isp_base.specs.Cross.{or_zero}
+use Rattle.isp_base.specs.Maps.{Map, on, where_true}
 use Rattle.isp_base.specs.Sets.{Mask, nobody, everyone, union, without, any, lone}
 use Rattle.isp_base.specs.Types.{widest}
 use Rattle.isp_base.specs.Values.{width, wrap}
@@ -20,19 +21,19 @@ use Rattle.isp_tree.specs.declared.stmt.Jump.{Jump}
 use Rattle.isp_tree.specs.declared.stmt.Jump.TheVariants.{Break, Continue}
 use Rattle.isp_typed.specs.Fine.{FineExpr, FineTarget, FinePlace, FineValue, FineItem, FineSimple, FineFirst, FineRange, FineReturned, FineStmt, FineBlock, FineStmts, FineFunction}
 use Rattle.isp_typed.specs.Typed.{TExpr, elem_of, TPlace, t_variable, t_element, place_type, place_span, TItem, t_plain, t_with_value, t_with_size, TSimple, t_value, t_run, t_assign, t_update, t_step, TFirst, t_first_declare, t_first_simple, TRange, TFunction}
-use Rattle.isp_typed.specs.Typed.{TStmt, t_block, t_declare, t_simple, t_if, t_if_else, t_while, t_do, t_for, t_foreach, t_foreach_active, t_unmasked, t_jump, t_return, t_print, t_assert, TBlock, t_braces, TStmts, t_no_stmts, t_stmt_then}
+use Rattle.isp_typed.specs.Typed.{TStmt, t_block, t_declare, t_simple, t_if, t_if_else, t_while, t_do, t_for, t_foreach, t_foreach_active, t_foreach_unique, t_unmasked, t_jump, t_return, t_print, t_assert, TBlock, t_braces, TStmts, t_no_stmts, t_stmt_then}
 use Rattle.isp_rates.specs.Breaches.{OfAny, OfEach}
 use Rattle.isp_rates.specs.Rates.{ExprBreach, PlaceBreach}
-use Rattle.isp_rates.specs.Exits.{in_loop, in_foreach, in_foreach_active, in_unmasked, returned_rate, ItemBreach, SimpleBreach, FirstBreach, RangeBreach, StmtBreach, BlockBreach, StmtsBreach}
+use Rattle.isp_rates.specs.Exits.{in_loop, in_foreach, in_turns, in_unmasked, returned_rate, ItemBreach, SimpleBreach, FirstBreach, RangeBreach, StmtBreach, BlockBreach, StmtsBreach}
 use Rattle.isp_rates.specs.declared.exits.Within.{Within}
 use Rattle.isp_meaning.specs.State.{State, tick}
-use Rattle.isp_meaning.specs.Payloads.{Payload, One, Each, is_true, is_false, kept_by, offender, mapped, converted}
+use Rattle.isp_meaning.specs.Payloads.{Payload, One, Each, is_true, is_false, kept_by, offender, mapped, converted, spread}
 use Rattle.isp_meaning.specs.Outcomes.{Val, Res, Done}
 use Rattle.isp_meaning.specs.Places.{Place, outside, held}
 use Rattle.isp_meaning.specs.Expressions.{Calls, value, place}
 use Rattle.isp_meaning.specs.Simple.{update, simple, item, items, first_part, step_part}
 use Rattle.isp_meaning.specs.Loops.{tested, turns}
-use Rattle.isp_meaning.specs.Rounds.{Round, rounds, round_of_one, active_rounds, members, if_listed, Range, Run, last_run, with_outer, joined_lists, round_of_run, runs_of, foreach_rounds, set_indices, counted}
+use Rattle.isp_meaning.specs.Rounds.{Round, rounds, round_of_one, active_rounds, members, if_listed, holders, firsts, round_of_value, unique_rounds, Range, Run, last_run, with_outer, joined_lists, round_of_run, runs_of, foreach_rounds, set_indices, counted}
 use Rattle.isp_meaning.specs.Statements.{all_go, branches, jumped, ranges, test_part, run, block, run_all}
 use Rattle.isp_fits.proofs.Bounds.{Fits, wrap_lt, convert_lt, on_under, mapped_bounded}
 use Rattle.isp_fits.proofs.Typing.{World, Stands, elem_if, elem_at, answer_elem, Sound, ValFits, ResFits, Any, PlaceFits, left_of, gives_fits, bind_fits, any_fits, with_fits, checked_fits, go_fits, if_fits, went_fits, unless_fits, written_fits, kept_fits, cleared_fits, answered_fits}
@@ -146,6 +147,11 @@ module _ (gang : ℕ) (w : World) where
   active_fit few i q [] h = tt
   active_fit few i q (p ∷ ps) h = (λ s k. written_fits gang w I64 Uniform i (lone (Some p)) (One p) (tick s) q (omega (arith, h.0, few)) k, active_fit few i q ps h.1)
 
+  unique_fit : (u t : Elem) (x : Map) (i : ℕ) → elem_at w i ≡ t → (ps : List ℕ) → RoundsFit (map (round_of_value u t x i) ps)
+  unique_fit u t x i q [] = tt
+  unique_fit u t x i q (p ∷ ps) =
+      (λ s k. written_fits gang w t Uniform i (holders u x p) (One (converted u t (or_zero (x p)))) (tick s) q (convert_lt t _) k, unique_fit u t x i q ps)
+
   jumped_fits : (j : Jump) (a : Mask) (s : State) → Sound gang w s → ResFits gang w (jumped j a s)
   jumped_fits Break a s h = went_fits gang w s _ _ _ _ h
   jumped_fits Continue a s h = went_fits gang w s _ _ _ _ h
@@ -236,7 +242,11 @@ module _ (gang : ℕ) (some : 0 < gang) (few : gang ≤ widest) (fs : List TFunc
       run_fits (t_foreach o k rs x sp) f i n a s h =
           with_fits gang w (RangesFit gang w) _ _ (ranges_fit rs f.1 (λ z b. n z (inr (inl b))) a (tick s) h) (λ xs s1 q h1. rounds_fit gang w _ (run_fits x f.2 (in_foreach i) (λ z b. n z (inr (inr b)))) a (foreach_rounds gang xs) (runs_rounds gang w (runs_of gang xs) (runs_fit gang w xs q)) (record s1 { work = s1.work + counted gang 1 xs }) h1)
       run_fits (t_foreach_active o k v x sp) f i n a s h =
-          rounds_fit gang w _ (run_fits x f.2 (in_foreach_active i) n) a (active_rounds gang v a) (active_fit gang w few v (ap elem_if f.1) (members gang a) (members_below gang w gang a (omega arith))) (tick s) h
+          rounds_fit gang w _ (run_fits x f.2 (in_turns i) n) a (active_rounds gang v a) (active_fit gang w few v (ap elem_if f.1) (members gang a) (members_below gang w gang a (omega arith))) (tick s) h
+      run_fits (t_foreach_unique o k v t e x sp) f i n a s h =
+          with_fits gang w (Any gang w) _ _ (plain_fits e f.2.0 (λ z b. n z (inl b)) a (tick s) h)
+          (λ m s1 _ h1. rounds_fit gang w _ (run_fits x f.3 (in_turns i) (λ z b. n z (inr b))) a (unique_rounds gang (elem_of e) t v (spread a m))
+          (unique_fit gang w (elem_of e) t (spread a m) v (ap elem_if f.1) (members gang (firsts (elem_of e) (spread a m)))) s1 h1)
       run_fits (t_unmasked o b sp) f i n a s h = go_fits gang w _ _ (block_fits b f (in_unmasked i) n (everyone gang) (tick s) h) (λ s1 _ _ _ _ h1. went_fits gang w s1 _ _ _ _ h1)
       run_fits (t_jump j o sp) f i n a s h = jumped_fits gang w j a (tick s) h
       run_fits (t_return o None sp) f i n a s h = went_fits gang w (tick s) _ _ _ _ h

@@ -13,7 +13,7 @@ use Rattle.isp_typed.specs.Fine.{FineExpr, FinePlace, FineBase, FineCall, FineAr
 use Rattle.isp_typed.specs.Library.{parts}
 use Rattle.isp_typed.specs.Typed.{TExpr, t_constant, t_program_index, t_place, t_convert, t_cast, t_unary, t_binary, t_compare, t_logic, t_choose, t_call, t_library, t_packed_store, t_packed_load, TPlace, t_variable, t_element, TBase, t_whole, t_from, TArgument, t_by_value, t_by_name, TCall, t_called, TArguments, t_no_arguments, t_argument_then, TExprs, t_no_exprs, t_expr_then, place_type, TFunction}
 use Rattle.isp_typed.specs.Typed.{TItem, t_plain, t_with_value, t_with_size, TSimple, t_value, t_run, t_assign, t_update, t_step, TFirst, t_first_declare, t_first_simple, TRange}
-use Rattle.isp_typed.specs.Typed.{TStmt, t_block, t_declare, t_simple, t_if, t_if_else, t_while, t_do, t_for, t_foreach, t_foreach_active, t_unmasked, t_jump, t_return, t_print, t_assert, TBlock, t_braces, TStmts, t_no_stmts, t_stmt_then}
+use Rattle.isp_typed.specs.Typed.{TStmt, t_block, t_declare, t_simple, t_if, t_if_else, t_while, t_do, t_for, t_foreach, t_foreach_active, t_foreach_unique, t_unmasked, t_jump, t_return, t_print, t_assert, TBlock, t_braces, TStmts, t_no_stmts, t_stmt_then}
 use Rattle.isp_typed.specs.declared.library.Part.{Part}
 use Rattle.isp_typed.specs.declared.variable.Holds.{Holds}
 use Rattle.isp_typed.specs.declared.variable.Holds.TheVariants as hold
@@ -21,7 +21,7 @@ use Rattle.isp_typed.specs.declared.variable.Variable.{Variable}
 use Rattle.isp_rates.specs.declared.exits.Within.{Within}
 use Rattle.isp_rates.specs.Breaches.{OfAny, OfEach}
 use Rattle.isp_rates.specs.Rates.{next_rate, later, variables_of, ExprBreach, PlaceBreach, BaseBreach, ArgumentBreach, CallBreach, ArgumentsBreach, ValuesBreach}
-use Rattle.isp_rates.specs.Exits.{at_start, in_loop, in_foreach, in_foreach_active, in_unmasked, returned_rate, ItemBreach, SimpleBreach, FirstBreach, RangeBreach, StmtBreach, BlockBreach, StmtsBreach}
+use Rattle.isp_rates.specs.Exits.{at_start, in_loop, in_foreach, in_turns, in_unmasked, returned_rate, ItemBreach, SimpleBreach, FirstBreach, RangeBreach, StmtBreach, BlockBreach, StmtsBreach}
 use Rattle.isp_rates.specs.Program.{FunctionBreach}
 use Rattle.isp_fits.specs.Through.{ThroughExpr, ThroughPlace, ThroughBase, ThroughArgument, ThroughCall, ThroughArguments, ThroughValues, ThroughList, ThroughItem, ThroughItems, ThroughSimple, ThroughFirst, ThroughRanges, ThroughStmt, ThroughBlock, ThroughStmts}
 use Rattle.isp_fits.specs.Uniform.{IsAcceptedExpr, BodiesAccepted}
@@ -141,7 +141,8 @@ module _ (fs : List TFunction) (vars : List Variable) where
       through_stmt (t_for o k first e step m x s) f i n =
           (through_first first f.2 (λ z b. n z (inl b)), through_test e f.3 (λ z b. n z (inr (inl b))), through_step step f.4 (λ z b. n z (inr (inr (inl b)))), through_stmt x f.5 (in_loop i) (λ z b. n z (inr (inr (inr b)))))
       through_stmt (t_foreach w k rs x s) f i n = (through_ranges rs f.1 (λ z b. n z (inr (inl b))), through_stmt x f.2 (in_foreach i) (λ z b. n z (inr (inr b))))
-      through_stmt (t_foreach_active w k v x s) f i n = through_stmt x f.2 (in_foreach_active i) n
+      through_stmt (t_foreach_active w k v x s) f i n = through_stmt x f.2 (in_turns i) n
+      through_stmt (t_foreach_unique w k v t e x s) f i n = (through_expr e f.2.0 (λ z b. n z (inl b)), through_stmt x f.3 (in_turns i) (λ z b. n z (inr b)))
       through_stmt (t_unmasked w b s) f i n = through_block b f (in_unmasked i) n
       through_stmt (t_jump j w s) f i n = tt
       through_stmt (t_return w None s) f i n = tt
