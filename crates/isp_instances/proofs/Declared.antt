@@ -15,7 +15,7 @@ use Rattle.isp_typed.specs.declared.variable.Variable.{Variable}
 use Rattle.isp_typed.specs.Fine.{HoldsValue, FineItem, FineFirst, FineRange, FineStmt, FineBlock, FineStmts}
 use Rattle.isp_typed.specs.Scoped.{Scope, declared, ItemAt, ItemsAt, FirstAt, RangesAt, number_after, scope_after, number_after_first, scope_after_first, number_after_stmt, number_after_block, number_after_stmts, scope_after_stmt, StmtAt, BlockAt, StmtsAt, ScopedFunction}
 use Rattle.isp_typed.specs.Typed.{TItem, t_plain, t_with_value, t_with_size, TFirst, t_first_declare, t_first_simple, TRange, TFunction, rate_of}
-use Rattle.isp_typed.specs.Typed.{TStmt, t_block, t_declare, t_simple, t_if, t_if_else, t_while, t_do, t_for, t_foreach, t_foreach_active, t_unmasked, t_jump, t_return, t_print, t_assert, TBlock, t_braces, TStmts, t_no_stmts, t_stmt_then}
+use Rattle.isp_typed.specs.Typed.{TStmt, t_block, t_declare, t_simple, t_if, t_if_else, t_while, t_do, t_for, t_foreach, t_foreach_active, t_foreach_unique, t_unmasked, t_jump, t_return, t_print, t_assert, TBlock, t_braces, TStmts, t_no_stmts, t_stmt_then}
 use Rattle.isp_independence.specs.declared.control.Control.{Control}
 use Rattle.isp_independence.specs.declared.dependence.Dependence.{Dependence}
 use Rattle.isp_independence.specs.declared.dependence.Restriction.TheVariants.{Crossing, SharedArray}
@@ -100,6 +100,7 @@ module _ (fs : List TFunction) (vars : List Variable) (answer : Option Ty) where
     stmt_own (t_foreach g k rs a s) c v n f d i =
         then_own n (number_after n rs) (number_after_stmt (number_after n rs) a) (ranges_own rs v n f.1 i.3) (stmt_own a (round k c) (scope_after v n rs) (number_after n rs) f.2 (λ z h. d z (inr (inr h))) i.4)
     stmt_own (t_foreach_active g k j a s) c v n f d i = absurd (d (at Crossing g) (inl refl))
+    stmt_own (t_foreach_unique g k j e x a s) c v n f d i = absurd (d (at Crossing g) (inl refl))
     stmt_own (t_unmasked g b s) c v n f d i = absurd (d (at Crossing g) (inl refl))
     stmt_own (t_jump j g s) c v n f d i = none_own n
     stmt_own (t_return g x s) c v n f d i = none_own n

@@ -13,11 +13,11 @@ use Rattle.isp_base.specs.declared.operators.BinOp.{BinOp}
 use Rattle.isp_base.specs.declared.types.Elem.{Elem}
 use Rattle.isp_base.specs.declared.trap.TrapKind.TheVariants.{Divide, Index, Assert, Depth}
 use Rattle.isp_typed.specs.declared.variable.ArrayVariable.{ArrayVariable}
-use Rattle.isp_typed.specs.Typed.{TExpr, t_constant, t_program_index, t_place, t_convert, t_cast, t_unary, t_binary, t_compare, t_logic, t_choose, t_call, t_library, t_packed_store, t_packed_load, TPlace, t_variable, t_element, TArgument, t_by_value, t_by_name, TCall, t_called, TArguments, t_no_arguments, t_argument_then, TExprs, t_no_exprs, t_expr_then, place_span}
+use Rattle.isp_typed.specs.Typed.{TExpr, t_constant, t_program_index, t_place, t_convert, t_cast, t_unary, t_binary, t_compare, t_logic, t_choose, t_call, t_library, t_packed_store, t_packed_load, TPlace, t_variable, t_element, TArgument, t_by_value, t_by_name, TCall, t_called, TArguments, t_no_arguments, t_argument_then, TExprs, t_no_exprs, t_expr_then, place_span, elem_of}
 use Rattle.isp_typed.specs.Typed.{TItem, t_plain, t_with_value, t_with_size, TSimple, t_value, t_run, t_assign, t_update, t_step, TFirst, t_first_declare, t_first_simple, TRange, t_exprs}
-use Rattle.isp_typed.specs.Typed.{TStmt, t_block, t_declare, t_simple, t_if, t_if_else, t_while, t_do, t_for, t_foreach, t_foreach_active, t_unmasked, t_jump, t_return, t_print, t_assert, TBlock, t_braces, TStmts, t_no_stmts, t_stmt_then, TFunction, Program}
+use Rattle.isp_typed.specs.Typed.{TStmt, t_block, t_declare, t_simple, t_if, t_if_else, t_while, t_do, t_for, t_foreach, t_foreach_active, t_foreach_unique, t_unmasked, t_jump, t_return, t_print, t_assert, TBlock, t_braces, TStmts, t_no_stmts, t_stmt_then, TFunction, Program}
 use Rattle.isp_meaning.specs.State.{Frame, extent}
-use Rattle.isp_meaning.specs.Payloads.{is_true, is_false}
+use Rattle.isp_meaning.specs.Payloads.{is_true, is_false, converted}
 use Rattle.isp_meaning.specs.Expressions.{Passed, needs}
 use Rattle.isp_meaning.specs.Rounds.{Run, runs_of}
 use Rattle.isp_meaning.specs.Calls.{frame_of}
@@ -192,6 +192,8 @@ module _ (m : ℕ → ℕ → ℕ) (p : ℕ) where
           does_up (t_foreach w n rs x sp) = up_with _ _ (bounds_up rs) (λ xs. rounds_up _ (does_up x) (runs_of gang xs))
           does_up (t_foreach_active w n i x sp) =
               up_always _ _ (up_from left_at (does gang m p frame calls most x) (written Uniform i p) (λ s. written_more Uniform i p s) (does_up x)) (up_does Going)
+          does_up (t_foreach_unique w n i t e x sp) =
+              up_with _ _ (answer_up e) (λ b. up_always _ _ (up_from left_at (does gang m p frame calls most x) (written Uniform i (converted (elem_of e) t b)) (λ s. written_more Uniform i _ s) (does_up x)) (up_does Going))
           does_up (t_unmasked w b sp) = up_always _ _ (block_up b) (up_does Going)
           does_up (t_print w text xs sp) = up_with _ _ (answers_up (t_exprs xs)) (λ is. up_does Going)
           does_up (t_jump j w sp) = up_does _

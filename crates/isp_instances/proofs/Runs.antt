@@ -21,7 +21,7 @@ use Rattle.isp_typed.specs.declared.variable.Variable.{Variable as AVar}
 use Rattle.isp_typed.specs.Fine.{FineExpr, FineSimple, FineFirst, FineRange, FineValue, FineBlock, FineStmts, FineReturned}
 use Rattle.isp_typed.specs.Scoped.{Scope, declared, ExprIn, SimpleIn, FirstAt, RangesAt, number_after, scope_after, scope_after_first, number_after_stmt, scope_after_stmt, StmtAt, BlockAt, StmtsAt}
 use Rattle.isp_typed.specs.Typed.{TExpr, TSimple, TFirst, t_first_declare, t_first_simple, TRange, TFunction, rate_of}
-use Rattle.isp_typed.specs.Typed.{TStmt, t_block, t_declare, t_simple, t_if, t_if_else, t_while, t_do, t_for, t_foreach, t_foreach_active, t_unmasked, t_jump, t_return, t_print, t_assert, TBlock, t_braces, TStmts, t_no_stmts, t_stmt_then}
+use Rattle.isp_typed.specs.Typed.{TStmt, t_block, t_declare, t_simple, t_if, t_if_else, t_while, t_do, t_for, t_foreach, t_foreach_active, t_foreach_unique, t_unmasked, t_jump, t_return, t_print, t_assert, TBlock, t_braces, TStmts, t_no_stmts, t_stmt_then}
 use Rattle.isp_rates.specs.declared.exits.Within.{Within as Around}
 use Rattle.isp_rates.specs.Breaches.{OfAny, OfEach}
 use Rattle.isp_rates.specs.Rates.{ExprBreach}
@@ -409,6 +409,7 @@ module _ (w : World) (touch : TouchNothing w.gang w.last) (fs : List TFunction) 
           (stmt_sim x (round j c) (in_foreach o) (scope_after v n rs) (number_after n rs)
           (record { fine = h.fine.2; rates = λ z b. h.rates z (inr (inr b)); alone = λ z b. h.alone z (inr (inr b)); known = h.known.4; called = behind_in (calls_of_each range_calls rs) (stmt_calls x) h.called; stood = round_stood c o v n j rs h.known.0 h.stood; early = h.early; quiet = λ e. absurd (true≢false (sym e ∙ round_not c o j)) })) a some
       stmt_sim (t_foreach_active k j i x s) c o v n h a some = absurd (h.alone (at Crossing k) (inl refl))
+      stmt_sim (t_foreach_unique k j i t e x s) c o v n h a some = absurd (h.alone (at Crossing k) (inl refl))
       stmt_sim (t_unmasked k b s) c o v n h a some = absurd (h.alone (at Crossing k) (inl refl))
       stmt_sim (t_jump Break k s) c o v n h a some = stmt_tick w (here_of c o) (U v) (U v) _ a _ _ (break_sim w (here_of c o) (U v) a)
       stmt_sim (t_jump Continue k s) c o v n h a some = stmt_tick w (here_of c o) (U v) (U v) _ a _ _ (continue_sim w (here_of c o) (U v) a)

@@ -5,7 +5,7 @@ use Rattle.std.proofs.lemmas.Bool.Decides.{nat_tests}
 use Rattle.isp_typed.specs.declared.variable.Variable.{Variable as AVar}
 use Rattle.isp_typed.specs.Scoped.{Scope, declared, number_after, scope_after, number_after_first, scope_after_first, number_after_stmt, number_after_block, number_after_stmts, scope_after_stmt}
 use Rattle.isp_typed.specs.Typed.{TFirst, t_first_declare, t_first_simple}
-use Rattle.isp_typed.specs.Typed.{TStmt, t_block, t_declare, t_simple, t_if, t_if_else, t_while, t_do, t_for, t_foreach, t_foreach_active, t_unmasked, t_jump, t_return, t_print, t_assert, TBlock, t_braces, TStmts, t_no_stmts, t_stmt_then}
+use Rattle.isp_typed.specs.Typed.{TStmt, t_block, t_declare, t_simple, t_if, t_if_else, t_while, t_do, t_for, t_foreach, t_foreach_active, t_foreach_unique, t_unmasked, t_jump, t_return, t_print, t_assert, TBlock, t_braces, TStmts, t_no_stmts, t_stmt_then}
 use Rattle.isp_instances.specs.Asked.{is_uniform, uniforms_in}
 
 -- ---- numbers and scopes
@@ -68,6 +68,7 @@ mutual
   stmt_up n (t_for f k i x p m a s) = le_then n (number_after_first n i) _ (number_up_first n i) (stmt_up (number_after_first n i) a)
   stmt_up n (t_foreach w k rs a s) = le_then n (number_after n rs) _ (number_up n rs) (stmt_up (number_after n rs) a)
   stmt_up n (t_foreach_active w k i a s) = le_next n _ (stmt_up (suc n) a)
+  stmt_up n (t_foreach_unique w k i e x a s) = le_next n _ (stmt_up (suc n) a)
   stmt_up n (t_unmasked w b s) = block_up n b
   stmt_up n (t_jump j w s) = le_same n
   stmt_up n (t_return w x s) = le_same n
@@ -114,6 +115,7 @@ below_stmt v n (t_do f k a x s) b = below_up v n _ (stmt_up n a) b
 below_stmt v n (t_for f k i x p m a s) b = below_up v n _ (stmt_up n (t_for f k i x p m a s)) b
 below_stmt v n (t_foreach w k rs a s) b = below_up v n _ (stmt_up n (t_foreach w k rs a s)) b
 below_stmt v n (t_foreach_active w k i a s) b = below_up v n _ (stmt_up n (t_foreach_active w k i a s)) b
+below_stmt v n (t_foreach_unique w k i e x a s) b = below_up v n _ (stmt_up n (t_foreach_unique w k i e x a s)) b
 below_stmt v n (t_unmasked w x s) b = below_up v n _ (block_up n x) b
 below_stmt v n (t_jump j w s) b = b
 below_stmt v n (t_return w x s) b = b
@@ -140,6 +142,7 @@ wider_stmt v n (t_do f j a x s) k h = h
 wider_stmt v n (t_for f j i x p m a s) k h = h
 wider_stmt v n (t_foreach w j rs a s) k h = h
 wider_stmt v n (t_foreach_active w j i a s) k h = h
+wider_stmt v n (t_foreach_unique w j i e x a s) k h = h
 wider_stmt v n (t_unmasked w x s) k h = h
 wider_stmt v n (t_jump j w s) k h = h
 wider_stmt v n (t_return w x s) k h = h

@@ -11,7 +11,7 @@ use Rattle.isp_lex.specs.Faults.{fault}
 use Rattle.isp_tree.specs.declared.stmt.Jump.{Jump}
 use Rattle.isp_tree.specs.declared.stmt.Jump.TheVariants.{Break, Continue}
 use Rattle.isp_typed.specs.Typed.{TFunction, rate_of}
-use Rattle.isp_typed.specs.Typed.{TStmt, t_block, t_declare, t_simple, t_if, t_if_else, t_while, t_do, t_for, t_foreach, t_foreach_active, t_unmasked, t_jump, t_return, t_print, t_assert, TBlock, t_braces, TStmts, t_no_stmts, t_stmt_then}
+use Rattle.isp_typed.specs.Typed.{TStmt, t_block, t_declare, t_simple, t_if, t_if_else, t_while, t_do, t_for, t_foreach, t_foreach_active, t_foreach_unique, t_unmasked, t_jump, t_return, t_print, t_assert, TBlock, t_braces, TStmts, t_no_stmts, t_stmt_then}
 use Rattle.isp_rates.specs.declared.exits.Around.TheVariants.{Body}
 use Rattle.isp_rates.specs.Exits.{at_start, may_jump, StmtBreach, BlockBreach, StmtsBreach}
 use Rattle.isp_independence.specs.declared.control.Control.{Control}
@@ -45,6 +45,7 @@ module _ (fs : List TFunction) (answer : Option Ty) (j : Jump) where
     has_not (t_for g k i x p m a s) r = refl
     has_not (t_foreach g k rs a s) r = refl
     has_not (t_foreach_active g k i a s) r = refl
+    has_not (t_foreach_unique g k i e x a s) r = refl
     has_not (t_unmasked g b s) r = refl
     has_not (t_jump i g s) r = absurd (r (fault BadExit g) (no_jump i, refl))
     has_not (t_return g x s) r = refl
@@ -77,6 +78,7 @@ module _ (j : Jump) where
     varying_not (t_for g k i x p m a s) e = refl
     varying_not (t_foreach g k rs a s) e = refl
     varying_not (t_foreach_active g k i a s) e = refl
+    varying_not (t_foreach_unique g k i t x a s) e = refl
     varying_not (t_unmasked g b s) e = refl
     varying_not (t_jump i g s) e = refl
     varying_not (t_return g x s) e = refl
