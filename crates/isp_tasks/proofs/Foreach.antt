@@ -39,7 +39,7 @@ use Rattle.isp_tasks.proofs.Changes.{changed_rest, changed_store}
 use Rattle.isp_tasks.proofs.Counts.{Adds, work_of, counts_same}
 use Rattle.isp_tasks.proofs.Arms.{ticked, value_first, worked}
 use Rattle.isp_gang.proofs.Left.{left_begins, next_run}
-use Rattle.isp_tasks.proofs.Members.{lowest_first, none_listed}
+use Rattle.isp_meaning.proofs.Members.{lowest_first, none_listed}
 
 -- ---- a round, and then the others
 

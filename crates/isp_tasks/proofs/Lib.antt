@@ -16,9 +16,9 @@ pub mod Gathers
 pub mod Begun
 pub mod Handing
 pub mod Arms
-pub mod Members
 pub mod RunIndices
 pub mod Foreach
+pub mod Unique
 pub mod RangesCounted
 pub mod Printed
 pub mod Leading

@@ -17,7 +17,7 @@ use Rattle.isp_meaning.specs.State.{State, Frame, extent, tick}
 use Rattle.isp_base.specs.declared.types.Rate.TheVariants.{Varying}
 use Rattle.isp_base.specs.declared.types.Span.{Span}
 use Rattle.isp_typed.specs.declared.variable.ArrayVariable.{ArrayVariable}
-use Rattle.isp_meaning.specs.Payloads.{Payload, One, is_true, is_false, sole, joined, kept_by, mapped, converted, offender, selected}
+use Rattle.isp_meaning.specs.Payloads.{Payload, One, is_true, is_false, sole, spread, joined, kept_by, mapped, converted, offender, selected}
 use Rattle.isp_meaning.specs.Outcomes as Outcomes
 use Rattle.isp_meaning.specs.Outcomes.{Val, Gives, Fails, Stops, Res, Went, Done, went_all, bind, checked, go_on, then_run, both_sides, if_so, unless_empty, value_unless_empty, with_value}
 use Rattle.isp_meaning.specs.Places.{Place, Element, held, outside, kept, written}
@@ -27,16 +27,18 @@ use Rattle.isp_meaning.specs.Simple.{simple, item, items, update, step_part}
 use Rattle.isp_meaning.specs.Loops.{loop_end, turns, tested, stepped}
 use Rattle.isp_base.specs.Prints.{print_text}
 use Rattle.isp_meaning.specs.Printing.{shown_all}
-use Rattle.isp_meaning.specs.Rounds.{Range, rounds, active_rounds, foreach_rounds, round_of_run, counted}
+use Rattle.isp_meaning.specs.Rounds.{Range, rounds, active_rounds, unique_rounds, foreach_rounds, round_of_run, counted}
 use Rattle.isp_meaning.specs.Statements.{block, run, run_all, ranges, test_part, branches, all_go, answered}
 use Rattle.isp_meaning.specs.Calls.{calls_at, resumed, answer_of}
-use Rattle.isp_gang.specs.Seen.{payload_of}
+use Rattle.isp_base.specs.Maps.{Map}
+use Rattle.isp_gang.specs.Seen.{map_of, payload_of}
 use Rattle.isp_tasks.specs.Capped.{capped}
 use Rattle.isp_gang.specs.Left.{range_seen, runs_left}
 use Rattle.isp_tasks.specs.Seen.{frame_seen, state_seen, variables_seen, place_seen, passed_seen}
 use Rattle.isp_tasks.specs.declared.state.Evaluator.{Evaluator}
 use Rattle.isp_tasks.specs.declared.loops.Looping.{Looping}
 use Rattle.isp_tasks.specs.declared.loops.Turning.{Turning}
+use Rattle.isp_tasks.specs.declared.distinct.Unique.{Unique}
 use Rattle.isp_tasks.specs.declared.rounds.Bounds.{Bounds}
 use Rattle.isp_tasks.specs.declared.state.Exits.{Exits}
 use Rattle.isp_tasks.specs.declared.state.Sets.{Sets}
@@ -227,6 +229,10 @@ module _ (program : Program) (most : ℕ) where
   abbrev pub found : Bounds → Frame → ℕ → List Range → State → Res
   found b fr l xs s = rounds_from fr l (stmt_of b.body.now) (flag_of b.set) (map range_seen b.done.items ++ xs) s
 
+  -- the turns of a `foreach_unique`, of these values
+  abbrev pub distinct_in : Unique → Map → Frame → ℕ → State → Res
+  distinct_in u m fr l s = rounds (run_in fr l (stmt_of u.body.now)) (flag_of u.set) (unique_rounds gang_of u.from u.to u.index m) s
+
   abbrev pub act : Task → Store → Goes
   act (task.Value x set) r = given r (value_at r (expr_of x.now) (flag_of set) r.state)
   act (task.Load b t span set) r =
@@ -315,6 +321,8 @@ module _ (program : Program) (most : ℕ) where
   act (task.Members x) r =
       ran r (rounds (run_in r.frame r.left (stmt_of x.value.body.now)) (flag_of x.value.set)
       (active_rounds gang_of x.value.index (flag_of x.value.left)) r.state)
+  act (task.Unique x) r = ran r (distinct_in x.value (spread (flag_of x.value.set) r.value) r.frame r.left r.state)
+  act (task.Distinct x) r = ran r (distinct_in x.value.unique (map_of x.value.row) r.frame r.left r.state)
 
   -- the tasks of a stack, the last one first
   abbrev pub finish : List Task → Store → Goes

@@ -4,6 +4,7 @@
 mod activation;
 mod calls;
 mod counting;
+mod distinct;
 mod entering;
 mod evaluator;
 mod expressions;

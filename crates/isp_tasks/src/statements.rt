@@ -62,6 +62,13 @@ impl<'a> Evaluator<'a> {
             } => self.enter_for(first.as_ref(), test.as_ref(), step.as_ref(), body, set),
             TypedStmt::Foreach { ranges, body, .. } => self.foreach(ranges.as_slice(), body, set),
             TypedStmt::ForeachActive { index, body, .. } => self.foreach_active(*index, body, set),
+            TypedStmt::ForeachUnique {
+                index,
+                elem,
+                value,
+                body,
+                ..
+            } => self.foreach_unique(*index, *elem, value, body, set),
             TypedStmt::Unmasked { body, .. } => self.unmask(body, set),
             TypedStmt::Jump { jump, .. } => {
                 self.jump(*jump, &set);

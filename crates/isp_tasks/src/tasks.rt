@@ -4,6 +4,7 @@ ghost use Rattle.isp_tasks.specs.Tasks.{Comes, Halts, does};
 ghost use Rattle.isp_tasks.specs.reader.Kinds.{is_access, is_calling, is_gathering, is_round, is_side, is_turn};
 
 use crate::activation::Activation;
+use crate::distinct::{Distinct, Unique};
 use crate::loops::Turning;
 use crate::places::{Place, Writing};
 use crate::rounds::{Bounds, Members, Rounds};
@@ -220,6 +221,10 @@ pub enum Task<'a> {
     Rounds(Box<Rounds<'a>>),
     /// Each member alone, from one on.
     Members(Box<Members<'a>>),
+    /// The value of a `foreach_unique` was found.
+    Unique(Box<Unique<'a>>),
+    /// The turns of a `foreach_unique` that are left, one for each distinct value.
+    Distinct(Box<Distinct<'a>>),
 }
 
 impl<'a> Evaluator<'a> {
@@ -257,9 +262,12 @@ impl<'a> Evaluator<'a> {
             Task::Answer(set) => Ok(self.answer(set)),
             Task::Assert(span, set) => self.assert(span, set),
             Task::Test(_) | Task::Tested(_) | Task::Turned(_) => self.take_turn(task),
-            Task::Start(_) | Task::End { .. } | Task::Rounds(_) | Task::Members(_) => {
-                self.run_each(task)
-            }
+            Task::Start(_)
+            | Task::End { .. }
+            | Task::Rounds(_)
+            | Task::Members(_)
+            | Task::Unique(_)
+            | Task::Distinct(_) => self.run_each(task),
         }
     }
 
@@ -392,6 +400,8 @@ impl<'a> Evaluator<'a> {
             Task::End { start, bounds } => self.end(start, bounds),
             Task::Rounds(rounds) => self.rounds(rounds),
             Task::Members(members) => self.members(members),
+            Task::Unique(unique) => self.unique(unique),
+            Task::Distinct(distinct) => self.distinct(distinct),
             _ => unreachable!(),
         }
     }

@@ -63,4 +63,6 @@ is_round (task.Start b) = true
 is_round (task.End start b) = true
 is_round (task.Rounds x) = true
 is_round (task.Members x) = true
+is_round (task.Unique x) = true
+is_round (task.Distinct x) = true
 is_round t = false

@@ -2,13 +2,13 @@ use Rattle.std.proofs.Common.{refl, sym, ap, ap₂, ◌∙◌}
 use Rattle.std.proofs.Common.{ℕ, List, Option, Bor}
 use Rattle.std.specs.Prelude.{option_map}
 use Rattle.isp_typed.specs.declared.stmt.TypedFirst.{TypedFirst}
-use Rattle.isp_typed.specs.Typed.{TExpr, TFirst, TSimple, TStmt, TBlock, t_declare, t_if, t_if_else, t_while, t_do, t_for, t_foreach, t_foreach_active, t_return, t_print}
+use Rattle.isp_typed.specs.Typed.{TExpr, TFirst, TSimple, TStmt, TBlock, t_declare, t_if, t_if_else, t_while, t_do, t_for, t_foreach, t_foreach_active, t_foreach_unique, t_return, t_print}
 use Rattle.isp_typed.specs.Views.{stmt_of, stmt_step, block_step, expr_of, exprs_of, first_of, items_of, ranges_of, simple_of}
 use Rattle.isp_typed.specs.declared.expr.TypedExpr.{TypedExpr}
 use Rattle.isp_typed.specs.declared.stmt.TypedItem.{TypedItem}
 use Rattle.isp_typed.specs.declared.stmt.TypedRange.{TypedRange}
 use Rattle.isp_typed.specs.declared.stmt.TypedStmt.{TypedStmt}
-use Rattle.isp_typed.proofs.StmtViews.{if_view, if_else_view, while_view, do_view, for_view, foreach_view, active_view}
+use Rattle.isp_typed.proofs.StmtViews.{if_view, if_else_view, while_view, do_view, for_view, foreach_view, active_view, unique_view}
 use Rattle.isp_typed.specs.declared.stmt.TypedStmt.TheVariants as variant
 use Rattle.isp_typed.specs.declared.stmt.TypedStmt.TheFolds.{fold-roll-TypedStmt}
 use Rattle.isp_tasks.proofs.Arms.{arm, arm_ok, arm_err, memory_err, part_is, return_is}
@@ -99,6 +99,18 @@ returns-in-ForeachActive-clause-ok c =
 
 pub returns-in-ForeachActive-clause-err : goal.returns-in-ForeachActive-clause-err
 returns-in-ForeachActive-clause-err c = memory_err c.args.self.now c.foreach_active.new.self _ c.foreach_active.result c.foreach_active.ensures.err
+
+pub returns-in-ForeachUnique-clause-ok : goal.returns-in-ForeachUnique-clause-ok
+returns-in-ForeachUnique-clause-ok c =
+    let s = c.in-ForeachUnique in
+    arm_ok c.args.self.now c.foreach_unique.new.self c.args.statement c.args.set _ _
+    (ap stmt_of s.is
+    ∙ unique_view s.keyword s.before s.index s.elem s.value s.body s.span
+    ∙ ap (λ (k : TypedStmt). t_foreach_unique s.keyword s.before s.index s.elem (expr_of s.value) (stmt_of k) s.span) (sym c.deref-in-ForeachUnique.ensures))
+    (λ w. refl) c.foreach_unique.result c.foreach_unique.ensures.ok
+
+pub returns-in-ForeachUnique-clause-err : goal.returns-in-ForeachUnique-clause-err
+returns-in-ForeachUnique-clause-err c = memory_err c.args.self.now c.foreach_unique.new.self _ c.foreach_unique.result c.foreach_unique.ensures.err
 
 pub returns-in-Unmasked-clause-ok : goal.returns-in-Unmasked-clause-ok
 returns-in-Unmasked-clause-ok c =

@@ -24,3 +24,15 @@ returns-in-Members-clause-ok c = comes_ok c.args.self.now c.members.new.self c.a
 
 pub returns-in-Members-clause-err : goal.returns-in-Members-clause-err
 returns-in-Members-clause-err c = refused_err c.args.self.now c.members.new.self c.args.task c.members.result c.members.ensures.err
+
+pub returns-in-Unique-clause-ok : goal.returns-in-Unique-clause-ok
+returns-in-Unique-clause-ok c = comes_ok c.args.self.now c.unique.new.self c.args.task _ c.in-Unique.is c.unique.result c.unique.ensures.ok
+
+pub returns-in-Unique-clause-err : goal.returns-in-Unique-clause-err
+returns-in-Unique-clause-err c = refused_err c.args.self.now c.unique.new.self c.args.task c.unique.result c.unique.ensures.err
+
+pub returns-in-Distinct-clause-ok : goal.returns-in-Distinct-clause-ok
+returns-in-Distinct-clause-ok c = comes_ok c.args.self.now c.distinct.new.self c.args.task _ c.in-Distinct.is c.distinct.result c.distinct.ensures.ok
+
+pub returns-in-Distinct-clause-err : goal.returns-in-Distinct-clause-err
+returns-in-Distinct-clause-err c = refused_err c.args.self.now c.distinct.new.self c.args.task c.distinct.result c.distinct.ensures.err
