@@ -4,7 +4,7 @@ use Rattle.std.specs.Prelude.{option_map, not}
 use Rattle.std.proofs.Common.{eq-eqb, ne_eqb}
 use Rattle.isp_base.specs.Traps.{trap}
 use Rattle.isp_base.specs.declared.types.Span.{Span}
-use Rattle.isp_typed.specs.Typed.{TExpr, TFirst, t_first_declare, t_first_simple, TStmt, TBlock, t_braces, t_stmts}
+use Rattle.isp_typed.specs.Typed.{TExpr, elem_of, TFirst, t_first_declare, t_first_simple, TStmt, TBlock, t_braces, t_stmts}
 use Rattle.isp_typed.specs.Views.{expr_of, items_of, simple_of, stmt_of, stmts_of, block_of, stmt_step, block_step}
 use Rattle.isp_typed.specs.declared.expr.TypedExpr.{TypedExpr}
 use Rattle.isp_typed.specs.declared.stmt.TypedItem.{TypedItem}
@@ -12,8 +12,9 @@ use Rattle.isp_typed.specs.declared.stmt.TypedSimple.{TypedSimple}
 use Rattle.isp_typed.specs.declared.stmt.TypedStmt.{TypedStmt}
 use Rattle.isp_typed.specs.declared.stmt.TypedBlock.{TypedBlock}
 use Rattle.isp_typed.specs.declared.stmt.TypedStmt.TheFolds.{fold_out-TypedBlock}
-use Rattle.isp_meaning.specs.Payloads.{is_true, is_false}
+use Rattle.isp_meaning.specs.Payloads.{is_true, is_false, converted}
 use Rattle.isp_base.specs.declared.trap.TrapKind.TheVariants.{Assert}
+use Rattle.isp_base.specs.declared.types.Elem.{Elem}
 use Rattle.isp_base.specs.declared.types.Rate.TheVariants.{Uniform}
 use Rattle.isp_meaning.specs.State.{Frame}
 use Rattle.isp_alone.specs.Alone.{Alone, written}
@@ -23,7 +24,7 @@ use Rattle.isp_alone.specs.Steps.{items, simple}
 use Rattle.isp_alone.specs.Loops.{turned}
 use Rattle.isp_alone.specs.Does.{goes_on}
 use Rattle.isp_single.specs.Seen.{how_seen}
-use Rattle.isp_single.specs.Tasks.{Store, Goes, Trapped, Cut, go, given, done, ran, goes, leaves, finds, gathers, runs, blocks, runs_all, chooses, branches_on, follows, tests_on, keeps_on, turned_on, turns_on, steps_on, firsts, takes_turn, does_task, does_both, store_seen, state_seen, value_at, values_at, bound_in, calls_in, perhaps_in, run_in, all_in, turns_in, tested_in, stepped_in, turned_in, test_in, body_in, step_in, rest, Changes, Tells}
+use Rattle.isp_single.specs.Tasks.{Store, Goes, Trapped, Cut, go, given, done, ran, goes, leaves, finds, gathers, runs, blocks, runs_all, chooses, branches_on, follows, tests_on, keeps_on, turned_on, turns_on, steps_on, firsts, takes_turn, turns_by_value, turns_with, turn_in, does_task, does_both, store_seen, state_seen, value_at, values_at, bound_in, calls_in, perhaps_in, run_in, all_in, turns_in, tested_in, stepped_in, turned_in, test_in, body_in, step_in, rest, Changes, Tells}
 use Rattle.isp_single.specs.declared.loops.Turning.{Turning}
 use Rattle.isp_single.specs.declared.state.Single.{Single}
 use Rattle.isp_single.specs.declared.state.How.{How}
@@ -33,6 +34,7 @@ use Rattle.isp_single.specs.declared.tasks.Branches.{Branches}
 use Rattle.isp_single.specs.declared.tasks.Gathering.TheVariants as gathering
 use Rattle.isp_single.specs.declared.tasks.Statements.{Statements}
 use Rattle.isp_single.specs.declared.tasks.Task.TheVariants as task
+use Rattle.isp_single.specs.declared.tasks.Unique.{Unique}
 use Rattle.isp_single.proofs.Steps.{ran_with, ran_done, ran_then, ran_goes, ran_always, changed_store, tells_by, tells_via}
 
 -- the task of a statement, where its tree is known
@@ -202,14 +204,24 @@ true_value x h = ap not (ne_eqb x 0 h)
 pub false_value : (x : ℕ) → x ≡ 0 → is_true x ≡ false
 false_value x h = ap not (eq-eqb x 0 h)
 
--- the one turn of a `foreach_active`
-pub alone_tells : (q : Result (Unit {0}) Stop) (old mid new : Single) (i : ℕ) (x : Bor TypedStmt) → Changes old mid (written Uniform i old.setting.instance) → Tells q mid new (does_both mid (task.Run x) task.Go) → Tells q old new (takes_turn old i (stmt_of x.now))
-alone_tells q old mid new i x c h =
-    tells_via q old mid new (takes_turn old i (stmt_of x.now)) (does_both mid (task.Run x) task.Go)
-    (changed_store old mid (written Uniform i old.setting.instance) (λ fr l s. once old fr l s) c
+-- a turn that is taken alone
+pub alone_tells : (q : Result (Unit {0}) Stop) (old mid new : Single) (i b : ℕ) (x : Bor TypedStmt) → Changes old mid (written Uniform i b) → Tells q mid new (does_both mid (task.Run x) task.Go) → Tells q old new (takes_turn old i b (stmt_of x.now))
+alone_tells q old mid new i b x c h =
+    tells_via q old mid new (takes_turn old i b (stmt_of x.now)) (does_both mid (task.Run x) task.Go)
+    (changed_store old mid (written Uniform i b) (λ fr l s. once old fr l s) c
     ∙ ap (λ (e : Single). once e (store_seen mid).frame mid.left (state_seen mid)) (sym c.same)
     ∙ ran_always (store_seen mid) (run_in mid.setting (store_seen mid).frame mid.left (stmt_of x.now) (state_seen mid)))
     (ap rest c.same) h
   where
     once : Single → Frame → ℕ → Alone → Goes
     once e fr l s = ran (record (store_seen mid) { frame = fr; left = l }) (then_always (run_in e.setting fr l (stmt_of x.now) s) (λ z. Does z Going))
+
+-- and its value first
+pub value_tells : (q : Result (Unit {0}) Stop) (old new : Single) (x : Bor TypedExpr) (u : Unique) (k : Box Unique Global) → k.value ≡ u → u.from ≡ elem_of (expr_of x.now) → Tells q old new (does_both old (task.Value x) (task.Turn k))
+    → Tells q old new (turns_by_value old u.index u.to (expr_of x.now) (stmt_of u.body.now))
+value_tells q old new x u k is of h =
+    let r = store_seen old in
+    tells_by q old new (turns_by_value old u.index u.to (expr_of x.now) (stmt_of u.body.now)) (does_both old (task.Value x) (task.Turn k))
+    (ran_with r (value_at old.setting r (expr_of x.now) r.state) (λ fr l b s. turn_in old.setting fr l u.index (converted (elem_of (expr_of x.now)) u.to b) (stmt_of u.body.now) s)
+    ∙ ap (λ (e : Elem). go (finds old (expr_of x.now) r) (turns_with old (record u { from = e }))) (sym of)
+    ∙ ap (λ (v : Unique). go (finds old (expr_of x.now) r) (turns_with old v)) (sym is)) h

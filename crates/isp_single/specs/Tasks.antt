@@ -12,7 +12,7 @@ use Rattle.isp_base.specs.Values.{number, op_bits, compare_bits}
 use Rattle.isp_base.specs.declared.operators.BinOp.{BinOp}
 use Rattle.isp_base.specs.declared.trap.Trap.{Trap}
 use Rattle.isp_base.specs.declared.trap.TrapKind.TheVariants.{Assert, Divide, Index}
-use Rattle.isp_typed.specs.Typed.{TExpr, TPlace, place_span, TItem, TArgument, TRange, TCall, t_called, t_arguments, t_exprs, TBlock, TStmt, t_stmts, TFirst, TFunction}
+use Rattle.isp_typed.specs.Typed.{TExpr, elem_of, TPlace, place_span, TItem, TArgument, TRange, TCall, t_called, t_arguments, t_exprs, TBlock, TStmt, t_stmts, TFirst, TFunction}
 use Rattle.isp_typed.specs.declared.stmt.TypedStmt.{TypedStmt}
 use Rattle.isp_typed.specs.declared.variable.ArrayVariable.{ArrayVariable}
 use Rattle.isp_typed.specs.Views.{expr_of, exprs_of, place_of, call_of, arguments_of, ranges_of, simple_of, items_of, stmt_of, stmts_of, program_of}
@@ -50,6 +50,7 @@ use Rattle.isp_single.specs.declared.tasks.Joining.TheVariants as joining
 use Rattle.isp_single.specs.declared.tasks.Statements.{Statements}
 use Rattle.isp_single.specs.declared.tasks.Task.{Task}
 use Rattle.isp_single.specs.declared.tasks.Task.TheVariants as task
+use Rattle.isp_single.specs.declared.tasks.Unique.{Unique}
 
 -- The running call's frame, how many more calls may run, the state, and two registers: what the last expression gave, and how the
 -- last statement was left. An expression leaves Going in the second, a statement leaves 0 in the first.
@@ -128,6 +129,10 @@ module _ (c : Setting) where
   perhaps_in fr l None s = Does s Going
   perhaps_in fr l (Some x) s = run_in fr l x s
 
+  -- a turn that is taken alone: however it is left, the instance goes on
+  abbrev pub turn_in : Frame → ℕ → ℕ → ℕ → TStmt → Alone → End
+  turn_in fr l i b x s = then_always (run_in fr l x (written Uniform i b s)) (λ s1. Does s1 Going)
+
   -- an operator on two values
   abbrev pub join : Joining → ℕ → ℕ → Alone → Answer ℕ
   join (joining.Operate op t span) i j s = unless (is_zero op t j) Divide span c.instance s (op_bits op t i j)
@@ -187,6 +192,10 @@ module _ (c : Setting) where
   abbrev pub branched : Branches → Store → Goes
   branched b r =
       ran r (choose (is_true r.value) (run_in r.frame r.left (stmt_of b.then.now)) (perhaps_in r.frame r.left (option_map (λ z. stmt_of z.now) b.otherwise)) r.state)
+
+  -- the value of a `foreach_unique` was found: its turn
+  abbrev pub turn_with : Unique → Store → Goes
+  turn_with u r = ran r (turn_in r.frame r.left u.index (converted u.from u.to r.value) (stmt_of u.body.now) r.state)
 
   -- a loop goes on with its test, with what the test found, and with how the body was left
   abbrev pub test_then : Turning → Store → Goes
@@ -254,6 +263,7 @@ module _ (c : Setting) where
   act (task.Branch b) r = branched b.value r
   act task.Answer r = ran r (Does (record r.state { result = r.value }) Returned)
   act (task.Assert sp) r = done r (unless (is_false r.value) Assert sp c.instance r.state tt)
+  act (task.Turn b) r = turn_with b.value r
   act (task.Test b) r = test_then b.value r
   act (task.Tested b) r = test_kept b.value r
   act (task.Turned b) r = body_then b.value r
@@ -335,9 +345,16 @@ blocks e b r = ran r (block_in e.setting r.frame r.left b r.state)
 abbrev pub runs_all : Single → List TStmt → Store → Goes
 runs_all e xs r = ran r (all_in e.setting r.frame r.left xs r.state)
 
--- the one turn of a `foreach_active`
-abbrev pub takes_turn : Single → ℕ → TStmt → Store → Goes
-takes_turn e i x r = ran r (then_always (run_in e.setting r.frame r.left x (written Uniform i e.setting.instance r.state)) (λ s. Does s Going))
+-- the one turn of a `foreach_active` or a `foreach_unique`, with these bits as its index
+abbrev pub takes_turn : Single → ℕ → ℕ → TStmt → Store → Goes
+takes_turn e i b x r = ran r (turn_in e.setting r.frame r.left i b x r.state)
+
+-- a value, and then the turn
+abbrev pub turns_by_value : Single → ℕ → Elem → TExpr → TStmt → Store → Goes
+turns_by_value e i t x body r = ran r (with_answer (value_at e.setting r x r.state) (λ b s. turn_in e.setting r.frame r.left i (converted (elem_of x) t b) body s))
+
+abbrev pub turns_with : Single → Unique → Store → Goes
+turns_with e = turn_with e.setting
 
 -- a call by the function's number, with what is handed over
 abbrev pub enters : Single → ℕ → Span → List Passed → Store → Goes

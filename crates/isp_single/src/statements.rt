@@ -1,12 +1,12 @@
 //! What statements do.
 ghost use Rattle.isp_typed.specs.Views.{block_of, expr_of, stmt_of, stmts_of};
-ghost use Rattle.isp_single.specs.Tasks.{Tells, blocks, branches_on, chooses, does_task, follows, runs_all, takes_turn};
+ghost use Rattle.isp_single.specs.Tasks.{Tells, blocks, branches_on, chooses, does_task, follows, runs_all, takes_turn, turns_by_value, turns_with};
 ghost use Rattle.isp_single.specs.declared.tasks.Task.TheVariants as Task;
 
 use crate::loops::Turning;
 use crate::state::{How, Single, Stop};
-use crate::tasks::{Branches, Gathering, Statements, Task};
-use isp_base::{Rate, Span, TrapKind};
+use crate::tasks::{Branches, Gathering, Statements, Task, Unique};
+use isp_base::{Elem, Rate, Span, TrapKind, convert};
 use isp_tree::Jump;
 use isp_typed::{TypedBlock, TypedExpr, TypedStmt};
 
@@ -48,7 +48,16 @@ impl<'a> Single<'a> {
             TypedStmt::Foreach { ranges, body, .. } => {
                 self.bounds(ranges.as_slice(), Vec::new(self.alloc), body)
             }
-            TypedStmt::ForeachActive { index, body, .. } => self.alone(*index, body),
+            TypedStmt::ForeachActive { index, body, .. } => {
+                self.alone(*index, self.setting.instance as u64, body)
+            }
+            TypedStmt::ForeachUnique {
+                index,
+                elem,
+                value,
+                body,
+                ..
+            } => self.unique(*index, *elem, value, body),
             TypedStmt::Unmasked { body, .. } => match self.push(Task::Go) {
                 Ok(()) => self.block(body),
                 Err(_) => Err(Stop::Memory),
@@ -151,11 +160,41 @@ impl<'a> Single<'a> {
         }
     }
 
-    // A `foreach_active`: alone, the instance takes its one turn.
-    fn alone(&mut self, index: usize, body: &'a TypedStmt) -> Result<(), Stop>
-        ensures { Tells result self.old self.new (takes_turn self.old index (stmt_of body.now)) }
+    // A `foreach_unique`: its value comes first.
+    fn unique(
+        &mut self,
+        index: usize,
+        elem: Elem,
+        value: &'a TypedExpr,
+        body: &'a TypedStmt,
+    ) -> Result<(), Stop>
+        ensures { Tells result self.old self.new (turns_by_value self.old index elem (expr_of value.now) (stmt_of body.now)) }
     {
-        match self.write(index, Rate::Uniform, self.setting.instance as u64) {
+        let unique = Unique {
+            index,
+            from: value.ty().elem,
+            to: elem,
+            body,
+        };
+        match Box::new(self.alloc, unique) {
+            Ok(after) => self.both(Task::Value(value), Task::Turn(after)),
+            Err(_) => Err(Stop::Memory),
+        }
+    }
+
+    /// The value of a `foreach_unique` was found.
+    pub fn with_value(&mut self, unique: Unique<'a>) -> Result<(), Stop>
+        ensures { Tells result self.old self.new (turns_with self.old unique.entry) }
+    {
+        let bits = convert(unique.from, unique.to, self.value);
+        self.alone(unique.index, bits, unique.body)
+    }
+
+    // The one turn that the instance takes alone, with these bits as its index.
+    fn alone(&mut self, index: usize, bits: u64, body: &'a TypedStmt) -> Result<(), Stop>
+        ensures { Tells result self.old self.new (takes_turn self.old index bits (stmt_of body.now)) }
+    {
+        match self.write(index, Rate::Uniform, bits) {
             Ok(()) => self.both(Task::Run(body), Task::Go),
             Err(_) => Err(Stop::Memory),
         }

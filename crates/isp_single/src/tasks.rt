@@ -55,6 +55,15 @@ pub struct Branches<'a> {
     pub otherwise: Option<&'a TypedStmt>,
 }
 
+/// A `foreach_unique`. Its value is of the type `from`, its index of the type `to`.
+#[derive(Clone, Copy)]
+pub struct Unique<'a> {
+    pub index: usize,
+    pub from: Elem,
+    pub to: Elem,
+    pub body: &'a TypedStmt,
+}
+
 /// One thing that is left to do. A task in whose name nothing else is said takes up what a part has left in a register.
 #[derive(Drop)]
 pub enum Task<'a> {
@@ -156,6 +165,8 @@ pub enum Task<'a> {
     Answer,
     /// The test of an `assert` was found.
     Assert(Span),
+    /// The value of a `foreach_unique` was found.
+    Turn(Box<Unique<'a>>),
     // ---- loops
     Test(Box<Turning<'a>>),
     Tested(Box<Turning<'a>>),
@@ -241,6 +252,7 @@ impl<'a> Single<'a> {
             Task::Branch(branches) => self.branch(*branches),
             Task::Answer => self.answer(),
             Task::Assert(span) => self.assert(span),
+            Task::Turn(unique) => self.with_value(*unique),
             Task::Test(turning) => self.test(*turning),
             Task::Tested(turning) => self.tested(*turning),
             Task::Turned(turning) => self.turned(*turning),

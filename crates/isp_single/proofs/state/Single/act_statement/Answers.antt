@@ -1,5 +1,5 @@
 use Rattle.std.proofs.Common.{refl, sym, ap}
-use Rattle.isp_single.specs.Tasks.{store_seen, branches_on, follows, tests_on, keeps_on, turned_on}
+use Rattle.isp_single.specs.Tasks.{store_seen, branches_on, follows, turns_with, tests_on, keeps_on, turned_on}
 use Rattle.isp_single.proofs.Steps.{acts}
 use Rattle.isp_single.proofs.state.Single.act_statement.Goals as goal
 
@@ -38,6 +38,9 @@ returns-in-Statements c = acts c.went.result c.args.self.now c.went.new.self c.a
 
 pub returns-in-Branch : goal.returns-in-Branch
 returns-in-Branch c = acts c.branch-self.result c.args.self.now c.branch-self.new.self c.args.task _ _ c.in-Branch.is (ap (λ b. branches_on c.args.self.now b (store_seen c.args.self.now)) (sym c.deref-in-Branch.ensures)) c.branch-self.ensures
+
+pub returns-in-Turn : goal.returns-in-Turn
+returns-in-Turn c = acts c.with_value.result c.args.self.now c.with_value.new.self c.args.task _ _ c.in-Turn.is (ap (λ b. turns_with c.args.self.now b (store_seen c.args.self.now)) (sym c.deref-in-Turn.ensures)) c.with_value.ensures
 
 pub returns-in-Test : goal.returns-in-Test
 returns-in-Test c = acts c.test.result c.args.self.now c.test.new.self c.args.task _ _ c.in-Test.is (ap (λ b. tests_on c.args.self.now b (store_seen c.args.self.now)) (sym c.deref-in-Test.ensures)) c.test.ensures

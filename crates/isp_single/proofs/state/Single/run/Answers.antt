@@ -5,9 +5,9 @@ use Rattle.isp_typed.specs.declared.stmt.TypedFirst.{TypedFirst}
 use Rattle.isp_typed.specs.declared.stmt.TypedItem.{TypedItem}
 use Rattle.isp_typed.specs.declared.stmt.TypedRange.{TypedRange}
 use Rattle.isp_typed.specs.declared.stmt.TypedStmt.{TypedStmt}
-use Rattle.isp_typed.specs.Typed.{TExpr, TFirst, TSimple, TStmt, TBlock, t_declare, t_if, t_if_else, t_while, t_do, t_for, t_foreach, t_foreach_active, t_print}
+use Rattle.isp_typed.specs.Typed.{TExpr, TFirst, TSimple, TStmt, TBlock, t_declare, t_if, t_if_else, t_while, t_do, t_for, t_foreach, t_foreach_active, t_foreach_unique, t_print}
 use Rattle.isp_typed.specs.Views.{stmt_of, block_of, ranges_of, stmt_step, block_step, expr_of, exprs_of, first_of, items_of, simple_of}
-use Rattle.isp_typed.proofs.StmtViews.{if_view, if_else_view, while_view, do_view, for_view, foreach_view, active_view}
+use Rattle.isp_typed.proofs.StmtViews.{if_view, if_else_view, while_view, do_view, for_view, foreach_view, active_view, unique_view}
 use Rattle.isp_typed.specs.declared.stmt.TypedStmt.TheVariants as variant
 use Rattle.isp_typed.specs.declared.stmt.TypedStmt.TheFolds.{fold-roll-TypedStmt}
 use Rattle.isp_alone.specs.Steps.{items, simple}
@@ -95,6 +95,14 @@ returns-in-ForeachActive c =
     (ap stmt_of c.in-ForeachActive.is ∙ active_view c.in-ForeachActive.keyword c.in-ForeachActive.before c.in-ForeachActive.index c.in-ForeachActive.body c.in-ForeachActive.span ∙ ap (λ (k : TypedStmt). t_foreach_active c.in-ForeachActive.keyword c.in-ForeachActive.before c.in-ForeachActive.index (stmt_of k) c.in-ForeachActive.span) (sym c.deref-in-ForeachActive.ensures))
     refl
     c.alone.ensures
+
+pub returns-in-ForeachUnique : goal.returns-in-ForeachUnique
+returns-in-ForeachUnique c =
+    let s = c.in-ForeachUnique in
+    stmt_by c.unique.result c.args.self.now c.unique.new.self c.args.statement _ _
+    (ap stmt_of s.is ∙ unique_view s.keyword s.before s.index s.elem s.value s.body s.span ∙ ap (λ (k : TypedStmt). t_foreach_unique s.keyword s.before s.index s.elem (expr_of s.value) (stmt_of k) s.span) (sym c.deref-in-ForeachUnique.ensures))
+    refl
+    c.unique.ensures
 
 pub returns-in-Ok : goal.returns-in-Ok
 returns-in-Ok c =
