@@ -1,9 +1,9 @@
 -- `foreach_active` does what it means, where the code of its body does: by induction on the members that are left.
-use Rattle.std.proofs.Common.{◌≡◌, ◌≢◌, ℕ, zero, suc, ◌+◌, ◌*◌, ◌<◌, ◌≤◌, List, [], ◌∷◌, ◌++◌, length, Option, Some, None, Bool, true, false, refl, sym, ap, ◌∙◌, subst, arith, length-append, map}
-use Rattle.std.specs.Prelude.{not, ◌||◌, ◌&&◌, nat_eq}
-use Rattle.std.proofs.lemmas.Bool.{eq-eqb, eqb-true, eqb-false}
+use Rattle.std.proofs.Common.{◌≡◌, ◌≢◌, ℕ, ◌+◌, ◌*◌, ◌<◌, ◌≤◌, List, [], ◌∷◌, ◌++◌, length, Option, Some, None, Bool, true, false, refl, sym, ap, ◌∙◌, subst, arith, eq-eqb, length-append, map}
+use Rattle.std.specs.Prelude.{◌&&◌}
+use Rattle.std.proofs.lemmas.Bool.{eqb-true, ne_eqb}
 use Rattle.isp_base.specs.Cross.{or_zero}
-use Rattle.isp_base.specs.Sets.{Mask, any, lowest, or_this, lone, without}
+use Rattle.isp_base.specs.Sets.{Mask, any, lowest, lone, without}
 use Rattle.isp_base.specs.declared.types.Rate.TheVariants.{Uniform}
 use Rattle.isp_code.specs.Conf.{Conf}
 use Rattle.isp_code.specs.Lines.{jumps}
@@ -13,8 +13,9 @@ use Rattle.isp_code.specs.declared.instr.JumpTest.TheVariants as jump
 use Rattle.isp_meaning.specs.Outcomes.{Res}
 use Rattle.isp_meaning.specs.Payloads.{One}
 use Rattle.isp_meaning.specs.Places.{written}
-use Rattle.isp_meaning.specs.Rounds.{if_listed, members, rounds, round_of_one, active_rounds}
+use Rattle.isp_meaning.specs.Rounds.{members, rounds, round_of_one, active_rounds}
 use Rattle.isp_meaning.specs.State.{State, tick}
+use Rattle.isp_meaning.proofs.Members.{any_at, lowest_below, lowest_first, lowest_in, lowest_is, no_lowest, no_member, none_all, none_listed}
 use Rattle.isp_lower.specs.Layout.{mask_register}
 use Rattle.isp_lower.specs.Runs.{Comes}
 use Rattle.isp_lower.specs.Setting.{Setting, IsSettled, gang_of, AreAt, At, Stands, Allowed}
@@ -27,121 +28,26 @@ use Rattle.isp_masks.specs.StmtRuns.{AreThree, EntersAt, StmtOk, StmtRuns}
 use Rattle.isp_masks.proofs.Combine.{stmt_after, go_runs, plain_ok}
 use Rattle.isp_masks.proofs.Unmasked.{masks_stay}
 
--- ---- the members of a set, from the lowest
+-- ---- the lowest of a set
 
-members_none : (n : ℕ) (a : Mask) → any n a ≡ false → members n a ≡ []
-members_none zero a e = refl
-members_none (suc n) a e = go (members_none n a) (any n a) refl (a n) refl e
+-- a set with members has one
+pub some_lowest : (n : ℕ) (a : Mask) → any n a ≡ true → (p : ℕ) × (lowest n a ≡ Some p)
+some_lowest n a e = by (lowest n a) refl
   where
-    go : (any n a ≡ false → members n a ≡ []) → (x : Bool) → any n a ≡ x → (y : Bool) → a n ≡ y → (x || y) ≡ false → members n a ++ if_listed (a n) n ≡ []
-    go ih true ex y ey h = absurd (cc)
-    go ih false ex true ey h = absurd (cc)
-    go ih false ex false ey h = ap (λ xs. xs ++ if_listed (a n) n) (ih ex) ∙ ap (λ b. if_listed b n) ey
+    by : (o : Option ℕ) → lowest n a ≡ o → (p : ℕ) × (lowest n a ≡ Some p)
+    by (Some p) low = (p, low)
+    by None low = absurd (let none : any n a ≡ false = no_member n a low in let h : ⊥ = cc in h)
 
-lowest_none : (n : ℕ) (a : Mask) → any n a ≡ false → lowest n a ≡ None
-lowest_none zero a e = refl
-lowest_none (suc n) a e = go (lowest_none n a) (any n a) refl (a n) refl e
-  where
-    go : (any n a ≡ false → lowest n a ≡ None) → (x : Bool) → any n a ≡ x → (y : Bool) → a n ≡ y → (x || y) ≡ false → or_this (lowest n a) (a n) n ≡ None
-    go ih true ex y ey h = absurd (cc)
-    go ih false ex true ey h = absurd (cc)
-    go ih false ex false ey h = ap (λ o. or_this o (a n) n) (ih ex) ∙ ap (λ b. or_this None b n) ey
-
--- the first of them, and the others
-record IsFirst (n : ℕ) (a : Mask) : Type 0 where
-  first : ℕ
-  low : first < n
-  is : lowest n a ≡ Some first
-  list : members n a ≡ first ∷ members n (without a (lone (Some first)))
-
-not_last : (b : Bool) (n p : ℕ) → p < n → (b && not (nat_eq n p)) ≡ b
-not_last true n p lt = go (nat_eq n p) refl
-  where
-    go : (z : Bool) → nat_eq n p ≡ z → not z ≡ true
-    go true e = absurd (omega (arith, eqb-true n p e))
-    go false e = refl
-not_last false n p lt = refl
-
-none_more : (n : ℕ) (a b : Mask) → any n a ≡ false → any n (without a b) ≡ false
-none_more zero a b e = refl
-none_more (suc n) a b e = go (none_more n a b) (any n a) refl (a n) refl e
-  where
-    go : (any n a ≡ false → any n (without a b) ≡ false) → (x : Bool) → any n a ≡ x → (y : Bool) → a n ≡ y → (x || y) ≡ false → (any n (without a b) || (a n && not (b n))) ≡ false
-    go ih true ex y ey h = absurd (cc)
-    go ih false ex true ey h = absurd (cc)
-    go ih false ex false ey h = ap (λ z. z || (a n && not (b n))) (ih ex) ∙ ap (λ z. z && not (b n)) ey
-
-first_in : (n : ℕ) (a : Mask) → any n a ≡ true → IsFirst n a
-first_in zero a e = absurd (cc)
-first_in (suc n) a e = go (first_in n a) (any n a) refl (a n) refl e
-  where
-    go : (any n a ≡ true → IsFirst n a) → (x : Bool) → any n a ≡ x → (y : Bool) → a n ≡ y → (x || y) ≡ true → IsFirst (suc n) a
-    go ih true ex y ey h =
-        let f = ih ex in
-        let rest = without a (lone (Some f.first)) in
-        record {
-          first = f.first;
-          low = omega (arith, f.low);
-          is = ap (λ o. or_this o (a n) n) f.is;
-          list = ap (λ xs. xs ++ if_listed (a n) n) f.list ∙ ap (λ b. (f.first ∷ members n rest) ++ if_listed b n) (sym (not_last (a n) n f.first f.low));
-        }
-    go ih false ex true ey h =
-        let none : without a (lone (Some n)) n ≡ false = ap (λ z. a n && not z) (eq-eqb n n refl) ∙ and_false (a n) in
-        record {
-          first = n;
-          low = omega arith;
-          is = ap (λ o. or_this o (a n) n) (lowest_none n a ex) ∙ ap (λ b. or_this None b n) ey;
-          list = ap (λ xs. xs ++ if_listed (a n) n) (members_none n a ex) ∙ ap (λ b. if_listed b n) ey ∙ ap (λ xs. n ∷ xs) (sym (ap (λ xs. xs ++ if_listed (without a (lone (Some n)) n) n) (members_none n (without a (lone (Some n))) (none_more n a (lone (Some n)) ex)) ∙ ap (λ b. if_listed b n) none));
-        }
-      where
-        and_false : (b : Bool) → (b && false) ≡ false
-        and_false true = refl
-        and_false false = refl
-    go ih false ex false ey h = absurd (cc)
-
--- one alone
+-- one alone is its own lowest
 any_lone : (n p : ℕ) → p < n → any n (lone (Some p)) ≡ true
-any_lone zero p lt = absurd (omega arith)
-any_lone (suc n) p lt = go (any_lone n p) (nat_eq n p) refl
-  where
-    or_true : (b : Bool) → (b || true) ≡ true
-    or_true true = refl
-    or_true false = refl
-
-    go : (p < n → any n (lone (Some p)) ≡ true) → (z : Bool) → nat_eq n p ≡ z → (any n (lone (Some p)) || nat_eq n p) ≡ true
-    go ih true e = ap (λ z. any n (lone (Some p)) || z) e ∙ or_true (any n (lone (Some p)))
-    go ih false e = ap (λ z. z || nat_eq n p) (ih (let ne : n ≢ p = eqb-false n p e in omega arith))
-
-none_lone : (n p : ℕ) → n ≤ p → lowest n (lone (Some p)) ≡ None
-none_lone zero p le = refl
-none_lone (suc n) p le = go (none_lone n p) (nat_eq n p) refl
-  where
-    go : (n ≤ p → lowest n (lone (Some p)) ≡ None) → (z : Bool) → nat_eq n p ≡ z → or_this (lowest n (lone (Some p))) (nat_eq n p) n ≡ None
-    go ih true e = absurd (omega (arith, eqb-true n p e))
-    go ih false e = ap (λ o. or_this o (nat_eq n p) n) (ih (omega arith)) ∙ ap (λ b. or_this None b n) e
+any_lone n p lt = any_at n (lone (Some p)) p lt (eq-eqb p p refl)
 
 lowest_lone : (n p : ℕ) → p < n → lowest n (lone (Some p)) ≡ Some p
-lowest_lone zero p lt = absurd (omega arith)
-lowest_lone (suc n) p lt = go (lowest_lone n p) (nat_eq n p) refl
-  where
-    go : (p < n → lowest n (lone (Some p)) ≡ Some p) → (z : Bool) → nat_eq n p ≡ z → or_this (lowest n (lone (Some p))) (nat_eq n p) n ≡ Some p
-    go ih true e =
-        let is = eqb-true n p e in
-        ap (λ o. or_this o (nat_eq n p) n) (none_lone n p (omega (arith, is))) ∙ ap (λ b. or_this None b n) e ∙ ap Some is
-    go ih false e =
-        ap (λ o. or_this o (nat_eq n p) n) (ih (let ne : n ≢ p = eqb-false n p e in omega arith))
+lowest_lone n p lt =
+    lowest_is n (lone (Some p)) p lt (eq-eqb p p refl)
+    (none_all p (lone (Some p)) (λ q l. let ne : q ≢ p = omega (arith, l) in ne_eqb q p ne))
 
--- the lowest member is one
-lowest_in : (n : ℕ) (a : Mask) (p : ℕ) → lowest n a ≡ Some p → a p ≡ true
-lowest_in zero a p e = absurd (cc)
-lowest_in (suc n) a p e = go (lowest n a) (a n) refl refl (lowest_in n a p) e
-  where
-    go : (o : Option ℕ) (b : Bool) → lowest n a ≡ o → a n ≡ b → (lowest n a ≡ Some p → a p ≡ true) → or_this o b n ≡ Some p → a p ≡ true
-    go (Some q) b e1 e2 ih h = ih (e1 ∙ h)
-    go None true e1 e2 ih h = let same : n ≡ p = cc in subst (λ r. a r ≡ true) same e2
-    go None false e1 e2 ih h = absurd (cc)
-
-and_first : (b d : Bool) → (b && d) ≡ true → b ≡ true
+pub and_first : (b d : Bool) → (b && d) ≡ true → b ≡ true
 and_first true d e = refl
 and_first false d e = absurd (cc)
 
@@ -167,18 +73,18 @@ module _ (w : Setting) (ready : IsSettled w) (spot : Spot) (three : AreThree spo
     allowed : (p : ℕ) → left p ≡ true → Allowed w p
 
   -- a turn, and what follows it for those that are left
-  turn_runs : (left : Mask) (first : IsFirst gang left) (ps : List ℕ) (s : State) (c : Conf) (q : ℕ) → BeforeTurn left s c → q ≤ 32 * s.work
-      → ((s1 : State) (c1 : Conf) (z : ℕ) → any gang (without left (lone (Some first.first))) ≡ true → BeforeTurn (without left (lone (Some first.first))) s1 c1 → z ≤ 32 * s1.work → StmtRuns w w.turns c1 end spot z (rounds body all (map (round_of_one i) ps) s1))
-      → (any gang (without left (lone (Some first.first))) ≡ false → ps ≡ [])
-      → StmtRuns w w.turns c end spot q (rounds body all (map (round_of_one i) (first.first ∷ ps)) s)
-  turn_runs left first ps s c q b le again last =
+  turn_runs : (left : Mask) (p : ℕ) (ps : List ℕ) (s : State) (c : Conf) (q : ℕ) → lowest gang left ≡ Some p → BeforeTurn left s c → q ≤ 32 * s.work
+      → ((s1 : State) (c1 : Conf) (z : ℕ) → any gang (without left (lone (Some p))) ≡ true → BeforeTurn (without left (lone (Some p))) s1 c1 → z ≤ 32 * s1.work → StmtRuns w w.turns c1 end spot z (rounds body all (map (round_of_one i) ps) s1))
+      → (any gang (without left (lone (Some p))) ≡ false → ps ≡ [])
+      → StmtRuns w w.turns c end spot q (rounds body all (map (round_of_one i) (p ∷ ps)) s)
+  turn_runs left p ps s c q found b le again last =
       stmt_after w ready w.turns c c3 3 end spot q _ comes3 (variable_spares w ready Uniform i n c2 (One x)) (λ r lt ne. mask3 r lt) three
       (go_runs w ready w.turns c3 pc2 (body_spot (n + 1)) 1 (3 + q) (body one s3) _ end spot
-      (runs one s3 c3 pc1 (1 + (3 + q)) (are_front w.routine.code pc1 (code pc1) (instr.JumpIf jump.On (mask_register n) top ∷ []) rest) (record { at = at3; mask = mask1; some = any_lone gang p first.low; inside = λ r e. subst (Allowed w) (sym (eqb-true r p e)) (b.allowed p (lowest_in gang left p first.is)); stands = stands3; used = omega (arith, le); low = omega arith }))
+      (runs one s3 c3 pc1 (1 + (3 + q)) (are_front w.routine.code pc1 (code pc1) (instr.JumpIf jump.On (mask_register n) top ∷ []) rest) (record { at = at3; mask = mask1; some = any_lone gang p in_gang; inside = λ r e. subst (Allowed w) (sym (eqb-true r p e)) (b.allowed p (lowest_in gang left p found)); stands = stands3; used = omega (arith, le); low = omega arith }))
       (λ s1 g u ct rt e ok. after s1 g ct rt ok))
     where
-      p : ℕ
-      p = first.first
+      in_gang : p < gang
+      in_gang = lowest_below gang left p found
 
       one : Mask
       one = lone (Some p)
@@ -205,7 +111,7 @@ module _ (w : Setting) (ready : IsSettled w) (spot : Spot) (three : AreThree spo
       apart' = omega arith
 
       taken : c1.masks (n + 1) ≡ one
-      taken = put_same c.masks (n + 1) (lone (lowest gang (c.masks n))) ∙ ap (λ m. lone (lowest gang m)) b.left_is ∙ ap lone first.is
+      taken = put_same c.masks (n + 1) (lone (lowest gang (c.masks n))) ∙ ap (λ m. lone (lowest gang m)) b.left_is ∙ ap lone found
 
       mask1 : c3.masks (n + 1) ≡ one
       mask1 = put_other c1.masks n (without (c1.masks n) (c1.masks (n + 1))) (n + 1) apart' ∙ taken
@@ -220,7 +126,7 @@ module _ (w : Setting) (ready : IsSettled w) (spot : Spot) (three : AreThree spo
           put_other c1.masks n (without (c1.masks n) (c1.masks (n + 1))) r ne0 ∙ put_other c.masks (n + 1) (lone (lowest gang (c.masks n))) r ne1
 
       number : x ≡ p
-      number = ap (λ m. or_zero (lowest gang m)) mask1 ∙ ap or_zero (lowest_lone gang p first.low)
+      number = ap (λ m. or_zero (lowest gang m)) mask1 ∙ ap or_zero (lowest_lone gang p in_gang)
 
       s3 : State
       s3 = written Uniform i one (One p) (tick s)
@@ -294,17 +200,17 @@ module _ (w : Setting) (ready : IsSettled w) (spot : Spot) (three : AreThree spo
 
   turns_run : (ps : List ℕ) (left : Mask) (s : State) (c : Conf) (q : ℕ) → members gang left ≡ ps → any gang left ≡ true → BeforeTurn left s c → q ≤ 32 * s.work → StmtRuns w w.turns c end spot q (rounds body all (map (round_of_one i) ps) s)
   turns_run [] left s c q e some b le =
-      let first = first_in gang left some in
-      absurd (not_empty first.first _ (sym first.list ∙ e))
-    where
-      not_empty : (p : ℕ) (xs : List ℕ) → p ∷ xs ≡ [] → ⊥
-      not_empty p xs h = cc
-  turns_run (p ∷ ps) left s c q e some b le =
-      let first = first_in gang left some in
-      let others = without left (lone (Some first.first)) in
-      let same = sym first.list ∙ e in
-      subst (λ u. StmtRuns w w.turns c end spot q (rounds body all (map (round_of_one i) (u ∷ ps)) s)) (head_is first.first p (members gang others) ps same)
-      (turn_runs left first ps s c q b le (λ s1 c1 z more b1 le1. turns_run ps others s1 c1 z (tail_is first.first p (members gang others) ps same) more b1 le1) (λ none. sym (tail_is first.first p (members gang others) ps same) ∙ members_none gang others none))
+      let low = some_lowest gang left some in
+      let none : low.0 ∷ members gang (without left (lone (Some low.0))) ≡ [] = sym (lowest_first gang left low.0 low.1) ∙ e in
+      absurd (let h : ⊥ = cc in h)
+  turns_run (r ∷ ps) left s c q e some b le =
+      let low = some_lowest gang left some in
+      let p = low.0 in
+      let others = without left (lone (Some p)) in
+      let both = sym (lowest_first gang left p low.1) ∙ e in
+      let rest : members gang others ≡ ps = tail_is p r (members gang others) ps both in
+      subst (λ u. StmtRuns w w.turns c end spot q (rounds body all (map (round_of_one i) (u ∷ ps)) s)) (head_is p r (members gang others) ps both)
+      (turn_runs left p ps s c q low.1 b le (λ s1 c1 z more b1 le1. turns_run ps others s1 c1 z rest more b1 le1) (λ none. sym rest ∙ none_listed gang others (no_lowest gang others none)))
     where
       head_is : (x y : ℕ) (xs ys : List ℕ) → x ∷ xs ≡ y ∷ ys → x ≡ y
       head_is x y xs ys h = cc

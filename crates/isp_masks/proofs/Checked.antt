@@ -12,7 +12,7 @@ use Rattle.isp_lex.specs.declared.fault.Rule.TheVariants.{VaryingToUniform, BadE
 use Rattle.isp_lex.specs.Faults.{fault}
 use Rattle.isp_typed.specs.Fine.{FineFunction, params_of}
 use Rattle.isp_typed.specs.Typed.{TExpr, t_constant, t_program_index, t_place, t_convert, t_cast, t_unary, t_binary, t_compare, t_logic, t_choose, t_call, t_library, t_packed_store, t_packed_load, TPlace, t_variable, t_element, TArgument, t_by_value, t_by_name, TCall, t_called, TArguments, t_no_arguments, t_argument_then, TExprs, t_no_exprs, t_expr_then, TItem, t_plain, t_with_value, t_with_size, TSimple, t_value, t_run, t_assign, t_update, t_step, TFirst, t_first_declare, t_first_simple, TFunction, Program, place_type, type_of, span_of, TBase, t_whole, t_from, TRange}
-use Rattle.isp_typed.specs.Typed.{TStmt, t_block, t_declare, t_simple, t_if, t_if_else, t_while, t_do, t_for, t_foreach, t_foreach_active, t_unmasked, t_jump, t_return, t_print, t_assert, TBlock, t_braces, TStmts, t_no_stmts, t_stmt_then}
+use Rattle.isp_typed.specs.Typed.{TStmt, t_block, t_declare, t_simple, t_if, t_if_else, t_while, t_do, t_for, t_foreach, t_foreach_active, t_foreach_unique, t_unmasked, t_jump, t_return, t_print, t_assert, TBlock, t_braces, TStmts, t_no_stmts, t_stmt_then}
 use Rattle.isp_typed.specs.declared.variable.Holds.{Holds}
 use Rattle.isp_typed.specs.declared.variable.Holds.TheVariants.{Value as AValue, Given, Local}
 use Rattle.isp_typed.specs.declared.variable.Variable.{Variable}
@@ -22,7 +22,7 @@ use Rattle.isp_rates.specs.Breaches.{OfAny, OfEach}
 use Rattle.isp_rates.specs.Rates as rates
 use Rattle.isp_rates.specs.Rates.{goes_to, variables_of, DemandBreach, ExprBreach, PlaceBreach, BaseBreach, CallBreach, ArgumentsBreach, ArgumentBreach, ValuesBreach, part_rate}
 use Rattle.isp_lower.specs.Callees.{rate_held, rates_held, rates_in}
-use Rattle.isp_rates.specs.Exits.{at_start, in_loop, in_foreach, in_foreach_active, in_unmasked, ItemBreach, SimpleBreach, FirstBreach, RangeBreach, StmtBreach, BlockBreach, StmtsBreach}
+use Rattle.isp_rates.specs.Exits.{at_start, in_loop, in_foreach, in_turns, in_unmasked, ItemBreach, SimpleBreach, FirstBreach, RangeBreach, StmtBreach, BlockBreach, StmtsBreach}
 use Rattle.isp_rates.specs.Program.{ParametersBreach, ResultBreach, FunctionBreach, IsAccepted}
 use Rattle.isp_typed.specs.Library.{asks_uniform, parts}
 use Rattle.isp_typed.specs.declared.library.Part.{Part}
@@ -53,9 +53,12 @@ demand_reaches wanted x B clean =
 
 -- ---- arguments, and values of the library
 
+each_reaches : (r : Rate) → Reaches r Varying
+each_reaches Uniform = tt
+each_reaches Varying = tt
+
 any_rate : (wanted r : Rate) → Reaches r wanted → Reaches r Varying
-any_rate wanted Uniform h = tt
-any_rate wanted Varying h = tt
+any_rate wanted r h = each_reaches r
 
 held_alike : (y : Holds) → rates.rate_held y ≡ rate_held y
 held_alike (AValue t) = refl
@@ -144,6 +147,10 @@ module _ (fs : List TFunction) where
   rated_at : (r : Rate) (x : TExpr) → NoneOf (DemandBreach r x (ExprBreach fs x)) → RatedAt fs r x
   rated_at r x clean = (demand_reaches r x (ExprBreach fs x) clean, expr_rated x (demand_own r x (ExprBreach fs x) clean))
 
+  -- a value of any rate
+  each_rated : (x : TExpr) → NoneOf (ExprBreach fs x) → RatedAt fs Varying x
+  each_rated x clean = (each_reaches (type_of x).rate, expr_rated x clean)
+
   simple_rated : (x : TSimple) → NoneOf (SimpleBreach fs x) → SimpleRated fs x
   simple_rated (t_value x) clean = expr_rated x clean
   simple_rated (t_run k) clean = call_rated k clean
@@ -207,7 +214,9 @@ module _ (fs : List TFunction) where
           (first_rated first (λ g b. clean g (inl b)), test_rated e (λ g b. clean g (inr (inl b))), step_rated step (λ g b. clean g (inr (inr (inl b)))), stmt_rated (scope_after_first v m first) i (in_loop w) x at.5 (λ g b. clean g (inr (inr (inr b)))))
       stmt_rated v m w (t_foreach k n rs x sp) at clean =
           (at.2, ranges_rated rs (λ g b. clean g (inr (inl b))), stmt_rated (scope_after v m rs) (number_after m rs) (in_foreach w) x at.4 (λ g b. clean g (inr (inr b))), at.1)
-      stmt_rated v m w (t_foreach_active k n i x sp) at clean = stmt_rated (declared m v) (suc m) (in_foreach_active w) x at.2 clean
+      stmt_rated v m w (t_foreach_active k n i x sp) at clean = stmt_rated (declared m v) (suc m) (in_turns w) x at.2 clean
+      stmt_rated v m w (t_foreach_unique k n i t e x sp) at clean =
+          (each_rated e (λ g b. clean g (inl b)), stmt_rated (declared m v) (suc m) (in_turns w) x at.3 (λ g b. clean g (inr b)))
       stmt_rated v m w (t_unmasked k b sp) at clean = block_rated v m (in_unmasked w) b at clean
       stmt_rated v m w (t_jump j k sp) at clean = tt
       stmt_rated v m w (t_return k None sp) at clean = tt

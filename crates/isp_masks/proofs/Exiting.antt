@@ -5,12 +5,12 @@ use Rattle.isp_base.specs.Sets.{Mask, nobody, everyone, union, without, any}
 use Rattle.isp_base.specs.declared.trap.TrapKind.TheVariants.{Assert}
 use Rattle.isp_tree.specs.declared.stmt.Jump.{Jump}
 use Rattle.isp_tree.specs.declared.stmt.Jump.TheVariants.{Break, Continue}
-use Rattle.isp_typed.specs.Typed.{t_exprs, TStmt, t_block, t_declare, t_simple, t_if, t_if_else, t_while, t_do, t_for, t_foreach, t_foreach_active, t_unmasked, t_jump, t_return, t_print, t_assert, TBlock, t_braces, TStmts, t_no_stmts, t_stmt_then}
+use Rattle.isp_typed.specs.Typed.{t_exprs, elem_of, TStmt, t_block, t_declare, t_simple, t_if, t_if_else, t_while, t_do, t_for, t_foreach, t_foreach_active, t_foreach_unique, t_unmasked, t_jump, t_return, t_print, t_assert, TBlock, t_braces, TStmts, t_no_stmts, t_stmt_then}
 use Rattle.isp_meaning.specs.Expressions.{Calls, value, values}
 use Rattle.isp_meaning.specs.Loops.{loop_end, tested, stepped, turns}
 use Rattle.isp_meaning.specs.Outcomes.{Val, Gives, Fails, Stops, Done, Res, Went, Trapped, Cut, checked, with_value, go_on, went_all, then_run, both_sides, unless_empty, if_so}
-use Rattle.isp_meaning.specs.Payloads.{Payload, One, Each, is_true, is_false, kept_by, offender}
-use Rattle.isp_meaning.specs.Rounds.{Round, rounds, active_rounds, foreach_rounds, counted}
+use Rattle.isp_meaning.specs.Payloads.{Payload, One, Each, is_true, is_false, kept_by, offender, spread}
+use Rattle.isp_meaning.specs.Rounds.{Round, rounds, active_rounds, unique_rounds, foreach_rounds, counted}
 use Rattle.isp_meaning.specs.Simple.{simple, items, first_part, step_part}
 use Rattle.isp_meaning.specs.State.{State, Frame, tick}
 use Rattle.isp_meaning.specs.Statements.{all_go, branches, jumped, ranges, test_part, run, block, run_all}
@@ -159,6 +159,8 @@ module _ (gang : ℕ) (frame : Frame) (calls : Calls) (most : ℕ) where
     run_leaves (t_foreach w g rs x sp) a s =
         with_leave none_leave (ranges gang frame calls rs a (tick s)) _ (λ xs s1. rounds_leave (run gang frame calls most x) a (foreach_rounds gang xs) (record s1 { work = s1.work + counted gang 1 xs }))
     run_leaves (t_foreach_active w g i x sp) a s = rounds_leave (run gang frame calls most x) a (active_rounds gang i a) (tick s)
+    run_leaves (t_foreach_unique w g i t e x sp) a s =
+        with_leave none_leave (value gang frame calls e a (tick s)) _ (λ m s1. rounds_leave (run gang frame calls most x) a (unique_rounds gang (elem_of e) t i (spread a m)) s1)
     run_leaves (t_unmasked w b sp) a s = unmasked_leaves a (block gang frame calls most b (everyone gang) (tick s))
     run_leaves (t_jump j w sp) a s = jump_leaves j a (tick s)
     run_leaves (t_return w None sp) a s = (λ z. refl, λ z. refl, λ z. absurd (cc))

@@ -1,21 +1,22 @@
 -- What the laws use of a statement, from what is asked of it.
 use Rattle.std.proofs.Common.{◌≡◌, ◌≤◌, ℕ, ◌+◌, List, [], ◌∷◌, length, Option, Some, None, refl, Bool, false, subst, arith}
+use Rattle.isp_base.specs.Ranks.{operand}
 use Rattle.isp_base.specs.declared.types.Elem.TheVariants.{I32}
 use Rattle.isp_base.specs.declared.types.Rate.{Rate}
 use Rattle.isp_base.specs.declared.types.Rate.TheVariants.{Uniform, Varying}
 use Rattle.isp_base.specs.declared.types.Ty.{Ty}
 use Rattle.isp_typed.specs.declared.variable.Variable as variable
-use Rattle.isp_typed.specs.Typed.{TExpr, t_exprs, type_of, TSimple, TFirst, t_first_declare, t_first_simple, TRange, TStmt, t_block, t_declare, t_simple, t_if, t_if_else, t_while, t_do, t_for, t_foreach, t_foreach_active, t_unmasked, t_jump, t_return, t_print, t_assert, TBlock, t_braces, TStmts, t_no_stmts, t_stmt_then, TItem, t_plain, t_with_value, t_with_size}
+use Rattle.isp_typed.specs.Typed.{TExpr, t_exprs, type_of, elem_of, TSimple, TFirst, t_first_declare, t_first_simple, TRange, TStmt, t_block, t_declare, t_simple, t_if, t_if_else, t_while, t_do, t_for, t_foreach, t_foreach_active, t_foreach_unique, t_unmasked, t_jump, t_return, t_print, t_assert, TBlock, t_braces, TStmts, t_no_stmts, t_stmt_then, TItem, t_plain, t_with_value, t_with_size}
 use Rattle.isp_lower.specs.Asks.{Ask}
 use Rattle.isp_lower.specs.Fits.{InTable, ItemsOther}
 use Rattle.isp_lower.specs.Rated.{Reaches}
 use Rattle.isp_lower.specs.Setting.{Setting, OtherAt}
 use Rattle.isp_lower.proofs.Lemmas.{ExprTree, OperandTree, expr_fits, operand_fits, values_fit, simple_fits, items_fit, RunConstant, all_grow, simple_other}
 use Rattle.isp_masks.specs.Prints.{own_rates}
-use Rattle.isp_masks.specs.Asks.{answer_asks, bound_asks, bounds_asks, places_asks, ranges_asks, part_slot, parts_slot, first_asks, test_part_asks, step_asks, stmt_asks, block_asks, stmts_asks}
+use Rattle.isp_masks.specs.Asks.{answer_asks, unique_asks, bound_asks, bounds_asks, places_asks, ranges_asks, part_slot, parts_slot, first_asks, test_part_asks, step_asks, stmt_asks, block_asks, stmts_asks}
 use Rattle.isp_masks.specs.Ranges.{places_slot, runs_slot}
 use Rattle.isp_masks.specs.Fits.{StmtFits, BlockFits}
-use Rattle.isp_masks.proofs.Parts.{AnswerFits, BoundParts, BoundsParts, RangesTyped, ForeachFits, FirstFits, TestFits, StepFits, StmtParts, BlockParts, StmtsParts, RangesConstant}
+use Rattle.isp_masks.proofs.Parts.{AnswerFits, BoundParts, BoundsParts, RangesTyped, ForeachFits, UniqueFits, FirstFits, TestFits, StepFits, StmtParts, BlockParts, StmtsParts, RangesConstant}
 use Rattle.isp_masks.proofs.Rated.{stmt_tree, block_tree}
 use Rattle.isp_masks.proofs.Trees.{AnswerTree, RangesTree, FirstTree, TestTree, StepTree, StmtTree, BlockTree, StmtsTree}
 use Rattle.isp_masks.proofs.Bodies.{body_as, body_run, run_as, with_layout}
@@ -80,6 +81,17 @@ module _ (w : Setting) where
     constants = ranges_constant rs fine;
   }
 
+  unique_fits : (v : ℕ) (u : Elem) (e : TExpr) (n : ℕ) → OperandTree Varying (operand u) e → ExprTree w.program.functions e → Named (unique_asks v u e n) → UniqueFits w v u e n
+  unique_fits v u e n o t i = record {
+    operand = operand_fits w Varying (elem_of e) e n (record { elem = refl; reaches = o.reaches }) i.0;
+    expr = expr_fits w e n t i.0.1;
+    all = i.1.0;
+    index = i.1.1.0;
+    one = i.1.1.1.1.0.0;
+    each = i.1.1.1.1.0.1.0;
+    same = i.1.1.1.1.0.1.1.1;
+  }
+
   -- the parts of a `for` that may be left out
   first_fits : (o : Option TFirst) (n : ℕ) → RunConstant w → IfAny (FineFirst w.program.functions w.function.variables) o → FirstFree w.layout.run o → FirstTree w.program.functions o → Named (first_asks o n) → FirstFits w o n
   first_fits None n k f free t i = tt
@@ -142,6 +154,7 @@ mutual
             (body_as (λ l. Table w.routine l w.function.variables (stmt_asks w.frame.answer x (runs_slot n rs + 3))) w.layout rs i.1 (λ o d. table_same w.routine w.layout w.function.variables o d (stmt_asks w.frame.answer x (runs_slot n rs + 3)) i.1)),
       )
   stmt_fits (t_foreach_active g j z x sp) w n k f free t i = stmt_fits x w (n + 1 + 3) k f.2 free t i.1
+  stmt_fits (t_foreach_unique g j z u e x sp) w n k f free t i = (unique_fits w z u e n t.0 t.1 i.0, stmt_fits x w (n + 1 + 3) k f.3 free t.2 i.1)
   stmt_fits (t_unmasked g b sp) w n k f free t i =
       block_fits b (with_layout w (outside w.layout) w.members w.start) (n + 3) k f free t (table_same w.routine w.layout w.function.variables w.layout.run false (block_asks w.frame.answer b (n + 3)) i.1)
   stmt_fits (t_jump j g sp) w n k f free t i = tt

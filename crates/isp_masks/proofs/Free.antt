@@ -4,12 +4,12 @@ use Rattle.std.specs.Prelude.{not}
 use Rattle.isp_base.specs.declared.types.Span.{Span}
 use Rattle.isp_base.specs.declared.types.Ty.{Ty}
 use Rattle.isp_typed.specs.Scoped.{Scope, ItemsAt, RangesAt, StmtAt, BlockAt, StmtsAt, declared, scope_after, number_after, number_after_first, scope_after_stmt, number_after_stmt, number_after_block, number_after_stmts}
-use Rattle.isp_typed.specs.Typed.{TItem, t_plain, t_with_value, t_with_size, TFirst, t_first_declare, t_first_simple, TRange, TStmt, t_block, t_declare, t_simple, t_if, t_if_else, t_while, t_do, t_for, t_foreach, t_foreach_active, t_unmasked, t_jump, t_return, t_print, t_assert, TBlock, t_braces, TStmts, t_no_stmts, t_stmt_then}
+use Rattle.isp_typed.specs.Typed.{TItem, t_plain, t_with_value, t_with_size, TFirst, t_first_declare, t_first_simple, TRange, TStmt, t_block, t_declare, t_simple, t_if, t_if_else, t_while, t_do, t_for, t_foreach, t_foreach_active, t_foreach_unique, t_unmasked, t_jump, t_return, t_print, t_assert, TBlock, t_braces, TStmts, t_no_stmts, t_stmt_then}
 use Rattle.isp_lex.specs.declared.fault.Fault.{Fault}
 use Rattle.isp_lex.specs.declared.fault.Rule.TheVariants.{NestedForeach}
 use Rattle.isp_lex.specs.Faults.{fault}
 use Rattle.isp_rates.specs.Breaches.{Unmet}
-use Rattle.isp_rates.specs.Exits.{in_loop, in_foreach, in_foreach_active, in_unmasked, StmtBreach, BlockBreach, StmtsBreach}
+use Rattle.isp_rates.specs.Exits.{in_loop, in_foreach, in_turns, in_unmasked, StmtBreach, BlockBreach, StmtsBreach}
 use Rattle.isp_rates.specs.declared.exits.Within.{Within}
 use Rattle.isp_typed.specs.Typed.{TFunction}
 use Rattle.isp_masks.specs.Free.{IsApartFrom, ItemsFree, NoneYet, last_index_of, StmtFree, BlockFree, StmtsFree}
@@ -62,6 +62,7 @@ mutual
       let two = stmt_more (number_after n rs) x in
       omega (arith, one, two)
   stmt_more n (t_foreach_active w g i x sp) = let more = stmt_more (suc n) x in omega (arith, more)
+  stmt_more n (t_foreach_unique w g i t e x sp) = let more = stmt_more (suc n) x in omega (arith, more)
   stmt_more n (t_unmasked w b sp) = block_more n b
   stmt_more n (t_jump j w sp) = omega arith
   stmt_more n (t_return w x sp) = omega arith
@@ -133,7 +134,9 @@ module _ (fs : List TFunction) (answer : Option Ty) where
         let more = count_more n rs in
         let after = scope_after v n rs in
         (none_yet o u k h (λ g b. clean g (inl b)), stmt_free o after (number_after n rs) (in_foreach u) x (before_more o n (number_after n rs) (omega (arith, more)) b) (body_of o u) at.4 (λ g b. clean g (inr (inr b))), stmt_free (last_index_of rs) after (number_after n rs) (in_foreach u) x (last_before v n rs at.3) (body_of (last_index_of rs) u) at.4 (λ g b. clean g (inr (inr b))))
-    stmt_free o v n u (t_foreach_active k g i x sp) b h at clean = stmt_free o (declared n v) (suc n) (in_foreach_active u) x (before_more o n (suc n) (omega arith) b) (body_in o u (in_foreach_active u) refl h) at.2 clean
+    stmt_free o v n u (t_foreach_active k g i x sp) b h at clean = stmt_free o (declared n v) (suc n) (in_turns u) x (before_more o n (suc n) (omega arith) b) (body_in o u (in_turns u) refl h) at.2 clean
+    stmt_free o v n u (t_foreach_unique k g i t e x sp) b h at clean =
+        stmt_free o (declared n v) (suc n) (in_turns u) x (before_more o n (suc n) (omega arith) b) (body_in o u (in_turns u) refl h) at.3 (λ g b. clean g (inr b))
     stmt_free o v n u (t_unmasked k y sp) b h at clean = block_free o v n (in_unmasked u) y b (body_in o u (in_unmasked u) refl h) at clean
     stmt_free o v n u (t_jump j k sp) b h at clean = tt
     stmt_free o v n u (t_return k x sp) b h at clean = tt

@@ -3,7 +3,7 @@ use Rattle.std.proofs.Common.{◌≡◌, ℕ, ◌+◌, ◌<◌, ◌≤◌, Optio
 use Rattle.isp_base.specs.Sets.{Mask, nobody, union, any}
 use Rattle.isp_tree.specs.declared.stmt.Jump.{Jump}
 use Rattle.isp_tree.specs.declared.stmt.Jump.TheVariants.{Break, Continue}
-use Rattle.isp_typed.specs.Typed.{TStmt, t_block, t_declare, t_simple, t_if, t_if_else, t_while, t_do, t_for, t_foreach, t_foreach_active, t_unmasked, t_jump, t_return, t_print, t_assert, TBlock, t_braces, t_no_stmts, t_stmt_then}
+use Rattle.isp_typed.specs.Typed.{TStmt, t_block, t_declare, t_simple, t_if, t_if_else, t_while, t_do, t_for, t_foreach, t_foreach_active, t_foreach_unique, t_unmasked, t_jump, t_return, t_print, t_assert, TBlock, t_braces, t_no_stmts, t_stmt_then}
 use Rattle.isp_meaning.specs.Expressions.{Calls}
 use Rattle.isp_meaning.specs.Outcomes.{Res, Went, go_on, went_all, then_run, unless_empty, if_so}
 use Rattle.isp_meaning.specs.State.{State, Frame, tick}
@@ -75,6 +75,7 @@ module _ (gang : ℕ) (frame : Frame) (calls : Calls) (most : ℕ) where
     jump_is (t_for f g first c step i x sp) j e T s = absurd (cc)
     jump_is (t_foreach w g rs x sp) j e T s = absurd (cc)
     jump_is (t_foreach_active w g i x sp) j e T s = absurd (cc)
+    jump_is (t_foreach_unique w g i t c x sp) j e T s = absurd (cc)
     jump_is (t_unmasked w b sp) j e T s = absurd (cc)
     jump_is (t_jump i w sp) j e T s = let same : i ≡ j = cc in (s.work + 1, omega arith, ap (λ z. jumped z T (tick s)) same)
     jump_is (t_return w x sp) j e T s = absurd (cc)

@@ -4,7 +4,7 @@ use Rattle.isp_base.specs.declared.types.Rate.TheVariants.{Varying}
 use Rattle.isp_base.specs.declared.types.Span.{Span}
 use Rattle.isp_tree.specs.declared.stmt.Form.TheVariants.{Plain}
 use Rattle.isp_tree.specs.declared.stmt.Jump.{Jump}
-use Rattle.isp_typed.specs.Typed.{TStmt, t_block, t_declare, t_simple, t_if, t_if_else, t_while, t_do, t_for, t_foreach, t_foreach_active, t_unmasked, t_jump, t_return, t_print, t_assert, TBlock, t_braces, t_no_stmts, t_stmt_then}
+use Rattle.isp_typed.specs.Typed.{TStmt, t_block, t_declare, t_simple, t_if, t_if_else, t_while, t_do, t_for, t_foreach, t_foreach_active, t_foreach_unique, t_unmasked, t_jump, t_return, t_print, t_assert, TBlock, t_braces, t_no_stmts, t_stmt_then}
 use Rattle.isp_lower.specs.Emitted.{Appends, texts_of}
 use Rattle.isp_lower.specs.Layout.{Layout}
 use Rattle.isp_lower.specs.declared.types.Body.{Body}
@@ -28,6 +28,7 @@ mutual
   jump_places l (t_for f g first c step i x sp) j e = absurd (cc)
   jump_places l (t_foreach w g rs x sp) j e = absurd (cc)
   jump_places l (t_foreach_active w g i x sp) j e = absurd (cc)
+  jump_places l (t_foreach_unique w g i t c x sp) j e = absurd (cc)
   jump_places l (t_unmasked w b sp) j e = absurd (cc)
   jump_places l (t_jump i w sp) j e = refl
   jump_places l (t_return w x sp) j e = absurd (cc)
@@ -51,6 +52,7 @@ mutual
   jump_texts (t_for f g first c step i x sp) j e = absurd (cc)
   jump_texts (t_foreach w g rs x sp) j e = absurd (cc)
   jump_texts (t_foreach_active w g i x sp) j e = absurd (cc)
+  jump_texts (t_foreach_unique w g i t c x sp) j e = absurd (cc)
   jump_texts (t_unmasked w b sp) j e = absurd (cc)
   jump_texts (t_jump i w sp) j e = refl
   jump_texts (t_return w x sp) j e = refl

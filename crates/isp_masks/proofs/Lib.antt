@@ -12,6 +12,7 @@ mod Sequences
 mod LoopStmts
 mod Unmasked
 mod Active
+mod Distinct
 mod Counting
 mod Sweeps
 mod Numbered

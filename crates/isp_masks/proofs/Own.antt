@@ -2,6 +2,7 @@
 use Rattle.std.proofs.Common.{◌≡◌, ℕ, zero, suc, ◌+◌, ◌≤◌, arith, List, [], ◌∷◌, length, take, drop, Option, Some, None, refl, ap, subst, true}
 use Rattle.std.specs.Prelude.{slice_get}
 use Rattle.std.specs.List.{All}
+use Rattle.isp_base.specs.declared.types.Elem.{Elem}
 use Rattle.isp_base.specs.declared.types.Elem.TheVariants.{Bool as Truth, I32, I64}
 use Rattle.isp_base.specs.declared.types.Rate.{Rate}
 use Rattle.isp_base.specs.declared.types.Rate.TheVariants.{Uniform, Varying}
@@ -9,8 +10,8 @@ use Rattle.isp_base.specs.declared.types.Ty.{Ty}
 use Rattle.isp_tree.specs.Sound.{IfAny}
 use Rattle.isp_tree.specs.declared.stmt.Form.{Form}
 use Rattle.isp_tree.specs.declared.stmt.Form.TheVariants.{Plain, Coherent}
-use Rattle.isp_typed.specs.Fine.{HoldsValue, active_index, foreach_index, FineRange, IsParam, AreParams, IsDeclared, FineExpr, FineFunction, FineValue, FineSimple, FineFirst, FineItem, FineReturned, FineStmt, FineBlock, FineStmts}
-use Rattle.isp_typed.specs.Typed.{TExpr, t_exprs, ty_of, type_of, TItem, TSimple, TFirst, t_first_declare, t_first_simple, TRange, TStmt, t_block, t_declare, t_simple, t_if, t_if_else, t_while, t_do, t_for, t_foreach, t_foreach_active, t_unmasked, t_jump, t_return, t_print, t_assert, TBlock, t_braces, TStmts, t_no_stmts, t_stmt_then, TFunction}
+use Rattle.isp_typed.specs.Fine.{HoldsValue, unique_index, foreach_index, FineRange, IsParam, AreParams, IsDeclared, FineExpr, FineFunction, FineValue, FineSimple, FineFirst, FineItem, FineReturned, FineStmt, FineBlock, FineStmts}
+use Rattle.isp_typed.specs.Typed.{TExpr, t_exprs, ty_of, type_of, TItem, TSimple, TFirst, t_first_declare, t_first_simple, TRange, TStmt, t_block, t_declare, t_simple, t_if, t_if_else, t_while, t_do, t_for, t_foreach, t_foreach_active, t_foreach_unique, t_unmasked, t_jump, t_return, t_print, t_assert, TBlock, t_braces, TStmts, t_no_stmts, t_stmt_then, TFunction}
 use Rattle.isp_base.specs.declared.signature.Parameter.{Parameter}
 use Rattle.isp_typed.specs.declared.variable.Holds.{Holds}
 use Rattle.isp_typed.specs.declared.variable.Holds.TheVariants as holds
@@ -20,7 +21,7 @@ use Rattle.isp_lower.specs.Asks.{items_asks, test_asks, values_asks}
 use Rattle.isp_lower.specs.Reserved.{IsOwn, IsReserved}
 use Rattle.isp_lower.specs.declared.reserve.Reserve.{Reserve}
 use Rattle.isp_lower.proofs.Lemmas.{expr_own, operand_own, simple_own, item_own}
-use Rattle.isp_masks.specs.Asks.{answer_asks, bound_asks, bounds_asks, places_asks, ranges_asks, part_asks, part_slot, parts_slot, loop_asks, first_asks, test_part_asks, step_asks, stmt_asks, block_asks, stmts_asks, result_asks}
+use Rattle.isp_masks.specs.Asks.{answer_asks, unique_asks, bound_asks, bounds_asks, places_asks, ranges_asks, part_asks, part_slot, parts_slot, loop_asks, first_asks, test_part_asks, step_asks, stmt_asks, block_asks, stmts_asks, result_asks}
 use Rattle.isp_masks.specs.Lowered.{BodyIsOwn}
 use Rattle.isp_masks.specs.Prints.{own_rates}
 use Rattle.isp_masks.specs.Ranges.{places_slot, runs_slot}
@@ -49,11 +50,15 @@ module _ (fs : List TFunction) (vars : List Variable) (answer : Option Ty) where
   shown_own (x ∷ xs) n f =
       (tt, (operand_own vars answer fs (type_of x).rate x n (f 0 x (omega arith)), shown_own xs (n + 1) (λ k d lt. f (suc k) d (omega arith))))
 
-  active_own : (i : ℕ) → slice_get vars i ≡ Some active_index → HoldsValue vars i (ty_of Uniform I64)
-  active_own i e = record { constant = true; is = e }
+  -- the index of turns
+  turn_own : (i : ℕ) (t : Elem) → slice_get vars i ≡ Some (unique_index t) → HoldsValue vars i (ty_of Uniform t)
+  turn_own i t e = record { constant = true; is = e }
 
   loop_own : (n : ℕ) → IsOwn vars answer (loop_asks n)
   loop_own n = (tt, (tt, (tt, tt)))
+
+  unique_own : (i : ℕ) (t : Elem) (e : TExpr) (n : ℕ) → slice_get vars i ≡ Some (unique_index t) → FineExpr fs vars e → IsOwn vars answer (unique_asks i t e n)
+  unique_own i t e n is f = (operand_own vars answer fs Varying e n f, (tt, (turn_own i t is, (tt, ((tt, (tt, (tt, tt))), (tt, loop_own (n + 1)))))))
 
   bound_own : (x : TExpr) (n : ℕ) → FineValue fs vars I32 x → IsOwn vars answer (bound_asks x n)
   bound_own x n f = (tt, expr_own vars answer fs x n f.0)
@@ -103,7 +108,8 @@ module _ (fs : List TFunction) (vars : List Variable) (answer : Option Ty) where
     stmt_own (t_for k g first e step i x sp) n f =
         (first_own first n f.2, (loop_own n, (test_own e (n + 3) f.3, (step_own step (n + 3) f.4, stmt_own x (n + 3) f.5))))
     stmt_own (t_foreach k g rs x sp) n f = (ranges_own rs n f.1, stmt_own x (runs_slot n rs + 3) f.2)
-    stmt_own (t_foreach_active k g i x sp) n f = ((active_own i f.1, (tt, (tt, loop_own (n + 1)))), stmt_own x (n + 1 + 3) f.2)
+    stmt_own (t_foreach_active k g i x sp) n f = ((turn_own i I64 f.1, (tt, (tt, loop_own (n + 1)))), stmt_own x (n + 1 + 3) f.2)
+    stmt_own (t_foreach_unique k g i t e x sp) n f = (unique_own i t e n f.1 f.2.0, stmt_own x (n + 1 + 3) f.3)
     stmt_own (t_unmasked k b sp) n f = (loop_own n, block_own b (n + 3) f)
     stmt_own (t_jump j k sp) n f = tt
     stmt_own (t_return k None sp) n f = tt

@@ -3,10 +3,11 @@ use Rattle.std.proofs.Common.{◌≡◌, ◌≤◌, ℕ, ◌+◌, List, [], ◌�
 use Rattle.std.specs.List.{count_by}
 use Rattle.std.specs.Prelude.{◌==◌, slice_get}
 use Rattle.isp_base.specs.Prints.{percent}
-use Rattle.isp_base.specs.declared.types.Elem.TheVariants.{I32, I64}
+use Rattle.isp_base.specs.declared.types.Elem.{Elem}
+use Rattle.isp_base.specs.declared.types.Elem.TheVariants.{Bool as Truth, I32, I64}
 use Rattle.isp_base.specs.declared.types.Rate.TheVariants.{Uniform, Varying}
 use Rattle.isp_base.specs.declared.types.Ty.{Ty}
-use Rattle.isp_typed.specs.Typed.{TExpr, t_exprs, type_of, TSimple, TFirst, t_first_declare, t_first_simple, TRange, TStmt, t_block, t_declare, t_simple, t_if, t_if_else, t_while, t_do, t_for, t_foreach, t_foreach_active, t_unmasked, t_jump, t_return, t_print, t_assert, TBlock, t_braces, TStmts, t_no_stmts, t_stmt_then}
+use Rattle.isp_typed.specs.Typed.{TExpr, t_exprs, type_of, elem_of, TSimple, TFirst, t_first_declare, t_first_simple, TRange, TStmt, t_block, t_declare, t_simple, t_if, t_if_else, t_while, t_do, t_for, t_foreach, t_foreach_active, t_foreach_unique, t_unmasked, t_jump, t_return, t_print, t_assert, TBlock, t_braces, TStmts, t_no_stmts, t_stmt_then}
 use Rattle.isp_lower.specs.Setting.{Setting}
 use Rattle.isp_lower.specs.Tables.{IsTyped}
 use Rattle.isp_lower.proofs.Lemmas.{OperandFits, ExprParts, ValuesParts, SimpleParts, ItemsParts}
@@ -77,6 +78,16 @@ module _ (w : Setting) where
     pub some : 1 ≤ length rs
     pub constants : RangesConstant rs
 
+  -- ---- `foreach_unique`: its registers have their types
+  pub record UniqueFits (i : ℕ) (t : Elem) (e : TExpr) (n : ℕ) : Type 0 where
+    pub operand : OperandFits w Varying (elem_of e) e n
+    pub expr : ExprParts w e n
+    pub all : IsTyped w Varying (w.layout.spare Varying (elem_of e) n) (elem_of e)
+    pub index : IsTyped w Uniform (w.layout.variable Uniform i) t
+    pub one : IsTyped w Uniform (w.layout.spare Uniform (elem_of e) (n + 1)) (elem_of e)
+    pub each : IsTyped w Varying (w.layout.spare Varying (elem_of e) (n + 1)) (elem_of e)
+    pub same : IsTyped w Varying (w.layout.spare Varying Truth (n + 1 + 1)) Truth
+
 abbrev mutual
   pub StmtParts : Setting → TStmt → ℕ → Type 0
   StmtParts w (t_block b) n = BlockParts w b n
@@ -89,6 +100,7 @@ abbrev mutual
   StmtParts w (t_for f g first e step i x sp) n = FirstFits w first n × TestFits w e (n + 3) × StepFits w step (n + 3) × StmtParts w x (n + 3)
   StmtParts w (t_foreach k g rs x sp) n = ForeachFits w rs n × (w.layout.run ≡ None) × ((m : Mask) (b : ℕ) → StmtParts (with_layout w (body_layout w.layout rs) m b) x (runs_slot n rs + 3))
   StmtParts w (t_foreach_active k g i x sp) n = StmtParts w x (n + 1 + 3)
+  StmtParts w (t_foreach_unique k g i t e x sp) n = UniqueFits w i t e n × StmtParts w x (n + 1 + 3)
   StmtParts w (t_unmasked k b sp) n = BlockParts (with_layout w (outside w.layout) w.members w.start) b (n + 3)
   StmtParts w (t_jump j k sp) n = Unit {0}
   StmtParts w (t_return k None sp) n = Unit {0}

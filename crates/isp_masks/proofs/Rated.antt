@@ -1,13 +1,14 @@
 -- What names, types and rates promise of a body is what the laws use of it.
 use Rattle.std.proofs.Common.{suc, arith, refl, List, [], ◌∷◌, Option, Some, None}
 use Rattle.std.specs.List.{All}
+use Rattle.isp_base.specs.Ranks.{operand}
 use Rattle.isp_base.specs.declared.types.Elem.TheVariants.{Bool as Truth, I32}
 use Rattle.isp_base.specs.declared.types.Rate.{Rate}
 use Rattle.isp_base.specs.declared.types.Rate.TheVariants.{Uniform, Varying}
 use Rattle.isp_base.specs.declared.types.Ty.{Ty}
 use Rattle.isp_tree.specs.Sound.{IfAny}
 use Rattle.isp_typed.specs.Fine.{FineExpr, FineValue, FineSimple, FineFirst, FineRange, FineReturned, FineStmt, FineBlock, FineStmts}
-use Rattle.isp_typed.specs.Typed.{TFunction, TExpr, t_exprs, type_of, TSimple, TFirst, t_first_declare, t_first_simple, TRange, TStmt, t_block, t_declare, t_simple, t_if, t_if_else, t_while, t_do, t_for, t_foreach, t_foreach_active, t_unmasked, t_jump, t_return, t_print, t_assert, TBlock, t_braces, TStmts, t_no_stmts, t_stmt_then}
+use Rattle.isp_typed.specs.Typed.{TFunction, TExpr, t_exprs, type_of, TSimple, TFirst, t_first_declare, t_first_simple, TRange, TStmt, t_block, t_declare, t_simple, t_if, t_if_else, t_while, t_do, t_for, t_foreach, t_foreach_active, t_foreach_unique, t_unmasked, t_jump, t_return, t_print, t_assert, TBlock, t_braces, TStmts, t_no_stmts, t_stmt_then}
 use Rattle.isp_typed.specs.declared.variable.Variable.{Variable}
 use Rattle.isp_lower.specs.Rated.{Reaches}
 use Rattle.isp_lower.proofs.Lemmas.{ValuesTree, expr_tree, operand_tree, simple_tree, items_tree}
@@ -63,6 +64,7 @@ module _ (fs : List TFunction) (vars : List Variable) where
       stmt_tree (t_for k n first e step i x sp) f r = (first_tree first f.2 r.0, test_tree e f.3 r.1, step_tree step f.4 r.2, stmt_tree x f.5 r.3)
       stmt_tree (t_foreach k n rs x sp) f r = (r.0, ranges_tree rs f.1 r.1, stmt_tree x f.2 r.2, r.3)
       stmt_tree (t_foreach_active k n i x sp) f r = stmt_tree x f.2 r
+      stmt_tree (t_foreach_unique k n i t e x sp) f r = (operand_tree fs vars Varying (operand t) e f.2.1 r.0, expr_tree fs vars e f.2.0 r.0.1, stmt_tree x f.3 r.1)
       stmt_tree (t_unmasked k b sp) f r = block_tree b f r
       stmt_tree (t_jump j k sp) f r = tt
       stmt_tree (t_return k None sp) f r = tt

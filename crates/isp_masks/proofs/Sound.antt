@@ -1,5 +1,6 @@
 -- Each instruction of the code of a statement has its operands.
 use Rattle.std.proofs.Common.{◌≡◌, ℕ, ◌+◌, ◌<◌, ◌≤◌, List, [], ◌∷◌, ◌++◌, length, Option, Some, None, Bool, true, false, refl, sym, ap, ◌∙◌, subst, arith, length-append}
+use Rattle.isp_base.specs.Ranks.{operand as worked}
 use Rattle.isp_base.specs.declared.types.Rate.{Rate}
 use Rattle.isp_base.specs.declared.types.Rate.TheVariants.{Uniform, Varying}
 use Rattle.isp_base.specs.declared.types.Elem.TheVariants.{Bool as Truth}
@@ -13,25 +14,26 @@ use Rattle.isp_tree.specs.declared.stmt.Form.{Form}
 use Rattle.isp_tree.specs.declared.stmt.Form.TheVariants.{Plain, Coherent}
 use Rattle.isp_tree.specs.declared.stmt.Jump.{Jump}
 use Rattle.isp_tree.specs.declared.stmt.Jump.TheVariants.{Break, Continue}
-use Rattle.isp_typed.specs.Typed.{TExpr, type_of, TSimple, TFirst, t_first_declare, t_first_simple, TStmt, t_block, t_declare, t_simple, t_if, t_if_else, t_while, t_do, t_for, t_foreach, t_foreach_active, t_unmasked, t_jump, t_return, t_print, t_assert, TBlock, t_braces, TStmts, t_no_stmts, t_stmt_then, TFunction}
+use Rattle.isp_typed.specs.Typed.{TExpr, type_of, elem_of as type_elem, TSimple, TFirst, t_first_declare, t_first_simple, TStmt, t_block, t_declare, t_simple, t_if, t_if_else, t_while, t_do, t_for, t_foreach, t_foreach_active, t_foreach_unique, t_unmasked, t_jump, t_return, t_print, t_assert, TBlock, t_braces, TStmts, t_no_stmts, t_stmt_then, TFunction}
 use Rattle.isp_lower.specs.Code.{jump_off, guard, found, expr_places, expr_code}
 use Rattle.isp_lower.specs.Layout.{Layout, class_at, register, outside}
 use Rattle.isp_masks.specs.Exits.{exits_of, all_go_on, both_go_on, leaving_of}
 use Rattle.isp_masks.specs.Fors.{first_code, step_code, first_places, step_places}
 use Rattle.isp_masks.specs.Loops.{endless_code, for_code, is_wide, jump_all}
 use Rattle.isp_masks.specs.Ranges.{ranges_places, runs_slot}
+use Rattle.isp_masks.specs.Rounds.{values_of}
 use Rattle.isp_masks.specs.Sets.{unite, leave_code, jump_code, jumped_code}
 use Rattle.isp_masks.specs.declared.exits.Leaving.{Leaving}
 use Rattle.isp_masks.specs.declared.exits.Leaving.TheVariants.{Never, Always, Maybe}
 use Rattle.isp_masks.specs.Spots.{Numbers, Spot, body_spot, first_spot, past, under, widely}
 use Rattle.isp_masks.specs.Statements.{behind, rest_code, parted_code, kept_code, both_kept_code, left_code, wide_code, if_code, if_else_code, answer_code, returned, stmt_places, block_places, stmts_places, stmt_texts, block_texts, stmts_texts, stmt_code, block_code, stmts_code, function_code, body_layout}
 use Rattle.isp_lower.specs.Code.{copy, operand, operand_of}
-use Rattle.isp_masks.specs.Asks.{part_asks, first_asks, step_asks, answer_asks, block_asks, stmt_asks, stmts_asks}
+use Rattle.isp_masks.specs.Asks.{unique_asks, part_asks, first_asks, step_asks, answer_asks, block_asks, stmt_asks, stmts_asks}
 use Rattle.isp_lower.specs.Sound.{AreSound, Links, PartSound, IsRegister, Granted, ExprPresent, HasRegister, HasArray, HasLocal, HasMask}
-use Rattle.isp_lower.proofs.Lemmas.{found_there, operand_there, sound_both, copy_sound, here_then, value_sound, part_sound, simple_sound, items_sound, ExprTree, all_grow}
+use Rattle.isp_lower.proofs.Lemmas.{found_there, operand_there, sound_both, copy_sound, here_then, value_sound, part_sound, simple_sound, items_sound, ExprTree, OperandTree, all_grow}
 use Rattle.isp_masks.proofs.Combine.{part_spot}
 use Rattle.isp_masks.proofs.SoundRanges.{foreach_sound}
-use Rattle.isp_masks.proofs.SoundLoops.{HereSound, active_sound, unmasked_sound, guard_sound, two_sound, while_sound, for_sound, endless_sound, do_sound}
+use Rattle.isp_masks.proofs.SoundLoops.{HereSound, ValuesThere, whole, active_sound, unique_sound, unmasked_sound, guard_sound, two_sound, while_sound, for_sound, endless_sound, do_sound}
 use Rattle.isp_masks.proofs.SoundAsserts.{assert_sound}
 use Rattle.isp_masks.proofs.SoundPrints.{print_sound}
 use Rattle.isp_masks.proofs.Trees.{AnswerTree, BlockTree, FirstTree, StepTree, StmtTree, StmtsTree}
@@ -184,6 +186,16 @@ module _ (code : Listing) (h : Routine) where
   granted_same l o d a f =
       all_grow (HasRegister h l) (HasRegister h (run_as l o d)) (HasArray h l) (HasArray h (run_as l o d)) (HasLocal h l) (HasLocal h (run_as l o d)) (HasMask h) (HasMask h) (IsLoadedIn l) (IsLoadedIn l) (λ r x t. register_same l o d r x t) (λ y f. f) (λ y f. f) (λ k f. f) (λ v f. f) a f
 
+  -- the values of `foreach_unique`, and their registers
+  any_operand : (t : Elem) (e : TExpr) → OperandTree Varying (worked t) e → OperandTree Varying (type_elem e) e
+  any_operand t e is = record { elem = refl; reaches = is.reaches }
+
+  values_there : (l : Layout) (i : ℕ) (t : Elem) (e : TExpr) (n : ℕ) → Granted h l (unique_asks i t e n) → ValuesThere code h (values_of l (type_elem e) i n) (type_elem e) t
+  values_there l i t e n f =
+      let two : n + 1 + 1 ≡ n + 2 = omega arith in
+      let same = subst (λ j. IsRegister h Varying (l.spare Varying Truth j) Truth) two f.1.1.1.1.0.1.1.1 in
+      record { all = f.1.0; one = f.1.1.1.1.0.0; each = f.1.1.1.1.0.1.0; same = same; index = f.1.1.0 }
+
   module _ (fs : List TFunction) (answer : Option Ty) where
     mutual
       pub stmt_sound : (x : TStmt) (l : Layout) (links : Links fs code l) (pc : ℕ) (z : Numbers) (spot : Spot) → StmtTree fs answer x → Granted h l (stmt_asks answer x spot.slot) → HasMasks spot → z.place + length (stmt_places l x) ≤ length code.places → z.text + length (stmt_texts x) ≤ length code.texts → pc + length (stmt_code l answer x pc z spot) < length h.code → AreSound code h (stmt_code l answer x pc z spot)
@@ -273,6 +285,20 @@ module _ (code : Listing) (h : Routine) where
           let n = spot.slot in
           let own : HasMasks (body_spot (n + 1)) = (f.0.1.1.1.1.0, f.0.1.1.1.1.1.0, f.0.1.1.1.1.1.1) in
           active_sound code h (l.variable Uniform i) spot.on n (λ pc1. stmt_code l answer x pc1 z (body_spot (n + 1))) f.0.0 lm.0 f.0.1.1.0 own.0 (λ pc1 lt1. stmt_sound x l links pc1 z (body_spot (n + 1)) is f.1 own pl tx lt1) pc lt
+      stmt_sound (t_foreach_unique w g i t e x sp) l links pc z spot is f lm pl tx lt =
+          let k = spot.on in
+          let n = spot.slot in
+          let u = type_elem e in
+          let pe = expr_places l e in
+          let e1 = length-append pe (stmt_places l x) in
+          let own : HasMasks (body_spot (n + 1)) = (f.0.1.1.1.1.1.1.1.0, f.0.1.1.1.1.1.1.1.1.0, f.0.1.1.1.1.1.1.1.1.1) in
+          let tree : OperandTree Varying u e = any_operand t e is.0 in
+          let there = operand_there fs h l Varying u e n tree is.1 f.0.0 in
+          let values = λ (pc1 : ℕ). operand_of l Varying e k n (expr_code l e pc1 z.place k n) in
+          let body = λ (pc1 : ℕ). stmt_code l answer x pc1 (past pe z) (body_spot (n + 1)) in
+          unique_sound code h (values_of l u i n) u t values (operand l Varying e n) k n body (λ same. whole t (sym is.0.elem ∙ same)) (values_there l i t e n f.0) there lm.0 f.0.1.1.1.1.1.0 own.0
+          (λ pc1 lt1. part_sound fs code h l links Varying u e pc1 z.place k n tree is.1 f.0.0 lm.0 (omega (arith, e1, pl)) lt1)
+          (λ pc1 lt1. stmt_sound x l links pc1 (past pe z) (body_spot (n + 1)) is.2 f.1 own (omega (arith, e1, pl)) tx lt1) pc lt
       stmt_sound (t_unmasked w b sp) l links pc z spot is f lm pl tx lt =
           let n = spot.slot in
           let own : HasMasks (body_spot n) = (f.0.1.0, f.0.1.1.0, f.0.1.1.1) in

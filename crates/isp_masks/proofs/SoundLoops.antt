@@ -1,6 +1,9 @@
 -- Each instruction of the code of a loop has its operands, where those of its parts have.
-use Rattle.std.proofs.Common.{◌≡◌, ℕ, ◌+◌, ◌<◌, List, [], ◌∷◌, ◌++◌, length, Bool, true, false, refl, arith, length-append}
-use Rattle.isp_base.specs.declared.types.Elem.TheVariants.{Bool as Truth, I64}
+use Rattle.std.proofs.Common.{◌≡◌, ◌≢◌, ℕ, ◌+◌, ◌<◌, List, [], ◌∷◌, ◌++◌, length, Bool, true, false, refl, sym, ◌∙◌, arith, length-append}
+use Rattle.isp_base.specs.Ranks.{operand}
+use Rattle.isp_base.specs.declared.operators.Compare.TheVariants.{Equal}
+use Rattle.isp_base.specs.declared.types.Elem.{Elem}
+use Rattle.isp_base.specs.declared.types.Elem.TheVariants.{Bool as Truth, I8, U8, I16, U16, I32, U32, I64, U64}
 use Rattle.isp_base.specs.declared.types.Rate.{Rate}
 use Rattle.isp_base.specs.declared.types.Rate.TheVariants.{Uniform, Varying}
 use Rattle.isp_code.specs.Fine.{IsThere}
@@ -9,16 +12,30 @@ use Rattle.isp_code.specs.Registers.{elem_of}
 use Rattle.isp_code.specs.declared.instr.Instr.{Instr}
 use Rattle.isp_code.specs.declared.instr.Instr.TheVariants as instr
 use Rattle.isp_code.specs.declared.instr.JumpTest.TheVariants as jump
-use Rattle.isp_lower.specs.Code.{the_others, jump_off, two, guard}
+use Rattle.isp_code.specs.declared.instr.Reduction.TheVariants as reduction
+use Rattle.isp_lower.specs.Code.{copy, where_so, the_others, jump_off, two, guard}
 use Rattle.isp_lower.specs.Layout.{class_at, register, mask_register}
-use Rattle.isp_lower.specs.Sound.{AreSound, IsRegister}
-use Rattle.isp_lower.proofs.Lemmas.{sound_both}
+use Rattle.isp_lower.specs.Library.{reduce}
+use Rattle.isp_lower.specs.Sound.{AreSound, IsRegister, IsSound}
+use Rattle.isp_lower.proofs.Lemmas.{sound_both, compare_sound, convert_sound, copy_sound, splat_sound}
 use Rattle.isp_masks.specs.Exits.{nobody_leaves}
-use Rattle.isp_masks.specs.Loops.{if_needed, enter_code, loop_end_code, rejoin_code, turn_code, back_code, sift_code, live_code, again_code, while_code, for_code, endless_code, do_code}
-use Rattle.isp_masks.specs.Rounds.{unmasked_code, active_code}
+use Rattle.isp_masks.specs.Loops.{copy_mask, if_needed, enter_code, loop_end_code, rejoin_code, turn_code, back_code, sift_code, live_code, again_code, while_code, for_code, endless_code, do_code}
+use Rattle.isp_masks.specs.Rounds.{unmasked_code, active_code, Values, value_code, rounds_code, unique_code}
 use Rattle.isp_masks.specs.Sets.{unite, clear_mask}
 use Rattle.isp_masks.specs.Spots.{Spot}
 use Rattle.isp_masks.specs.declared.exits.Exits.{Exits}
+
+-- operators work on whole numbers
+pub whole : (t : Elem) → operand t ≢ Truth
+whole Truth = λ e. absurd (cc)
+whole I8 = λ e. absurd (cc)
+whole U8 = λ e. absurd (cc)
+whole I16 = λ e. absurd (cc)
+whole U16 = λ e. absurd (cc)
+whole I32 = λ e. absurd (cc)
+whole U32 = λ e. absurd (cc)
+whole I64 = λ e. absurd (cc)
+whole U64 = λ e. absurd (cc)
 
 module _ (code : Listing) (h : Routine) where
   -- code at a place, before the last instruction
@@ -43,6 +60,33 @@ module _ (code : Listing) (h : Routine) where
       let last = instr.JumpIf jump.On (mask_register n) (pc + 1) ∷ [] in
       let e = length-append (body (pc + 1 + 3)) last in
       ((((refl, ln), ((refl, lk), tt)), tt), ((((refl, lone), ((refl, ln), tt)), tt), ((((refl, ln), ((refl, ln), ((refl, lone), tt))), tt), (((there, ((refl, lone), tt)), tt), sound_both code h (body (pc + 1 + 3)) last (f (pc + 1 + 3) (omega (arith, e, lt))) ((((refl, ln), (omega (arith, e, lt), tt)), tt), tt)))))
+
+  -- values of type u, and an index of type t
+  pub record ValuesThere (v : Values) (u t : Elem) : Type 0 where
+    pub all : IsRegister h Varying v.all u
+    pub one : IsRegister h Uniform v.one u
+    pub each : IsRegister h Varying v.each u
+    pub same : IsRegister h Varying v.same Truth
+    pub index : IsRegister h Uniform v.index t
+
+  value_sound : (v : Values) (u t : Elem) (n : ℕ) → u ≢ Truth → ValuesThere v u t → n < h.masks → n + 1 < h.masks → AreSound code h (value_code v n)
+  value_sound v u t n number f ln lone =
+      let least : IsSound code h (reduce reduction.Min v.one v.all (n + 1)) = (((f.one.0, λ e. number (sym f.one.1 ∙ e)), ((f.all.0, f.all.1 ∙ sym f.one.1), ((refl, lone), tt))), tt) in
+      let index = convert_sound code h Uniform t u v.index v.one 0 f.index f.one (omega (arith, ln)) in
+      let each = splat_sound code h u v.each v.one n f.each f.one ln in
+      let same = compare_sound code h Varying Equal u v.same v.all v.each n f.same f.all f.each ln in
+      let taken : IsSound code h (where_so (n + 1) v.same n) = (((refl, lone), ((f.same.0, f.same.1), ((refl, ln), tt))), tt) in
+      ((((refl, lone), ((refl, ln), tt)), tt), (least, (index, (each, (same, (taken, ((((refl, ln), ((refl, ln), ((refl, lone), tt))), tt), tt)))))))
+
+  pub unique_sound : (v : Values) (u t : Elem) (values : ℕ → List Instr) (x k n : ℕ) (body : ℕ → List Instr)
+      → u ≢ Truth → ValuesThere v u t → IsRegister h Varying x u → k < h.masks → n < h.masks → n + 1 < h.masks → HereSound values → HereSound body → HereSound (λ pc. unique_code v (values pc) x pc k n body)
+  unique_sound v u t values x k n body number f there lk ln lone fv fb =
+      let kept = copy Varying v.all x k ∷ copy_mask n k ∷ [] in
+      let begin = value_code v n in
+      two_sound (λ pc. values pc ++ kept) (λ pc1. rounds_code begin n pc1 body)
+      (two_sound values (λ pc. kept) fv (λ pc lt. (copy_sound code h Varying u v.all x k f.all there lk, ((((refl, ln), ((refl, lk), tt)), tt), tt))))
+      (λ top lt. two_sound (λ pc. begin) (λ pc. body pc ++ instr.JumpIf jump.On (mask_register n) top ∷ []) (λ pc lt1. value_sound v u t n number f ln lone)
+      (two_sound body (λ pc. instr.JumpIf jump.On (mask_register n) top ∷ []) fb (λ pc lt1. ((((refl, ln), (omega (arith, lt), tt)), tt), tt))) top lt)
 
   needed_sound : (b : Bool) (part : List Instr) → AreSound code h part → AreSound code h (if_needed b part)
   needed_sound true part f = f

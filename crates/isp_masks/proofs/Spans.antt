@@ -9,7 +9,7 @@ use Rattle.isp_base.specs.declared.types.Ty.{Ty}
 use Rattle.isp_code.specs.Writable.{has_byte}
 use Rattle.isp_tree.specs.Sound.{IfAny}
 use Rattle.isp_typed.specs.Fine.{FineValue, FineSimple, FineFirst, FineRange, FineReturned, FineStmt, FineBlock, FineStmts}
-use Rattle.isp_typed.specs.Typed.{TFunction, TExpr, TSimple, TFirst, t_first_declare, t_first_simple, TRange, TStmt, t_block, t_declare, t_simple, t_if, t_if_else, t_while, t_do, t_for, t_foreach, t_foreach_active, t_unmasked, t_jump, t_return, t_print, t_assert, TBlock, t_braces, TStmts, t_no_stmts, t_stmt_then}
+use Rattle.isp_typed.specs.Typed.{TFunction, TExpr, TSimple, TFirst, t_first_declare, t_first_simple, TRange, TStmt, t_block, t_declare, t_simple, t_if, t_if_else, t_while, t_do, t_for, t_foreach, t_foreach_active, t_foreach_unique, t_unmasked, t_jump, t_return, t_print, t_assert, TBlock, t_braces, TStmts, t_no_stmts, t_stmt_then}
 use Rattle.isp_typed.specs.declared.variable.Variable.{Variable}
 use Rattle.isp_lower.specs.Code.{expr_places}
 use Rattle.isp_lower.specs.Layout.{Layout, outside}
@@ -64,6 +64,7 @@ module _ (fs : List TFunction) (vars : List Variable) where
       stmt_placed l (t_foreach w n rs x s) f =
           placed_both (ranges_places l rs) (stmt_places (body_layout l rs) x) (ranges_placed l rs f.1) (stmt_placed (body_layout l rs) x f.2)
       stmt_placed l (t_foreach_active w n i x s) f = stmt_placed l x f.2
+      stmt_placed l (t_foreach_unique w n i t e x s) f = placed_both (expr_places l e) (stmt_places l x) (expr_placed fs vars l e f.2.0) (stmt_placed l x f.3)
       stmt_placed l (t_unmasked w b s) f = block_placed (outside l) b f
       stmt_placed l (t_jump j w s) f = refl
       stmt_placed l (t_return w None s) f = refl
@@ -111,6 +112,7 @@ mutual
   stmt_told (t_for k n first e step i x s) = stmt_told x
   stmt_told (t_foreach w n rs x s) = stmt_told x
   stmt_told (t_foreach_active w n i x s) = stmt_told x
+  stmt_told (t_foreach_unique w n i t e x s) = stmt_told x
   stmt_told (t_unmasked w b s) = block_told b
   stmt_told (t_jump j w s) = refl
   stmt_told (t_return w x s) = refl

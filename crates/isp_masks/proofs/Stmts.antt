@@ -7,7 +7,7 @@ use Rattle.isp_code.specs.declared.instr.Instr.{Instr}
 use Rattle.isp_tree.specs.declared.stmt.Form.TheVariants.{Coherent}
 use Rattle.isp_tree.specs.declared.stmt.Jump.TheVariants.{Break, Continue}
 use Rattle.isp_typed.specs.Fine.{heads}
-use Rattle.isp_typed.specs.Typed.{TExpr, type_of, TStmt, t_block, t_declare, t_simple, t_if, t_if_else, t_while, t_do, t_for, t_foreach, t_foreach_active, t_unmasked, t_jump, t_return, t_print, t_assert, TBlock, t_braces, TStmts, t_no_stmts, t_stmt_then, TRange}
+use Rattle.isp_typed.specs.Typed.{TExpr, type_of, TStmt, t_block, t_declare, t_simple, t_if, t_if_else, t_while, t_do, t_for, t_foreach, t_foreach_active, t_foreach_unique, t_unmasked, t_jump, t_return, t_print, t_assert, TBlock, t_braces, TStmts, t_no_stmts, t_stmt_then, TRange}
 use Rattle.isp_meaning.specs.State.{State, tick}
 use Rattle.isp_meaning.specs.Payloads.{Payload, is_false, offender}
 use Rattle.isp_meaning.specs.Outcomes.{Res, checked, went_all, with_value, unless_empty}
@@ -31,6 +31,7 @@ use Rattle.isp_masks.proofs.Members.{went_inside, went_whole}
 use Rattle.isp_masks.proofs.Active.{active_runs}
 use Rattle.isp_masks.proofs.Asserts.{fails_run}
 use Rattle.isp_masks.proofs.Foreach.{foreach_runs}
+use Rattle.isp_masks.proofs.Distinct.{unique_runs}
 use Rattle.isp_masks.proofs.Unmasked.{unmasked_runs}
 use Rattle.isp_masks.proofs.LoopStmts.{body_runs, masks_of, while_runs, do_runs, for_runs}
 use Rattle.isp_masks.proofs.Leaves.{jump_runs, return_ok, return_runs}
@@ -112,6 +113,10 @@ mutual
       has (are_front w.code.places z.place pl _ names.places_are) three (enters_less w ready pc spot.on spot.slot (0 + q) q a s c (omega arith) b)
   stmt_runs (t_foreach_active v g i x sp) w ready pc z spot q a s c fit has names three b =
       active_runs w ready i pc spot (0 + q) a s c _ _ (body_runs w ready x (spot.slot + 1) z (stmt_runs x w ready) fit names) has three (enters_less w ready pc spot.on spot.slot (0 + q) q a s c (omega arith) b)
+  stmt_runs (t_foreach_unique v g i t e x sp) w ready pc z spot q a s c fit has names three b =
+      let pl = expr_places w.layout e in
+      unique_runs w ready spot i t e pc z.place (0 + q) a s c _ _ fit.0 (body_runs w ready x (spot.slot + 1) (past pl z) (stmt_runs x w ready) fit.1 (named_past w.code z pl _ _ names))
+      has (are_front w.code.places z.place pl _ names.places_are) three (enters_less w ready pc spot.on spot.slot (0 + q) q a s c (omega arith) b)
   stmt_runs (t_unmasked v x sp) w ready pc z spot q a s c fit has names three b =
       let w1 = with_layout w (outside w.layout) w.members w.start in
       let ready1 = outside_settled w ready in

@@ -3,10 +3,11 @@ use Rattle.std.proofs.Common.{◌≡◌, ◌≤◌, List, [], ◌∷◌, length,
 use Rattle.std.specs.List.{count_by}
 use Rattle.std.specs.Prelude.{◌==◌}
 use Rattle.isp_base.specs.Prints.{percent}
+use Rattle.isp_base.specs.Ranks.{operand}
 use Rattle.isp_base.specs.declared.types.Elem.TheVariants.{Bool as Truth, I32}
-use Rattle.isp_base.specs.declared.types.Rate.TheVariants.{Uniform}
+use Rattle.isp_base.specs.declared.types.Rate.TheVariants.{Uniform, Varying}
 use Rattle.isp_base.specs.declared.types.Ty.{Ty}
-use Rattle.isp_typed.specs.Typed.{TExpr, t_exprs, type_of, TSimple, TFirst, t_first_declare, t_first_simple, TRange, TStmt, t_block, t_declare, t_simple, t_if, t_if_else, t_while, t_do, t_for, t_foreach, t_foreach_active, t_unmasked, t_jump, t_return, t_print, t_assert, TBlock, t_braces, TStmts, t_no_stmts, t_stmt_then, TFunction}
+use Rattle.isp_typed.specs.Typed.{TExpr, t_exprs, type_of, TSimple, TFirst, t_first_declare, t_first_simple, TRange, TStmt, t_block, t_declare, t_simple, t_if, t_if_else, t_while, t_do, t_for, t_foreach, t_foreach_active, t_foreach_unique, t_unmasked, t_jump, t_return, t_print, t_assert, TBlock, t_braces, TStmts, t_no_stmts, t_stmt_then, TFunction}
 use Rattle.isp_lower.proofs.Lemmas.{OperandTree, ExprTree, ValuesTree, SimpleTree, ItemsTree}
 use Rattle.isp_masks.specs.Prints.{own_rates}
 
@@ -48,6 +49,8 @@ module _ (fs : List TFunction) where
       StmtTree (t_for f g first e step i x sp) = FirstTree first × TestTree e × StepTree step × StmtTree x
       StmtTree (t_foreach k g rs x sp) = (length rs ≤ 3) × RangesTree rs × StmtTree x × (1 ≤ length rs)
       StmtTree (t_foreach_active k g i x sp) = StmtTree x
+      -- a value of any rate, of the type in which operators work
+      StmtTree (t_foreach_unique k g i t e x sp) = OperandTree Varying (operand t) e × ExprTree fs e × StmtTree x
       StmtTree (t_unmasked k b sp) = BlockTree b
       StmtTree (t_jump j k sp) = Unit {0}
       StmtTree (t_return k None sp) = Unit {0}

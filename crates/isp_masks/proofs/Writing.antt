@@ -1,14 +1,17 @@
--- What is written after what, and jumps over parts that name texts.
+-- What is written after what, jumps over parts that name texts, and turns.
 use Rattle.std.proofs.Common.{◌≡◌, ℕ, ◌+◌, List, [], ◌∷◌, ◌++◌, length, map, refl, arith, sym, ap, ◌∙◌, append_assoc, append-nil, length-append, Vec, Global}
 use Rattle.std.specs.Prelude.{slice_set}
 use Rattle.isp_base.specs.declared.types.Span.{Span}
 use Rattle.isp_code.specs.declared.instr.Instr.{Instr}
 use Rattle.isp_code.specs.declared.instr.Instr.TheVariants as instr
-use Rattle.isp_lower.specs.Code.{choice, guard}
+use Rattle.isp_code.specs.declared.instr.JumpTest.TheVariants as jump
+use Rattle.isp_lower.specs.Code.{choice, guard, two}
 use Rattle.isp_lower.specs.Emitted.{Appends, texts_of}
+use Rattle.isp_lower.specs.Layout.{mask_register}
 use Rattle.isp_lower.specs.declared.types.Body.{Body}
 use Rattle.isp_lower.proofs.Lemmas.{code_chosen, code_landed}
-use Rattle.isp_masks.specs.Spots.{Numbers, next_of}
+use Rattle.isp_masks.specs.Rounds.{rounds_code}
+use Rattle.isp_masks.specs.Spots.{Numbers, next_of, past}
 use Rattle.isp_masks.specs.Written.{Piece, Writes}
 use Rattle.isp_masks.proofs.Lists.{same_numbers}
 
@@ -151,3 +154,23 @@ chosen_of a b c d e f g at over x o go y w is first one last jump set kept held 
       places = ap (λ (z : Vec Span Global). z.items) same ∙ two.places ∙ ap (λ s. s ++ w.places) mid ∙ append_assoc a.places.items y.places w.places;
       texts = texts_still f g still ∙ two.texts ∙ ap (λ s. s ++ w.texts) told ∙ append_assoc (texts_of a) y.texts w.texts;
     }
+
+-- ---- turns, behind code that names no text
+
+pub rounds_written : (a b c d e : Body) (f : ℕ → ℕ → List Instr) (p : List Span) (begin : List Instr) (n top : ℕ) (y : Piece)
+    → Appends a b f p → top ≡ length b.code.items → Appends b c (λ pc m. begin) [] → Writes c d y → Appends d e (λ pc m. instr.JumpIf jump.On (mask_register n) top ∷ []) []
+    → Writes a e (record { code = λ pc z. two pc (f pc z.place) (λ pc1. rounds_code begin n pc1 (λ pc2. y.code pc2 (past p z))); places = p ++ y.places; texts = y.texts })
+rounds_written a b c d e f p begin n top y kept is first part jumped =
+    let pc = length b.code.items in
+    let named = next_of b in
+    let back = λ (to : ℕ). instr.JumpIf jump.On (mask_register n) to ∷ [] in
+    let turn : Piece = record { code = λ pc1 z. y.code pc1 z ++ back top; places = y.places; texts = y.texts } in
+    let from = writes_past b c e (λ pc1 m. begin) [] turn first (writes_back c d e y (λ pc1 m. back top) part jumped) in
+    let same : past [] named ≡ named = same_numbers (past [] named) named (omega arith) refl in
+    let rounds : Piece = record { code = λ pc1 z. rounds_code begin n pc1 (λ pc2. y.code pc2 z); places = y.places; texts = y.texts } in
+    let all : Writes b e rounds = record {
+      code = from.code ∙ ap (λ z. b.code.items ++ two pc begin (λ pc1. y.code pc1 z ++ back top)) same ∙ ap (λ to. b.code.items ++ two pc begin (λ pc1. y.code pc1 named ++ back to)) is;
+      places = from.places;
+      texts = from.texts;
+    } in
+    writes_past a b e f p rounds kept all

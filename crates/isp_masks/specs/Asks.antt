@@ -1,13 +1,14 @@
 -- What the code of statements asks for: what its parts ask for, the result's register where a value is returned, for a
 -- varying test a mask and a slot behind it, in a c-form and with an `else` two, and for a loop three masks and slots behind them.
 use Rattle.std.specs.Prelude.{ℕ, ◌+◌, List, [], ◌∷◌, Option, Some, None}
+use Rattle.isp_base.specs.declared.types.Elem.{Elem}
 use Rattle.isp_base.specs.declared.types.Elem.TheVariants.{Bool as Truth, I32, I64}
 use Rattle.isp_base.specs.declared.types.Rate.{Rate}
 use Rattle.isp_base.specs.declared.types.Rate.TheVariants.{Uniform, Varying}
 use Rattle.isp_base.specs.declared.types.Ty.{Ty}
 use Rattle.isp_tree.specs.declared.stmt.Form.{Form}
 use Rattle.isp_tree.specs.declared.stmt.Form.TheVariants.{Plain, Coherent}
-use Rattle.isp_typed.specs.Typed.{TExpr, t_exprs, type_of, TSimple, TFirst, t_first_declare, t_first_simple, TRange, TStmt, t_block, t_declare, t_simple, t_if, t_if_else, t_while, t_do, t_for, t_foreach, t_foreach_active, t_unmasked, t_jump, t_return, t_print, t_assert, TBlock, t_braces, TStmts, t_no_stmts, t_stmt_then}
+use Rattle.isp_typed.specs.Typed.{TExpr, t_exprs, type_of, elem_of, TSimple, TFirst, t_first_declare, t_first_simple, TRange, TStmt, t_block, t_declare, t_simple, t_if, t_if_else, t_while, t_do, t_for, t_foreach, t_foreach_active, t_foreach_unique, t_unmasked, t_jump, t_return, t_print, t_assert, TBlock, t_braces, TStmts, t_no_stmts, t_stmt_then}
 use Rattle.isp_lower.specs.Asks.{Ask, Nothing, Both, Register, MaskOf, Number, expr_asks, operand_asks, simple_asks, spare_ask, items_asks, test_asks, values_asks}
 use Rattle.isp_lower.specs.Rows.{Result, Variable, Place}
 use Rattle.isp_masks.specs.Prints.{own_rates}
@@ -48,6 +49,14 @@ loop_asks n = Both (Number (n + 3)) (Both (MaskOf n) (Both (MaskOf (n + 1)) (Mas
 -- the index, those whose turn is still to come, and the masks of a turn
 abbrev pub turn_asks : ℕ → ℕ → Ask
 turn_asks i n = Both (Register Uniform (Variable i) I64) (Both (Number (n + 1)) (Both (MaskOf n) (loop_asks (n + 1))))
+
+-- the values and their copy; the index; the value of a turn, there and in each lane, and who has it; those whose turn is still to come,
+-- and the masks of a turn
+abbrev pub unique_asks : ℕ → Elem → TExpr → ℕ → Ask
+unique_asks i t e n =
+    let u = elem_of e in
+    let turn = Both (spare_ask Uniform u (n + 1)) (Both (spare_ask Varying u (n + 1)) (Both (Number (n + 1 + 1)) (spare_ask Varying Truth (n + 1 + 1)))) in
+    Both (operand_asks Varying e n) (Both (spare_ask Varying u n) (Both (Register Uniform (Variable i) t) (Both (Number (n + 1)) (Both turn (Both (MaskOf n) (loop_asks (n + 1)))))))
 
 -- ---- `foreach`: what all runs use; the bounds, each as int64; and for each range its index, its place and what its test gives
 
@@ -130,6 +139,7 @@ module _ (answer : Option Ty) where
         Both (first_asks first n) (turns_asks e step n (λ j. stmt_asks x j))
     stmt_asks (t_foreach k g rs x sp) n = Both (ranges_asks rs n) (stmt_asks x (runs_slot n rs + 3))
     stmt_asks (t_foreach_active k g i x sp) n = Both (turn_asks i n) (stmt_asks x (n + 1 + 3))
+    stmt_asks (t_foreach_unique k g i t e x sp) n = Both (unique_asks i t e n) (stmt_asks x (n + 1 + 3))
     stmt_asks (t_unmasked k b sp) n = Both (loop_asks n) (block_asks b (n + 3))
     stmt_asks (t_jump j k sp) n = Nothing
     stmt_asks (t_return k None sp) n = Nothing

@@ -1,11 +1,11 @@
 -- Who leaves a statement: whether instances may break, continue or return from it. A loop keeps those that break and
--- continue; from a `foreach`, a `foreach_active` and an `unmasked` nobody leaves.
+-- continue; from a `foreach`, a `foreach_active`, a `foreach_unique` and an `unmasked` nobody leaves.
 use Rattle.std.specs.Prelude.{◌≡◌, Option, Some, None, Bool, true, false, not, ◌&&◌, ◌||◌}
 use Rattle.isp_base.specs.Sets.{nobody}
 use Rattle.isp_meaning.specs.Outcomes.{Res, Went, Trapped, Cut}
 use Rattle.isp_tree.specs.declared.stmt.Jump.{Jump}
 use Rattle.isp_tree.specs.declared.stmt.Jump.TheVariants.{Break, Continue}
-use Rattle.isp_typed.specs.Typed.{TStmt, t_block, t_declare, t_simple, t_if, t_if_else, t_while, t_do, t_for, t_foreach, t_foreach_active, t_unmasked, t_jump, t_return, t_print, t_assert, TBlock, t_braces, TStmts, t_no_stmts, t_stmt_then}
+use Rattle.isp_typed.specs.Typed.{TStmt, t_block, t_declare, t_simple, t_if, t_if_else, t_while, t_do, t_for, t_foreach, t_foreach_active, t_foreach_unique, t_unmasked, t_jump, t_return, t_print, t_assert, TBlock, t_braces, TStmts, t_no_stmts, t_stmt_then}
 use Rattle.isp_masks.specs.declared.exits.Exits.{Exits}
 use Rattle.isp_masks.specs.declared.exits.Leaving.{Leaving}
 use Rattle.isp_masks.specs.declared.exits.Leaving.TheVariants.{Never, Always, Maybe}
@@ -37,6 +37,7 @@ abbrev mutual
   exits_of (t_for f g first e step i x sp) = only_returns (exits_of x)
   exits_of (t_foreach w g rs x sp) = none_leave
   exits_of (t_foreach_active w g i x sp) = none_leave
+  exits_of (t_foreach_unique w g i t e x sp) = none_leave
   exits_of (t_unmasked w b sp) = none_leave
   exits_of (t_jump j w sp) = jump_exits j
   exits_of (t_return w x sp) = record { breaks = false; continues = false; returns = true }
@@ -76,6 +77,7 @@ abbrev mutual
   only_jump (t_for f g first e step i x sp) = None
   only_jump (t_foreach w g rs x sp) = None
   only_jump (t_foreach_active w g i x sp) = None
+  only_jump (t_foreach_unique w g i t e x sp) = None
   only_jump (t_unmasked w b sp) = None
   only_jump (t_jump j w sp) = Some j
   only_jump (t_return w x sp) = None

@@ -1,8 +1,8 @@
 -- What rates promise of a body, beside what names and types promise.
 use Rattle.std.specs.Prelude.{◌≤◌, List, [], ◌∷◌, length, Option, Some, None}
-use Rattle.isp_base.specs.declared.types.Rate.TheVariants.{Uniform}
+use Rattle.isp_base.specs.declared.types.Rate.TheVariants.{Uniform, Varying}
 use Rattle.isp_base.specs.declared.types.Ty.{Ty}
-use Rattle.isp_typed.specs.Typed.{TExpr, TSimple, TFirst, t_first_declare, t_first_simple, TRange, TStmt, t_block, t_declare, t_simple, t_if, t_if_else, t_while, t_do, t_for, t_foreach, t_foreach_active, t_unmasked, t_jump, t_return, t_print, t_assert, TBlock, t_braces, TStmts, t_no_stmts, t_stmt_then, TFunction}
+use Rattle.isp_typed.specs.Typed.{TExpr, TSimple, TFirst, t_first_declare, t_first_simple, TRange, TStmt, t_block, t_declare, t_simple, t_if, t_if_else, t_while, t_do, t_for, t_foreach, t_foreach_active, t_foreach_unique, t_unmasked, t_jump, t_return, t_print, t_assert, TBlock, t_braces, TStmts, t_no_stmts, t_stmt_then, TFunction}
 use Rattle.isp_lower.specs.Rated.{IsRated, RatedAt, SimpleRated, ItemsRated}
 
 -- in a program of these functions
@@ -49,6 +49,8 @@ module _ (fs : List TFunction) where
       StmtRated (t_for f g first e step i x sp) = FirstRated first × TestRated e × StepRated step × StmtRated x
       StmtRated (t_foreach k g rs x sp) = (length rs ≤ 3) × RangesRated rs × StmtRated x × (1 ≤ length rs)
       StmtRated (t_foreach_active k g i x sp) = StmtRated x
+      -- a value of any rate
+      StmtRated (t_foreach_unique k g i t e x sp) = RatedAt fs Varying e × StmtRated x
       StmtRated (t_unmasked k b sp) = BlockRated b
       StmtRated (t_jump j k sp) = Unit {0}
       StmtRated (t_return k None sp) = Unit {0}

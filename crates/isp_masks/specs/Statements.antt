@@ -12,7 +12,7 @@ use Rattle.isp_code.specs.declared.register.Register.{Register}
 use Rattle.isp_tree.specs.declared.stmt.Form.{Form}
 use Rattle.isp_tree.specs.declared.stmt.Form.TheVariants.{Plain, Coherent}
 use Rattle.isp_tree.specs.declared.stmt.Jump.{Jump}
-use Rattle.isp_typed.specs.Typed.{TExpr, type_of, TRange, TSimple, TStmt, t_block, t_declare, t_simple, t_if, t_if_else, t_while, t_do, t_for, t_foreach, t_foreach_active, t_unmasked, t_jump, t_return, t_print, t_assert, TBlock, t_braces, TStmts, t_no_stmts, t_stmt_then}
+use Rattle.isp_typed.specs.Typed.{TExpr, type_of, elem_of, TRange, TSimple, TStmt, t_block, t_declare, t_simple, t_if, t_if_else, t_while, t_do, t_for, t_foreach, t_foreach_active, t_foreach_unique, t_unmasked, t_jump, t_return, t_print, t_assert, TBlock, t_braces, TStmts, t_no_stmts, t_stmt_then}
 use Rattle.isp_lower.specs.Layout.{Layout, register, outside, within}
 use Rattle.isp_lower.specs.Code.{copy, where_so, the_others, jump_off, jump_on, two, guard, choice, found, operand, operand_of, expr_places, expr_code}
 use Rattle.isp_lower.specs.Items.{items_code, items_places}
@@ -23,7 +23,7 @@ use Rattle.isp_masks.specs.Fors.{first_code, step_code, first_places, test_place
 use Rattle.isp_masks.specs.Loops.{copy_mask, is_wide, jump_all, turn_code, step_back_code, while_code, for_code, endless_code, do_code}
 use Rattle.isp_masks.specs.Prints.{print_code, print_places, print_texts}
 use Rattle.isp_masks.specs.Ranges.{foreach_code, ranges_places, runs_slot}
-use Rattle.isp_masks.specs.Rounds.{unmasked_code, active_code}
+use Rattle.isp_masks.specs.Rounds.{unmasked_code, active_code, values_of, unique_code}
 use Rattle.isp_masks.specs.Sets.{unite, leave_code, jump_code, jumped_code}
 use Rattle.isp_masks.specs.Spots.{Numbers, Spot, body_spot, first_spot, past, under, widely}
 use Rattle.isp_masks.specs.declared.exits.Exits.{Exits}
@@ -102,6 +102,7 @@ abbrev mutual
   stmt_texts (t_for f g first e step i x sp) = stmt_texts x
   stmt_texts (t_foreach w g rs x sp) = stmt_texts x
   stmt_texts (t_foreach_active w g i x sp) = stmt_texts x
+  stmt_texts (t_foreach_unique w g i t e x sp) = stmt_texts x
   stmt_texts (t_unmasked w b sp) = block_texts b
   stmt_texts (t_jump j w sp) = []
   stmt_texts (t_return w x sp) = []
@@ -147,6 +148,7 @@ abbrev mutual
   stmt_places l (t_for f g first e step i x sp) = first_places l first ++ (test_places l e ++ (stmt_places l x ++ step_places l step))
   stmt_places l (t_foreach w g rs x sp) = ranges_places l rs ++ stmt_places (body_layout l rs) x
   stmt_places l (t_foreach_active w g i x sp) = stmt_places l x
+  stmt_places l (t_foreach_unique w g i t e x sp) = expr_places l e ++ stmt_places l x
   stmt_places l (t_unmasked w b sp) = block_places (outside l) b
   stmt_places l (t_jump j w sp) = []
   stmt_places l (t_return w None sp) = []
@@ -198,6 +200,10 @@ abbrev mutual
       foreach_code l rs pc z.place spot.on spot.slot (λ pc1. stmt_code (body_layout l rs) answer x pc1 (past (ranges_places l rs) z) (body_spot (runs_slot spot.slot rs)))
   stmt_code l answer (t_foreach_active w g i x sp) pc z spot =
       active_code (l.variable Uniform i) pc spot.on spot.slot (λ pc1. stmt_code l answer x pc1 z (body_spot (spot.slot + 1)))
+  stmt_code l answer (t_foreach_unique w g i t e x sp) pc z spot =
+      let k = spot.on in
+      let n = spot.slot in
+      unique_code (values_of l (elem_of e) i n) (operand_of l Varying e k n (expr_code l e pc z.place k n)) (operand l Varying e n) pc k n (λ pc1. stmt_code l answer x pc1 (past (expr_places l e) z) (body_spot (n + 1)))
   stmt_code l answer (t_unmasked w b sp) pc z spot = unmasked_code spot.slot pc (λ pc1. block_code (outside l) answer b pc1 z (body_spot spot.slot))
   stmt_code l answer (t_jump j w sp) pc z spot = jump_code j spot.on spot.continued
   stmt_code l answer (t_return w None sp) pc z spot = leave_code spot.returned spot.on

@@ -8,8 +8,8 @@ use Rattle.isp_base.specs.declared.types.Rate.TheVariants.{Uniform, Varying}
 use Rattle.isp_base.specs.declared.types.Span.{Span}
 use Rattle.isp_code.specs.declared.instr.Instr.{Instr}
 use Rattle.isp_tree.specs.declared.stmt.Form.{Form}
-use Rattle.isp_typed.specs.Typed.{TExpr, type_of, TSimple, TFirst, TStmt, TBlock, TRange}
-use Rattle.isp_lower.specs.Code.{expr_code, expr_places, found, guard, jump_off, two, compare, compute, convert, copy, splat, the_others, where_so}
+use Rattle.isp_typed.specs.Typed.{TExpr, type_of, elem_of, TSimple, TFirst, TStmt, TBlock, TRange}
+use Rattle.isp_lower.specs.Code.{expr_code, expr_places, found, operand, operand_of, guard, jump_off, two, compare, compute, convert, copy, splat, the_others, where_so}
 use Rattle.isp_lower.specs.Emitted.{layout, texts_of}
 use Rattle.isp_lower.specs.declared.types.Body.{Body}
 use Rattle.isp_lower.specs.declared.types.Scope.{Scope}
@@ -25,7 +25,7 @@ use Rattle.isp_masks.specs.Exits.{exits_of, nobody_leaves, both_go_on, leaving_o
 use Rattle.isp_masks.specs.Fors.{first_code, first_places, step_code, step_places, test_places}
 use Rattle.isp_masks.specs.Loops.{again_code, back_code, copy_mask, do_code, is_wide, jump_all, live_code, sift_code, step_back_code, turn_code, while_code}
 use Rattle.isp_masks.specs.Ranges.{foreach_code, last_index, narrow, outer_index, places_slot, range_mask, ranges_code, ranges_places, runs_slot, sweep_code, test, wide}
-use Rattle.isp_masks.specs.Rounds.{active_code, unmasked_code}
+use Rattle.isp_masks.specs.Rounds.{active_code, unique_code, unmasked_code, values_of}
 use Rattle.isp_masks.specs.Sets.{unite}
 use Rattle.isp_masks.specs.Spots.{Numbers, Spot as Where, body_spot, next_of, past, spot_of, widely}
 use Rattle.isp_masks.specs.Statements.{answer_code, behind, block_code, block_places, block_texts, body_code, function_code, if_code, if_else_code, stepped_code, stmt_code, stmt_places, stmt_texts, turns_code, body_layout}
@@ -166,6 +166,19 @@ active_at on i x spot =
     let l = layout on in
     let n = spot.slot.number in
     record { code = λ pc z. active_code (l.variable Uniform i) pc spot.masks.on.number n (λ pc1. stmt_code l on.answer x pc1 z (body_spot (n + 1))); places = stmt_places l x; texts = stmt_texts x }
+
+-- the values, kept in slot n, and mask n for those whose turn is still to come: under mask k
+abbrev pub kept_at : Scope → TExpr → ℕ → ℕ → Silent
+kept_at on e k n =
+    let l = layout on in
+    record { code = λ pc p. operand_of l Varying e k n (expr_code l e pc p k n) ++ (copy Varying (l.spare Varying (elem_of e) n) (operand l Varying e n) k ∷ copy_mask n k ∷ []); places = expr_places l e }
+
+abbrev pub unique_at : Scope → ℕ → TExpr → TStmt → Spot → Piece
+unique_at on i e x spot =
+    let l = layout on in
+    let k = spot.masks.on.number in
+    let n = spot.slot.number in
+    record { code = λ pc z. unique_code (values_of l (elem_of e) i n) (operand_of l Varying e k n (expr_code l e pc z.place k n)) (operand l Varying e n) pc k n (λ pc1. stmt_code l on.answer x pc1 (past (expr_places l e) z) (body_spot (n + 1))); places = expr_places l e ++ stmt_places l x; texts = stmt_texts x }
 
 -- ---- `for`
 

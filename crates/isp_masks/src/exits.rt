@@ -110,6 +110,7 @@ pub(crate) fn only_jump(x: &TypedStmt) -> Option<Jump>
         | TypedStmt::For { .. }
         | TypedStmt::Foreach { .. }
         | TypedStmt::ForeachActive { .. }
+        | TypedStmt::ForeachUnique { .. }
         | TypedStmt::Unmasked { .. }
         | TypedStmt::Return { .. }
         | TypedStmt::Print { .. }

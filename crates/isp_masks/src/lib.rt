@@ -22,6 +22,7 @@ mod seen;
 mod sets;
 mod statement;
 mod steps;
+mod unique;
 
 pub use laws::{loops_run, lowered_agrees, statements_run};
 pub use lowering::lower;

@@ -177,7 +177,7 @@ fn less(to: RegisterNumber, left: RegisterNumber, right: RegisterNumber) -> Inst
 }
 
 /// Each lane gets what a scalar has.
-fn spread(to: RegisterNumber, from: RegisterNumber, k: MaskNumber) -> Instr
+pub(crate) fn spread(to: RegisterNumber, from: RegisterNumber, k: MaskNumber) -> Instr
     ensures { result ≡ splat to.number from.number k.number }
 {
     Instr::Vector {

@@ -4,13 +4,14 @@ ghost use Rattle.isp_typed.specs.Typed.{t_exprs};
 ghost use Rattle.isp_typed.specs.Views.{block_of, expr_of, exprs_of, first_of, simple_of, stmt_of, ranges_of};
 ghost use Rattle.isp_lower.specs.Asks.{Both, expr_asks, values_asks};
 ghost use Rattle.isp_lower.specs.Reserved.{Gives};
-ghost use Rattle.isp_masks.specs.Asks.{answer_asks, assert_asks, block_asks, first_asks, if_asks, if_else_asks, loop_asks, mask_asks, part_asks, part_slot, step_asks, stmt_asks, test_part_asks, turn_asks, turns_asks, ranges_asks};
+ghost use Rattle.isp_masks.specs.Asks.{answer_asks, assert_asks, block_asks, first_asks, if_asks, if_else_asks, loop_asks, mask_asks, part_asks, part_slot, step_asks, stmt_asks, test_part_asks, turn_asks, turns_asks, ranges_asks, unique_asks};
 ghost use Rattle.isp_masks.specs.Prints.{own_rates};
 ghost use Rattle.isp_masks.specs.Ranges.{runs_slot};
 
 use crate::branches::Condition;
 use crate::ranges_reserved::{bounds, measures, places};
-use isp_base::{Rate, Ty};
+use crate::unique::Unique;
+use isp_base::{Elem, Rate, Ty};
 use isp_lower::{Reserve, Slot};
 use isp_tree::Form;
 use isp_typed::{TypedBlock, TypedExpr, TypedFirst, TypedRange, TypedSimple, TypedStmt};
@@ -54,6 +55,20 @@ fn stmt(r: &mut Reserve, x: &TypedStmt, answer: Option<Ty>, slot: Slot) -> Resul
             turns(r, test, step, body, answer, slot)
         }
         TypedStmt::ForeachActive { index, body, .. } => active_loop(r, *index, body, answer, slot),
+        TypedStmt::ForeachUnique {
+            index,
+            elem,
+            value,
+            body,
+            ..
+        } => {
+            let it = Unique {
+                index: *index,
+                elem: *elem,
+                value,
+            };
+            unique_loop(r, it, body, answer, slot)
+        }
         TypedStmt::Unmasked { body, .. } => unmasked(r, body, answer, slot),
         TypedStmt::Foreach { ranges, body, .. } => range_loop(r, ranges, body, answer, slot),
         TypedStmt::Print { values, .. } => printed(r, values, slot),
@@ -259,6 +274,40 @@ fn active_loop(
     let one = r.next(slot)?;
     r.mask(slot)?;
     let parts = own(r, one)?;
+    stmt(r, body, answer, parts)?;
+    Ok(())
+}
+
+/// What a `foreach_unique` asks for besides its body, and the slot of the body. Its index has a register from the beginning.
+fn unique(r: &mut Reserve, it: Unique<'_>, slot: Slot) -> Result<Slot, AllocError>
+    ensures number { IfOk result (λ n. n.number ≡ slot.number + 1 + 3) }
+    ensures gives { OnOk result (Gives r.old r.new (unique_asks it.entry.index it.entry.elem (expr_of it.entry.value.now) slot.number)) }
+{
+    let elem = it.value.ty().elem;
+    r.operand(Rate::Varying, it.value, slot)?;
+    r.spare(Rate::Varying, elem, slot)?;
+    let one = r.next(slot)?;
+    r.spare(Rate::Uniform, elem, one)?;
+    r.spare(Rate::Varying, elem, one)?;
+    let second = r.next(one)?;
+    r.spare(Rate::Varying, Elem::Bool, second)?;
+    r.mask(slot)?;
+    let parts = own(r, one)?;
+    Ok(parts)
+}
+
+/// `foreach_unique`.
+#[cycle(stmt)]
+fn unique_loop(
+    r: &mut Reserve,
+    it: Unique<'_>,
+    body: &TypedStmt,
+    answer: Option<Ty>,
+    slot: Slot,
+) -> Result<(), AllocError>
+    ensures { OnOk result (Gives r.old r.new (Both (unique_asks it.entry.index it.entry.elem (expr_of it.entry.value.now) slot.number) (stmt_asks answer (stmt_of body.now) (slot.number + 1 + 3)))) }
+{
+    let parts = unique(r, it, slot)?;
     stmt(r, body, answer, parts)?;
     Ok(())
 }

@@ -18,7 +18,7 @@ pub(crate) fn fill_mask(to: MaskNumber) -> Instr
 }
 
 /// A mask gets the lowest lane of another, alone.
-fn lowest_mask(to: MaskNumber, from: MaskNumber) -> Instr
+pub(crate) fn lowest_mask(to: MaskNumber, from: MaskNumber) -> Instr
     ensures { result ≡ lowest_mask to.number from.number }
 {
     Instr::Mask {

@@ -62,7 +62,9 @@ fn parts(seen: &mut Vec<Seen>, x: &TypedStmt) -> Result<Exits, AllocError>
                 let inner = stmt(seen, body)?;
                 Ok(inner.of_loop())
             }
-        TypedStmt::Foreach { body, .. } | TypedStmt::ForeachActive { body, .. } => {
+        TypedStmt::Foreach { body, .. }
+        | TypedStmt::ForeachActive { body, .. }
+        | TypedStmt::ForeachUnique { body, .. } => {
             stmt(seen, body)?;
             Ok(Exits::none())
         }

@@ -7,10 +7,10 @@ ghost use Rattle.isp_typed.specs.Views.{block_of, expr_of, ranges_of, simple_of,
 ghost use Rattle.isp_lower.specs.Asks.{Register as Ask, expr_asks};
 ghost use Rattle.isp_lower.specs.Emitted.{Present};
 ghost use Rattle.isp_lower.specs.Rows.{Variable};
-ghost use Rattle.isp_masks.specs.Asks.{block_asks, ranges_asks, step_asks, stmt_asks, test_part_asks};
+ghost use Rattle.isp_masks.specs.Asks.{block_asks, ranges_asks, step_asks, stmt_asks, test_part_asks, unique_asks};
 ghost use Rattle.isp_masks.specs.Ranges.{runs_slot};
 ghost use Rattle.isp_masks.specs.reader.Seen.{block_seen};
-ghost use Rattle.isp_masks.specs.Written.{Writes, active_at, block_at, do_at, for_turn_at, foreach_at, last_asks, last_range_at, last_run_at, outer_turn_at, passed_at, ranges_at, stepped_at, stmt_at, sweep_asks, sweeps_asks, turn_at, turns_at, unmasked_at, while_at, while_turn_at};
+ghost use Rattle.isp_masks.specs.Written.{Writes, active_at, block_at, do_at, for_turn_at, foreach_at, last_asks, last_range_at, last_run_at, outer_turn_at, passed_at, ranges_at, stepped_at, stmt_at, sweep_asks, sweeps_asks, turn_at, turns_at, unique_at, unmasked_at, while_at, while_turn_at};
 
 use crate::asserting::asserts;
 use crate::awaited::{land_all, leave_room};
@@ -31,6 +31,7 @@ use crate::rounds::{fill_mask, take_lane};
 use crate::seen::Seen;
 use crate::sets::jump;
 use crate::steps::{first_part, live_again, step_back};
+use crate::unique::{Unique, keep_values, take_value};
 use isp_base::{Elem, Rate, Ty};
 use isp_code::{Instr, JumpTest};
 use isp_lower::{Body, Scope, Site, declared, expr, mask, scalar, simple};
@@ -106,6 +107,20 @@ pub(crate) fn stmt(b: &mut Body, on: &Scope, x: Part<'_>, spot: Spot) -> Result<
         }
         TypedStmt::ForeachActive { index, body, .. } => {
             active_loop(b, on, *index, x.only(body), spot)
+        }
+        TypedStmt::ForeachUnique {
+            index,
+            elem,
+            value,
+            body,
+            ..
+        } => {
+            let it = Unique {
+                index: *index,
+                elem: *elem,
+                value,
+            };
+            unique_loop(b, on, it, x.only(body), spot)
         }
         TypedStmt::Unmasked { body, .. } => unmasked(b, on, body, x.inside(), spot),
         TypedStmt::Foreach { ranges, body, .. } => foreach(b, on, ranges, x.only(body), spot),
@@ -296,6 +311,32 @@ fn active_loop(
         elem: Elem::I64,
     };
     take_lane(b, on.variable(index, ty), spot.slot)?;
+    stmt(b, on, body, Spot::own(spot.slot.next()))?;
+    b.push(Instr::JumpIf {
+        test: JumpTest::On,
+        register: mask(spot.slot.mask()),
+        target: top,
+    })?;
+    Ok(())
+}
+
+/// `foreach_unique`: a turn for each value, that of the lowest lane first.
+#[cycle(stmt)]
+fn unique_loop(
+    b: &mut Body,
+    on: &Scope,
+    it: Unique<'_>,
+    body: Part<'_>,
+    spot: Spot,
+) -> Result<(), AllocError>
+    requires slots { spot.slot.number + 1 + 3 < 4294967296 }
+    requires own { Present on.now (unique_asks it.index it.elem (expr_of it.value.now) spot.slot.number) }
+    requires body { Present on.now (stmt_asks on.now.answer (stmt_of body.stmt.now) (spot.slot.number + 1 + 3)) }
+    ensures { OnOk result (Writes b.old b.new (unique_at on.now it.entry.index (expr_of it.entry.value.now) (stmt_of body.entry.stmt.now) spot)) }
+{
+    keep_values(b, on, it, spot)?;
+    let top = next(b);
+    take_value(b, on, it, spot.slot)?;
     stmt(b, on, body, Spot::own(spot.slot.next()))?;
     b.push(Instr::JumpIf {
         test: JumpTest::On,

@@ -5,11 +5,11 @@ use Rattle.isp_code.specs.declared.instr.JumpTest.TheVariants as jump
 use Rattle.isp_lower.specs.Code.{guard, jump_off, jump_on, the_others, two, where_so}
 use Rattle.isp_lower.specs.Emitted.{Appends, Present, layout}
 use Rattle.isp_lower.specs.declared.sites.Site.{Site}
-use Rattle.isp_typed.specs.Nodes.{block_nodes, stmts_nodes, range_nodes, stmt_nodes}
-use Rattle.isp_typed.specs.Typed.{TBlock, TStmt, t_braces, t_if, t_if_else, t_while, t_for, t_stmts, t_foreach}
+use Rattle.isp_typed.specs.Nodes.{block_nodes, stmts_nodes, range_nodes, stmt_nodes, typed_nodes}
+use Rattle.isp_typed.specs.Typed.{TBlock, TStmt, elem_of, t_braces, t_if, t_if_else, t_while, t_for, t_stmts, t_foreach, t_foreach_unique}
 use Rattle.isp_typed.specs.Views.{block_of, expr_of, first_of, simple_of, stmt_of, stmts_of, range_of, ranges_of}
 use Rattle.isp_typed.specs.declared.stmt.TypedRange.{TypedRange}
-use Rattle.isp_typed.proofs.StmtViews.{if_view, if_else_view, while_view, for_view, foreach_view}
+use Rattle.isp_typed.proofs.StmtViews.{if_view, if_else_view, while_view, for_view, foreach_view, unique_view}
 use Rattle.isp_tree.specs.Nodes.{nodes_of_all}
 use Rattle.std.proofs.lemmas.List.{drop_all, drop_more}
 use Rattle.std.proofs.lemmas.Result.{on_ok_weaker}
@@ -18,9 +18,10 @@ use Rattle.isp_masks.specs.Exits.{all_go_on, nobody_leaves}
 use Rattle.isp_masks.specs.Fors.{first_code, first_places}
 use Rattle.isp_masks.specs.Loops.{back_code, copy_mask, jump_all, sift_jump}
 use Rattle.isp_masks.specs.Sets.{unite}
-use Rattle.isp_masks.specs.Spots.{Numbers, next_of, spot_of, widely}
+use Rattle.isp_masks.specs.Rounds.{value_code, values_of}
+use Rattle.isp_masks.specs.Spots.{Numbers, next_of, own_spot, spot_of, widely}
 use Rattle.isp_masks.specs.Statements.{left_code, stmt_code, stmt_places, stmt_texts, stmts_code, stmts_places, stmts_texts, body_code, body_layout}
-use Rattle.isp_masks.specs.Written.{Piece, Writes, block_at, guarded_at, stepped_at, stmt_at, turn_at, turns_at, first_sweep, index_codes, last_run_at, outer_turn_at, place_test, range_begin, range_step, ranges_at, run_test, step_back_at}
+use Rattle.isp_masks.specs.Written.{Piece, Writes, block_at, guarded_at, kept_at, stepped_at, stmt_at, turn_at, turns_at, first_sweep, index_codes, last_run_at, outer_turn_at, place_test, range_begin, range_step, ranges_at, run_test, step_back_at}
 use Rattle.isp_masks.proofs.Awaiting.{awaits_end}
 use Rattle.isp_masks.proofs.Forms.{list_step, nodes_low, stmts_more}
 use Rattle.isp_masks.proofs.JumpsWritten.{left_written}
@@ -29,7 +30,7 @@ use Rattle.isp_masks.proofs.Lists.{flat, flat_is}
 use Rattle.isp_masks.proofs.Splits.{seen_begins, seen_rest}
 use Rattle.isp_masks.proofs.Sifting.{for_written, sifted}
 use Rattle.isp_masks.proofs.Views.{block_view}
-use Rattle.isp_masks.proofs.Writing.{chosen_of, landed_over, writes_adding, writes_back, writes_past}
+use Rattle.isp_masks.proofs.Writing.{chosen_of, landed_over, rounds_written, writes_adding, writes_back, writes_past}
 use Rattle.isp_base.specs.declared.types.Rate.TheVariants.{Uniform}
 use Rattle.isp_code.specs.declared.instr.Instr.TheVariants as instr
 use Rattle.isp_masks.specs.Ranges.{bounds_code, measures_code, ranges_places, runs_slot, test}
@@ -321,6 +322,34 @@ statement::outer_range-returns t c =
       places = z.places;
       texts = z.texts;
     }
+
+pub statement::stmt-unique_loop-requires : goal.statement::stmt-unique_loop-requires
+statement::stmt-unique_loop-requires t c =
+    let a = c.args in
+    let e = c.in-ForeachUnique in
+    let v = expr_of e.value in
+    let x = stmt_of c.only-in-ForeachUnique.result.stmt.now in
+    let seen : stmt_of a.x.stmt.now ≡ t_foreach_unique e.keyword e.before e.index e.elem v x e.span =
+    ap stmt_of e.is ∙ unique_view e.keyword e.before e.index e.elem e.value e.body e.span
+    ∙ ap (λ z. t_foreach_unique e.keyword e.before e.index e.elem v (stmt_of z) e.span) (sym (c.only-in-ForeachUnique.ensures ∙ c.deref-in-ForeachUnique.ensures)) in
+    let asked = subst (λ z. Present a.on.now (stmt_asks a.on.now.answer z a.spot.slot.number)) seen c.requires.there in
+    let size : stmt_nodes (stmt_of a.x.stmt.now) ≡ suc (typed_nodes v + stmt_nodes x) = ap stmt_nodes seen in
+    (omega (arith, size, c.decreases), (asked.0.1.1.1.1.1.1.0, (asked.0, asked.1)))
+
+pub statement::unique_loop-returns : goal.statement::unique_loop-returns
+statement::unique_loop-returns t c =
+    let a = c.args in
+    let e = expr_of a.it.value.now in
+    let x = stmt_of a.body.stmt.now in
+    let n = a.spot.slot.number in
+    let kept = kept_at a.on.now e a.spot.masks.on.number n in
+    let begin = value_code (values_of (layout a.on.now) (elem_of e) a.it.index n) n in
+    let spot = c.own.ensures ∙ ap (λ (s : Slot). own_spot s.number) c.next.ensures in
+    let inside = subst (λ s. Writes c.take_value.new.b c.stmt.new.b (stmt_at a.on.now x s)) spot c.in_ok-stmt.ensures in
+    let left = c.mask-2.ensures ∙ ap (λ (k : MaskNumber). mask_register k.number) c.mask.ensures in
+    let jumped = subst (λ r. Appends c.stmt.new.b c.push.new.self (λ pc p. instr.JumpIf jump.On r c.next-top.result ∷ []) []) left c.in_ok-push.ensures in
+    rounds_written a.b.now c.keep_values.new.b c.take_value.new.b c.stmt.new.b c.push.new.self kept.code kept.places begin n c.next-top.result (stmt_at a.on.now x (own_spot (n + 1)))
+    c.in_ok-keep_values.ensures c.next-top.ensures c.in_ok-take_value.ensures inside jumped
 
 pub statement::stepped_turn-returns : goal.statement::stepped_turn-returns
 statement::stepped_turn-returns t c =

@@ -88,6 +88,9 @@ decreases-statement::unmasked l = 8 * block_nodes (block_of l.body.now)
 abbrev pub decreases-statement::active_loop : goal.decreases-statement::active_loop
 decreases-statement::active_loop l = 8 * stmt_nodes (stmt_of l.body.stmt.now) + 1
 
+abbrev pub decreases-statement::unique_loop : goal.decreases-statement::unique_loop
+decreases-statement::unique_loop l = 8 * stmt_nodes (stmt_of l.body.stmt.now) + 1
+
 abbrev pub decreases-statement::stepped_turn : goal.decreases-statement::stepped_turn
 decreases-statement::stepped_turn l = 8 * stmt_nodes (stmt_of l.body.stmt.now) + 2
 

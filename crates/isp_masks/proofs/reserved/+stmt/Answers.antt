@@ -64,6 +64,9 @@ active_loop-returns t c =
     (both_given _ _ _ _ _ index (both_given _ _ _ _ _ (rw c.in_ok-one.ensures.number at c.in_ok-one.ensures.gives) (both_given _ _ _ _ _ c.in_ok-mask.ensures (rw c.in_ok-one.ensures.number at c.in_ok-parts.ensures.gives))))
     (rw (c.in_ok-parts.ensures.number, c.in_ok-one.ensures.number) at c.in_ok-stmt.ensures)
 
+pub unique_loop-returns : goal.unique_loop-returns
+unique_loop-returns t c = both_given _ _ _ _ _ c.in_ok-parts.ensures.gives (rw c.in_ok-parts.ensures.number at c.in_ok-stmt.ensures)
+
 pub range_loop-returns : goal.range_loop-returns
 range_loop-returns t c = both_given _ _ _ _ _ c.in_ok-parts.ensures.gives (rw c.in_ok-parts.ensures.number at c.in_ok-stmt.ensures)
 

@@ -33,6 +33,9 @@ decreases-unmasked l = 4 * block_nodes (block_of l.body.now)
 abbrev pub decreases-active_loop : goal.decreases-active_loop
 decreases-active_loop l = 4 * stmt_nodes (stmt_of l.body.now) + 1
 
+abbrev pub decreases-unique_loop : goal.decreases-unique_loop
+decreases-unique_loop l = 4 * stmt_nodes (stmt_of l.body.now) + 1
+
 abbrev pub decreases-range_loop : goal.decreases-range_loop
 decreases-range_loop l = 4 * stmt_nodes (stmt_of l.body.now) + 1
 
