@@ -1,4 +1,5 @@
 mod LoneSets
+mod LoneUnique
 mod LoneSims
 mod LoneFair
 mod LoneHeld
@@ -20,3 +21,9 @@ pub mod Depending
 pub mod Apart
 pub mod Needed
 pub mod Sampled
+mod Twins
+mod TwinValues
+mod TwinRuns
+mod Decided
+mod Kept
+mod Stayed

@@ -21,10 +21,10 @@ use Rattle.isp_typed.specs.Fine.{HoldsArray, rates_of, FineExpr, FinePlace, Fine
 use Rattle.isp_typed.specs.Library.{parts, library_type}
 use Rattle.isp_typed.specs.Typed.{TExpr, t_constant, t_program_index, t_place, t_convert, t_cast, t_unary, t_binary, t_compare, t_logic, t_choose, t_call, t_library, t_packed_store, t_packed_load, TPlace, t_variable, t_element, TArgument, t_by_value, t_by_name, TCall, t_called, TArguments, t_no_arguments, t_argument_then, TExprs, t_no_exprs, t_expr_then, TFunction, rate_of, rate_or, span_of, place_type}
 use Rattle.isp_typed.specs.Typed.{TItem, t_plain, t_with_value, t_with_size, TSimple, t_value, t_run, t_assign, t_update, t_step, TFirst, t_first_declare, t_first_simple}
-use Rattle.isp_typed.specs.Typed.{TStmt, t_block, t_declare, t_simple, t_if, t_if_else, t_while, t_do, t_for, t_foreach, t_foreach_active, t_unmasked, t_jump, t_return, t_print, t_assert, TBlock, t_braces, TStmts, t_no_stmts, t_stmt_then}
+use Rattle.isp_typed.specs.Typed.{TStmt, t_block, t_declare, t_simple, t_if, t_if_else, t_while, t_do, t_for, t_foreach, t_foreach_active, t_foreach_unique, t_unmasked, t_jump, t_return, t_print, t_assert, TBlock, t_braces, TStmts, t_no_stmts, t_stmt_then}
 use Rattle.isp_rates.specs.declared.exits.Within.{Within}
 use Rattle.isp_rates.specs.Breaches.{OfAny, OfEach}
-use Rattle.isp_rates.specs.Exits.{in_loop, in_foreach_active, ItemBreach, SimpleBreach, FirstBreach, ReturnBreach, returned_rate, StmtBreach, BlockBreach, StmtsBreach}
+use Rattle.isp_rates.specs.Exits.{in_loop, in_turns, ItemBreach, SimpleBreach, FirstBreach, ReturnBreach, returned_rate, StmtBreach, BlockBreach, StmtsBreach}
 use Rattle.isp_rates.specs.Rates.{goes_to, rate_held, variables_of, RateBreach, DemandBreach, ExprBreach, PlaceBreach, ArgumentBreach, CallBreach, ArgumentsBreach, ValuesBreach}
 use Rattle.isp_independence.specs.declared.dependence.Dependence.{Dependence}
 use Rattle.isp_independence.specs.declared.dependence.Restriction.TheVariants.{Crossing}
@@ -281,7 +281,9 @@ module _ (frame : Frame) (fs : List TFunction) (IsCallable : ℕ → Type 0) (va
                 fair_stmt (in_loop o) x f.5 (λ z b. r z (inr (inr (inr b)))) n.3 (second (calls_of_any first_calls i ++ calls_of_any expr_calls e ++ calls_of_any simple_calls p) (stmt_calls x) k),
               )
           fair_stmt o (t_foreach g m rs x s) f r n k = n
-          fair_stmt o (t_foreach_active g m i x s) f r n k = fair_stmt (in_foreach_active o) x f.2 r n k
+          fair_stmt o (t_foreach_active g m i x s) f r n k = fair_stmt (in_turns o) x f.2 r n k
+          fair_stmt o (t_foreach_unique g m i t e x s) f r n k =
+              (fair e f.2.0 (λ z b. r z (inl b)) n.0 (first (expr_calls e) (stmt_calls x) k), fair_stmt (in_turns o) x f.3 (λ z b. r z (inr b)) n.1 (second (expr_calls e) (stmt_calls x) k))
           fair_stmt o (t_unmasked g b s) f r n k = n
           fair_stmt o (t_jump j g s) f r n k = tt
           fair_stmt o (t_return g x s) f r n k = subst (λ a. FairReturned frame fs IsCallable a x) (sym same) (fair_returned x f (λ z b. r z (inr b)) n k)

@@ -1,5 +1,5 @@
 -- A statement over the set of one instance comes to what that instance does alone. One line a node.
-use Rattle.std.proofs.Common.{◌≡◌, ℕ, ◌<◌, inl, refl, sym, ap, subst}
+use Rattle.std.proofs.Common.{◌≡◌, ◌∙◌, ℕ, ◌<◌, inl, refl, sym, ap, subst}
 use Rattle.std.specs.Prelude.{List, map, Option, Some, None}
 use Rattle.isp_base.specs.Maps.{over}
 use Rattle.isp_base.specs.Sets.{Mask, nobody, lone}
@@ -9,17 +9,17 @@ use Rattle.isp_base.specs.declared.types.Ty.{Ty}
 use Rattle.isp_base.specs.declared.trap.TrapKind.TheVariants.{Assert}
 use Rattle.isp_tree.specs.declared.stmt.Jump.{Jump}
 use Rattle.isp_tree.specs.declared.stmt.Jump.TheVariants.{Break, Continue}
-use Rattle.isp_typed.specs.Typed.{TExpr, TSimple, rate_of, TFunction, TStmt, t_block, t_declare, t_simple, t_if, t_if_else, t_while, t_do, t_for, t_foreach, t_foreach_active, t_unmasked, t_jump, t_return, t_print, t_assert, TBlock, t_braces, TStmts, t_no_stmts, t_stmt_then}
+use Rattle.isp_typed.specs.Typed.{TExpr, TSimple, elem_of, rate_of, TFunction, TStmt, t_block, t_declare, t_simple, t_if, t_if_else, t_while, t_do, t_for, t_foreach, t_foreach_active, t_foreach_unique, t_unmasked, t_jump, t_return, t_print, t_assert, TBlock, t_braces, TStmts, t_no_stmts, t_stmt_then}
 use Rattle.isp_meaning.specs.State.{State, tick}
-use Rattle.isp_meaning.specs.Payloads.{Payload, One, is_false, sole, spread}
+use Rattle.isp_meaning.specs.Payloads.{Payload, One, is_false, sole, spread, converted}
 use Rattle.isp_meaning.specs.Outcomes.{Val, Res, Went, Trapped, Cut, Done, with_value, went_all, go_on}
 use Rattle.isp_meaning.specs.Expressions.{Calls, value}
 use Rattle.isp_meaning.specs.Runs.{no_place}
 use Rattle.isp_meaning.specs.Simple.{no_step, step_part}
 use Rattle.isp_meaning.specs.Loops.{turns}
-use Rattle.isp_meaning.specs.Rounds.{rounds, round_of_one}
+use Rattle.isp_meaning.specs.Rounds.{rounds, round_of_one, unique_rounds}
 use Rattle.isp_meaning.specs.Statements.{all_go, answered, answered_at, jumped, test_part, run, block, run_all}
-use Rattle.isp_alone.specs.Alone.{Alone}
+use Rattle.isp_alone.specs.Alone.{Alone, written as own_written}
 use Rattle.isp_alone.specs.Answers.{Answer, Has, End, Does, Dies, Lasts, Going, then_always, Done as OwnDone}
 use Rattle.isp_alone.specs.Does.{goes_on, jumped as own_jumped, test_part as own_test_part, does, does_block, does_all}
 use Rattle.isp_alone.specs.Loops.{turns as own_turns}
@@ -27,7 +27,8 @@ use Rattle.isp_alone.specs.Steps.{step_part as own_step_part}
 use Rattle.isp_alone.specs.Values.{OwnCalls, answer}
 use Rattle.isp_laws.specs.Lone.{World, Stands, IsValue, ResultIs, ResultAt}
 use Rattle.isp_laws.proofs.LoneSets.{members_lone}
-use Rattle.isp_laws.proofs.LoneSims.{CameTo, Left, Follows, came_has, came_checked, left_with, left_branches, left_then, offender_value, uniform_value}
+use Rattle.isp_laws.proofs.LoneUnique.{unique_lone}
+use Rattle.isp_laws.proofs.LoneSims.{CameTo, Left, Follows, came_has, came_checked, left_with, left_branches, left_then, offender_value, spread_value, uniform_value}
 use Rattle.isp_laws.proofs.LoneFair.{FairReturned, FairStmt, FairBlock, FairStmts}
 use Rattle.isp_laws.proofs.LoneHeld.{over_there, written_stands}
 use Rattle.isp_laws.proofs.LoneValues.{CallsAgree, value_came}
@@ -130,6 +131,11 @@ module _ (w : World) (gang : ℕ) (lt : w.instance < gang) (fs : List TFunction)
     run_left (t_foreach_active g k i x sp) f s t st =
         subst (λ ps. Left w (rounds (ran x) us (map (round_of_one i) ps) (tick s)) (does gang w.begin w.instance w.frame own most (t_foreach_active g k i x sp) t)) (sym (members_lone w.instance gang lt))
         (always _ _ (run_left x f _ _ (written_stands w Uniform Uniform i (One w.instance) w.instance (tick (tick s)) t (λ c. c) (inl refl) st)))
+    run_left (t_foreach_unique g k i c e x sp) f s t st =
+        left_with w (IsValue w.instance (rate_of e)) _ _ _ _ (value_came w gang lt fs IsCallable calls own agree e f.0 (tick s) t st)
+        (λ m y s1 t1 r st1. subst (λ rs. Left w (rounds (ran x) us rs s1) (then_always (did x (own_written Uniform i (converted (elem_of e) c y) t1)) (λ t2. Does t2 Going)))
+        (sym (ap (unique_rounds gang (elem_of e) c i) (spread_value w.instance (rate_of e) m y r) ∙ unique_lone w.instance gang lt (elem_of e) c i y))
+        (always _ _ (run_left x f.1 _ _ (written_stands w Uniform Uniform i (One (converted (elem_of e) c y)) (converted (elem_of e) c y) (tick s1) t1 (λ z. z) (inl refl) st1))))
     run_left (t_unmasked g b sp) f s t st = absurd f
     run_left (t_jump j g sp) f s t st = jumps j (tick s) t st
     run_left (t_return g None sp) f s t st = record { by = (refl, st) }

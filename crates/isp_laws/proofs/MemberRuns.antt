@@ -1,27 +1,35 @@
 -- Loops, statements and calls: the sets over which they run what stands in them are parts of the set.
 use Rattle.std.proofs.Common.{◌≡◌, ℕ, zero, suc, ◌<◌, ◌≤◌, ◌⊎◌, inl, inr, Bool, true, false, refl, ap, ◌∙◌, arith}
 use Rattle.std.specs.Prelude.{List, [], ◌∷◌, ◌++◌, map, Some, None, slice_get}
-use Rattle.isp_base.specs.Maps.{where_true}
+use Rattle.isp_base.specs.Cross.{or_zero}
+use Rattle.isp_base.specs.Maps.{Map, where_true}
 use Rattle.isp_base.specs.Sets.{Mask, nobody, everyone, union, without, any, lone}
 use Rattle.isp_base.specs.Types.{gang_width}
+use Rattle.isp_base.specs.Values.{number, compare_to}
+use Rattle.isp_base.specs.declared.operators.Compare.TheVariants.{Equal}
+use Rattle.isp_base.specs.declared.types.Elem.{Elem}
 use Rattle.isp_base.specs.declared.trap.TrapKind.TheVariants.{Assert}
 use Rattle.isp_tree.specs.declared.stmt.Jump.TheVariants.{Break, Continue}
-use Rattle.isp_typed.specs.Typed.{TExpr, TStmt, t_block, t_declare, t_simple, t_if, t_if_else, t_while, t_do, t_for, t_foreach, t_foreach_active, t_unmasked, t_jump, t_return, t_print, t_assert, TBlock, t_braces, TStmts, t_no_stmts, t_stmt_then, Program}
+use Rattle.isp_typed.specs.Typed.{TExpr, elem_of, TStmt, t_block, t_declare, t_simple, t_if, t_if_else, t_while, t_do, t_for, t_foreach, t_foreach_active, t_foreach_unique, t_unmasked, t_jump, t_return, t_print, t_assert, TBlock, t_braces, TStmts, t_no_stmts, t_stmt_then, Program}
 use Rattle.isp_independence.specs.Reaches.{expr_calls, simple_calls, first_calls, range_calls, calls_of_any, calls_of_each, stmt_calls, block_calls, stmts_calls}
 use Rattle.isp_meaning.specs.Calls.{calls_at}
+use Rattle.isp_meaning.specs.Distinct.{InOrder}
 use Rattle.isp_meaning.specs.Laws.{Masked, MaskedBlock, MaskedAll}
 use Rattle.isp_meaning.specs.Loops.{loop_end, tested, stepped, turns}
 use Rattle.isp_meaning.specs.Outcomes.{Val, Res, Done, went_all, unless_empty}
-use Rattle.isp_meaning.specs.Payloads.{Payload, One, Each, is_true, is_false, kept_by}
-use Rattle.isp_meaning.specs.Rounds.{Range, Run, rounds, round_of_one, members, if_listed, round_of_run, runs_of}
+use Rattle.isp_meaning.specs.Payloads.{Payload, One, Each, spread, is_true, is_false, kept_by}
+use Rattle.isp_meaning.specs.Rounds.{Range, Run, rounds, round_of_one, members, if_listed, holders, firsts, round_of_value, round_of_run, runs_of}
 use Rattle.isp_meaning.specs.Simple.{no_step, step_part}
 use Rattle.isp_meaning.specs.State.{State, Frame, tick}
 use Rattle.isp_meaning.specs.Statements.{all_go, branches, test_part, run, block, run_all}
 use Rattle.isp_meaning.specs.Expressions.{value}
+use Rattle.isp_meaning.proofs.Distinct.{each_value_once}
+use Rattle.isp_meaning.proofs.Members.{any_at, lowest_below, lowest_in}
 use Rattle.isp_meaning.proofs.Parts.{four_sets}
 use Rattle.isp_laws.proofs.Dealt.{dealt_once}
 use Rattle.isp_laws.proofs.LoneSets.{eq_true, any_lone}
-use Rattle.isp_laws.proofs.MemberSets.{everyone_some, some_gang, and_inside, union_inside, NoneOut, kept_inside, PartsIn, parts_in, Sub, sub_inside, Free, Named, NamedRes, gives_named, with_named, went_named, go_named, then_named, if_named, offender_checked}
+use Rattle.isp_laws.proofs.MemberSets.{everyone_some, some_gang, and_inside, union_inside, NoneOut, kept_inside, spread_out, PartsIn, parts_in, Sub, sub_inside}
+use Rattle.isp_laws.proofs.MemberSets.{Free, Named, NamedRes, gives_named, with_named, went_named, go_named, then_named, if_named, offender_checked}
 use Rattle.isp_laws.proofs.MemberValues.{Each_of, first, second, CallsNamed, value_out, listed_named, simple_named, items_named, first_part_named, step_part_named, test_part_out, ranges_named}
 
 module _ (gang : ℕ) (m : Mask) where
@@ -99,6 +107,17 @@ module _ (gang : ℕ) (m : Mask) where
   active_named body all index h (p ∷ ps) i s =
       then_named gang m _ _ (h (lone (Some p)) ((round_of_one index p).begins s) (λ q lt e. ap m (eq_true q p e) ∙ i.0.1) (any_lone p gang i.0.0)) (λ s1 g b c r. active_named body all index h ps i.1 s1)
 
+  -- those that hold a value are of the set, and there is one
+  pub unique_named : (body : Mask → State → Res) (all a : Mask) (u t : Elem) (x : Map) (index : ℕ) → Runs body → Sub gang m a → NoneOut a (Each x) → (least : ℕ) (qs : List ℕ) → InOrder gang least (map (round_of_value u t x index) qs) → (s : State)
+      → NamedRes gang m (rounds body all (map (round_of_value u t x index) qs) s)
+  unique_named body all a u t x index h sub out least [] i s = went_named gang m all s
+  unique_named body all a u t x index h sub out least (q ∷ qs) i s =
+      let members = holders u x q in
+      then_named gang m _ _
+      (h members ((round_of_value u t x index q).begins s) (sub_inside gang m a members sub (kept_inside (λ b. compare_to Equal (number u b) (number u (or_zero (x q)))) a (Each x) out))
+      (any_at gang members i.0 (lowest_below gang members i.0 i.1) (lowest_in gang members i.0 i.1)))
+      (λ s1 g b c r. unique_named body all a u t x index h sub out (suc i.0) qs i.3 s1)
+
 module _ (program : Program) (most left : ℕ) (m : Mask) (Ok : ℕ → Type 0) (calls : CallsNamed program most m Ok left) (frame : Frame) where
   abbrev N : ℕ
   N = gang_width program.gang
@@ -167,6 +186,10 @@ module _ (program : Program) (most left : ℕ) (m : Mask) (Ok : ℕ → Type 0) 
         (run_named y (inl (whole_of f)) (rhs (calls_of_each range_calls rs) (stmt_calls y) c)) (runs_of N xs) (runs_some N m (some_gang N a e) xs) _)
     run_named (t_foreach_active w k i y sp) f c a s h e =
         active_named N m (run N frame (calls_at program most left) most y) a i (run_named y f c) (members N a) (members_on N m N a (omega arith) h) (tick s)
+    run_named (t_foreach_unique w k i t x y sp) f c a s h e =
+        with_named N m (NoneOut a) _ _ (value_of x (lhs (expr_calls x) (stmt_calls y) c) a (tick s) h e)
+        (λ v s1 o. unique_named N m (run N frame (calls_at program most left) most y) a a (elem_of x) t (spread a v) i (run_named y f (rhs (expr_calls x) (stmt_calls y) c)) h (spread_out a v o) 0
+        (members N (firsts (elem_of x) (spread a v))) (each_value_once.in_order N (elem_of x) t i (spread a v)) s1)
     run_named (t_unmasked w b sp) f c a s h e =
         then_named N m _ _ (block_named b (inl (whole_of f)) c (everyone N) (tick s) (λ p lt _. whole_of f p lt) (everyone_some N a e)) (λ s1 g b' c' r. went_named N m a s1)
     run_named (t_jump Break w sp) f c a s h e = record { by = tt }

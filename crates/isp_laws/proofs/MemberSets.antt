@@ -9,7 +9,7 @@ use Rattle.isp_base.specs.declared.trap.TrapKind.{TrapKind}
 use Rattle.isp_base.specs.declared.types.Span.{Span}
 use Rattle.isp_meaning.specs.Laws.{HasNone, Parted}
 use Rattle.isp_meaning.specs.Outcomes.{Val, Gives, Fails, Stops, Res, Went, Trapped, Cut, bind, with_value, checked, go_on, went_all, if_so}
-use Rattle.isp_meaning.specs.Payloads.{Payload, One, Each, bit, kept_by, offender, if_fails}
+use Rattle.isp_meaning.specs.Payloads.{Payload, One, Each, bit, kept_by, spread, offender, if_fails}
 use Rattle.isp_meaning.specs.State.{State}
 use Rattle.isp_laws.specs.Members.{Names}
 
@@ -83,6 +83,10 @@ kept_inside f a (One c) h = go (f c) where
   go : (t : Bool) → Inside a (if t then a else nobody)
   go true p e = e
   go false p e = absurd (true≢false (sym e))
+
+pub spread_out : (a : Mask) (m : Payload) → NoneOut a m → NoneOut a (Each (spread a m))
+spread_out a (One c) h p e = ap (λ b. if b then Some c else None) e
+spread_out a (Each x) h p e = h p e
 
 -- the members that went on or continued are of the set
 first_in : (g b c r a : Bool) → bit g + (bit b + (bit c + bit r)) ≡ bit a → g ≡ true → a ≡ true

@@ -4,3 +4,6 @@ pub mod Deals
 pub mod Words
 pub mod Rules
 pub mod Samples
+pub mod Acts
+pub mod Stays
+pub mod Decides

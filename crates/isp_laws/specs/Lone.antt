@@ -13,7 +13,7 @@ use Rattle.isp_tree.specs.Sound.{IfAny}
 use Rattle.isp_typed.specs.declared.variable.Variable.{Variable}
 use Rattle.isp_typed.specs.Fine.{FineExpr, FineStmt, array_type}
 use Rattle.isp_typed.specs.Typed.{TExpr, rate_of, TPlace, TCall, TItem, t_plain, t_with_value, t_with_size, TSimple, t_value, t_run, t_assign, t_update, t_step, TFirst, t_first_declare, t_first_simple, TFunction, Program}
-use Rattle.isp_typed.specs.Typed.{TStmt, t_block, t_declare, t_simple, t_if, t_if_else, t_while, t_do, t_for, t_foreach, t_foreach_active, t_unmasked, t_jump, t_return, t_print, t_assert, TBlock, t_braces, TStmts, t_no_stmts, t_stmt_then}
+use Rattle.isp_typed.specs.Typed.{TStmt, t_block, t_declare, t_simple, t_if, t_if_else, t_while, t_do, t_for, t_foreach, t_foreach_active, t_foreach_unique, t_unmasked, t_jump, t_return, t_print, t_assert, TBlock, t_braces, TStmts, t_no_stmts, t_stmt_then}
 use Rattle.isp_rates.specs.declared.exits.Within.{Within}
 use Rattle.isp_rates.specs.Exits.{StmtBreach}
 use Rattle.isp_rates.specs.Program.{IsAccepted}
@@ -37,7 +37,7 @@ use Rattle.isp_alone.specs.Runs.{solo_run, bound}
 use Rattle.isp_alone.specs.Values.{answer}
 
 -- ---- what looks at nobody: no call that looks across the gang, no `print`, no `foreach` and no `unmasked`, in which others take
--- part. (A `foreach_active` over a set of one makes its one turn.)
+-- part. (A `foreach_active` or a `foreach_unique` over a set of one makes its one turn.)
 
 abbrev pub NoCross : TExpr → Type 0
 NoCross x = (d : Dependence) → Cross x d → ⊥
@@ -76,6 +76,7 @@ abbrev mutual
   Lonely (t_for f n first e step i x sp) = IfAny LonelyFirst first × IfAny NoCross e × IfAny LonelySimple step × Lonely x
   Lonely (t_foreach w n rs x sp) = ⊥
   Lonely (t_foreach_active w n i x sp) = Lonely x
+  Lonely (t_foreach_unique w n i t e x sp) = NoCross e × Lonely x
   Lonely (t_unmasked w b sp) = ⊥
   Lonely (t_jump j w sp) = Unit {0}
   Lonely (t_return w x sp) = IfAny NoCross x

@@ -2,12 +2,15 @@
 #![tactic(auto)]
 
 mod deals;
+mod decides;
 mod lone;
 mod members;
 mod rules;
 mod samples;
+mod stays;
 
 pub use deals::dealt_once;
+pub use decides::{members_decide, nobody_runs};
 pub use lone::lone_is_alone;
 pub use members::a_trap_names_a_member;
 pub use rules::{
@@ -15,3 +18,4 @@ pub use rules::{
     shared_array_is_needed, turned_is_needed,
 };
 pub use samples::premises_of_samples;
+pub use stays::arrays_stay;
