@@ -1,0 +1,5 @@
+mod Programs
+mod Same
+mod Turns
+mod Whole
+mod SoloRuns

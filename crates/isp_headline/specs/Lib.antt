@@ -1,0 +1,3 @@
+pub mod OneProgram
+pub mod Headline
+pub mod SoloIsRun
