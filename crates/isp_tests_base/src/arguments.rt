@@ -178,7 +178,7 @@ fn push_number(array: &mut Array, number: i128) -> Result<(), AllocError> {
     array.push(wrap(elem, number))
 }
 
-fn array_of(alloc: Global, elem: Elem, numbers: &[i128]) -> Result<Array, AllocError> {
+pub(crate) fn array_of(alloc: Global, elem: Elem, numbers: &[i128]) -> Result<Array, AllocError> {
     let mut array = Array::empty(alloc, elem);
     for number in numbers {
         push_number(&mut array, *number)?;

@@ -20,7 +20,7 @@ static COMPARISONS: [(Compare, bool, bool, bool); 6] = [
     (Compare::GreaterOrEqual, false, true, true),
 ];
 
-fn elem_named(name: &str) -> Option<Elem> {
+pub(crate) fn elem_named(name: &str) -> Option<Elem> {
     match name {
         "bool" => Some(Elem::Bool),
         "int8" => Some(Elem::I8),

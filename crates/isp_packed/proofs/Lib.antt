@@ -1,0 +1,9 @@
+pub mod Sizes
+pub mod Numbers
+pub mod Elements
+pub mod Found
+pub mod Fits
+pub mod Back
+pub mod Only
+pub mod Writes
+pub mod Place

@@ -1,0 +1,3 @@
+pub mod Packing
+pub mod Unpacking
+pub mod reader
