@@ -80,6 +80,7 @@ spelling mark.Cfor = codes "cfor"
 spelling mark.Foreach = codes "foreach"
 spelling mark.ForeachTiled = codes "foreach_tiled"
 spelling mark.ForeachActive = codes "foreach_active"
+spelling mark.ForeachUnique = codes "foreach_unique"
 spelling mark.Unmasked = codes "unmasked"
 spelling mark.Break = codes "break"
 spelling mark.Continue = codes "continue"
@@ -98,7 +99,7 @@ left_out =
     codes "switch" ∷ codes "case" ∷ codes "default" ∷ codes "goto" ∷ codes "new" ∷ codes "delete" ∷
     codes "task" ∷ codes "launch" ∷ codes "sync" ∷ codes "soa" ∷ codes "extern" ∷ codes "sizeof" ∷
     codes "template" ∷ codes "typename" ∷ codes "operator" ∷ codes "NULL" ∷ codes "size_t" ∷ codes "ptrdiff_t" ∷
-    codes "intptr_t" ∷ codes "uintptr_t" ∷ codes "cbreak" ∷ codes "ccontinue" ∷ codes "creturn" ∷ codes "foreach_unique" ∷ []
+    codes "intptr_t" ∷ codes "uintptr_t" ∷ codes "cbreak" ∷ codes "ccontinue" ∷ codes "creturn" ∷ []
 
 -- the word is one of the list
 abbrev pub Among : List (List ℕ) → List ℕ → Type 0

@@ -67,7 +67,10 @@ const TWELVE: [(&str, Mark); 2] = [
 
 const THIRTEEN: [(&str, Mark); 1] = [("foreach_tiled", Mark::ForeachTiled)];
 
-const FOURTEEN: [(&str, Mark); 1] = [("foreach_active", Mark::ForeachActive)];
+const FOURTEEN: [(&str, Mark); 2] = [
+    ("foreach_active", Mark::ForeachActive),
+    ("foreach_unique", Mark::ForeachUnique),
+];
 
 const THREE_LEFT_OUT: [&str; 2] = ["new", "soa"];
 
@@ -84,8 +87,6 @@ const SEVEN_LEFT_OUT: [&str; 4] = ["float16", "typedef", "default", "creturn"];
 const EIGHT_LEFT_OUT: [&str; 4] = ["template", "typename", "operator", "intptr_t"];
 
 const NINE_LEFT_OUT: [&str; 3] = ["ptrdiff_t", "uintptr_t", "ccontinue"];
-
-const FOURTEEN_LEFT_OUT: [&str; 1] = ["foreach_unique"];
 
 /// The kind of a word among these words in use.
 fn in_use(words: &[(&str, Mark)], word: &str) -> Option<TokenKind>
@@ -136,7 +137,7 @@ pub(crate) fn reserved(word: &str) -> Option<TokenKind>
         9 => find(&[], &NINE_LEFT_OUT, word),
         12 => find(&TWELVE, &[], word),
         13 => find(&THIRTEEN, &[], word),
-        14 => find(&FOURTEEN, &FOURTEEN_LEFT_OUT, word),
+        14 => find(&FOURTEEN, &[], word),
         _ => None,
     }
 }

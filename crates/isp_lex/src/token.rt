@@ -87,6 +87,7 @@ pub enum Mark {
     Foreach,
     ForeachTiled,
     ForeachActive,
+    ForeachUnique,
     Unmasked,
     Break,
     Continue,

@@ -43,7 +43,7 @@ marks_by_length =
     (8, mark.Unsigned ∷ mark.Unmasked ∷ mark.Continue ∷ []) ∷
     (12, mark.ProgramIndex ∷ mark.ProgramCount ∷ []) ∷
     (13, mark.ForeachTiled ∷ []) ∷
-    (14, mark.ForeachActive ∷ []) ∷
+    (14, mark.ForeachActive ∷ mark.ForeachUnique ∷ []) ∷
     []
 
 -- the left-out words by length
@@ -56,7 +56,6 @@ left_by_length =
     (7, codes "float16" ∷ codes "typedef" ∷ codes "default" ∷ codes "creturn" ∷ []) ∷
     (8, codes "template" ∷ codes "typename" ∷ codes "operator" ∷ codes "intptr_t" ∷ []) ∷
     (9, codes "ptrdiff_t" ∷ codes "uintptr_t" ∷ codes "ccontinue" ∷ []) ∷
-    (14, codes "foreach_unique" ∷ []) ∷
     []
 
 -- the kind of a reserved word of a length
