@@ -3,7 +3,7 @@
 use Rattle.std.specs.Prelude.{ℕ, suc, max, List, [], ◌∷◌, Option, Some, None}
 use Rattle.isp_tree.specs.Tree.{Expr, number, truth, program_index, program_count, place, call, brackets, cast, prefix, binary, choose, Place, variable, element, Argument, by_value, by_reference, Arguments, no_arguments, argument_then, listed}
 use Rattle.isp_tree.specs.Tree.{Item, plain, with_value, with_size, Declaration, Simple, value, assign, change, First, first_declare, first_simple, Range}
-use Rattle.isp_tree.specs.Tree.{Stmt, block, empty, declare, simple, if_then, if_else, loop_while, loop_do, loop_for, foreach, foreach_active, unmasked, jump, returning, print, assert, Block, braces, Stmts, no_stmts, stmt_then, Function}
+use Rattle.isp_tree.specs.Tree.{Stmt, block, empty, declare, simple, if_then, if_else, loop_while, loop_do, loop_for, foreach, foreach_active, foreach_unique, unmasked, jump, returning, print, assert, Block, braces, Stmts, no_stmts, stmt_then, Function}
 
 -- how deep a tree may be
 abbrev pub limit : ℕ
@@ -85,6 +85,7 @@ abbrev mutual
       suc (max (depth_of_option depth_of_first i) (max (depth_of_option depth x) (max (depth_of_option depth_of_step p) (depth_of_stmt a))))
   depth_of_stmt (foreach t k rs a s) = suc (max (deepest_of depth_of_range rs) (depth_of_stmt a))
   depth_of_stmt (foreach_active k w a s) = suc (depth_of_stmt a)
+  depth_of_stmt (foreach_unique k w x a s) = suc (max (depth x) (depth_of_stmt a))
   depth_of_stmt (unmasked k b s) = suc (depth_of_block b)
   depth_of_stmt (jump j k s) = 1
   depth_of_stmt (returning k x s) = suc (depth_of_option depth x)

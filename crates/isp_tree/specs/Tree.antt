@@ -149,6 +149,7 @@ mutual
     loop_for : (form : Form) (first : Option First) (test : Option Expr) (step : Option Simple) (body : Stmt) (span : Span) → Stmt
     foreach : (tiling : Tiling) (keyword : Span) (ranges : List Range) (body : Stmt) (span : Span) → Stmt
     foreach_active : (keyword : Span) (word : Word) (body : Stmt) (span : Span) → Stmt
+    foreach_unique : (keyword : Span) (word : Word) (value : Expr) (body : Stmt) (span : Span) → Stmt
     unmasked : (keyword : Span) (body : Block) (span : Span) → Stmt
     jump : (jump : Jump) (keyword : Span) (span : Span) → Stmt
     returning : (keyword : Span) (value : Option Expr) (span : Span) → Stmt
@@ -182,6 +183,7 @@ span_of_stmt (loop_do f a x s) = s
 span_of_stmt (loop_for f i x p a s) = s
 span_of_stmt (foreach t k rs a s) = s
 span_of_stmt (foreach_active k w a s) = s
+span_of_stmt (foreach_unique k w x a s) = s
 span_of_stmt (unmasked k b s) = s
 span_of_stmt (jump j k s) = s
 span_of_stmt (returning k x s) = s

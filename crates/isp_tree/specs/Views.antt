@@ -22,7 +22,7 @@ use Rattle.isp_tree.specs.declared.function.Param as rust_param
 use Rattle.isp_tree.specs.declared.function.Function as rust_function
 use Rattle.isp_tree.specs.Tree.{TypeTree, Expr, number, truth, program_index, program_count, place, call, brackets, cast, prefix, binary, choose, Place, variable, element, Argument, by_value, by_reference, listed}
 use Rattle.isp_tree.specs.Tree.{Item, plain, with_value, with_size, Declaration, Simple, value, assign, change, First, first_declare, first_simple, Range}
-use Rattle.isp_tree.specs.Tree.{Stmt, block, empty, declare, simple, if_then, if_else, loop_while, loop_do, loop_for, foreach, foreach_active, unmasked, jump, returning, print, assert, Block, braces, all, Param, Function}
+use Rattle.isp_tree.specs.Tree.{Stmt, block, empty, declare, simple, if_then, if_else, loop_while, loop_do, loop_for, foreach, foreach_active, foreach_unique, unmasked, jump, returning, print, assert, Block, braces, all, Param, Function}
 
 abbrev pub type_of : rust_type.TypeWords → TypeTree
 type_of t = record { qualifiers = t.qualifiers.items; base = t.base; span = t.span }
@@ -101,6 +101,7 @@ stmt_step (Stmt-F.Do f a x s) = loop_do f a.value (expr_of x) s
 stmt_step (Stmt-F.For f i x p a s) = loop_for f (option_map first_of i) (option_map expr_of x) (option_map simple_of p) a.value s
 stmt_step (Stmt-F.Foreach t k rs a s) = foreach t k (map range_of rs.items) a.value s
 stmt_step (Stmt-F.ForeachActive k w a s) = foreach_active k w a.value s
+stmt_step (Stmt-F.ForeachUnique k w x a s) = foreach_unique k w (expr_of x) a.value s
 stmt_step (Stmt-F.Unmasked k b s) = unmasked k b s
 stmt_step (Stmt-F.Jump j k s) = jump j k s
 stmt_step (Stmt-F.Return k x s) = returning k (option_map expr_of x) s

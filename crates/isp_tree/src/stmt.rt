@@ -185,6 +185,14 @@ pub enum Stmt {
         body: Box<Stmt>,
         span: Span,
     },
+    /// `foreach_unique (word in value) body`
+    ForeachUnique {
+        keyword: Span,
+        word: Word,
+        value: Expr,
+        body: Box<Stmt>,
+        span: Span,
+    },
     Unmasked {
         keyword: Span,
         body: Block,
@@ -287,6 +295,7 @@ impl Stmt {
             | Stmt::For { span, .. }
             | Stmt::Foreach { span, .. }
             | Stmt::ForeachActive { span, .. }
+            | Stmt::ForeachUnique { span, .. }
             | Stmt::Unmasked { span, .. }
             | Stmt::Jump { span, .. }
             | Stmt::Return { span, .. }
