@@ -1,5 +1,7 @@
 -- Ranges, and the values of a `print`: what is read is what they are.
-use Rattle.std.proofs.Common.{◌≡◌, ℕ, ◌≤◌, Bool, true, false, List, [], ◌∷◌, ◌++◌, length, Option, Some, None, refl, sym, ap, subst, ◌∙◌, arith}
+use Rattle.std.proofs.Common.{◌≡◌, ℕ, ◌≤◌, Bool, true, false, cond, List, [], ◌∷◌, ◌++◌, length, Option, Some, None, refl, sym, ap, subst, ◌∙◌, arith}
+use Rattle.std.proofs.lemmas.Slice.Eq.{bytes_eq-Decides}
+use Rattle.std.specs.Prelude.{⊤, bytes_eq, codes}
 use Rattle.isp_base.specs.declared.types.Span.{Span}
 use Rattle.isp_lex.specs.Tokens.{at, is_mark, starts_with}
 use Rattle.isp_lex.specs.declared.token.Mark.{Mark}
@@ -16,11 +18,11 @@ use Rattle.isp_grammar.proofs.Forms.{Form, IsSound, IsComplete, Can, One, one_so
 use Rattle.isp_grammar.proofs.FormsComplete.{EndsByHead, one_by_head, named_by_head, Stands, until_complete}
 use Rattle.isp_grammar.proofs.Refused.{IsRefused, one_refused, named_refused, both_refused, until_refused}
 use Rattle.isp_grammar.proofs.Wrapped.{After, after_sound, after_complete, after_refused, some_after, Bracketed, bracketed_sound, bracketed_complete, bracketed_refused, some_bracketed}
-use Rattle.isp_tree.specs.Depth.{depth_of_range, deepest_of}
-use Rattle.isp_grammar.specs.Grammar.{AreListed, IsRange, is_range}
+use Rattle.isp_tree.specs.Depth.{depth, depth_of_range, deepest_of}
+use Rattle.isp_grammar.specs.Grammar.{IsExpr, AreListed, IsRange, is_range}
 use Rattle.isp_grammar.specs.reader.Choices.{begins_with}
-use Rattle.isp_grammar.specs.reader.Stmts.{behind_at, range_from, range_at, more_ranges, last_range_at, more_ranges_at, ranges_at, text_of}
-use Rattle.isp_grammar.specs.Signs.{word, loosest}
+use Rattle.isp_grammar.specs.reader.Stmts.{behind_at, range_from, range_at, more_ranges, last_range_at, more_ranges_at, ranges_at, in_of, unique_parts_at, text_of}
+use Rattle.isp_grammar.specs.Signs.{word, preposition, loosest}
 use Rattle.isp_tree.specs.Tree.{Expr, Range}
 use Rattle.isp_tree.specs.declared.types.Word.{Word}
 
@@ -309,6 +311,123 @@ active_head_refused n = bracketed_refused Named name_close some_name n named_by_
 
 pub some_active_head : (b : List Token) × Can ActiveHead b
 some_active_head = some_bracketed Named name_close some_name
+
+-- ---- a name, `in` and a value in brackets
+
+abbrev in_kind : ⊤ → TokenKind
+in_kind x = kind.Word (codes "in")
+
+in_chosen : (n : List ℕ) (x : ⊤) (b : Bool) → bytes_eq n (codes "in") ≡ b → ◌≡◌ {A = Option ⊤} (cond b (Some tt) None) (Some x) → n ≡ codes "in"
+in_chosen n x true e h = (bytes_eq-Decides n (codes "in")).0 e
+in_chosen n x false e h = absurd cc
+
+in_found : (k : TokenKind) (x : ⊤) → in_of k ≡ Some x → k ≡ in_kind x
+in_found (kind.Word n) x e = ap kind.Word (in_chosen n x (bytes_eq n (codes "in")) refl e)
+in_found (kind.Number v) x e = absurd cc
+in_found (kind.Text t) x e = absurd cc
+in_found (kind.Mark m) x e = absurd cc
+in_found kind.LeftOut x e = absurd cc
+
+abbrev InWord : Form (⊤ × Span)
+InWord = Sign in_of in_kind
+
+ins : Signs in_of in_kind
+ins = record { found = λ k x e. in_found k x e; again = λ x. refl; some = tt }
+
+in_sound : (n : ℕ) → IsSound InWord n
+in_sound n = sign_sound in_of in_kind ins n
+
+in_complete : (n : ℕ) → IsComplete InWord n
+in_complete n = sign_complete in_of in_kind ins n
+
+in_refused : (n : ℕ) → IsRefused InWord n
+in_refused n = sign_refused in_of in_kind ins n
+
+abbrev InValue : Form ((⊤ × Span) × Expr)
+InValue = Both InWord (Exprs loosest) Free
+
+abbrev NameInValue : Form (Word × ((⊤ × Span) × Expr))
+NameInValue = NameThen InValue
+
+in_then : Follows InWord (Exprs loosest) Free
+in_then = let x = some_expr loosest in follows InWord (Exprs loosest) (λ x y b rest i h. tt) x.0 x.1
+
+some_in_value : (b : List Token) × Can InValue b
+some_in_value = let x = some_expr loosest in (preposition nowhere ∷ x.0, (((tt, nowhere), x.1.0), (preposition nowhere ∷ [], x.0, refl, refl, x.1.1, tt)))
+
+name_then_in : Follows Named InValue Free
+name_then_in = named_then InValue some_in_value.0 some_in_value.1
+
+abbrev pub AreUniqueParts : List Token → Word × Expr → Type 0
+AreUniqueParts ts p = (s : Span) × (b : List Token) × (ts ≡ word p.0 ∷ preposition s ∷ b) × IsExpr loosest b p.1
+
+abbrev pub UniqueParts : Form (Word × Expr)
+UniqueParts = record { is = AreUniqueParts; deep = λ p. depth p.1; ends = λ p rest. (Exprs loosest).ends p.1 rest; read = unique_parts_at }
+
+abbrev unique_parts : Word × ((⊤ × Span) × Expr) → Word × Expr
+unique_parts p = (p.0, p.1.1)
+
+unique_makes_is : (ts : List Token) (p : Word × ((⊤ × Span) × Expr)) → NameInValue.is ts p → AreUniqueParts ts (unique_parts p)
+unique_makes_is ts p i =
+    let a = name_then_is InValue ts p i in
+    let b = a.2 in
+    (p.1.0.1, b.1, a.1 ∙ ap (λ (l : List Token). word p.0 ∷ l) (b.2 ∙ ap (λ (l : List Token). l ++ b.1) b.3), b.4)
+
+unique_unmakes : (ts : List Token) (p : Word × Expr) → AreUniqueParts ts p → (q : Word × ((⊤ × Span) × Expr)) × NameInValue.is ts q × (unique_parts q ≡ p)
+unique_unmakes ts p i =
+    let q = is_name_then InValue p.0 (preposition i.0 ∷ i.1) ((tt, i.0), p.1) (preposition i.0 ∷ [], i.1, refl, refl, i.3, tt) in
+    ((p.0, ((tt, i.0), p.1)), subst (λ (l : List Token). NameInValue.is l (p.0, ((tt, i.0), p.1))) (sym i.2) q, refl)
+
+unique_parts_makes : Makes NameInValue UniqueParts unique_parts
+unfolding unique_parts_at
+unique_parts_makes = record {
+  reads = λ n ts. refl;
+  makes = λ ts x i. unique_makes_is ts x i;
+  unmakes = λ ts y i. unique_unmakes ts y i;
+  deep = λ x. omega arith;
+  ends = λ x rest h. h;
+  back = λ x rest h. h;
+}
+
+unique_parts_sound : (n : ℕ) → IsSound UniqueParts n
+unique_parts_sound n =
+    makes_sound NameInValue UniqueParts unique_parts unique_parts_makes n
+    (both_sound Named InValue Free name_then_in n (named_sound n) (both_sound InWord (Exprs loosest) Free in_then n (in_sound n) (exprs_sound loosest n)))
+
+unique_parts_complete : (n : ℕ) → IsComplete UniqueParts n
+unique_parts_complete n =
+    makes_complete NameInValue UniqueParts unique_parts unique_parts_makes n
+    (both_complete Named InValue Free name_then_in n (named_complete n) (both_complete InWord (Exprs loosest) Free in_then n (in_complete n) (exprs_complete loosest n)))
+
+unique_parts_refused : (n : ℕ) → IsRefused UniqueParts n
+unique_parts_refused n =
+    makes_refused NameInValue UniqueParts unique_parts unique_parts_makes n
+    (both_refused Named InValue Free name_then_in n named_by_head named_complete (named_sound n) (named_refused n)
+    (both_refused InWord (Exprs loosest) Free in_then n (λ x a b e h. tt) in_complete (in_sound n) (in_refused n) (exprs_refused loosest n)))
+
+unique_parts_by_head : EndsByHead UniqueParts
+unique_parts_by_head p a b e h = exprs_by_head loosest p.1 a b e h
+
+unique_parts_close : (p : Word × Expr) (s : Span) (rest : List Token) → UniqueParts.ends p (at mark.ParenClose s ∷ rest)
+unique_parts_close p s rest = closes_ends loosest mark.ParenClose refl p.1 s rest
+
+some_unique_parts : (b : List Token) × Can UniqueParts b
+some_unique_parts = let x = some_expr loosest in (word nameless ∷ preposition nowhere ∷ x.0, ((nameless, x.1.0), (nowhere, x.0, refl, x.1.1)))
+
+abbrev pub UniqueHead : Form (Word × Expr)
+UniqueHead = Bracketed UniqueParts
+
+pub unique_head_sound : (n : ℕ) → IsSound UniqueHead n
+unique_head_sound n = bracketed_sound UniqueParts unique_parts_close some_unique_parts n (unique_parts_sound n)
+
+pub unique_head_complete : (n : ℕ) → IsComplete UniqueHead n
+unique_head_complete n = bracketed_complete UniqueParts unique_parts_close some_unique_parts n (unique_parts_complete n)
+
+pub unique_head_refused : (n : ℕ) → IsRefused UniqueHead n
+unique_head_refused n = bracketed_refused UniqueParts unique_parts_close some_unique_parts n unique_parts_by_head unique_parts_complete (unique_parts_sound n) (unique_parts_refused n)
+
+pub some_unique_head : (b : List Token) × Can UniqueHead b
+some_unique_head = some_bracketed UniqueParts unique_parts_close some_unique_parts
 
 -- ---- the text and the values of a `print`
 

@@ -9,7 +9,7 @@ use Rattle.isp_grammar.proofs.StmtsRefused.{stmt_off}
 use Rattle.isp_grammar.specs.reader.Readers.{Read, Reader, ◌>>=◌, both, refuse, refusal_at_limit}
 use Rattle.isp_grammar.specs.reader.Choices.{begins_with}
 use Rattle.isp_grammar.specs.reader.Starts.{start_of, begins_stmt}
-use Rattle.isp_grammar.specs.reader.Stmts.{stmt_from, stmt_by, stmt_at, braced_at, block_at, Heading, by_while, by_for, by_foreach, by_active, heading_at, looped, loop_at, while_at, for_at, foreach_at, active_at, test_at, head_at, ranges_head_at, active_head_at}
+use Rattle.isp_grammar.specs.reader.Stmts.{stmt_from, stmt_by, stmt_at, braced_at, block_at, Heading, by_while, by_for, by_foreach, by_active, by_unique, heading_at, looped, loop_at, while_at, for_at, foreach_at, active_at, unique_at, test_at, head_at, ranges_head_at, active_head_at, unique_head_at}
 use Rattle.isp_grammar.specs.declared.heads.Loop.{Loop}
 use Rattle.isp_grammar.specs.declared.heads.Loop.TheVariants as loops
 use Rattle.isp_tree.specs.Tree.{Stmt}
@@ -58,8 +58,9 @@ headed stmt w view (Err e) = refl
 -- a loop is read as what stands before its body, and then the body
 pub loop_headed : (stmt : Reader Stmt) (n : ℕ) (which : Loop) (w : Span) (ts : List Token)
     → loop_at stmt n which w ts ≡ (both (heading_at n which) stmt ts >>= λ p. Ok (looped w p.0.0 p.0.1, p.1))
-unfolding loop_at while_at for_at foreach_at active_at
+unfolding loop_at while_at for_at foreach_at active_at unique_at
 loop_headed stmt n (loops.While f) w ts = headed stmt w (by_while f) (test_at n ts)
 loop_headed stmt n (loops.For f) w ts = headed stmt w (by_for f) (head_at n ts)
 loop_headed stmt n (loops.Foreach t) w ts = headed stmt w (by_foreach t) (ranges_head_at n ts)
 loop_headed stmt n loops.ForeachActive w ts = headed stmt w by_active (active_head_at ts)
+loop_headed stmt n loops.ForeachUnique w ts = headed stmt w (λ p. by_unique p.0 p.1) (unique_head_at n ts)

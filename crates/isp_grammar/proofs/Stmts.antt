@@ -13,16 +13,16 @@ use Rattle.isp_grammar.proofs.Declarations.{Declaring}
 use Rattle.isp_grammar.proofs.Exprs.{Exprs, Closed}
 use Rattle.isp_grammar.proofs.Forms.{Form, Can, One, Both, Free, Follows, Behind, behind_is, Before, then_one, before_is, Optional, deepest, AreAll, Until}
 use Rattle.isp_grammar.proofs.FormsComplete.{EndsByHead}
-use Rattle.isp_grammar.proofs.Ranges.{RangesHead, ActiveHead, Texts, NextValue, Values}
+use Rattle.isp_grammar.proofs.Ranges.{RangesHead, ActiveHead, UniqueHead, Texts, NextValue, Values}
 use Rattle.isp_grammar.proofs.Simples.{SimpleTree, SimpleParts, simple_makes, simple_deep}
 use Rattle.isp_grammar.proofs.StmtParts.{Test, ClosedTest, MaybeTest, FirstTree, MaybeFirst, MaybeStep, HeadStep, HeadTest, HeadFirst, HeadParts, first_tree, first_makes, first_deep}
 use Rattle.isp_grammar.proofs.Wrapped.{After, Bracketed}
 use Rattle.isp_tree.specs.Depth.{depth_of_option, depth_of_first, depth_of_step, deepest_of, depth_of_stmt, depth_of_block, depth_of_stmts, depth}
-use Rattle.isp_grammar.specs.Grammar.{IsMaybe, IsExpr, IsFirst, IsSimple, is_open, IsBlock, is_braces, IsStmts, is_end, is_next, IsStmt, is_empty, is_declare, is_simple, is_if, is_if_else, is_while, is_do, is_for, is_foreach, is_foreach_active, is_return, is_print, is_assert}
+use Rattle.isp_grammar.specs.Grammar.{IsMaybe, IsExpr, IsFirst, IsSimple, is_open, IsBlock, is_braces, IsStmts, is_end, is_next, IsStmt, is_empty, is_declare, is_simple, is_if, is_if_else, is_while, is_do, is_for, is_foreach, is_foreach_active, is_foreach_unique, is_return, is_print, is_assert}
 use Rattle.isp_grammar.specs.reader.Stmts.{simple_from, if_from, block_from, stmts_at, braced_at, block_at, stmt_at}
-use Rattle.isp_grammar.specs.Signs.{textual, loosest, if_mark, while_mark, do_mark, for_mark, foreach_mark}
+use Rattle.isp_grammar.specs.Signs.{word, preposition, textual, loosest, if_mark, while_mark, do_mark, for_mark, foreach_mark}
 use Rattle.isp_grammar.specs.reader.Readers.{◌>>=◌}
-use Rattle.isp_tree.specs.Tree.{Expr, Declaration, span_of_simple, Range, Stmt, empty, declare, simple, loop_while, loop_do, loop_for, foreach, foreach_active, unmasked, jump, returning, print, assert, Block, all, span_of_block, span_of_stmt}
+use Rattle.isp_tree.specs.Tree.{Expr, Declaration, span_of_simple, Range, Stmt, empty, declare, simple, loop_while, loop_do, loop_for, foreach, foreach_active, foreach_unique, unmasked, jump, returning, print, assert, Block, all, span_of_block, span_of_stmt}
 use Rattle.isp_tree.specs.declared.types.Word.{Word}
 use Rattle.isp_tree.specs.declared.stmt.Form.{Form as Shape}
 use Rattle.isp_tree.specs.declared.stmt.Tiling.{Tiling}
@@ -259,6 +259,20 @@ active_makes w ts p c =
     let h = c.3 in
     let e = c.2 ∙ ap (λ (l : List Token). l ++ c.1) (h.3 ∙ ap (λ (l : List Token). at mark.ParenOpen h.0 ∷ (l ++ at mark.ParenClose h.1 ∷ [])) h.4) in
     subst (λ (l : List Token). IsStmt (at mark.ForeachActive w ∷ l) (active_of w p)) (sym e) (is_foreach_active w h.0 h.1 p.0 c.1 p.1 c.4)
+
+abbrev pub Distinction : Form ((Word × Expr) × Stmt)
+Distinction = Both UniqueHead Statement Free
+
+abbrev pub unique_of : Span → (Word × Expr) × Stmt → Stmt
+unique_of w p = foreach_unique w p.0.0 p.0.1 p.1 (span_to w (span_of_stmt p.1))
+
+pub unique_makes : (w : Span) (ts : List Token) (p : (Word × Expr) × Stmt) → Distinction.is ts p → IsStmt (at mark.ForeachUnique w ∷ ts) (unique_of w p)
+unique_makes w ts p c =
+    let h = c.3 in
+    let v = h.4 in
+    let front = h.3 ∙ ap (λ (l : List Token). at mark.ParenOpen h.0 ∷ (l ++ at mark.ParenClose h.1 ∷ [])) v.2 in
+    let e = c.2 ∙ ap (λ (l : List Token). l ++ c.1) front ∙ ap (λ (l : List Token). at mark.ParenOpen h.0 ∷ word p.0.0 ∷ preposition v.0 ∷ l) (append_assoc v.1 (at mark.ParenClose h.1 ∷ []) c.1) in
+    subst (λ (l : List Token). IsStmt (at mark.ForeachUnique w ∷ l) (unique_of w p)) (sym e) (is_foreach_unique w h.0 v.0 h.1 p.0.0 v.1 c.1 p.0.1 p.1 v.3 c.4)
 
 abbrev pub unmasked_of : Span → Block → Stmt
 unmasked_of u b = unmasked u b (span_to u (span_of_block b))

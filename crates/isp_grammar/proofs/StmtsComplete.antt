@@ -12,24 +12,24 @@ use Rattle.isp_grammar.proofs.Basics.{starts_same, starts_is}
 use Rattle.isp_grammar.proofs.Declarations.{Declaring, declaration_complete}
 use Rattle.isp_grammar.proofs.Forms.{IsComplete, One, one_complete, Free, both_complete, is_behind, is_before, made_complete}
 use Rattle.isp_grammar.proofs.FormsComplete.{EndsByHead, optional_complete, Stands, until_complete}
-use Rattle.isp_grammar.proofs.Ranges.{RangesHead, ranges_head_complete, ActiveHead, active_head_complete, Texts, text_complete, Values, values_complete}
+use Rattle.isp_grammar.proofs.Ranges.{RangesHead, ranges_head_complete, ActiveHead, active_head_complete, UniqueHead, unique_head_complete, Texts, text_complete, Values, values_complete}
 use Rattle.isp_grammar.proofs.Simples.{SimpleTree, SimpleParts, simple_complete, simple_unmakes, simple_deep, simple_starts}
 use Rattle.isp_grammar.proofs.Starts.{expr_start, type_start}
 use Rattle.isp_grammar.proofs.StmtParts.{declaration_starts, Test, test_complete, ClosedTest, closed_test_complete, MaybeTest, maybe_test_complete, is_change_start, FirstTree, MaybeFirst, MaybeStep, HeadStep, HeadTest, HeadFirst, HeadParts, head_complete, first_tree, first_unmakes}
-use Rattle.isp_grammar.proofs.StmtReads.{production_complete, block_stmt_of, block_production, empty_production, if_production, while_production, do_production, for_production, foreach_production, active_production, unmasked_production, jump_production, return_production, print_production, assert_production, declare_reads, simple_stmt_reads, empty_of}
-use Rattle.isp_grammar.proofs.Stmts.{head_regroup, EndsStmt, Statement, Nothing, Several, are_all, BraceEnd, brace_then, block_deep, Braced, braced_of, BlockForm, block_reads, Else, FitsElse, Branches, Conditional, if_of, Looping, while_of, Tested, DoEnd, Doing, do_of, ForLoop, for_of, Spreading, foreach_of, Activity, active_of, unmasked_of, DeclareStmt, declare_of, SimpleStmt, simple_of, jump_of, Returning, return_of, PrintEnd, PrintValues, PrintText, Printing, print_of, Asserting, assert_of}
-use Rattle.isp_grammar.proofs.StmtsSound.{then_else, branches_then, body_then, tested_then, some_tested, do_then, for_then, foreach_then, active_then, declare_then, simple_then, return_then, print_behind, text_then, values_then, print_end_behind, brace_close_foreign, else_foreign, asserted_then, brace_behind, stmt_off_mark}
+use Rattle.isp_grammar.proofs.StmtReads.{production_complete, block_stmt_of, block_production, empty_production, if_production, while_production, do_production, for_production, foreach_production, active_production, unique_production, unmasked_production, jump_production, return_production, print_production, assert_production, declare_reads, simple_stmt_reads, empty_of}
+use Rattle.isp_grammar.proofs.Stmts.{head_regroup, EndsStmt, Statement, Nothing, Several, are_all, BraceEnd, brace_then, block_deep, Braced, braced_of, BlockForm, block_reads, Else, FitsElse, Branches, Conditional, if_of, Looping, while_of, Tested, DoEnd, Doing, do_of, ForLoop, for_of, Spreading, foreach_of, Activity, active_of, Distinction, unique_of, unmasked_of, DeclareStmt, declare_of, SimpleStmt, simple_of, jump_of, Returning, return_of, PrintEnd, PrintValues, PrintText, Printing, print_of, Asserting, assert_of}
+use Rattle.isp_grammar.proofs.StmtsSound.{then_else, branches_then, body_then, tested_then, some_tested, do_then, for_then, foreach_then, active_then, unique_then, declare_then, simple_then, return_then, print_behind, text_then, values_then, print_end_behind, brace_close_foreign, else_foreign, asserted_then, brace_behind, stmt_off_mark}
 use Rattle.isp_grammar.proofs.Wrapped.{after_complete}
 use Rattle.isp_tree.specs.Depth.{depth_of_stmt, depth_of_block}
 use Rattle.isp_grammar.proofs.Exprs.{Exprs, Closed}
-use Rattle.isp_grammar.specs.Grammar.{IsMaybe, IsExpr, IsFirst, IsSimple, IsDeclaration, IsBlock, is_braces, IsStmt, is_block, is_empty, is_declare, is_simple, is_if, is_if_else, is_while, is_do, is_for, is_foreach, is_foreach_active, is_unmasked, is_jump, is_return, is_print, is_assert}
+use Rattle.isp_grammar.specs.Grammar.{IsMaybe, IsExpr, IsFirst, IsSimple, IsDeclaration, IsBlock, is_braces, IsStmt, is_block, is_empty, is_declare, is_simple, is_if, is_if_else, is_while, is_do, is_for, is_foreach, is_foreach_active, is_foreach_unique, is_unmasked, is_jump, is_return, is_print, is_assert}
 use Rattle.isp_grammar.specs.reader.Readers.{◌>>=◌, head, on_head}
 use Rattle.isp_grammar.specs.reader.Choices.{begins_with}
 use Rattle.isp_grammar.specs.reader.Starts.{start_of}
 use Rattle.isp_grammar.specs.reader.Stmts.{simple_from, block_at, stmt_at}
 use Rattle.isp_grammar.specs.reader.Types.{begins_type}
-use Rattle.isp_grammar.specs.Signs.{word, textual, loosest, if_mark, while_mark, do_mark, for_mark, foreach_mark, jump_mark}
-use Rattle.isp_tree.specs.Tree.{Expr, Simple, First, Declaration, Stmt, block, empty, declare, simple, if_then, if_else, loop_while, loop_do, loop_for, foreach, foreach_active, unmasked, jump, returning, print, assert, Block, braces, span_of_simple, span_of_stmt}
+use Rattle.isp_grammar.specs.Signs.{word, preposition, textual, loosest, if_mark, while_mark, do_mark, for_mark, foreach_mark, jump_mark}
+use Rattle.isp_tree.specs.Tree.{Expr, Simple, First, Declaration, Stmt, block, empty, declare, simple, if_then, if_else, loop_while, loop_do, loop_for, foreach, foreach_active, foreach_unique, unmasked, jump, returning, print, assert, Block, braces, span_of_simple, span_of_stmt}
 use Rattle.isp_grammar.specs.declared.start.Start.{Start}
 use Rattle.isp_grammar.specs.declared.start.Start.TheVariants as by
 use Rattle.isp_tree.specs.declared.stmt.Form.{Form as Shape}
@@ -49,6 +49,7 @@ depth_of_stmt_pos (loop_do f a x s) = omega arith
 depth_of_stmt_pos (loop_for f i x p a s) = omega arith
 depth_of_stmt_pos (foreach t w rs a s) = omega arith
 depth_of_stmt_pos (foreach_active w i a s) = omega arith
+depth_of_stmt_pos (foreach_unique w i x a s) = omega arith
 depth_of_stmt_pos (unmasked w a s) = omega arith
 depth_of_stmt_pos (jump j w s) = omega arith
 depth_of_stmt_pos (returning w x s) = omega arith
@@ -100,6 +101,9 @@ module _ (n : ℕ) (ih : IsComplete Statement n) where
 
   pub activity_complete : IsComplete Activity n
   activity_complete = both_complete ActiveHead Statement Free active_then n (active_head_complete n) ih
+
+  pub distinction_complete : IsComplete Distinction n
+  distinction_complete = both_complete UniqueHead Statement Free unique_then n (unique_head_complete n) ih
 
   pub nothing_complete : IsComplete Nothing n
   nothing_complete used x rest i le h = rw i refl
@@ -247,6 +251,10 @@ module _ (n : ℕ) (ih : IsComplete Statement n) (blocks : IsComplete BlockForm 
   next_complete (is_foreach_active f o c w a s i) le rest h =
       production_complete mark.ForeachActive Activity active_of active_production n f (activity_complete n ih) (at mark.ParenOpen o ∷ word w ∷ at mark.ParenClose c ∷ a) (w, s) rest
       (at mark.ParenOpen o ∷ word w ∷ at mark.ParenClose c ∷ [], a, refl, (o, c, word w ∷ [], refl, refl), i, tt) le h
+  next_complete (is_foreach_unique f o p c w ts a x s i j) le rest h =
+      let inside = word w ∷ preposition p ∷ ts in
+      production_complete mark.ForeachUnique Distinction unique_of unique_production n f (distinction_complete n ih) (at mark.ParenOpen o ∷ (inside ++ at mark.ParenClose c ∷ a)) ((w, x), s) rest
+      (closed o c inside, a, closed_split o c inside a, (o, c, inside, refl, (p, ts, refl, i)), j, tt) le h
   next_complete (is_unmasked u ts b i) le rest h = production_complete mark.Unmasked BlockForm unmasked_of unmasked_production n u blocks ts b rest i le tt
   next_complete (is_jump j w e) le rest h = production_complete (jump_mark j) (One mark.Semicolon) (jump_of j) (jump_production j) n w (one_complete mark.Semicolon n) (at mark.Semicolon e ∷ []) e rest refl le tt
   next_complete (is_return w e ts x i) le rest h =

@@ -12,15 +12,15 @@ use Rattle.isp_grammar.proofs.Choices.{nowhere, begins_same, limit_off, Limits, 
 use Rattle.isp_grammar.proofs.Declarations.{Declaring, declaration_sound, declaration_complete, declaration_by_head, declaration_refused}
 use Rattle.isp_grammar.proofs.Forms.{Form, Can, One, one_sound, one_complete, Both, Free, Follows}
 use Rattle.isp_grammar.proofs.FormsComplete.{one_by_head}
-use Rattle.isp_grammar.proofs.Ranges.{RangesHead, ranges_head_sound, ranges_head_complete, ranges_head_refused, some_ranges_head, ActiveHead, active_head_sound, active_head_complete, active_head_refused, some_active_head, Texts, text_sound, text_complete, text_refused, Values, values_sound, values_complete, values_refused, values_by_head}
+use Rattle.isp_grammar.proofs.Ranges.{RangesHead, ranges_head_sound, ranges_head_complete, ranges_head_refused, some_ranges_head, ActiveHead, active_head_sound, active_head_complete, active_head_refused, some_active_head, UniqueHead, unique_head_sound, unique_head_complete, unique_head_refused, some_unique_head, Texts, text_sound, text_complete, text_refused, Values, values_sound, values_complete, values_refused, values_by_head}
 use Rattle.isp_grammar.proofs.Refused.{Refused, refused_here, raise, FailsForm, IsRefused, one_refused, both_refused, made_refused, made_err, made_fails, optional_refused, until_refused}
 use Rattle.isp_grammar.proofs.Simples.{SimpleParts, simple_sound, simple_complete, simple_by_head, simple_refused, simple_makes}
 use Rattle.isp_grammar.proofs.Starts.{Fits, start_fits}
 use Rattle.isp_grammar.proofs.StmtParts.{Test, test_sound, test_complete, test_refused, some_test, ClosedTest, closed_test_sound, closed_test_complete, closed_test_refused, some_closed_test, MaybeTest, maybe_test_sound, maybe_test_complete, maybe_test_refused, maybe_test_by_head, HeadParts, head_sound, head_complete, head_refused, some_head, declaration_completes, simple_opens}
-use Rattle.isp_grammar.proofs.StmtReads.{FailsNext, Production, production_refused, block_stmt_of, block_production, empty_production, if_production, while_production, do_production, for_production, foreach_production, active_production, unmasked_production, jump_production, return_production, print_production, assert_production, empty_of}
-use Rattle.isp_grammar.proofs.Stmts.{Statement, stmt_by_head, some_stmt, Nothing, Several, BraceEnd, brace_then, Braced, braced_of, braced_makes, BlockForm, block_reads, some_block, Else, FitsElse, Branches, Conditional, if_of, Looping, while_of, Tested, DoEnd, Doing, do_of, ForLoop, for_of, Spreading, foreach_of, Activity, active_of, unmasked_of, DeclareStmt, declare_of, declare_makes, SimpleStmt, simple_of, simple_stmt_makes, jump_of, Returning, return_of, PrintEnd, PrintValues, PrintText, Printing, print_of, Asserting, assert_of}
+use Rattle.isp_grammar.proofs.StmtReads.{FailsNext, Production, production_refused, block_stmt_of, block_production, empty_production, if_production, while_production, do_production, for_production, foreach_production, active_production, unique_production, unmasked_production, jump_production, return_production, print_production, assert_production, empty_of}
+use Rattle.isp_grammar.proofs.Stmts.{Statement, stmt_by_head, some_stmt, Nothing, Several, BraceEnd, brace_then, Braced, braced_of, braced_makes, BlockForm, block_reads, some_block, Else, FitsElse, Branches, Conditional, if_of, Looping, while_of, Tested, DoEnd, Doing, do_of, ForLoop, for_of, Spreading, foreach_of, Activity, active_of, Distinction, unique_of, unmasked_of, DeclareStmt, declare_of, declare_makes, SimpleStmt, simple_of, simple_stmt_makes, jump_of, Returning, return_of, PrintEnd, PrintValues, PrintText, Printing, print_of, Asserting, assert_of}
 use Rattle.isp_grammar.proofs.StmtsComplete.{stmt_stands, several_by_head, several_complete, declare_start, simple_start, stmt_complete}
-use Rattle.isp_grammar.proofs.StmtsSound.{then_else, branches_then, body_then, tested_then, some_tested, do_then, for_then, foreach_then, active_then, declare_then, simple_then, return_then, print_behind, text_then, values_then, print_end_behind, asserted_then, brace_behind, several_sound, stmt_sound, block_sound}
+use Rattle.isp_grammar.proofs.StmtsSound.{then_else, branches_then, body_then, tested_then, some_tested, do_then, for_then, foreach_then, active_then, unique_then, declare_then, simple_then, return_then, print_behind, text_then, values_then, print_end_behind, asserted_then, brace_behind, several_sound, stmt_sound, block_sound}
 use Rattle.isp_grammar.proofs.Wrapped.{after_refused}
 use Rattle.isp_grammar.specs.Grammar.{IsBlock, is_braces, is_end, IsStmt, is_declare, is_simple}
 use Rattle.isp_grammar.specs.reader.Readers.{refuse, head, on_head}
@@ -66,6 +66,7 @@ opens (by.Do g) k s f h = produced (do_mark g) Doing (do_of g) (do_production g)
 opens (by.For g) k s f h = produced (for_mark g) ForLoop (for_of g) (for_production g) (some_both HeadParts Statement Free for_then some_head) k s f
 opens (by.Foreach t) k s f h = produced (foreach_mark t) Spreading (foreach_of t) (foreach_production t) (some_both RangesHead Statement Free foreach_then some_ranges_head) k s f
 opens by.ForeachActive k s f h = produced mark.ForeachActive Activity active_of active_production (some_both ActiveHead Statement Free active_then some_active_head) k s f
+opens by.ForeachUnique k s f h = produced mark.ForeachUnique Distinction unique_of unique_production (some_both UniqueHead Statement Free unique_then some_unique_head) k s f
 opens by.Unmasked k s f h = produced mark.Unmasked BlockForm unmasked_of unmasked_production some_block k s f
 opens (by.Jump j) k s f h = produced (jump_mark j) (One mark.Semicolon) (jump_of j) (jump_production j) (some_one mark.Semicolon) k s f
 opens by.Return k s f h = produced mark.Return Returning return_of return_production (some_both MaybeTest (One mark.Semicolon) Free return_then some_maybe) k s f
@@ -86,6 +87,7 @@ from_off n (by.Do f) t u e = absurd cc
 from_off n (by.For f) t u e = absurd cc
 from_off n (by.Foreach f) t u e = absurd cc
 from_off n by.ForeachActive t u e = absurd cc
+from_off n by.ForeachUnique t u e = absurd cc
 from_off n by.Unmasked t u e = absurd cc
 from_off n (by.Jump j) t u e = absurd cc
 from_off n by.Return t u e = absurd cc
@@ -175,6 +177,9 @@ module _ (n : ℕ) (ih : IsRefused Statement n) (blocks : IsRefused BlockForm n)
   activity_refused : IsRefused Activity n
   activity_refused = both_refused ActiveHead Statement Free active_then n (λ x a b e h. tt) active_head_complete (active_head_sound n) (active_head_refused n) ih
 
+  distinction_refused : IsRefused Distinction n
+  distinction_refused = both_refused UniqueHead Statement Free unique_then n (λ x a b e h. tt) unique_head_complete (unique_head_sound n) (unique_head_refused n) ih
+
   next_block_refused : (ts : List Token) (r : Refusal) → block_at (suc n) ts ≡ Err r → Refused (Can BlockForm) (λ m u d. block_at (suc m) u ≡ Err d) n ts r
   next_block_refused ts r e =
       made_refused Braced BlockForm braced_of [] (λ m u d. block_at (suc m) u ≡ Err d) n ts r
@@ -210,6 +215,7 @@ module _ (n : ℕ) (ih : IsRefused Statement n) (blocks : IsRefused BlockForm n)
   next_refused (by.For f) t ts r s k = by_mark (for_mark f) t ts r k (λ s e. production_refused (for_mark f) ForLoop (for_of f) (for_production f) n s for_loop_refused ts r e)
   next_refused (by.Foreach f) t ts r s k = by_mark (foreach_mark f) t ts r k (λ s e. production_refused (foreach_mark f) Spreading (foreach_of f) (foreach_production f) n s spreading_refused ts r e)
   next_refused by.ForeachActive t ts r s k = by_mark mark.ForeachActive t ts r k (λ s e. production_refused mark.ForeachActive Activity active_of active_production n s activity_refused ts r e)
+  next_refused by.ForeachUnique t ts r s k = by_mark mark.ForeachUnique t ts r k (λ s e. production_refused mark.ForeachUnique Distinction unique_of unique_production n s distinction_refused ts r e)
   next_refused by.Unmasked t ts r s k = by_mark mark.Unmasked t ts r k (λ s e. production_refused mark.Unmasked BlockForm unmasked_of unmasked_production n s blocks ts r e)
   next_refused (by.Jump j) t ts r s k = by_mark (jump_mark j) t ts r k (λ s e. production_refused (jump_mark j) (One mark.Semicolon) (jump_of j) (jump_production j) n s (one_refused mark.Semicolon n) ts r e)
   next_refused by.Return t ts r s k = by_mark mark.Return t ts r k (λ s e. production_refused mark.Return Returning return_of return_production n s (returning_refused n) ts r e)

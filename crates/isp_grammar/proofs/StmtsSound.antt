@@ -14,14 +14,14 @@ use Rattle.isp_grammar.proofs.Basics.{token, ok_is, err_ok}
 use Rattle.isp_grammar.proofs.Choices.{nowhere, limit_reads_none}
 use Rattle.isp_grammar.proofs.Declarations.{Declaring, declaration_sound, declaration_end}
 use Rattle.isp_grammar.proofs.Forms.{Found, IsSound, Can, One, one_sound, Free, Follows, follows, both_sound, one_then, behind_is, is_behind, then_one, is_before, made_sound, optional_sound, until_sound}
-use Rattle.isp_grammar.proofs.Ranges.{RangesHead, ranges_head_sound, ActiveHead, active_head_sound, Texts, text_sound, Values, values_sound}
+use Rattle.isp_grammar.proofs.Ranges.{RangesHead, ranges_head_sound, ActiveHead, active_head_sound, UniqueHead, unique_head_sound, Texts, text_sound, Values, values_sound}
 use Rattle.isp_grammar.proofs.Simples.{SimpleParts, simple_sound, simple_starts, simple_deep}
 use Rattle.isp_grammar.proofs.Starts.{Fits, start_fits, starts_off}
 use Rattle.isp_grammar.proofs.StmtParts.{declaration_starts, Test, test_sound, some_test, ClosedTest, closed_test_sound, MaybeTest, maybe_test_sound, test_maybe_ends, simple_semicolon, HeadParts, head_sound}
-use Rattle.isp_grammar.proofs.StmtReads.{production_sound, block_stmt_of, block_production, empty_production, if_production, while_production, do_production, for_production, foreach_production, active_production, unmasked_production, jump_production, return_production, print_production, assert_production, declare_reads, simple_stmt_reads, empty_of}
-use Rattle.isp_grammar.proofs.Stmts.{EndsStmt, Statement, some_stmt, Nothing, Several, BraceEnd, brace_then, block_deep, Braced, braced_of, braced_makes, BlockForm, block_reads, Else, FitsElse, Branches, Conditional, if_of, Looping, while_of, Tested, DoEnd, Doing, do_of, ForLoop, for_of, Spreading, foreach_of, Activity, active_of, unmasked_of, DeclareStmt, declare_of, declare_makes, SimpleStmt, simple_of, simple_stmt_makes, jump_of, Returning, return_of, PrintEnd, PrintValues, PrintText, Printing, print_of, Asserting, assert_of}
+use Rattle.isp_grammar.proofs.StmtReads.{production_sound, block_stmt_of, block_production, empty_production, if_production, while_production, do_production, for_production, foreach_production, active_production, unique_production, unmasked_production, jump_production, return_production, print_production, assert_production, declare_reads, simple_stmt_reads, empty_of}
+use Rattle.isp_grammar.proofs.Stmts.{EndsStmt, Statement, some_stmt, Nothing, Several, BraceEnd, brace_then, block_deep, Braced, braced_of, braced_makes, BlockForm, block_reads, Else, FitsElse, Branches, Conditional, if_of, Looping, while_of, Tested, DoEnd, Doing, do_of, ForLoop, for_of, Spreading, foreach_of, Activity, active_of, Distinction, unique_of, unmasked_of, DeclareStmt, declare_of, declare_makes, SimpleStmt, simple_of, simple_stmt_makes, jump_of, Returning, return_of, PrintEnd, PrintValues, PrintText, Printing, print_of, Asserting, assert_of}
 use Rattle.isp_grammar.proofs.Wrapped.{after_sound}
-use Rattle.isp_grammar.specs.Grammar.{is_open, IsBlock, is_braces, IsStmt, is_block, is_empty, is_declare, is_simple, is_if, is_if_else, is_while, is_do, is_for, is_foreach, is_foreach_active, is_unmasked, is_jump, is_return, is_print, is_assert}
+use Rattle.isp_grammar.specs.Grammar.{is_open, IsBlock, is_braces, IsStmt, is_block, is_empty, is_declare, is_simple, is_if, is_if_else, is_while, is_do, is_for, is_foreach, is_foreach_active, is_foreach_unique, is_unmasked, is_jump, is_return, is_print, is_assert}
 use Rattle.isp_grammar.proofs.Simples.{simple_unmakes}
 use Rattle.isp_grammar.specs.reader.Readers.{Reader, optional, optional_from}
 use Rattle.isp_grammar.specs.reader.Exprs.{begins_expr}
@@ -101,6 +101,9 @@ foreach_then = follows RangesHead Statement (λ x y b rest i h. tt) some_stmt.0 
 pub active_then : Follows ActiveHead Statement Free
 active_then = follows ActiveHead Statement (λ x y b rest i h. tt) some_stmt.0 some_stmt.1
 
+pub unique_then : Follows UniqueHead Statement Free
+unique_then = follows UniqueHead Statement (λ x y b rest i h. tt) some_stmt.0 some_stmt.1
+
 pub declare_then : Follows Declaring (One mark.Semicolon) Free
 declare_then = then_one Declaring mark.Semicolon declaration_end
 
@@ -157,6 +160,7 @@ pub record Foreign (m : Mark) : Type 0 where
   pub a_for : (f : Shape) → is_mark m (kind.Mark (for_mark f)) ≡ false
   pub a_foreach : (t : Tiling) → is_mark m (kind.Mark (foreach_mark t)) ≡ false
   pub active : is_mark m (kind.Mark mark.ForeachActive) ≡ false
+  pub unique : is_mark m (kind.Mark mark.ForeachUnique) ≡ false
   pub an_unmasked : is_mark m (kind.Mark mark.Unmasked) ≡ false
   pub a_jump : (j : Jump) → is_mark m (kind.Mark (jump_mark j)) ≡ false
   pub a_return : is_mark m (kind.Mark mark.Return) ≡ false
@@ -185,6 +189,7 @@ stmt_off_mark m f (is_do g d w o c e a ts s x i j) rest = f.a_do g
 stmt_off_mark m f (is_for g w o d e c is ts us a i x p s j k l n) rest = f.a_for g
 stmt_off_mark m f (is_foreach t w o c ts a rs s i j k) rest = f.a_foreach t
 stmt_off_mark m f (is_foreach_active g o c w a s i) rest = f.active
+stmt_off_mark m f (is_foreach_unique g o p c w ts a x s i j) rest = f.unique
 stmt_off_mark m f (is_unmasked u ts b i) rest = f.an_unmasked
 stmt_off_mark m f (is_jump j w e) rest = f.a_jump j
 stmt_off_mark m f (is_return w e ts x i) rest = f.a_return
@@ -216,6 +221,7 @@ brace_close_foreign = record {
   a_for = form_off mark.BraceClose for_mark refl refl;
   a_foreach = tiling_off mark.BraceClose foreach_mark refl refl;
   active = refl;
+  unique = refl;
   an_unmasked = refl;
   a_jump = jump_off mark.BraceClose jump_mark refl refl;
   a_return = refl;
@@ -236,6 +242,7 @@ else_foreign = record {
   a_for = form_off mark.Else for_mark refl refl;
   a_foreach = tiling_off mark.Else foreach_mark refl refl;
   active = refl;
+  unique = refl;
   an_unmasked = refl;
   a_jump = jump_off mark.Else jump_mark refl refl;
   a_return = refl;
@@ -306,6 +313,8 @@ module _ (n : ℕ) (ih : IsSound Statement n) (blocks : IsSound BlockForm n) whe
       by_mark (foreach_mark f) t ts y rest k (λ s e. production_sound (foreach_mark f) Spreading (foreach_of f) (foreach_production f) n s (both_sound RangesHead Statement Free foreach_then n (ranges_head_sound n) ih) ts y rest e)
   next_sound by.ForeachActive t ts y rest s k =
       by_mark mark.ForeachActive t ts y rest k (λ s e. production_sound mark.ForeachActive Activity active_of active_production n s (both_sound ActiveHead Statement Free active_then n (active_head_sound n) ih) ts y rest e)
+  next_sound by.ForeachUnique t ts y rest s k =
+      by_mark mark.ForeachUnique t ts y rest k (λ s e. production_sound mark.ForeachUnique Distinction unique_of unique_production n s (both_sound UniqueHead Statement Free unique_then n (unique_head_sound n) ih) ts y rest e)
   next_sound by.Unmasked t ts y rest s k = by_mark mark.Unmasked t ts y rest k (λ s e. production_sound mark.Unmasked BlockForm unmasked_of unmasked_production n s blocks ts y rest e)
   next_sound (by.Jump j) t ts y rest s k = by_mark (jump_mark j) t ts y rest k (λ s e. production_sound (jump_mark j) (One mark.Semicolon) (jump_of j) (jump_production j) n s (one_sound mark.Semicolon n) ts y rest e)
   next_sound by.Return t ts y rest s k =

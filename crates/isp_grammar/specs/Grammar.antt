@@ -7,10 +7,10 @@ use Rattle.isp_base.specs.declared.types.Value.{Value}
 use Rattle.isp_lex.specs.Tokens.{at}
 use Rattle.isp_lex.specs.declared.token.Mark.TheVariants as mark
 use Rattle.isp_lex.specs.declared.token.Token.{Token}
-use Rattle.isp_grammar.specs.Signs.{word, numeral, textual, qualifier_mark, base_mark, truth_mark, prefix_mark, sign, level, joined_level, loosest, assignment_mark, change_mark, if_mark, while_mark, do_mark, for_mark, foreach_mark, jump_mark, linkage_mark, first_span, spread}
+use Rattle.isp_grammar.specs.Signs.{word, preposition, numeral, textual, qualifier_mark, base_mark, truth_mark, prefix_mark, sign, level, joined_level, loosest, assignment_mark, change_mark, if_mark, while_mark, do_mark, for_mark, foreach_mark, jump_mark, linkage_mark, first_span, spread}
 use Rattle.isp_tree.specs.Tree.{TypeTree, has_sign, Expr, number, truth, program_index, program_count, place, call, brackets, cast, prefix, binary, choose, Place, variable, element, Argument, by_value, by_reference, listed, span_of, span_of_place}
 use Rattle.isp_tree.specs.Tree.{Item, plain, with_value, with_size, span_of_item, Declaration, Simple, value, assign, change, span_of_simple, First, first_declare, first_simple, Range}
-use Rattle.isp_tree.specs.Tree.{Stmt, block, empty, declare, simple, if_then, if_else, loop_while, loop_do, loop_for, foreach, foreach_active, unmasked, jump, returning, print, assert, Block, braces, all, span_of_block, span_of_stmt, Param, Function}
+use Rattle.isp_tree.specs.Tree.{Stmt, block, empty, declare, simple, if_then, if_else, loop_while, loop_do, loop_for, foreach, foreach_active, foreach_unique, unmasked, jump, returning, print, assert, Block, braces, all, span_of_block, span_of_stmt, Param, Function}
 use Rattle.isp_tree.specs.declared.types.Word.{Word}
 use Rattle.isp_tree.specs.declared.types.Qualifier.{Qualifier}
 use Rattle.isp_tree.specs.declared.types.Base.{Base}
@@ -234,6 +234,7 @@ is_open (loop_do f a x s) = false
 is_open (loop_for f i x p a s) = is_open a
 is_open (foreach t k rs a s) = is_open a
 is_open (foreach_active k w a s) = is_open a
+is_open (foreach_unique k w x a s) = is_open a
 is_open (unmasked k b s) = false
 is_open (jump j k s) = false
 is_open (returning k x s) = false
@@ -311,6 +312,12 @@ mutual
         → IsStmt
         (at mark.ForeachActive keyword ∷ at mark.ParenOpen opening ∷ word name ∷ at mark.ParenClose closing ∷ rest)
         (foreach_active keyword name body (span_to keyword (span_of_stmt body)))
+    -- "foreach_unique" "(" WORD "in" expr ")" stmt, where "in" is a name
+    is_foreach_unique : (keyword opening middle closing : Span) (name : Word) (inside rest : List Token) (value : Expr) (body : Stmt)
+        → IsExpr loosest inside value → IsStmt rest body
+        → IsStmt
+        (at mark.ForeachUnique keyword ∷ at mark.ParenOpen opening ∷ word name ∷ preposition middle ∷ (inside ++ at mark.ParenClose closing ∷ rest))
+        (foreach_unique keyword name value body (span_to keyword (span_of_stmt body)))
     -- "unmasked" block
     is_unmasked : (keyword : Span) (rest : List Token) (body : Block)
         → IsBlock rest body

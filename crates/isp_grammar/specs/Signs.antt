@@ -1,5 +1,5 @@
 -- How the words and signs of a tree are written, and how tight operators bind.
-use Rattle.std.specs.Prelude.{ℕ, List, [], ◌∷◌, Bool, true, false, ◌||◌}
+use Rattle.std.specs.Prelude.{ℕ, List, [], ◌∷◌, Bool, true, false, ◌||◌, codes}
 use Rattle.isp_base.specs.declared.types.Span.{Span}
 use Rattle.isp_base.specs.declared.types.Value.{Value}
 use Rattle.isp_base.specs.Types.{span_to}
@@ -32,6 +32,10 @@ use Rattle.isp_tree.specs.declared.function.Linkage.TheVariants.{Export, Static,
 -- the token of a name
 abbrev pub word : Word → Token
 word w = record { kind = kind.Word w.name; span = w.span }
+
+-- the token of the name `in`, of a `foreach_unique`
+abbrev pub preposition : Span → Token
+preposition s = record { kind = kind.Word (codes "in"); span = s }
 
 -- the token of a number
 abbrev pub numeral : Value → Span → Token

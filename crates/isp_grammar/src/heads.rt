@@ -4,7 +4,7 @@ ghost use Rattle.isp_grammar.specs.declared.heads.Loop.TheVariants as loops;
 ghost use Rattle.isp_grammar.specs.reader.Readers.{Gives};
 ghost use Rattle.isp_grammar.specs.reader.Stmts.{heading_of, heading_at};
 
-use crate::parts::{ForHead, maybe_expr, maybe_first, maybe_step, ranges, test};
+use crate::parts::{ForHead, maybe_expr, maybe_first, maybe_step, ranges, test, unique_parts};
 use crate::reading::{closed_by, in_box, mark, word};
 use crate::stop::Stop;
 use isp_lex::{Mark, Token};
@@ -18,6 +18,7 @@ pub enum Loop {
     For(Form),
     Foreach(Tiling),
     ForeachActive,
+    ForeachUnique,
 }
 
 /// What stands before the body of a loop.
@@ -27,6 +28,7 @@ pub enum LoopHead {
     For(Form, ForHead),
     Foreach(Tiling, Vec<Range>),
     ForeachActive(Word),
+    ForeachUnique(Word, Box<Expr>),
 }
 
 /// The first part, the test and the step of a `for` in brackets.
@@ -77,6 +79,22 @@ fn active_head(alloc: Global, tokens: &[Token]) -> Result<(Box<LoopHead>, &[Toke
     in_box(alloc, LoopHead::ForeachActive(word), rest)
 }
 
+/// The name and the value of a `foreach_unique` in brackets.
+#[tactic(auto, unfolding(crate::specs::reader::Stmts::unique_head_at))]
+fn unique_head(
+    alloc: Global,
+    left: usize,
+    tokens: &[Token],
+) -> Result<(Box<LoopHead>, &[Token]), Stop>
+    ensures value { Gives (λ r. (heading_of r.0.value, r.1.now)) result (heading_at left loops.ForeachUnique tokens.now) }
+    ensures rest { IfOk result (λ r. length r.1.now < length tokens.now) }
+{
+    let (_open, rest) = mark(Mark::ParenOpen, tokens)?;
+    let (parts, rest) = unique_parts(alloc, left, rest)?;
+    let (((word, value), _close), rest) = closed_by(Mark::ParenClose, parts, rest)?;
+    in_box(alloc, LoopHead::ForeachUnique(word, value), rest)
+}
+
 /// What stands before the body of this loop.
 pub fn loop_head(
     alloc: Global,
@@ -95,5 +113,6 @@ pub fn loop_head(
         Loop::For(form) => for_head(alloc, left, form, tokens),
         Loop::Foreach(tiling) => foreach_head(alloc, left, tiling, tokens),
         Loop::ForeachActive => active_head(alloc, tokens),
+        Loop::ForeachUnique => unique_head(alloc, left, tokens),
     }
 }

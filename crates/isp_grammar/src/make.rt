@@ -1,6 +1,6 @@
 //! Statements made of their parts, each from its first word to the end of its last part, and put in a box.
 ghost use Rattle.std.specs.Prelude.{◌≡◌, IfOk, IfErr, option_map};
-ghost use Rattle.isp_tree.specs.Tree.{loop_for};
+ghost use Rattle.isp_tree.specs.Tree.{loop_for, foreach_unique};
 ghost use Rattle.isp_tree.specs.Views.{expr_of, stmt_of, block_of};
 ghost use Rattle.isp_grammar.specs.reader.Stmts.{head_of, heading_of, if_from, do_from, looped, unmasked_from};
 
@@ -10,7 +10,7 @@ use crate::reading::in_box;
 use crate::stop::Stop;
 use isp_base::Span;
 use isp_lex::Token;
-use isp_tree::{Block, Expr, First, Form, Simple, Stmt};
+use isp_tree::{Block, Expr, First, Form, Simple, Stmt, Word};
 use std::alloc::Global;
 
 /// A statement in a box, and the tokens after it.
@@ -110,6 +110,18 @@ fn for_of(form: Form, head: ForHead, body: Box<Stmt>, span: Span) -> Stmt
     }
 }
 
+fn unique_of(keyword: Span, word: Word, value: Box<Expr>, body: Box<Stmt>, span: Span) -> Stmt
+    ensures { stmt_of result ≡ foreach_unique keyword word (expr_of value.value) (stmt_of body.value) span }
+{
+    Stmt::ForeachUnique {
+        keyword,
+        word,
+        value: Box::into_inner(value),
+        body,
+        span,
+    }
+}
+
 /// A loop of what stands before its body, and the body.
 pub fn loop_of(keyword: Span, head: Box<LoopHead>, body: Box<Stmt>) -> Stmt
     ensures { stmt_of result ≡ looped keyword (heading_of head.value) (stmt_of body.value) }
@@ -139,6 +151,7 @@ pub fn loop_of(keyword: Span, head: Box<LoopHead>, body: Box<Stmt>) -> Stmt
             body,
             span,
         },
+        LoopHead::ForeachUnique(word, value) => unique_of(keyword, word, value, body, span),
     }
 }
 

@@ -6,12 +6,13 @@ ghost use Rattle.isp_grammar.specs.reader.Readers.{Gives, mark_at, both};
 ghost use Rattle.isp_grammar.specs.reader.Choices.{begins_with, sign_at, maybe_closed_at};
 ghost use Rattle.isp_grammar.specs.reader.Exprs.{expr_at};
 ghost use Rattle.isp_grammar.specs.reader.Starts.{begins_first, begins_simple};
-ghost use Rattle.isp_grammar.specs.reader.Stmts.{closed_test_at, test_at, first_at, first_part_at, step_part_at, range_at, with_last, last_range_at, with_more, more_ranges_at, ranges_at, text_of, behind_at, values_at, do_end_at};
+ghost use Rattle.isp_grammar.specs.reader.Stmts.{closed_test_at, test_at, first_at, first_part_at, step_part_at, range_at, with_last, last_range_at, with_more, more_ranges_at, ranges_at, unique_parts_at, text_of, behind_at, values_at, do_end_at};
 
 use crate::declaration::declaration;
 use crate::expr::expr;
 use crate::reading::{
-    closed_by, in_box, mark, refuse, refuse_at_limit, starts_with, tail, with_boxed, word,
+    closed_by, in_box, mark, preposition, refuse, refuse_at_limit, starts_with, tail, with_boxed,
+    word,
 };
 use crate::simple::simple;
 use crate::start::{Start, stmt_start};
@@ -19,7 +20,7 @@ use crate::stop::{Stop, Why};
 use crate::types::begins_type;
 use isp_base::Span;
 use isp_lex::{Mark, Text, Token, TokenKind};
-use isp_tree::{Expr, First, Range, Simple};
+use isp_tree::{Expr, First, Range, Simple, Word};
 use std::alloc::Global;
 
 /// An expression in brackets, and where the closing one stands.
@@ -250,6 +251,22 @@ pub fn ranges(alloc: Global, left: usize, tokens: &[Token]) -> Result<(Vec<Range
     let (first, rest) = range(alloc, left, tokens)?;
     let all = with_boxed(Vec::new(alloc), first)?;
     more_ranges(alloc, left, all, rest)
+}
+
+/// The name of a `foreach_unique`, and the value behind `in`.
+#[tactic(auto, unfolding(crate::specs::reader::Stmts::unique_parts_at))]
+pub fn unique_parts(
+    alloc: Global,
+    left: usize,
+    tokens: &[Token],
+) -> Result<((Word, Box<Expr>), &[Token]), Stop>
+    ensures value { Gives (λ r. ((r.0.0, expr_of r.0.1.value), r.1.now)) result (unique_parts_at left tokens.now) }
+    ensures rest { IfOk result (λ r. length r.1.now < length tokens.now) }
+{
+    let (word, rest) = word(tokens)?;
+    let (_in, rest) = preposition(rest)?;
+    let (value, _height, rest) = expr(alloc, left, rest)?;
+    Ok(((word, value), rest))
 }
 
 /// A text in quotes, and where it stands.

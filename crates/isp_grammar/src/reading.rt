@@ -1,7 +1,9 @@
 //! Single tokens.
 ghost use Rattle.std.specs.Prelude.{◌≡◌, ◌<◌, ◌∷◌, ◌++◌, [], IfOk, IfErr, length, drop, max};
 ghost use Rattle.isp_lex.specs.Tokens.{starts_with};
+ghost use Rattle.isp_grammar.specs.reader.Choices.{sign_at};
 ghost use Rattle.isp_grammar.specs.reader.Readers.{Gives, refusal, refusal_at_limit, mark_at, word_at};
+ghost use Rattle.isp_grammar.specs.reader.Stmts.{in_of};
 
 use crate::stop::{Refusal, Stop, Why};
 use isp_base::Span;
@@ -89,6 +91,21 @@ pub fn word(tokens: &[Token]) -> Result<(Word, &[Token]), Stop>
             let span = first.span;
             Ok((Word { name, span }, rest))
         }
+        _ => Err(refuse(Why::Unexpected, tokens)),
+    }
+}
+
+/// The name `in`: where it stands, and the tokens after it.
+#[tactic(auto, unfolding(crate::specs::reader::Choices::sign_at))]
+pub fn preposition(tokens: &[Token]) -> Result<(Span, &[Token]), Stop>
+    ensures value { Gives (λ r. ((tt, r.0), r.1.now)) result (sign_at in_of tokens.now) }
+    ensures rest { IfOk result (λ r. length r.1.now < length tokens.now) }
+{
+    let Some((first, rest)) = tokens.split_first() else {
+        return Err(refuse(Why::Unexpected, tokens));
+    };
+    match &first.kind {
+        TokenKind::Word(name) if name.as_str() == "in" => Ok((first.span, rest)),
         _ => Err(refuse(Why::Unexpected, tokens)),
     }
 }

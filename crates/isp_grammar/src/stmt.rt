@@ -195,6 +195,7 @@ fn stmt_from<'a>(
         Start::For(form) => loop_stmt(alloc, inner, Loop::For(form), keyword, rest),
         Start::Foreach(tiling) => loop_stmt(alloc, inner, Loop::Foreach(tiling), keyword, rest),
         Start::ForeachActive => loop_stmt(alloc, inner, Loop::ForeachActive, keyword, rest),
+        Start::ForeachUnique => loop_stmt(alloc, inner, Loop::ForeachUnique, keyword, rest),
         Start::Unmasked => unmasked(alloc, inner, keyword, rest),
         Start::Jump(jump) => jump_stmt(alloc, jump, keyword, rest),
         Start::Return => return_stmt(alloc, inner, keyword, rest),

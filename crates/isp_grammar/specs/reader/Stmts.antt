@@ -1,5 +1,5 @@
 -- How statements are read.
-use Rattle.std.specs.Prelude.{option_map, ◌⊎◌, ℕ, zero, suc, List, [], ◌∷◌, ◌++◌, length, map, Bool, true, false, ◌||◌, Option, Some, None, Ok}
+use Rattle.std.specs.Prelude.{⊤, bytes_eq, codes, cond, option_map, ◌⊎◌, ℕ, zero, suc, List, [], ◌∷◌, ◌++◌, length, map, Bool, true, false, ◌||◌, Option, Some, None, Ok}
 use mathlib.Core.Logic.{inl, inr}
 use Rattle.isp_base.specs.Types.{span_to}
 use Rattle.isp_base.specs.declared.types.Span.{Span}
@@ -17,7 +17,7 @@ use Rattle.isp_grammar.specs.reader.Exprs.{expr_at}
 use Rattle.isp_grammar.specs.reader.Starts.{start_of, begins_first, begins_simple, begins_stmt}
 use Rattle.isp_grammar.specs.reader.Types.{begins_type, type_at}
 use Rattle.isp_grammar.specs.Signs.{loosest}
-use Rattle.isp_tree.specs.Tree.{TypeTree, Expr, span_of, Item, plain, with_value, with_size, Declaration, Simple, value, assign, change, First, first_declare, first_simple, Range, Stmt, block, empty, declare, simple, if_then, if_else, loop_while, loop_do, loop_for, foreach, foreach_active, unmasked, jump, returning, print, assert, Block, braces, all, span_of_block, span_of_stmt, span_of_simple}
+use Rattle.isp_tree.specs.Tree.{TypeTree, Expr, span_of, Item, plain, with_value, with_size, Declaration, Simple, value, assign, change, First, first_declare, first_simple, Range, Stmt, block, empty, declare, simple, if_then, if_else, loop_while, loop_do, loop_for, foreach, foreach_active, foreach_unique, unmasked, jump, returning, print, assert, Block, braces, all, span_of_block, span_of_stmt, span_of_simple}
 use Rattle.isp_tree.specs.Views.{expr_of, simple_of, first_of, range_of}
 use Rattle.isp_grammar.specs.declared.declaration.ItemTail as rust_item
 use Rattle.isp_grammar.specs.declared.declaration.ItemTail.TheVariants as one
@@ -234,6 +234,21 @@ ranges_head_at n ts = both (mark_at mark.ParenOpen) (both (ranges_at n) (mark_at
 unfoldable pub active_head_at : Reader Word
 active_head_at ts = both (mark_at mark.ParenOpen) (both word_at (mark_at mark.ParenClose)) ts >>= λ p. Ok (p.0.1.0, p.1)
 
+-- the name `in`
+abbrev pub in_of : TokenKind → Option ⊤
+in_of (kind.Word n) = cond (bytes_eq n (codes "in")) (Some tt) None
+in_of (kind.Number v) = None
+in_of (kind.Text t) = None
+in_of (kind.Mark m) = None
+in_of kind.LeftOut = None
+
+-- the name and the value of a `foreach_unique`
+unfoldable pub unique_parts_at : ℕ → Reader (Word × Expr)
+unique_parts_at n ts = both word_at (both (sign_at in_of) (expr_at n loosest)) ts >>= λ p. Ok ((p.0.0, p.0.1.1), p.1)
+
+unfoldable pub unique_head_at : ℕ → Reader (Word × Expr)
+unique_head_at n ts = both (mark_at mark.ParenOpen) (both (unique_parts_at n) (mark_at mark.ParenClose)) ts >>= λ p. Ok (p.0.1.0, p.1)
+
 abbrev pub text_of : TokenKind → Option (List ℕ)
 text_of (kind.Word n) = None
 text_of (kind.Number v) = None
@@ -321,30 +336,40 @@ active_from w i s = foreach_active w i s (span_to w (span_of_stmt s))
 unfoldable pub active_at : Reader Stmt → Span → Reader Stmt
 active_at stmt w ts = both active_head_at stmt ts >>= λ p. Ok (active_from w p.0.0 p.0.1, p.1)
 
+abbrev pub unique_from : Span → Word → Expr → Stmt → Stmt
+unique_from w i x s = foreach_unique w i x s (span_to w (span_of_stmt s))
+
+unfoldable pub unique_at : Reader Stmt → ℕ → Span → Reader Stmt
+unique_at stmt n w ts = both (unique_head_at n) stmt ts >>= λ p. Ok (unique_from w p.0.0.0 p.0.0.1 p.0.1, p.1)
+
 -- what stands before the body of a loop
 pub data Heading : Type 0 where
   by_while : Form → Expr → Heading
   by_for : Form → Head → Heading
   by_foreach : Tiling → List Range → Heading
   by_active : Word → Heading
+  by_unique : Word → Expr → Heading
 
 abbrev pub heading_of : rust_heading.LoopHead → Heading
 heading_of (heading.While f x) = by_while f (expr_of x.value)
 heading_of (heading.For f h) = by_for f (head_of h)
 heading_of (heading.Foreach t rs) = by_foreach t (map range_of rs.items)
 heading_of (heading.ForeachActive i) = by_active i
+heading_of (heading.ForeachUnique i x) = by_unique i (expr_of x.value)
 
 abbrev pub heading_at : ℕ → Loop → Reader Heading
 heading_at n (loops.While f) ts = test_at n ts >>= λ p. Ok (by_while f p.0, p.1)
 heading_at n (loops.For f) ts = head_at n ts >>= λ p. Ok (by_for f p.0, p.1)
 heading_at n (loops.Foreach t) ts = ranges_head_at n ts >>= λ p. Ok (by_foreach t p.0, p.1)
 heading_at n loops.ForeachActive ts = active_head_at ts >>= λ p. Ok (by_active p.0, p.1)
+heading_at n loops.ForeachUnique ts = unique_head_at n ts >>= λ p. Ok (by_unique p.0.0 p.0.1, p.1)
 
 abbrev pub looped : Span → Heading → Stmt → Stmt
 looped w (by_while f x) s = while_from f w x s
 looped w (by_for f h) s = for_from f w h s
 looped w (by_foreach t rs) s = foreach_from t w rs s
 looped w (by_active i) s = active_from w i s
+looped w (by_unique i x) s = unique_from w i x s
 
 -- a loop whose body stands last
 unfoldable pub loop_at : Reader Stmt → ℕ → Loop → Span → Reader Stmt
@@ -352,6 +377,7 @@ loop_at stmt n (loops.While f) w ts = while_at stmt n f w ts
 loop_at stmt n (loops.For f) w ts = for_at stmt n f w ts
 loop_at stmt n (loops.Foreach t) w ts = foreach_at stmt n t w ts
 loop_at stmt n loops.ForeachActive w ts = active_at stmt w ts
+loop_at stmt n loops.ForeachUnique w ts = unique_at stmt n w ts
 
 abbrev pub unmasked_from : Span → Block → Stmt
 unmasked_from u b = unmasked u b (span_to u (span_of_block b))
@@ -371,6 +397,7 @@ stmt_from stmt blocks n (by.Do f) t ts = do_at stmt n f t.span ts
 stmt_from stmt blocks n (by.For f) t ts = for_at stmt n f t.span ts
 stmt_from stmt blocks n (by.Foreach f) t ts = foreach_at stmt n f t.span ts
 stmt_from stmt blocks n by.ForeachActive t ts = active_at stmt t.span ts
+stmt_from stmt blocks n by.ForeachUnique t ts = unique_at stmt n t.span ts
 stmt_from stmt blocks n by.Unmasked t ts = unmasked_at blocks t.span ts
 stmt_from stmt blocks n (by.Jump j) t ts = jump_at j t.span ts
 stmt_from stmt blocks n by.Return t ts = return_at n t.span ts

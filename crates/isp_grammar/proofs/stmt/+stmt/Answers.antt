@@ -239,6 +239,10 @@ pub stmt_from-returns-in-ForeachActive-clause-value : goal.stmt_from-returns-in-
 unfolding loop_at
 stmt_from-returns-in-ForeachActive-clause-value t c = rw (sym c.stmt_start.ensures ∙ c.in-ForeachActive.is) c.loop_stmt-in-ForeachActive.ensures.value
 
+pub stmt_from-returns-in-ForeachUnique-clause-value : goal.stmt_from-returns-in-ForeachUnique-clause-value
+unfolding loop_at
+stmt_from-returns-in-ForeachUnique-clause-value t c = rw (sym c.stmt_start.ensures ∙ c.in-ForeachUnique.is) c.loop_stmt-in-ForeachUnique.ensures.value
+
 pub stmt_from-returns-in-Unmasked-clause-value : goal.stmt_from-returns-in-Unmasked-clause-value
 stmt_from-returns-in-Unmasked-clause-value t c = rw (sym c.stmt_start.ensures ∙ c.in-Unmasked.is) c.unmasked.ensures.value
 
@@ -285,6 +289,9 @@ stmt_from-returns-in-Foreach-clause-rest t c = shorter c.loop_stmt-in-Foreach.re
 
 pub stmt_from-returns-in-ForeachActive-clause-rest : goal.stmt_from-returns-in-ForeachActive-clause-rest
 stmt_from-returns-in-ForeachActive-clause-rest t c = shorter c.loop_stmt-in-ForeachActive.result c.args.first.now c.args.rest.now c.args.tokens.now c.requires.whole c.loop_stmt-in-ForeachActive.ensures.rest
+
+pub stmt_from-returns-in-ForeachUnique-clause-rest : goal.stmt_from-returns-in-ForeachUnique-clause-rest
+stmt_from-returns-in-ForeachUnique-clause-rest t c = shorter c.loop_stmt-in-ForeachUnique.result c.args.first.now c.args.rest.now c.args.tokens.now c.requires.whole c.loop_stmt-in-ForeachUnique.ensures.rest
 
 pub stmt_from-returns-in-Unmasked-clause-rest : goal.stmt_from-returns-in-Unmasked-clause-rest
 stmt_from-returns-in-Unmasked-clause-rest t c = shorter c.unmasked.result c.args.first.now c.args.rest.now c.args.tokens.now c.requires.whole c.unmasked.ensures.rest
