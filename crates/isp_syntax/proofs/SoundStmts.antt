@@ -11,8 +11,8 @@ use Rattle.isp_lex.specs.declared.token.Token.{Token}
 use Rattle.isp_syntax.proofs.Places.{Within, InLine, line_up, line_end, cut, in_text, within_to, wider, later, first_of_line, tokens_in_line, all_one}
 use Rattle.isp_syntax.proofs.SoundExprs.{name_in, token_in, type_in, type_long, Good, expr_in}
 use Rattle.isp_grammar.specs.Grammar.{IsMaybe, AreAll, AreListed, AreBehindCommas, IsExpr, IsSize, is_number_size, is_count_size, IsItem, is_plain, is_with_value, is_with_size, span_of_last, IsDeclaration, is_declaration, IsSimple, is_value, is_assign, is_change_after, is_change_before, IsFirst, is_first_declare, is_first_simple, IsRange, is_range}
-use Rattle.isp_grammar.specs.Grammar.{IsBlock, is_braces, IsStmts, is_end, is_next, IsStmt, is_block, is_empty, is_declare, is_simple, is_if, is_if_else, is_while, is_do, is_for, is_foreach, is_foreach_active, is_unmasked, is_jump, is_return, is_print, is_assert, IsParam, is_scalar, is_array, IsParams, is_none, is_void, is_some, IsFunction, is_function, IsProgram}
-use Rattle.isp_grammar.specs.Signs.{word, numeral, textual, assignment_mark, change_mark, foreach_mark, jump_mark, loosest, first_span}
+use Rattle.isp_grammar.specs.Grammar.{IsBlock, is_braces, IsStmts, is_end, is_next, IsStmt, is_block, is_empty, is_declare, is_simple, is_if, is_if_else, is_while, is_do, is_for, is_foreach, is_foreach_active, is_foreach_unique, is_unmasked, is_jump, is_return, is_print, is_assert, IsParam, is_scalar, is_array, IsParams, is_none, is_void, is_some, IsFunction, is_function, IsProgram}
+use Rattle.isp_grammar.specs.Signs.{word, preposition, numeral, textual, assignment_mark, change_mark, foreach_mark, jump_mark, loosest, first_span}
 use Rattle.isp_tree.specs.Depth.{depth_of_functions, limit}
 use Rattle.isp_tree.specs.Nodes.{nodes, nodes_of_option, nodes_of_all, nodes_of_item, nodes_of_declaration, nodes_of_simple, nodes_of_first, nodes_of_step, nodes_of_range, nodes_of_stmt, nodes_of_block, nodes_of_stmts, nodes_of_function}
 use Rattle.isp_tree.specs.Sound.{IfAny, IsSoundExpr, IsSoundSize, IsSoundItem, IsSoundDeclaration, IsSoundSimple, IsSoundFirst, IsSoundRange, IsSoundStmt, IsSoundBlock, AreSoundStmts, IsSoundParam, IsSoundFunction, IsSound}
@@ -312,6 +312,22 @@ mutual
         is = (token_in low (at mark.ForeachActive k) (at mark.ParenOpen o ∷ word w ∷ at mark.ParenClose c ∷ a) high l, name_in o.end w (at mark.ParenClose c ∷ a) high n, g.is, in_text low (span_to k (span_of_stmt b)) high s (line_end c.end a high q.2));
         place = s;
         few = omega (arith, g.few);
+      }
+  stmt_in low high (is_foreach_unique k o m c w ts a x b i j) l =
+      let p = l.2 in
+      let n = p.2 in
+      let q = n.2 in
+      let r = cut m.end ts (at mark.ParenClose c ∷ a) high q.2 in
+      let v = expr_in m.end r.at i r.front in
+      let back = r.back in
+      let g = stmt_in c.end high j back.2 in
+      let on : k.end ≤ c.end = omega (arith, p.0.from, p.0.some, n.0.from, n.0.some, q.0.from, q.0.some, line_up m.end ts r.at r.front, back.0.from, back.0.some) in
+      let s = begun low k c.end (span_of_stmt b) high l.0 on g.place in
+      let inside : List Token = preposition m ∷ (ts ++ at mark.ParenClose c ∷ a) in
+      record {
+        is = (token_in low (at mark.ForeachUnique k) (at mark.ParenOpen o ∷ word w ∷ inside) high l, name_in o.end w inside high n, v.is, g.is, in_text low (span_to k (span_of_stmt b)) high s (line_end c.end a high back.2));
+        place = s;
+        few = omega (arith, v.few, g.few, length-append ts (at mark.ParenClose c ∷ a));
       }
   stmt_in low high (is_unmasked k ts b i) l =
       let g = block_in k.end high i l.2 in

@@ -8,10 +8,10 @@ use Rattle.isp_lex.specs.declared.token.Token.{Token}
 use Rattle.isp_syntax.proofs.ExprsRespan.{type_respan, expr_respan, exprs_respan}
 use Rattle.isp_syntax.proofs.SameKinds.{Same, same_none, same_first, same_one, same_split, same_before, same_around, moved, Respans, all_respan, listed_respan}
 use Rattle.isp_tree.specs.Depth.{depth, depth_of_option, deepest_of, depth_of_item, depth_of_declaration, depth_of_simple, depth_of_first, depth_of_step, depth_of_range, depth_of_stmt, depth_of_block, depth_of_stmts, depth_of_functions}
-use Rattle.isp_grammar.specs.Grammar.{IsMaybe, AreListed, AreBehindCommas, IsExpr, IsSize, is_number_size, is_count_size, IsItem, is_plain, is_with_value, is_with_size, span_of_last, IsDeclaration, is_declaration, IsSimple, is_value, is_assign, is_change_after, is_change_before, IsFirst, is_first_declare, is_first_simple, IsRange, is_range, is_open, IsBlock, is_braces, IsStmts, is_end, is_next, IsStmt, is_block, is_empty, is_declare, is_simple, is_if, is_if_else, is_while, is_do, is_for, is_foreach, is_foreach_active, is_unmasked, is_jump, is_return, is_print, is_assert, IsLinkage, is_linkage, IsParam, is_scalar, is_array, IsParams, is_none, is_void, is_some, IsFunction, is_function, IsProgram}
+use Rattle.isp_grammar.specs.Grammar.{IsMaybe, AreListed, AreBehindCommas, IsExpr, IsSize, is_number_size, is_count_size, IsItem, is_plain, is_with_value, is_with_size, span_of_last, IsDeclaration, is_declaration, IsSimple, is_value, is_assign, is_change_after, is_change_before, IsFirst, is_first_declare, is_first_simple, IsRange, is_range, is_open, IsBlock, is_braces, IsStmts, is_end, is_next, IsStmt, is_block, is_empty, is_declare, is_simple, is_if, is_if_else, is_while, is_do, is_for, is_foreach, is_foreach_active, is_foreach_unique, is_unmasked, is_jump, is_return, is_print, is_assert, IsLinkage, is_linkage, IsParam, is_scalar, is_array, IsParams, is_none, is_void, is_some, IsFunction, is_function, IsProgram}
 use Rattle.isp_syntax.specs.Promise.{kinds}
-use Rattle.isp_grammar.specs.Signs.{word, numeral, textual, loosest, assignment_mark, change_mark, if_mark, while_mark, do_mark, for_mark, foreach_mark, jump_mark, linkage_mark, first_span}
-use Rattle.isp_tree.specs.Tree.{span_of, Item, plain, with_value, with_size, Declaration, Simple, value, assign, change, span_of_simple, First, first_declare, first_simple, Range, Stmt, block, empty, declare, simple, if_then, if_else, loop_while, loop_do, loop_for, foreach, foreach_active, unmasked, jump, returning, print, assert, all, Block, braces, span_of_block, span_of_stmt, Param, Function}
+use Rattle.isp_grammar.specs.Signs.{word, preposition, numeral, textual, loosest, assignment_mark, change_mark, if_mark, while_mark, do_mark, for_mark, foreach_mark, jump_mark, linkage_mark, first_span}
+use Rattle.isp_tree.specs.Tree.{span_of, Item, plain, with_value, with_size, Declaration, Simple, value, assign, change, span_of_simple, First, first_declare, first_simple, Range, Stmt, block, empty, declare, simple, if_then, if_else, loop_while, loop_do, loop_for, foreach, foreach_active, foreach_unique, unmasked, jump, returning, print, assert, all, Block, braces, span_of_block, span_of_stmt, Param, Function}
 use Rattle.isp_tree.specs.declared.stmt.Size.{Size}
 use Rattle.isp_tree.specs.declared.stmt.Size.TheVariants as size
 use Rattle.isp_tree.specs.declared.function.Linkage.{Linkage}
@@ -221,6 +221,20 @@ mutual
       let z = foreach_active p.0 v b.0 (span_to p.0 (span_of_stmt b.0)) in
       let l = p.2 ∙ ap (λ (l : List Token). at mark.ForeachActive p.0 ∷ l) (q.2 ∙ ap (λ (l : List Token). at mark.ParenOpen q.0 ∷ l) (r.2 ∙ ap (λ (l : List Token). word v ∷ l) m.2)) in
       (z, subst (λ (l : List Token). IsStmt l z) (sym l) (is_foreach_active p.0 q.0 m.0 v m.1 b.0 b.1), ap suc b.2, b.3)
+  stmt_respan (is_foreach_unique f o m c w ts a x s i j) us e =
+      let inside : List Token = ts ++ at mark.ParenClose c ∷ a in
+      let p = same_first (at mark.ForeachUnique f) (at mark.ParenOpen o ∷ word w ∷ preposition m ∷ inside) us e in
+      let q = same_first (at mark.ParenOpen o) (word w ∷ preposition m ∷ inside) p.1 p.3 in
+      let r = same_first (word w) (preposition m ∷ inside) q.1 q.3 in
+      let n = same_first (preposition m) inside r.1 r.3 in
+      let k = same_around ts (at mark.ParenClose c) a n.1 n.3 in
+      let y = expr_respan i k.0 k.4 in
+      let b = stmt_respan j k.2 k.5 in
+      let v = moved w r.0 in
+      let z = foreach_unique p.0 v y.0 b.0 (span_to p.0 (span_of_stmt b.0)) in
+      let named = r.2 ∙ ap (λ (l : List Token). word v ∷ l) (n.2 ∙ ap (λ (l : List Token). preposition n.0 ∷ l) k.3) in
+      let l = p.2 ∙ ap (λ (l : List Token). at mark.ForeachUnique p.0 ∷ l) (q.2 ∙ ap (λ (l : List Token). at mark.ParenOpen q.0 ∷ l) named) in
+      (z, subst (λ (l : List Token). IsStmt l z) (sym l) (is_foreach_unique p.0 q.0 n.0 k.1 v k.0 k.2 y.0 b.0 y.1 b.1), rw (y.2, b.2) refl, b.3)
   stmt_respan (is_unmasked u ts b i) us e =
       let p = same_first (at mark.Unmasked u) ts us e in
       let y = block_respan i p.1 p.3 in
