@@ -1,4 +1,5 @@
 pub mod Exprs
+pub mod Verdicts
 mod Bindings
 mod Shadows
 mod Headings

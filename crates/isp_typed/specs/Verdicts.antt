@@ -1,4 +1,4 @@
--- What the code computes: what is found, or the fault that is answered. No part of a promise.
+-- Verdicts: what is found, or the fault that is answered, the earliest by its end.
 use Rattle.std.specs.Prelude.{Bool, true, false, cond, ◌&&◌, ◌||◌, ◌==◌, nat_lt, Option, Some, None, Result, Ok, Err}
 use Rattle.isp_lex.specs.declared.fault.Fault.{Fault}
 use Rattle.isp_lex.specs.Faults.{number_of}
