@@ -6,6 +6,7 @@ pub mod PartSteps
 pub mod FunctionSteps
 pub mod ItemSteps
 pub mod NamesKept
+pub mod Unique
 pub mod StmtTrees
 pub mod StmtSteps
 pub mod StmtParts

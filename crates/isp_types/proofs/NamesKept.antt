@@ -5,7 +5,7 @@ use Rattle.std.proofs.Math.Seq.{take-append_seam}
 use Rattle.std.proofs.lemmas.List.{append-nil, take-append-drop}
 use Rattle.isp_base.specs.declared.types.Gang.{Gang}
 use Rattle.isp_lex.specs.declared.fault.Fault.{Fault}
-use Rattle.isp_tree.specs.Tree.{Item, First, first_declare, first_simple, Range, Stmt, block, empty, declare, simple, if_then, if_else, loop_while, loop_do, loop_for, foreach, foreach_active, unmasked, jump, returning, print, assert}
+use Rattle.isp_tree.specs.Tree.{Item, First, first_declare, first_simple, Range, Stmt, block, empty, declare, simple, if_then, if_else, loop_while, loop_do, loop_for, foreach, foreach_active, foreach_unique, unmasked, jump, returning, print, assert}
 use Rattle.isp_typed.specs.declared.variable.Variable.{Variable}
 use Rattle.isp_exprs.specs.declared.scope.Binding.{Binding}
 use Rattle.isp_exprs.specs.declared.words.ValueWords.{ValueWords}
@@ -58,6 +58,7 @@ names_grow gang ns vars (loop_do f a x s) = same ns
 names_grow gang ns vars (loop_for f i x p a s) = same ns
 names_grow gang ns vars (foreach t k rs a s) = same ns
 names_grow gang ns vars (foreach_active k w a s) = same ns
+names_grow gang ns vars (foreach_unique k w x a s) = same ns
 names_grow gang ns vars (unmasked k b s) = same ns
 names_grow gang ns vars (jump j k s) = same ns
 names_grow gang ns vars (returning k x s) = same ns

@@ -1,6 +1,6 @@
 -- Statements and blocks, as they are read and as they are typed, seen as trees.
 use Rattle.std.proofs.Common.{◌≡◌, sym, ap, ◌∙◌, Vec, Global, Box, Option}
-use Rattle.std.specs.Prelude.{map, option_map}
+use Rattle.std.specs.Prelude.{ℕ, map, option_map}
 use Rattle.isp_base.specs.declared.types.Span.{Span}
 use Rattle.isp_tree.specs.declared.types.Word.{Word}
 use Rattle.isp_tree.specs.declared.expr.Expr as rust_expr
@@ -13,12 +13,15 @@ use Rattle.isp_tree.specs.declared.stmt.Stmt as rust
 use Rattle.isp_tree.specs.declared.stmt.Stmt.TheVariants as variant
 use Rattle.isp_tree.specs.declared.stmt.Stmt.TheFolds.{fold-roll-Stmt, fold_out-Block}
 use Rattle.isp_tree.specs.declared.stmt.Block as rust_block
-use Rattle.isp_tree.specs.Tree.{Stmt, block, if_then, if_else, loop_while, loop_do, loop_for, foreach, foreach_active, unmasked, Block, braces, all}
+use Rattle.isp_tree.specs.Tree.{Stmt, block, if_then, if_else, loop_while, loop_do, loop_for, foreach, foreach_active, foreach_unique, unmasked, Block, braces, all}
+use Rattle.isp_base.specs.declared.types.Elem.{Elem}
+use Rattle.isp_typed.specs.declared.expr.TypedExpr as typed_expr
 use Rattle.isp_typed.specs.declared.stmt.TypedBlock as typed_block
+use Rattle.isp_typed.specs.declared.stmt.TypedStmt as typed_stmt
 use Rattle.isp_typed.specs.declared.stmt.TypedStmt.TheVariants as typed
 use Rattle.isp_typed.specs.declared.stmt.TypedStmt.TheFolds.{fold-roll-TypedStmt, fold_out-TypedBlock}
-use Rattle.isp_typed.specs.Typed.{TStmt, TBlock, t_block, t_braces, t_stmts}
-use Rattle.isp_typed.specs.Views.{stmt_step as typed_stmt_step, block_step as typed_block_step, stmt_of as typed_stmt_of, block_of as typed_block_of, stmts_of as typed_stmts_of}
+use Rattle.isp_typed.specs.Typed.{TStmt, TBlock, t_block, t_foreach_unique, t_braces, t_stmts}
+use Rattle.isp_typed.specs.Views.{expr_of as typed_expr_of, stmt_step as typed_stmt_step, block_step as typed_block_step, stmt_of as typed_stmt_of, block_of as typed_block_of, stmts_of as typed_stmts_of}
 use Rattle.isp_tree.specs.Views.{expr_of, simple_of, first_of, range_of, stmt_step, block_step, stmt_of, block_of, stmts_of}
 
 pub block_view : (b : rust_block.Block) → block_of b ≡ braces (all (stmts_of b.statements.items)) b.span
@@ -50,6 +53,9 @@ foreach_view t k rs a s = ap stmt_of (sym (variant.rolls-Foreach t k rs a s)) �
 pub active_view : (k : Span) (w : Word) (a : Box rust.Stmt Global) (s : Span) → stmt_of (variant.ForeachActive k w a s) ≡ foreach_active k w (stmt_of a.value) s
 active_view k w a s = ap stmt_of (sym (variant.rolls-ForeachActive k w a s)) ∙ fold-roll-Stmt Stmt Block stmt_step block_step _
 
+pub unique_view : (k : Span) (w : Word) (x : rust_expr.Expr) (a : Box rust.Stmt Global) (s : Span) → stmt_of (variant.ForeachUnique k w x a s) ≡ foreach_unique k w (expr_of x) (stmt_of a.value) s
+unique_view k w x a s = ap stmt_of (sym (variant.rolls-ForeachUnique k w x a s)) ∙ fold-roll-Stmt Stmt Block stmt_step block_step _
+
 pub unmasked_view : (k : Span) (b : rust_block.Block) (s : Span) → stmt_of (variant.Unmasked k b s) ≡ unmasked k (block_of b) s
 unmasked_view k b s = ap stmt_of (sym (variant.rolls-Unmasked k b s)) ∙ fold-roll-Stmt Stmt Block stmt_step block_step _
 
@@ -60,3 +66,7 @@ typed_block_view b = fold_out-TypedBlock TStmt TBlock typed_stmt_step typed_bloc
 
 pub typed_inner_view : (b : typed_block.TypedBlock) → typed_stmt_of (typed.Block b) ≡ t_block (typed_block_of b)
 typed_inner_view b = ap typed_stmt_of (sym (typed.rolls-Block b)) ∙ fold-roll-TypedStmt TStmt TBlock typed_stmt_step typed_block_step _
+
+pub typed_unique_view : (k : Span) (n i : ℕ) (e : Elem) (x : typed_expr.TypedExpr) (a : Box typed_stmt.TypedStmt Global) (s : Span)
+    → typed_stmt_of (typed.ForeachUnique k n i e x a s) ≡ t_foreach_unique k n i e (typed_expr_of x) (typed_stmt_of a.value) s
+typed_unique_view k n i e x a s = ap typed_stmt_of (sym (typed.rolls-ForeachUnique k n i e x a s)) ∙ fold-roll-TypedStmt TStmt TBlock typed_stmt_step typed_block_step _

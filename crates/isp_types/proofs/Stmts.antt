@@ -7,7 +7,7 @@ use Rattle.isp_lex.specs.declared.fault.Fault.{Fault}
 use Rattle.isp_lex.specs.declared.fault.Rule.TheVariants.{NameTwice, Mismatch, BadPrint}
 use Rattle.isp_lex.specs.Faults.{fault}
 use Rattle.isp_tree.specs.Tree.{Expr, number, truth, program_index, program_count, place, call, brackets, cast, prefix, binary, choose, variable, element, Item, plain, with_value, with_size, Declaration, Simple, value, assign, change, First, first_declare, first_simple, Range}
-use Rattle.isp_tree.specs.Tree.{Stmt, block, empty, declare, simple, if_then, if_else, loop_while, loop_do, loop_for, foreach, foreach_active, unmasked, jump, returning, print, assert, Block, braces, Stmts, no_stmts, stmt_then}
+use Rattle.isp_tree.specs.Tree.{Stmt, block, empty, declare, simple, if_then, if_else, loop_while, loop_do, loop_for, foreach, foreach_active, foreach_unique, unmasked, jump, returning, print, assert, Block, braces, Stmts, no_stmts, stmt_then}
 use Rattle.isp_typed.specs.declared.variable.Variable.{Variable}
 use Rattle.isp_typed.proofs.Right.{just_right, given_right, made_right, found_right, both_right, beside_right, perhaps_right}
 use Rattle.isp_typed.specs.Typed.{t_value, t_first_simple}
@@ -19,13 +19,13 @@ use Rattle.isp_exprs.specs.Scopes.{named, is_new, with_name}
 use Rattle.isp_exprs.specs.Places.{variable_target, element_target}
 use Rattle.isp_exprs.specs.Callees.{Heading}
 use Rattle.isp_exprs.specs.Rules.{second, pair_then}
-use Rattle.isp_types.specs.Numbering.{or_nothing, item_names, item_variables, first_names, first_variables, range_names, range_variables, names_after, variables_after}
+use Rattle.isp_types.specs.Numbering.{or_nothing, item_names, item_variables, first_names, first_variables, range_names, range_variables, unique_names, unique_variables, names_after, variables_after}
 use Rattle.isp_types.specs.Declarations.{array_sized, with_initial, sized_item}
 use Rattle.isp_types.specs.Simple.{stated, assigned, stepped}
 use Rattle.isp_types.specs.Statements.{as_test, range_made, places, agrees, as_answer}
 use Rattle.isp_typed.specs.Fine.{foreach_index as index, active_index}
 use Rattle.isp_types.specs.Simple.{no_place}
-use Rattle.isp_types.specs.Nodes.{declared_first, declared_stmt, simple_stmt, if_stmt, if_else_stmt, while_stmt, do_stmt, for_stmt, foreach_stmt, active_stmt, unmasked_stmt, return_stmt, print_stmt, assert_stmt, braces_made, stmts_made}
+use Rattle.isp_types.specs.Nodes.{declared_first, declared_stmt, simple_stmt, if_stmt, if_else_stmt, while_stmt, do_stmt, for_stmt, foreach_stmt, active_stmt, unique_stmt, unmasked_stmt, return_stmt, print_stmt, assert_stmt, braces_made, stmts_made}
 use Rattle.isp_types.specs.Declarations.{item_typing, items_typing, declaration_typing}
 use Rattle.isp_types.specs.Simple.{target_typing, simple_typing}
 use Rattle.isp_types.specs.Statements.{first_typing, test_typing, ranges_typing, values_typing, returned_typing, stmt_typing, block_typing, stmts_typing}
@@ -132,6 +132,9 @@ module _ (gang : Gang) (hs : List Heading) where
           (stmt_right (range_names ns vars rs) (length (range_names ns vars rs)) (range_variables vars rs) a))
       stmt_right ns start vars (foreach_active k w a s) = made_right (active_stmt k (length vars) s) _ _ _
           (stmt_right (with_name ns vars w.name (Ok active_index)) (length (with_name ns vars w.name (Ok active_index))) (vars ++ active_index ∷ []) a)
+      stmt_right ns start vars (foreach_unique k w x a s) = made_right (unique_stmt k (length vars) s) _ _ _
+          (both_right _ _ _ _ _ _ (expr_right gang hs ns x)
+          (stmt_right (unique_names gang hs ns vars w x) (length (unique_names gang hs ns vars w x)) (unique_variables gang hs ns vars x) a))
       stmt_right ns start vars (unmasked k b s) = made_right (unmasked_stmt k s) _ _ _ (block_right ns (length ns) vars b)
       stmt_right ns start vars (jump j k s) = just_right _
       stmt_right ns start vars (returning k x s) = made_right (return_stmt k s) _ _ _ (returned_right ns k x)

@@ -2,8 +2,10 @@
 --     n   the variables before the statement        s   its span        k   where its first word stands
 use Rattle.std.specs.Prelude.{ℕ, List, Option}
 use Rattle.isp_base.specs.declared.types.Span.{Span}
+use Rattle.isp_base.specs.Ranks.{operand}
 use Rattle.isp_tree.specs.declared.stmt.Form.{Form}
-use Rattle.isp_typed.specs.Typed.{TExpr, TItem, TSimple, TFirst, t_first_declare, TRange, TStmt, t_declare, t_simple, t_if, t_if_else, t_while, t_do, t_for, t_foreach, t_foreach_active, t_unmasked, t_return, t_print, t_assert, TBlock, t_braces, TStmts, t_stmt_then}
+use Rattle.isp_typed.specs.Typed.{TExpr, TItem, TSimple, TFirst, t_first_declare, TRange, TStmt, t_declare, t_simple, t_if, t_if_else, t_while, t_do, t_for, t_foreach, t_foreach_active, t_foreach_unique, t_unmasked, t_return, t_print, t_assert, TBlock, t_braces, TStmts, t_stmt_then, elem_of}
+use Rattle.isp_exprs.specs.Values.{converted}
 
 abbrev pub declared_first : Span → List TItem → TFirst
 declared_first s xs = t_first_declare xs s
@@ -34,6 +36,10 @@ foreach_stmt k n s p = t_foreach k n p.0 p.1 s
 
 abbrev pub active_stmt : Span → ℕ → Span → TStmt → TStmt
 active_stmt k n s a = t_foreach_active k n n a s
+
+-- the value in the type in which operators work, the index in its own
+abbrev pub unique_stmt : Span → ℕ → Span → TExpr × TStmt → TStmt
+unique_stmt k n s p = t_foreach_unique k n n (elem_of p.0) (converted (operand (elem_of p.0)) p.0) p.1 s
 
 abbrev pub unmasked_stmt : Span → Span → TBlock → TStmt
 unmasked_stmt k s b = t_unmasked k b s

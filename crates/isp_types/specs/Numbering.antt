@@ -9,15 +9,18 @@ use Rattle.isp_lex.specs.declared.fault.Fault.{Fault}
 use Rattle.isp_tree.specs.declared.types.Word.{Word}
 use Rattle.isp_tree.specs.declared.stmt.Size.{Size}
 use Rattle.isp_tree.specs.declared.stmt.Size.TheVariants as size
-use Rattle.isp_tree.specs.Tree.{Item, plain, with_value, with_size, First, first_declare, first_simple, Range, Stmt, block, empty, declare, simple, if_then, if_else, loop_while, loop_do, loop_for, foreach, foreach_active, unmasked, jump, returning, print, assert, Block, braces, Stmts, no_stmts, stmt_then}
+use Rattle.isp_tree.specs.Tree.{Expr, Item, plain, with_value, with_size, First, first_declare, first_simple, Range, Stmt, block, empty, declare, simple, if_then, if_else, loop_while, loop_do, loop_for, foreach, foreach_active, foreach_unique, unmasked, jump, returning, print, assert, Block, braces, Stmts, no_stmts, stmt_then}
 use Rattle.isp_typed.specs.declared.variable.Holds.TheVariants as holds
 use Rattle.isp_typed.specs.declared.variable.Variable.{Variable}
-use Rattle.isp_typed.specs.Fine.{foreach_index as index, active_index}
+use Rattle.isp_typed.specs.Verdicts.{made}
+use Rattle.isp_typed.specs.Typed.{TExpr, elem_of}
+use Rattle.isp_typed.specs.Fine.{foreach_index as index, active_index, unique_index}
 use Rattle.isp_exprs.specs.declared.scope.Binding.{Binding}
 use Rattle.isp_exprs.specs.declared.words.ValueWords.{ValueWords}
 use Rattle.isp_exprs.specs.Words.{value_said, type_declared}
 use Rattle.isp_exprs.specs.Scopes.{with_name}
 use Rattle.isp_exprs.specs.Callees.{Heading}
+use Rattle.isp_exprs.specs.Rules.{expr_typing}
 
 -- ---- what an item declares
 
@@ -88,6 +91,15 @@ abbrev pub range_variables : List Variable → List Range → List Variable
 range_variables vars [] = vars
 range_variables vars (r ∷ rs) = range_variables (vars ++ index ∷ []) rs
 
+-- The index of a `foreach_unique` has the type of its value. Where the value is faulty a use of the index has that fault, and an int64
+-- stands in its place, in no accepted program.
+abbrev pub index_of : Result TExpr Fault → Result Variable Fault
+index_of = made (λ x. unique_index (elem_of x))
+
+abbrev pub or_active : Result Variable Fault → Variable
+or_active (Ok v) = v
+or_active (Err f) = active_index
+
 -- a name counts behind its declaration, to the end of the scope
 abbrev pub names_after : Gang → List Binding → List Variable → Stmt → List Binding
 names_after gang ns vars (declare d s) = items_names gang (value_said d.ty) ns vars d.items
@@ -96,6 +108,13 @@ names_after gang ns vars s = ns
 -- A variable is numbered where it stands in the text. Where a statement stands, the functions and the names in scope are known, as they
 -- are to the rules of statements.
 module _ (gang : Gang) (hs : List Heading) where
+  -- the value of a `foreach_unique` does not know the index
+  abbrev pub unique_names : List Binding → List Variable → Word → Expr → List Binding
+  unique_names ns vars w x = with_name ns vars w.name (index_of (expr_typing gang hs ns x).verdict)
+
+  abbrev pub unique_variables : List Binding → List Variable → Expr → List Variable
+  unique_variables ns vars x = vars ++ or_active (index_of (expr_typing gang hs ns x).verdict) ∷ []
+
   abbrev mutual
     pub variables_after : List Binding → List Variable → Stmt → List Variable
     variables_after ns vars (block b) = block_variables ns vars b
@@ -109,6 +128,7 @@ module _ (gang : Gang) (hs : List Heading) where
     variables_after ns vars (loop_for f i x p a s) = variables_after (first_names gang ns vars i) (first_variables gang vars i) a
     variables_after ns vars (foreach t k rs a s) = variables_after (range_names ns vars rs) (range_variables vars rs) a
     variables_after ns vars (foreach_active k w a s) = variables_after (with_name ns vars w.name (Ok active_index)) (vars ++ active_index ∷ []) a
+    variables_after ns vars (foreach_unique k w x a s) = variables_after (unique_names ns vars w x) (unique_variables ns vars x) a
     variables_after ns vars (unmasked k b s) = block_variables ns vars b
     variables_after ns vars (jump j k s) = vars
     variables_after ns vars (returning k x s) = vars

@@ -9,7 +9,7 @@ use Rattle.isp_base.specs.declared.types.Ty.{Ty}
 use Rattle.isp_lex.specs.declared.fault.Fault.{Fault}
 use Rattle.isp_lex.specs.declared.fault.Rule.TheVariants.{NameTwice, Mismatch, BadPrint}
 use Rattle.isp_lex.specs.Faults.{fault}
-use Rattle.isp_tree.specs.Tree.{Expr, First, first_declare, first_simple, Range, Stmt, block, empty, declare, simple, if_then, if_else, loop_while, loop_do, loop_for, foreach, foreach_active, unmasked, jump, returning, print, assert, Block, braces, Stmts, no_stmts, stmt_then}
+use Rattle.isp_tree.specs.Tree.{Expr, First, first_declare, first_simple, Range, Stmt, block, empty, declare, simple, if_then, if_else, loop_while, loop_do, loop_for, foreach, foreach_active, foreach_unique, unmasked, jump, returning, print, assert, Block, braces, Stmts, no_stmts, stmt_then}
 use Rattle.isp_typed.specs.declared.variable.Variable.{Variable}
 use Rattle.isp_typed.specs.Fine.{foreach_index as index, active_index}
 use Rattle.isp_typed.specs.Typed.{TExpr, TFirst, t_first_simple, TRange, TStmt, t_block, t_jump, TBlock, t_braces, TStmts, t_no_stmts}
@@ -19,10 +19,10 @@ use Rattle.isp_exprs.specs.Scopes.{is_new, with_name}
 use Rattle.isp_exprs.specs.Values.{converted}
 use Rattle.isp_exprs.specs.Callees.{Heading}
 use Rattle.isp_exprs.specs.Rules.{expr_typing, pair_then}
-use Rattle.isp_types.specs.Numbering.{first_names, first_variables, range_names, range_variables, names_after, variables_after}
+use Rattle.isp_types.specs.Numbering.{first_names, first_variables, range_names, range_variables, unique_names, unique_variables, names_after, variables_after}
 use Rattle.isp_types.specs.Declarations.{declaration_typing}
 use Rattle.isp_types.specs.Simple.{simple_typing}
-use Rattle.isp_types.specs.Nodes.{declared_first, declared_stmt, simple_stmt, if_stmt, if_else_stmt, while_stmt, do_stmt, for_stmt, foreach_stmt, active_stmt, unmasked_stmt, return_stmt, print_stmt, assert_stmt, braces_made, stmts_made}
+use Rattle.isp_types.specs.Nodes.{declared_first, declared_stmt, simple_stmt, if_stmt, if_else_stmt, while_stmt, do_stmt, for_stmt, foreach_stmt, active_stmt, unique_stmt, unmasked_stmt, return_stmt, print_stmt, assert_stmt, braces_made, stmts_made}
 
 -- ---- parts
 
@@ -77,7 +77,7 @@ module _ (gang : Gang) (hs : List Heading) where
   values_typing ns [] = exactly []
   values_typing ns (x ∷ xs) = made pair_then (both (expr_typing gang hs ns x) (values_typing ns xs))
 
-  -- ---- statements: each body is a scope of its own, and so is a whole `for`, and a `foreach` from its indices on
+  -- ---- statements: each body is a scope of its own, and so is a whole `for`, and a `foreach` of any kind from its indices on
 
   module _ (answer : Result (Option Ty) Fault) where
     -- 22 at the word `return`
@@ -105,6 +105,10 @@ module _ (gang : Gang) (hs : List Heading) where
           (stmt_typing (range_names ns vars rs) (length (range_names ns vars rs)) (range_variables vars rs) a))
       stmt_typing ns start vars (foreach_active k w a s) = made (active_stmt k (length vars) s)
           (stmt_typing (with_name ns vars w.name (Ok active_index)) (length (with_name ns vars w.name (Ok active_index))) (vars ++ active_index ∷ []) a)
+      -- The value does not know the index, which has its type.
+      stmt_typing ns start vars (foreach_unique k w x a s) = made (unique_stmt k (length vars) s)
+          (both (expr_typing gang hs ns x)
+          (stmt_typing (unique_names gang hs ns vars w x) (length (unique_names gang hs ns vars w x)) (unique_variables gang hs ns vars x) a))
       stmt_typing ns start vars (unmasked k b s) = made (unmasked_stmt k s) (block_typing ns (length ns) vars b)
       stmt_typing ns start vars (jump j k s) = exactly (t_jump j k s)
       stmt_typing ns start vars (returning k x s) = made (return_stmt k s) (returned_typing ns k x)

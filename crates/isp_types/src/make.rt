@@ -5,11 +5,12 @@ ghost use Rattle.isp_typed.specs.Verdicts.{both, made};
 ghost use Rattle.isp_typed.specs.Views.{block_of, expr_of, exprs_of, first_of, items_of, ranges_of, simple_of, stmt_of, stmts_of};
 ghost use Rattle.isp_exprs.specs.reader.Parts.{boxed_of};
 ghost use Rattle.isp_types.specs.reader.Boxes.{boxed_first, boxed_simple};
-ghost use Rattle.isp_types.specs.Nodes.{active_stmt, assert_stmt, braces_made, declared_stmt, do_stmt, for_stmt, foreach_stmt, if_else_stmt, if_stmt, print_stmt, return_stmt, simple_stmt, unmasked_stmt, while_stmt};
+ghost use Rattle.isp_types.specs.Nodes.{active_stmt, assert_stmt, braces_made, declared_stmt, do_stmt, for_stmt, foreach_stmt, if_else_stmt, if_stmt, print_stmt, return_stmt, simple_stmt, unique_stmt, unmasked_stmt, while_stmt};
 ghost use Rattle.isp_exprs.specs.reader.Lists.{and_one};
 
 use crate::gathered;
-use isp_base::Span;
+use isp_base::{Span, operand};
+use isp_exprs::converted;
 use isp_lex::Text;
 use isp_tree::Form;
 use isp_typed::{
@@ -227,6 +228,34 @@ pub fn active_stmt(
         body,
         span,
     })
+}
+
+pub fn unique_stmt(
+    alloc: Global,
+    keyword: Span,
+    before: usize,
+    value: Verdict<Box<TypedExpr>>,
+    body: Verdict<Box<TypedStmt>>,
+    span: Span,
+) -> Result<Verdict<TypedStmt>, AllocError>
+    ensures { IfOk result (λ v. made stmt_of v ≡ made (unique_stmt keyword before span) (both (made boxed_of value) (made (λ b. stmt_of b.value) body))) }
+{
+    match both(value, body) {
+        Ok((value, body)) => {
+            let elem = value.ty().elem;
+            let value = converted(alloc, operand(elem), value)?;
+            Ok(Ok(TypedStmt::ForeachUnique {
+                keyword,
+                before,
+                index: before,
+                elem,
+                value: Box::into_inner(value),
+                body,
+                span,
+            }))
+        }
+        Err(fault) => Ok(Err(fault)),
+    }
 }
 
 pub fn unmasked_stmt(keyword: Span, body: Verdict<TypedBlock>, span: Span) -> Verdict<TypedStmt>

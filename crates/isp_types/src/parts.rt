@@ -6,14 +6,14 @@ ghost use Rattle.isp_typed.specs.Verdicts.{beside, both, fault_unless, found, ma
 ghost use Rattle.isp_typed.specs.Views.{exprs_of, ranges_of, stmt_of};
 ghost use Rattle.isp_exprs.specs.reader.Parts.{boxed_of};
 ghost use Rattle.isp_types.specs.reader.Boxes.{boxed_first, boxed_pair, boxed_range, boxed_simple};
-ghost use Rattle.isp_types.specs.Numbering.{first_names, first_variables, range_names, range_variables};
+ghost use Rattle.isp_types.specs.Numbering.{first_names, first_variables, index_of, or_active, range_names, range_variables, unique_names, unique_variables};
 ghost use Rattle.isp_types.specs.Statements.{as_answer, places, range_made};
-ghost use Rattle.isp_typed.specs.Fine.{active_index, foreach_index as index};
+ghost use Rattle.isp_typed.specs.Fine.{active_index, foreach_index as index, unique_index};
 ghost use Rattle.isp_exprs.specs.Values.{converted};
 ghost use Rattle.isp_exprs.specs.reader.Judge.{judge};
 ghost use Rattle.isp_types.specs.reader.JudgeStmts.{judge_first, judge_ranges, judge_returned, judge_simple, judge_test, judge_values};
 ghost use Rattle.isp_exprs.specs.reader.Lists.{and_one};
-ghost use Rattle.isp_types.specs.reader.Lists.{agrees_with, judge_bounds};
+ghost use Rattle.isp_types.specs.reader.Lists.{agrees_with, judge_bounds, known_next};
 
 use crate::declaration::twice;
 use crate::gathered;
@@ -21,7 +21,7 @@ use crate::simple::{first_part, simple};
 use isp_base::{Elem, Rate, Span, Ty};
 use isp_exprs::{Known, Scope, Setting, converted, expr, mismatch};
 use isp_lex::{Fault, Rule, Text};
-use isp_tree::{Expr, First, Range, Simple};
+use isp_tree::{Expr, First, Range, Simple, Word};
 use isp_typed::{
     Holds, TypedExpr, TypedFirst, TypedRange, TypedSimple, TypedStmt, Variable, Verdict, beside,
     both, unless,
@@ -163,17 +163,72 @@ fn index() -> Variable
     }
 }
 
-/// The index of a `foreach_active`: a constant uniform int64.
-pub fn active_index() -> Variable
-    ensures { result ≡ active_index }
+/// The index of a `foreach_unique`: a constant uniform of the type of its value.
+fn unique_index(elem: Elem) -> Variable
+    ensures { result ≡ unique_index elem }
 {
     Variable {
         holds: Holds::Value(Ty {
             rate: Rate::Uniform,
-            elem: Elem::I64,
+            elem,
         }),
         constant: true,
     }
+}
+
+/// The index of a `foreach_active`: a constant uniform int64.
+pub fn active_index() -> Variable
+    ensures { result ≡ active_index }
+{
+    unique_index(Elem::I64)
+}
+
+/// The index of a `foreach_unique`, or the fault of its value.
+fn index_of(value: &Verdict<Box<TypedExpr>>) -> Verdict<Variable>
+    ensures { result ≡ index_of (made boxed_of value.now) }
+{
+    match value {
+        Ok(value) => Ok(unique_index(value.ty().elem)),
+        Err(fault) => Err(*fault),
+    }
+}
+
+/// Where the value is faulty, an int64 stands in the index's place, in no accepted program.
+fn or_active(index: Verdict<Variable>) -> Variable
+    ensures { result ≡ or_active index }
+{
+    match index {
+        Ok(index) => index,
+        Err(_) => active_index(),
+    }
+}
+
+/// What the name of an index stands for.
+fn known(number: usize, index: Verdict<Variable>) -> Verdict<Known>
+    ensures { result ≡ known_next number index }
+{
+    let variable = index?;
+    Ok(Known { number, variable })
+}
+
+/// The value of a `foreach_unique`, which does not know the index. Then the index joins the names and variables.
+pub fn unique_value(
+    setting: &Setting,
+    scope: &mut Scope,
+    variables: &mut Vec<Variable>,
+    word: &Word,
+    value: &Expr,
+) -> Result<Verdict<Box<TypedExpr>>, AllocError>
+    ensures value { IfOk result (λ v. made boxed_of v ≡ judge setting.now.gang setting.now.headers.now scope.old (read_expr value.now)) }
+    ensures names { IfOk result (λ v. scope.new ≡ unique_names setting.now.gang setting.now.headers.now scope.old variables.old.items word.now (read_expr value.now)) }
+    ensures variables { IfOk result (λ v. variables.new.items ≡ unique_variables setting.now.gang setting.now.headers.now scope.old variables.old.items (read_expr value.now)) }
+{
+    let found = expr(setting, scope, value)?;
+    let index = index_of(&found);
+    let number = variables.len();
+    variables.push(or_active(index))?;
+    scope.push(setting.alloc, &word.name, known(number, index))?;
+    Ok(found)
 }
 
 fn make_range(

@@ -5,15 +5,17 @@ ghost use Rattle.isp_typed.specs.Verdicts.{both, made};
 ghost use Rattle.isp_typed.specs.Views.{block_of, stmt_of};
 ghost use Rattle.isp_types.specs.Numbering.{block_variables, names_after, variables_after};
 ghost use Rattle.isp_types.specs.reader.JudgeStmts.{judge_block, judge_stmt};
-ghost use Rattle.isp_types.specs.reader.Kinds.{is_active, is_branch, is_called, is_for, is_foreach, is_repeated};
+ghost use Rattle.isp_types.specs.reader.Kinds.{is_active, is_branch, is_called, is_for, is_foreach, is_repeated, is_unique};
 
 use crate::declaration::declaration;
 use crate::make::{
     active_stmt, assert_stmt, block_stmt, boxed, braces, declared_stmt, do_stmt, empty_stmt,
     for_stmt, foreach_stmt, if_else_stmt, if_stmt, print_stmt, push, return_stmt, simple_stmt,
-    unmasked_stmt, while_stmt,
+    unique_stmt, unmasked_stmt, while_stmt,
 };
-use crate::parts::{active_index, behind_first, first_if, printed, ranges, returned, test};
+use crate::parts::{
+    active_index, behind_first, first_if, printed, ranges, returned, test, unique_value,
+};
 use crate::simple::simple;
 use isp_base::Ty;
 use isp_exprs::{Known, Scope, Setting};
@@ -268,6 +270,39 @@ fn foreach_active(
     Ok(active_stmt(*keyword, number, done, *span))
 }
 
+/// A `foreach_unique`, whose index is a scope of its own.
+#[cycle(stmt)]
+fn foreach_unique(
+    setting: &Setting,
+    answer: Verdict<Option<Ty>>,
+    scope: &mut Scope,
+    start: usize,
+    variables: &mut Vec<Variable>,
+    s: &Stmt,
+) -> Result<Verdict<TypedStmt>, AllocError>
+    requires { IsTrue (is_unique (read_stmt s.now)) }
+    ensures value { IfOk result (λ v. made stmt_of v ≡ judge_stmt setting.now.gang setting.now.headers.now answer scope.old start variables.old.items (read_stmt s.now)) }
+    ensures names { IfOk result (λ v. scope.new ≡ names_after setting.now.gang scope.old variables.old.items (read_stmt s.now)) }
+    ensures variables { IfOk result (λ v. variables.new.items ≡ variables_after setting.now.gang setting.now.headers.now scope.old variables.old.items (read_stmt s.now)) }
+{
+    let Stmt::ForeachUnique {
+        keyword,
+        word,
+        value,
+        body: inner,
+        span,
+    } = s
+    else {
+        unreachable!()
+    };
+    let before = variables.len();
+    let outer = scope.len();
+    let found = unique_value(setting, scope, variables, word, value)?;
+    let done = body(setting, answer, scope, variables, inner)?;
+    scope.leave(outer);
+    unique_stmt(setting.alloc, *keyword, before, found, done, *span)
+}
+
 /// A `return`, a `print` or an `assert`.
 fn called(
     setting: &Setting,
@@ -354,6 +389,7 @@ fn stmt(
         Stmt::For { .. } => for_loop(setting, answer, scope, start, variables, s),
         Stmt::Foreach { .. } => foreach(setting, answer, scope, start, variables, s),
         Stmt::ForeachActive { .. } => foreach_active(setting, answer, scope, start, variables, s),
+        Stmt::ForeachUnique { .. } => foreach_unique(setting, answer, scope, start, variables, s),
         Stmt::Unmasked {
             keyword,
             body: b,

@@ -7,16 +7,17 @@ use Rattle.std.proofs.lemmas.List.Elements.{All-cons, All-append}
 use Rattle.isp_base.specs.declared.types.Gang.{Gang}
 use Rattle.isp_base.specs.declared.types.Ty.{Ty}
 use Rattle.isp_lex.specs.declared.fault.Fault.{Fault}
-use Rattle.isp_tree.specs.Tree.{Item, plain, with_value, with_size, First, first_declare, first_simple, Range, Stmt, block, empty, declare, simple, if_then, if_else, loop_while, loop_do, loop_for, foreach, foreach_active, unmasked, jump, returning, print, assert, Block, braces, Stmts, no_stmts, stmt_then}
+use Rattle.isp_tree.specs.Tree.{Item, plain, with_value, with_size, First, first_declare, first_simple, Range, Stmt, block, empty, declare, simple, if_then, if_else, loop_while, loop_do, loop_for, foreach, foreach_active, foreach_unique, unmasked, jump, returning, print, assert, Block, braces, Stmts, no_stmts, stmt_then}
 use Rattle.isp_typed.specs.declared.variable.Variable.{Variable}
 use Rattle.isp_exprs.specs.Typing.{perhaps}
-use Rattle.isp_typed.specs.Typed.{TItem, TFirst, TStmt, TBlock, TStmts}
+use Rattle.isp_typed.specs.Typed.{TExpr, TItem, TFirst, TStmt, TBlock, TStmts}
 use Rattle.isp_typed.specs.Fine.{IsDeclared, foreach_index as index, active_index}
 use Rattle.isp_exprs.specs.declared.scope.Binding.{Binding}
 use Rattle.isp_exprs.specs.declared.words.ValueWords.{ValueWords}
 use Rattle.isp_exprs.specs.Words.{value_said}
 use Rattle.isp_exprs.specs.Callees.{Heading}
-use Rattle.isp_types.specs.Numbering.{item_names, item_variables, items_variables, first_variables, range_variables, names_after, variables_after, block_variables, stmts_variables}
+use Rattle.isp_exprs.specs.Rules.{expr_typing}
+use Rattle.isp_types.specs.Numbering.{item_names, item_variables, items_variables, first_variables, range_variables, index_of, or_active, unique_variables, names_after, variables_after, block_variables, stmts_variables}
 use Rattle.isp_types.specs.Declarations.{item_typing, items_typing}
 use Rattle.isp_types.specs.Statements.{first_typing, stmt_typing, block_typing, stmts_typing}
 use Rattle.isp_types.proofs.fine.Passed.{no_ok}
@@ -68,6 +69,10 @@ module _ (gang : Gang) (hs : List Heading) where
   ranges_declare vars [] = none vars
   ranges_declare vars (r ∷ rs) = later _ _ _ (one vars index tt) (ranges_declare (vars ++ index ∷ []) rs)
 
+  index_declared : (r : Result TExpr Fault) → IsDeclared (or_active (index_of r))
+  index_declared (Ok x) = tt
+  index_declared (Err f) = tt
+
   module _ (answer : Result (Option Ty) Fault) where
     mutual
       stmt_declares : (ns : List Binding) (start : ℕ) (vars : List Variable) (s : Stmt) (t : TStmt) → (stmt_typing gang hs answer ns start vars s).is t → Declares vars (variables_after gang hs ns vars s)
@@ -82,6 +87,8 @@ module _ (gang : Gang) (hs : List Heading) where
       stmt_declares ns start vars (loop_for f j x p a s) t i = later _ _ _ (first_declares _ ns vars j i.0.0 i.1.0) (stmt_declares _ _ (first_variables gang vars j) a i.0.1.1.1 i.1.1.1.1)
       stmt_declares ns start vars (foreach k w rs a s) t i = later _ _ _ (ranges_declare vars rs) (stmt_declares _ _ (range_variables vars rs) a i.0.1 i.1.1)
       stmt_declares ns start vars (foreach_active k w a s) t i = later _ _ _ (one vars active_index tt) (stmt_declares _ _ (vars ++ active_index ∷ []) a i.0 i.1)
+      stmt_declares ns start vars (foreach_unique k w x a s) t i =
+          later _ _ _ (one vars (or_active (index_of (expr_typing gang hs ns x).verdict)) (index_declared (expr_typing gang hs ns x).verdict)) (stmt_declares _ _ (unique_variables gang hs ns vars x) a i.0.1 i.1.1)
       stmt_declares ns start vars (unmasked k b s) t i = block_declares ns _ vars b i.0 i.1
       stmt_declares ns start vars (jump j k s) t i = none vars
       stmt_declares ns start vars (returning k x s) t i = none vars

@@ -7,11 +7,11 @@ use Rattle.isp_base.specs.declared.types.Gang.{Gang}
 use Rattle.isp_base.specs.declared.types.Span.{Span}
 use Rattle.isp_base.specs.declared.types.Ty.{Ty}
 use Rattle.isp_base.specs.declared.operators.BinOp.{BinOp}
-use Rattle.isp_base.specs.Ranks.{common}
+use Rattle.isp_base.specs.Ranks.{common, operand}
 use Rattle.isp_lex.specs.declared.fault.Fault.{Fault}
 use Rattle.isp_tree.specs.Nodes.{nodes, nodes_of_option, nodes_of_all, nodes_of_item, nodes_of_declaration, nodes_of_simple, nodes_of_first, nodes_of_step, nodes_of_range, nodes_of_stmt, nodes_of_block, nodes_of_stmts, nodes_of_function, nodes_of_functions}
 use Rattle.isp_tree.specs.Tree.{Expr, number, truth, program_index, program_count, place, call, brackets, cast, prefix, binary, choose, variable, element, Item, plain, with_value, with_size, Declaration, Simple, value, assign, change, First, first_declare, first_simple, Range}
-use Rattle.isp_tree.specs.Tree.{Stmt, block, empty, declare, simple, if_then, if_else, loop_while, loop_do, loop_for, foreach, foreach_active, unmasked, jump, returning, print, assert, Block, braces, Stmts, no_stmts, stmt_then, Param, Function}
+use Rattle.isp_tree.specs.Tree.{Stmt, block, empty, declare, simple, if_then, if_else, loop_while, loop_do, loop_for, foreach, foreach_active, foreach_unique, unmasked, jump, returning, print, assert, Block, braces, Stmts, no_stmts, stmt_then, Param, Function}
 use Rattle.isp_exprs.specs.Typing.{Typing, perhaps}
 use Rattle.isp_typed.specs.Nodes.{typed_nodes, place_nodes, item_nodes, simple_nodes, first_nodes, step_nodes, range_nodes, stmt_nodes, block_nodes, stmts_nodes, function_nodes}
 use Rattle.isp_typed.specs.Typed.{TExpr, TPlace, place_type, TItem, TSimple, TFirst, TRange, TStmt, TBlock, TStmts, TFunction, elem_of}
@@ -23,7 +23,7 @@ use Rattle.isp_exprs.specs.Scopes.{with_name}
 use Rattle.isp_exprs.specs.Places.{variable_at, element_at}
 use Rattle.isp_exprs.specs.Passing.{Called, gives, runs}
 use Rattle.isp_exprs.specs.Callees.{Heading}
-use Rattle.isp_types.specs.Numbering.{or_nothing, item_names, item_variables, first_names, first_variables, range_names, range_variables, names_after, variables_after}
+use Rattle.isp_types.specs.Numbering.{or_nothing, item_names, item_variables, first_names, first_variables, range_names, range_variables, unique_names, unique_variables, names_after, variables_after}
 use Rattle.isp_types.specs.Declarations.{item_typing, items_typing, declaration_typing}
 use Rattle.isp_types.specs.Simple.{stated, assigned_by, assignment_operator, target_typing, simple_typing}
 use Rattle.isp_types.specs.Statements.{as_answer, first_typing, test_typing, ranges_typing, values_typing, returned_typing, stmt_typing, block_typing, stmts_typing}
@@ -145,6 +145,14 @@ module _ (gang : Gang) (hs : List Heading) where
           rw i.2 (omega (arith, ranges_few (length ns) ns ns vars rs i.0.0 i.1.0, stmt_few (range_names ns vars rs) (length (range_names ns vars rs)) (range_variables vars rs) a i.0.1 i.1.1))
       stmt_few ns start vars (foreach_active k w a s) t i =
           rw i.2 (omega (arith, stmt_few (with_name ns vars w.name (Ok active_index)) (length (with_name ns vars w.name (Ok active_index))) (vars ++ active_index ∷ []) a i.0 i.1))
+      stmt_few ns start vars (foreach_unique k w x a s) t i =
+          let inner = unique_names gang hs ns vars w x in
+          rw i.2 (omega (
+            arith,
+            expr_few gang hs ns x i.0.0 i.1.0,
+            converted_few (operand (elem_of i.0.0)) i.0.0,
+            stmt_few inner (length inner) (unique_variables gang hs ns vars x) a i.0.1 i.1.1,
+          ))
       stmt_few ns start vars (unmasked k b s) t i = rw i.2 (omega (arith, block_few ns (length ns) vars b i.0 i.1))
       stmt_few ns start vars (jump j k s) t i = rw i (omega arith)
       stmt_few ns start vars (returning k x s) t i = rw i.2 (omega (arith, returned_few ns k x i.0 i.1))

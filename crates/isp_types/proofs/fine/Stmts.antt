@@ -6,20 +6,22 @@ use Rattle.isp_base.specs.declared.types.Elem.TheVariants.{Bool as Truth}
 use Rattle.isp_base.specs.declared.types.Gang.{Gang}
 use Rattle.isp_base.specs.declared.types.Span.{Span}
 use Rattle.isp_base.specs.declared.types.Ty.{Ty}
+use Rattle.isp_base.specs.Ranks.{operand}
 use Rattle.isp_tree.specs.Sound.{IfAny, IsSoundExpr, IsSoundFirst, IsSoundSimple, IsSoundStmt, IsSoundBlock, AreSoundStmts}
-use Rattle.isp_tree.specs.Tree.{Expr, First, Simple, Stmt, block, empty, declare, simple, if_then, if_else, loop_while, loop_do, loop_for, foreach, foreach_active, unmasked, jump, returning, print, assert, Block, braces, Stmts, no_stmts, stmt_then}
+use Rattle.isp_tree.specs.Tree.{Expr, First, Simple, Stmt, block, empty, declare, simple, if_then, if_else, loop_while, loop_do, loop_for, foreach, foreach_active, foreach_unique, unmasked, jump, returning, print, assert, Block, braces, Stmts, no_stmts, stmt_then}
 use Rattle.isp_typed.specs.declared.variable.Variable.{Variable}
-use Rattle.isp_typed.specs.Typed.{TExpr, TFirst, TSimple, TStmt, TBlock, TStmts, TFunction}
-use Rattle.isp_typed.specs.Fine.{FineValue, FineFirst, FineSimple, FineReturned, FineStmt, FineBlock, FineStmts, active_index}
+use Rattle.isp_typed.specs.Typed.{TExpr, TFirst, TSimple, TStmt, TBlock, TStmts, TFunction, elem_of}
+use Rattle.isp_typed.specs.Fine.{FineValue, FineFirst, FineSimple, FineReturned, FineStmt, FineBlock, FineStmts, active_index, unique_index}
 use Rattle.isp_exprs.specs.declared.scope.Binding.{Binding}
 use Rattle.isp_exprs.specs.Scopes.{with_name}
 use Rattle.isp_exprs.specs.Callees.{Heading}
-use Rattle.isp_types.specs.Numbering.{first_names, first_variables, range_names, range_variables, names_after, variables_after, block_variables, stmts_variables}
+use Rattle.isp_types.specs.Numbering.{first_names, first_variables, range_names, range_variables, unique_names, unique_variables, names_after, variables_after, block_variables, stmts_variables}
 use Rattle.isp_types.specs.Simple.{simple_typing}
 use Rattle.isp_types.specs.Statements.{places, test_typing, first_typing, values_typing, returned_typing, stmt_typing, block_typing, stmts_typing}
 use Rattle.isp_exprs.specs.Words.{value_said}
 use Rattle.isp_exprs.specs.Typing.{perhaps}
 use Rattle.isp_types.proofs.NamesKept.{Grown, same, then as and_then, one_more}
+use Rattle.isp_types.proofs.Unique.{unique_named, unique_declared}
 use Rattle.isp_types.proofs.fine.Names.{InScope, name_added, get_next, grown_length}
 use Rattle.isp_types.proofs.fine.Callees.{Headed}
 use Rattle.isp_types.proofs.fine.Exprs.{expr_fine}
@@ -41,6 +43,7 @@ module _ (gang : Gang) (hs : List Heading) where
     stmt_grows ns vars (loop_for f i x p a s) = and_then _ _ _ (first_grows_variables gang vars i) (stmt_grows (first_names gang ns vars i) (first_variables gang vars i) a)
     stmt_grows ns vars (foreach t k rs a s) = and_then _ _ _ (ranges_grow_variables vars rs) (stmt_grows (range_names ns vars rs) (range_variables vars rs) a)
     stmt_grows ns vars (foreach_active k w a s) = and_then _ _ _ (one_more vars active_index) (stmt_grows (with_name ns vars w.name (Ok active_index)) (vars ++ active_index ∷ []) a)
+    stmt_grows ns vars (foreach_unique k w x a s) = and_then _ _ _ (one_more vars _) (stmt_grows (unique_names gang hs ns vars w x) (unique_variables gang hs ns vars x) a)
     stmt_grows ns vars (unmasked k b s) = block_grows ns vars b
     stmt_grows ns vars (jump j k s) = same vars
     stmt_grows ns vars (returning k x s) = same vars
@@ -103,6 +106,7 @@ module _ (gang : Gang) (hs : List Heading) (gs : List TFunction) (all : List Var
   names_scope ns start vars (loop_for f j x p a s) h scope g t i = scope
   names_scope ns start vars (foreach k w rs a s) h scope g t i = scope
   names_scope ns start vars (foreach_active k w a s) h scope g t i = scope
+  names_scope ns start vars (foreach_unique k w x a s) h scope g t i = scope
   names_scope ns start vars (unmasked k b s) h scope g t i = scope
   names_scope ns start vars (jump j k s) h scope g t i = scope
   names_scope ns start vars (returning k x s) h scope g t i = scope
@@ -153,6 +157,19 @@ module _ (gang : Gang) (hs : List Heading) (gs : List TFunction) (all : List Var
           low vars _ (one_more vars active_index) g1,
           get_next vars active_index all g1,
           stmt_fine (with_name ns vars w.name (Ok active_index)) (length (with_name ns vars w.name (Ok active_index))) (vars ++ active_index ∷ []) a h.2 (name_added all ns vars w.name active_index scope g1) g i.0 i.1,
+        )
+    stmt_fine ns start vars (foreach_unique k w x a s) h scope g t i =
+        let y = i.0.0 in
+        let inner = unique_names gang hs ns vars w x in
+        let more = unique_variables gang hs ns vars x in
+        let g1 = and_then _ _ _ (stmt_grows gang hs inner more a) g in
+        let g2 = subst (λ (l : List Variable). Grown l all) (unique_declared gang hs ns vars x y i.1.0) g1 in
+        let scope1 = subst (InScope all) (sym (unique_named gang hs ns vars w x y i.1.0)) (name_added all ns vars w.name (unique_index (elem_of y)) scope g2) in
+        subst (FineStmt gs all answer) (sym i.2) (
+          low vars _ (one_more vars _) g1,
+          get_next vars (unique_index (elem_of y)) all g2,
+          value_is_fine gang hs gs all headed (operand (elem_of y)) y (expr_fine gang hs gs all ns headed scope x h.2 y i.1.0),
+          stmt_fine inner (length inner) more a h.3 scope1 g i.0.1 i.1.1,
         )
     stmt_fine ns start vars (unmasked k b s) h scope g t i = subst (FineStmt gs all answer) (sym i.2) (block_fine ns (length ns) vars b h.1 scope g i.0 i.1)
     stmt_fine ns start vars (jump j k s) h scope g t i = subst (FineStmt gs all answer) (sym i) tt

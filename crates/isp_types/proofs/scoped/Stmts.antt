@@ -5,20 +5,22 @@ use Rattle.isp_base.specs.declared.types.Elem.TheVariants.{Bool as Truth}
 use Rattle.isp_base.specs.declared.types.Gang.{Gang}
 use Rattle.isp_base.specs.declared.types.Span.{Span}
 use Rattle.isp_base.specs.declared.types.Ty.{Ty}
+use Rattle.isp_base.specs.Ranks.{operand}
 use Rattle.isp_lex.specs.declared.fault.Fault.{Fault}
 use Rattle.isp_tree.specs.Sound.{IfAny, IsSoundStmt, IsSoundBlock, AreSoundStmts}
-use Rattle.isp_tree.specs.Tree.{Expr, First, Simple, Stmt, block, empty, declare, simple, if_then, if_else, loop_while, loop_do, loop_for, foreach, foreach_active, unmasked, jump, returning, print, assert, Block, braces, Stmts, no_stmts, stmt_then}
+use Rattle.isp_tree.specs.Tree.{Expr, First, Simple, Stmt, block, empty, declare, simple, if_then, if_else, loop_while, loop_do, loop_for, foreach, foreach_active, foreach_unique, unmasked, jump, returning, print, assert, Block, braces, Stmts, no_stmts, stmt_then}
 use Rattle.isp_typed.specs.declared.variable.Variable.{Variable}
 use Rattle.isp_exprs.specs.Typing.{perhaps}
-use Rattle.isp_typed.specs.Typed.{TExpr, TFirst, TSimple, TStmt, TBlock, TStmts}
-use Rattle.isp_typed.specs.Fine.{active_index}
+use Rattle.isp_typed.specs.Typed.{TExpr, TFirst, TSimple, TStmt, TBlock, TStmts, elem_of}
+use Rattle.isp_typed.specs.Fine.{active_index, unique_index}
 use Rattle.isp_typed.specs.Scoped.{Scope, declared, ExprIn, SimpleIn, number_after, scope_after, number_after_first, scope_after_first, number_after_stmt, number_after_block, number_after_stmts, scope_after_stmt, StmtAt, BlockAt, StmtsAt}
 use Rattle.isp_exprs.specs.declared.scope.Binding.{Binding}
 use Rattle.isp_exprs.specs.Scopes.{with_name}
 use Rattle.isp_exprs.specs.Callees.{Heading}
-use Rattle.isp_types.specs.Numbering.{first_names, first_variables, range_names, range_variables, names_after, variables_after, block_variables, stmts_variables}
+use Rattle.isp_types.specs.Numbering.{first_names, first_variables, range_names, range_variables, unique_names, unique_variables, names_after, variables_after, block_variables, stmts_variables}
 use Rattle.isp_types.specs.Simple.{simple_typing}
 use Rattle.isp_types.specs.Statements.{as_answer, test_typing, first_typing, returned_typing, stmt_typing, block_typing, stmts_typing}
+use Rattle.isp_types.proofs.Unique.{unique_named}
 use Rattle.isp_types.proofs.scoped.Names.{AllIn, one_longer, scope_added}
 use Rattle.isp_types.proofs.scoped.Exprs.{converted_in, expr_in}
 use Rattle.isp_types.proofs.scoped.Simples.{FirstDone, simple_in, values_in, declaration_at, first_at, ranges_at}
@@ -103,6 +105,14 @@ module _ (gang : Gang) (hs : List Heading) (answer : Result (Option Ty) Fault) w
         let inner = with_name ns vars w.name (Ok active_index) in
         let a1 = stmt_scoped (declared n v) inner (length inner) (vars ++ active_index ∷ []) (suc n) a h.2 (scope_added v ns vars n w.name active_index scope e) (one_longer vars active_index n e) i.0 i.1 in
         subst (StmtDone v n ns (variables_after gang hs inner (vars ++ active_index ∷ []) a)) (sym i.2) ((sym e, sym e, a1.0), a1.1, scope)
+    stmt_scoped v ns start vars n (foreach_unique k w x a s) h scope e t i =
+        let y = i.0.0 in
+        let inner = unique_names gang hs ns vars w x in
+        let more = unique_variables gang hs ns vars x in
+        let scope1 = subst (AllIn (declared n v)) (sym (unique_named gang hs ns vars w x y i.1.0)) (scope_added v ns vars n w.name (unique_index (elem_of y)) scope e) in
+        let a1 = stmt_scoped (declared n v) inner (length inner) more (suc n) a h.3 scope1 (one_longer vars _ n e) i.0.1 i.1.1 in
+        subst (StmtDone v n ns (variables_after gang hs inner more a)) (sym i.2)
+        ((sym e, sym e, converted_in v (operand (elem_of y)) y (expr_in gang hs v ns scope x y i.1.0), a1.0), a1.1, scope)
     stmt_scoped v ns start vars n (unmasked k b s) h scope e t i =
         let b1 = block_scoped v ns (length ns) vars n b h.1 scope e i.0 i.1 in
         subst (StmtDone v n ns (block_variables gang hs ns vars b)) (sym i.2) (b1.0, b1.1, scope)

@@ -8,7 +8,7 @@ use Rattle.isp_lex.specs.declared.fault.Rule.TheVariants.{NameTwice, Mismatch, B
 use Rattle.isp_lex.specs.Faults.{fault}
 use Rattle.isp_tree.specs.declared.types.Word.{Word}
 use Rattle.isp_tree.specs.Tree.{Expr, place, call, variable, element, Item, plain, with_value, with_size, Declaration, Simple, value, assign, change, First, first_declare, first_simple, Range, span_of}
-use Rattle.isp_tree.specs.Tree.{Stmt, block, empty, declare, simple, if_then, if_else, loop_while, loop_do, loop_for, foreach, foreach_active, unmasked, jump, returning, print, assert, Block, braces, Stmts, no_stmts, stmt_then}
+use Rattle.isp_tree.specs.Tree.{Stmt, block, empty, declare, simple, if_then, if_else, loop_while, loop_do, loop_for, foreach, foreach_active, foreach_unique, unmasked, jump, returning, print, assert, Block, braces, Stmts, no_stmts, stmt_then}
 use Rattle.isp_typed.specs.declared.variable.Variable.{Variable}
 use Rattle.isp_typed.specs.Verdicts.{both, made, found, beside, fault_unless, perhaps}
 use Rattle.isp_typed.specs.Typed.{TExpr, TPlace, TItem, t_plain, TSimple, t_value, TFirst, t_first_simple, TRange}
@@ -20,13 +20,13 @@ use Rattle.isp_exprs.specs.Scopes.{named, is_new, with_name}
 use Rattle.isp_exprs.specs.Places.{variable_target, element_target}
 use Rattle.isp_exprs.specs.Callees.{Heading}
 use Rattle.isp_exprs.specs.Rules.{second, pair_then}
-use Rattle.isp_types.specs.Numbering.{or_nothing, item_names, item_variables, first_names, first_variables, range_names, range_variables, names_after, variables_after}
+use Rattle.isp_types.specs.Numbering.{or_nothing, item_names, item_variables, first_names, first_variables, range_names, range_variables, unique_names, unique_variables, names_after, variables_after}
 use Rattle.isp_types.specs.Declarations.{array_sized, with_initial, sized_item}
 use Rattle.isp_types.specs.Simple.{stated, assigned, stepped}
 use Rattle.isp_types.specs.Statements.{as_test, range_made, places, agrees, as_answer}
 use Rattle.isp_typed.specs.Fine.{foreach_index as index, active_index}
 use Rattle.isp_types.specs.Simple.{no_place}
-use Rattle.isp_types.specs.Nodes.{declared_first, declared_stmt, simple_stmt, if_stmt, if_else_stmt, while_stmt, do_stmt, for_stmt, foreach_stmt, active_stmt, unmasked_stmt, return_stmt, print_stmt, assert_stmt, braces_made, stmts_made}
+use Rattle.isp_types.specs.Nodes.{declared_first, declared_stmt, simple_stmt, if_stmt, if_else_stmt, while_stmt, do_stmt, for_stmt, foreach_stmt, active_stmt, unique_stmt, unmasked_stmt, return_stmt, print_stmt, assert_stmt, braces_made, stmts_made}
 use Rattle.isp_exprs.specs.reader.Judge.{judge_call_of, judge}
 
 -- the fault of a name that is not new
@@ -83,7 +83,7 @@ module _ (gang : Gang) (hs : List Heading) where
   judge_values ns [] = Ok []
   judge_values ns (x ∷ xs) = made pair_then (both (judge gang hs ns x) (judge_values ns xs))
 
-  -- ---- statements: each body is a scope of its own, and so is a whole `for`, and a `foreach` from its indices on
+  -- ---- statements: each body is a scope of its own, and so is a whole `for`, and a `foreach` of any kind from its indices on
 
   module _ (answer : Result (Option Ty) Fault) where
     abbrev pub judge_returned : List Binding → Span → Option Expr → Result (Option TExpr) Fault
@@ -110,6 +110,9 @@ module _ (gang : Gang) (hs : List Heading) where
           (judge_stmt (range_names ns vars rs) (length (range_names ns vars rs)) (range_variables vars rs) a))
       judge_stmt ns start vars (foreach_active k w a s) = made (active_stmt k (length vars) s)
           (judge_stmt (with_name ns vars w.name (Ok active_index)) (length (with_name ns vars w.name (Ok active_index))) (vars ++ active_index ∷ []) a)
+      judge_stmt ns start vars (foreach_unique k w x a s) = made (unique_stmt k (length vars) s)
+          (both (judge gang hs ns x)
+          (judge_stmt (unique_names gang hs ns vars w x) (length (unique_names gang hs ns vars w x)) (unique_variables gang hs ns vars x) a))
       judge_stmt ns start vars (unmasked k b s) = made (unmasked_stmt k s) (judge_block ns (length ns) vars b)
       judge_stmt ns start vars (jump j k s) = Ok (t_jump j k s)
       judge_stmt ns start vars (returning k x s) = made (return_stmt k s) (judge_returned ns k x)

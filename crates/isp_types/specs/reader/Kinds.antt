@@ -1,6 +1,6 @@
 -- Groups of statements. No part of the promise.
 use Rattle.std.specs.Prelude.{Bool, true, false}
-use Rattle.isp_tree.specs.Tree.{Stmt, if_then, if_else, loop_while, loop_do, loop_for, foreach, foreach_active, returning, print, assert}
+use Rattle.isp_tree.specs.Tree.{Stmt, if_then, if_else, loop_while, loop_do, loop_for, foreach, foreach_active, foreach_unique, returning, print, assert}
 
 abbrev pub is_branch : Stmt → Bool
 is_branch (if_then f x a s) = true
@@ -23,6 +23,10 @@ is_foreach s = false
 abbrev pub is_active : Stmt → Bool
 is_active (foreach_active k w a s) = true
 is_active s = false
+
+abbrev pub is_unique : Stmt → Bool
+is_unique (foreach_unique k w x a s) = true
+is_unique s = false
 
 -- a statement without others in it that ends a function, or prints, or tests
 abbrev pub is_called : Stmt → Bool
