@@ -30,6 +30,18 @@ const SOURCES: &[(&str, &str)] = &[
         "void f() { foreach (i = 0 ... 4, j = 0 ... 4, k = 0 ... 4, l = 0 ... 4) ; }",
         "10 Unexpected at 57..58",
     ),
+    (
+        "void f() { foreach_unique (i of a) ; }",
+        "10 Unexpected at 29..31",
+    ),
+    (
+        "void f() { foreach_unique (in) ; }",
+        "10 Unexpected at 29..30",
+    ),
+    (
+        "void f() { foreach_unique (i in ) ; }",
+        "10 Unexpected at 32..33",
+    ),
     ("export void f() { x = 1 +; }", "10 Unexpected at 25..26"),
     (
         "export void f(uniform float a[]) { }",

@@ -101,6 +101,7 @@ const WORDS: &[(&str, Kind)] = &[
     ("foreach", Kind::Mark(Mark::Foreach)),
     ("foreach_tiled", Kind::Mark(Mark::ForeachTiled)),
     ("foreach_active", Kind::Mark(Mark::ForeachActive)),
+    ("foreach_unique", Kind::Mark(Mark::ForeachUnique)),
     ("unmasked", Kind::Mark(Mark::Unmasked)),
     ("break", Kind::Mark(Mark::Break)),
     ("continue", Kind::Mark(Mark::Continue)),
@@ -144,7 +145,6 @@ const LEFT_OUT: &[(&str, Kind)] = &[
     ("cbreak", Kind::LeftOut),
     ("ccontinue", Kind::LeftOut),
     ("creturn", Kind::LeftOut),
-    ("foreach_unique", Kind::LeftOut),
 ];
 
 const NAMES: &[(&str, Kind)] = &[
@@ -155,6 +155,7 @@ const NAMES: &[(&str, Kind)] = &[
     ("_1", Kind::Name("_1")),
     ("a_b", Kind::Name("a_b")),
     ("iff", Kind::Name("iff")),
+    ("in", Kind::Name("in")),
     ("Int", Kind::Name("Int")),
     ("VOID", Kind::Name("VOID")),
     ("int128", Kind::Name("int128")),
@@ -270,11 +271,12 @@ const SEVERAL: &[(&str, &[(Kind, usize, usize)])] = &[
         ],
     ),
     (
-        "_a9 uniform foreach_unique",
+        "_a9 uniform foreach_unique goto",
         &[
             (Kind::Name("_a9"), 0, 3),
             (Kind::Mark(Mark::Uniform), 4, 11),
-            (Kind::LeftOut, 12, 26),
+            (Kind::Mark(Mark::ForeachUnique), 12, 26),
+            (Kind::LeftOut, 27, 31),
         ],
     ),
 ];

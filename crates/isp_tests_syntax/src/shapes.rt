@@ -382,6 +382,17 @@ fn outer(out: &mut Line, s: &Stmt) {
             out.word(name.name.as_str());
             stmt(out, body);
         }
+        Stmt::ForeachUnique {
+            word: name,
+            value,
+            body,
+            ..
+        } => {
+            out.open("foreach_unique");
+            out.word(name.name.as_str());
+            expr(out, value);
+            stmt(out, body);
+        }
         Stmt::Unmasked { body, .. } => {
             out.open("unmasked");
             block(out, body);

@@ -127,6 +127,14 @@ const STATEMENTS: &[(&str, &str)] = &[
         " (foreach_tiled (range i 0 4) (range j a b) (range k 1 2) empty)",
     ),
     ("foreach_active (i) ;", " (foreach_active i empty)"),
+    (
+        "foreach_unique (i in a < b) ;",
+        " (foreach_unique i (less a b) empty)",
+    ),
+    (
+        "foreach_unique (in in in) ;",
+        " (foreach_unique in in empty)",
+    ),
     ("unmasked { ; }", " (unmasked (block empty))"),
     ("return;", " (return nothing)"),
     ("return a;", " (return a)"),
