@@ -224,6 +224,14 @@ class Parser:
             name = self.next()[1]
             self.take(")")
             return ("active", name, self.stmt())
+        if w == "foreach_unique":
+            self.next()
+            self.take("(")
+            name = self.next()[1]
+            self.take("in")
+            e = self.expr()
+            self.take(")")
+            return ("unique", name, e, self.stmt())
         if w == "unmasked":
             self.next()
             return ("unmasked", self.block())
@@ -950,6 +958,21 @@ class Machine:
                 self.tick()
                 fr.slots[slot] = p
                 inner((p,), fr)
+            return a, (), (), ()
+        return run
+
+    def s_unique(self, sc, name, e, body):
+        e = self.expr(e, sc)
+        x = self.to(e, e[0], "varying")
+        def make():
+            return self.new(sc, name, e[0], "uniform", None), self.body(body, sc)
+        slot, inner = self.scoped(sc, make)
+        def run(a, fr):
+            v = x[2](a, fr)
+            for z in dict.fromkeys(v[p] for p in a):
+                self.tick()
+                fr.slots[slot] = z
+                inner(tuple(p for p in a if v[p] == z), fr)
             return a, (), (), ()
         return run
 
