@@ -130,8 +130,17 @@ def crc32(a):
     a["sums"] = [zlib.crc32(bytes(a["bytes"][start:end])) for start, end in zip(starts, starts[1:])]
 
 
+def shade(a):
+    def lit(material, pixel):
+        gain, level = a["gains"][material], a["levels"][material]
+        return clamp(int(pixel * gain / 16) + level, 0, 255) if gain else pixel
+
+    n = a["count"]
+    a["pixels"] = [lit(m, p) for m, p in zip(a["materials"], a["pixels"][:n])] + a["pixels"][n:]
+
+
 KERNELS = [brighten, blur, fir, lookup, histogram, mandelbrot, roots, matrix, collatz, threshold, totals, factors]
-KERNELS += [compact, bitonic, life, find, crc32]
+KERNELS += [compact, bitonic, life, find, crc32, shade]
 
 
 def answer(kernel):
