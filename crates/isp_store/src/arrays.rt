@@ -59,6 +59,15 @@ impl Arrays {
         &self.items[..self.params]
     }
 
+    /// Gives up the parameters as they are now. The local arrays are dropped.
+    pub fn into_params(self) -> Vec<Array>
+        ensures { result.items ≡ take self.params self.rows }
+    {
+        let mut params = self.items;
+        params.truncate(self.params);
+        params
+    }
+
     /// Another array in the place of a parameter.
     pub fn set_param(&mut self, number: usize, array: Array)
         requires { number < self.old.params }
