@@ -20,3 +20,4 @@ pub mod Returned
 pub mod Readies
 mod Consecutive
 mod Crossed
+mod Seeing

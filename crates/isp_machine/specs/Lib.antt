@@ -8,6 +8,7 @@ pub mod Receives
 pub mod Steps
 pub mod Kept
 pub mod Runs
+pub mod Seen
 pub mod Starts
 pub mod StartTexts
 pub mod Crossing

@@ -1,7 +1,7 @@
 //! A call: where it stands, and its registers.
-ghost use Rattle.std.specs.Prelude.{◌≡◌, ◌<◌, ◌≤◌, ◌+◌, ◌^◌, ◌++◌, [], length, get_or, slice_set, map, replicate, unsigned_abs, None, Some, IfOk, IfErr, OnOk, OnErr, if◌then◌else◌};
+ghost use Rattle.std.specs.Prelude.{◌≡◌, ◌<◌, ◌≤◌, ◌+◌, ◌^◌, ◌++◌, ◌&&◌, [], length, get_or, nat_lt, slice_set, map, replicate, unsigned_abs, None, Some, IfOk, IfErr, OnOk, OnErr, if◌then◌else◌};
 ghost use Rattle.isp_base.specs.Arguments.{rows};
-ghost use Rattle.isp_base.specs.Cross.{run_index, run_outside};
+ghost use Rattle.isp_base.specs.Cross.{rank, run_index, run_outside};
 ghost use Rattle.isp_base.specs.Sets.{flag_of, lowest};
 ghost use Rattle.isp_code.specs.Listing.{routine_of};
 ghost use Rattle.isp_code.specs.Registers.{arrays_of};
@@ -15,7 +15,7 @@ ghost use Rattle.isp_base.specs.Values.{width, number, op_bits, compare_bits, co
 ghost use Rattle.isp_base.specs.Unary.{unary_bits};
 ghost use Rattle.isp_lanes.specs.Lanes.{is_on, first_zero, written, no_row};
 ghost use Rattle.isp_machine.specs.Arrays.{ArrayThere, Rewritten, Scattered, array_elem, array_in, bits_in, elem_in, gathered_at, lanes_set, mask_in, outside_at, vector_in};
-ghost use Rattle.isp_machine.specs.Views.{no_array, vectors_at, masks_at};
+ghost use Rattle.isp_machine.specs.Views.{no_array, scalars_at, vectors_at, masks_at};
 ghost use Rattle.isp_store.specs.Held.{elem, elements, size};
 
 use crate::array::FrameArray;
@@ -221,6 +221,68 @@ impl<const N: usize> Frame<N> {
     {
         self.masks[r as usize] = value;
     }
+}
+
+// Registers and lanes that may not be there.
+impl<const N: usize> Frame<N> {
+    /// A scalar register.
+    pub(crate) fn scalar_there(&self, r: usize) -> Option<u64>
+        ensures { result ≡ (if nat_lt r (length self.now.scalars) then Some (scalars_at self.now r) else None) }
+    {
+        if r < self.scalars.len() {
+            Some(self.scalars[r])
+        } else {
+            None
+        }
+    }
+
+    /// A lane of a vector register.
+    pub(crate) fn lane_there(&self, r: usize, lane: usize) -> Option<u64>
+        ensures { result ≡ (if nat_lt r (length self.now.vectors) && nat_lt lane N then Some (vectors_at self.now r lane) else None) }
+    {
+        self.under.told();
+        if r < self.vectors.len() && lane < N {
+            Some(self.vectors[r].get(lane))
+        } else {
+            None
+        }
+    }
+
+    /// Whether a lane of a mask register is on.
+    pub(crate) fn flag_there(&self, r: usize, lane: usize) -> Option<bool>
+        ensures { result ≡ (if nat_lt r (length self.now.masks) && nat_lt lane N then Some (masks_at self.now r lane) else None) }
+    {
+        if r < self.masks.len() && lane < N {
+            Some(self.masks[r].get(lane))
+        } else {
+            None
+        }
+    }
+
+    /// How many lanes of a mask register are on.
+    pub(crate) fn flags_there(&self, r: usize) -> Option<u32>
+        ensures { result ≡ (if nat_lt r (length self.now.masks) then Some (rank (masks_at self.now r) N) else None) }
+    {
+        if r < self.masks.len() {
+            Some(flags_on(&self.masks[r]))
+        } else {
+            None
+        }
+    }
+}
+
+// How many lanes are on.
+fn flags_on<const N: usize>(mask: &LaneMask<N>) -> u32
+    ensures { result ≡ rank (flag_of mask.now) N }
+{
+    mask.told();
+    let mut on = 0;
+    for lane in 0..N {
+        if mask.get(lane) {
+            on += 1;
+        }
+    }
+    on
 }
 
 // A call that begins, in the memory of one that is over.

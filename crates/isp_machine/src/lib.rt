@@ -29,5 +29,5 @@ mod texts;
 mod vectors;
 mod zeros;
 
-pub use machine::Machine;
+pub use machine::{Machine, Rest, Spot};
 pub use stop::{StartFault, Stop};
