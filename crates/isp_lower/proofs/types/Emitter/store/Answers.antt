@@ -33,6 +33,13 @@ returns-clause-code c =
       kept = ap (λ (ts : Vec (Vec ℕ Global) Global). record (draft_of c.args.self.now) { places = c.join.new.self.places.items; texts = map (λ t. t.items) ts.items; rows = rows_of asked.registers; masks = asked.masks; code = c.join.new.self.code.items }) c.in_ok-join.ensures.texts;
     }
 
+pub returns-clause-has : goal.returns-clause-has
+returns-clause-has c =
+    let asked = c.simple.new.self in
+    let gives = c.in_ok-simple.ensures in
+    let grown : Grows c.args.self.now.reserved.registers asked.registers = subst (λ (r : Reserve). Grows r.registers asked.registers) c.in_ok-asked.ensures gives.rows in
+    all_joined c.args.self.now.reserved asked grown (simple_asks (simple_of c.args.x.now) c.args.site.slot.number) gives.has c.requires.own
+
 pub returns-clause-all_named : goal.returns-clause-all_named
 returns-clause-all_named c =
     let asked = c.simple.new.self in
