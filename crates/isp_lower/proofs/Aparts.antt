@@ -1,5 +1,5 @@
 -- What is written apart, and then taken, is appended; and what it names is there.
-use Rattle.std.proofs.Common.{◌≡◌, ℕ, zero, suc, ◌≤◌, List, [], ◌∷◌, ◌++◌, length, drop, ap, subst, sym, ◌∙◌, arith, length-append}
+use Rattle.std.proofs.Common.{◌≡◌, ℕ, zero, suc, ◌+◌, ◌≤◌, List, [], ◌∷◌, ◌++◌, length, drop, ap, subst, sym, ◌∙◌, arith, length-append}
 use Rattle.std.proofs.Math.Seq.{drop-append_seam}
 use Rattle.isp_base.specs.declared.types.Elem.{Elem}
 use Rattle.isp_base.specs.declared.types.Rate.{Rate}
@@ -74,6 +74,15 @@ with_more Varying t rows masks class.Mask = omega arith
 
 pub fresh_named : (r : Rate) (t : Elem) (rows : Rows) (masks : ℕ) (code : List Instr) → InCode (IsOf rows masks) code → InCode (IsOf (with_fresh_at r t rows) masks) code
 fresh_named r t rows masks code h = code_weaker (IsOf rows masks) (IsOf (with_fresh_at r t rows) masks) (λ x lt. omega (arith, lt, with_more r t rows masks x.class)) code h
+
+with_mask_more : (rows : Rows) (masks : ℕ) (c : Class) → count_of rows masks c ≤ count_of rows (masks + 1) c
+with_mask_more rows masks class.Scalar = omega arith
+with_mask_more rows masks class.Vector = omega arith
+with_mask_more rows masks class.Array = omega arith
+with_mask_more rows masks class.Mask = omega arith
+
+pub fresh_mask_named : (rows : Rows) (masks : ℕ) (code : List Instr) → InCode (IsOf rows masks) code → InCode (IsOf rows (masks + 1)) code
+fresh_mask_named rows masks code h = code_weaker (IsOf rows masks) (IsOf rows (masks + 1)) (λ x lt. omega (arith, lt, with_mask_more rows masks x.class)) code h
 
 -- ---- another target names no other register
 

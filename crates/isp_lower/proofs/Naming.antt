@@ -7,7 +7,7 @@ use Rattle.isp_code.specs.declared.instr.Instr.{Instr}
 use Rattle.isp_code.specs.declared.operand.Operand.{Operand}
 use Rattle.isp_code.specs.declared.operand.Operand.TheVariants.{Any as AnyRegister, Scalar, Vector, Mask, Array, Number, Place, Text, Target, Back}
 use Rattle.isp_code.specs.declared.register.Register.{Register}
-use Rattle.isp_lower.specs.Layout.{class_at, register}
+use Rattle.isp_lower.specs.Layout.{class_at, mask_register, register}
 use Rattle.isp_lower.specs.Named.{InOption, InOperand, InOperands, InCode, IsOf, Unnamed, count_of}
 use Rattle.isp_lower.specs.Rows.{Rows, rows_at}
 
@@ -56,3 +56,14 @@ not_next rows masks r x h e =
 
 pub next_unnamed : (rows : Rows) (masks : ℕ) (r : Rate) (code : List Instr) → InCode (IsOf rows masks) code → Unnamed (register r (length (rows_at rows r))) code
 next_unnamed rows masks r code h = code_weaker (IsOf rows masks) (λ y. y ≢ register r (length (rows_at rows r))) (λ x f. not_next rows masks r x f) code h
+
+-- ---- nor is the next mask
+
+not_next_mask : (rows : Rows) (masks : ℕ) (x : Register) → IsOf rows masks x → x ≢ mask_register masks
+not_next_mask rows masks x h e =
+    let n : x.number ≡ masks = ap (λ (y : Register). y.number) e in
+    let k : count_of rows masks x.class ≡ masks = ap (λ (y : Register). count_of rows masks y.class) e in
+    omega (arith, h, n, k)
+
+pub next_mask_unnamed : (rows : Rows) (masks : ℕ) (code : List Instr) → InCode (IsOf rows masks) code → Unnamed (mask_register masks) code
+next_mask_unnamed rows masks code h = code_weaker (IsOf rows masks) (λ y. y ≢ mask_register masks) (λ x f. not_next_mask rows masks x f) code h

@@ -1,5 +1,5 @@
 -- A program's code while it is written: what an emitter has, as lists.
-use Rattle.std.specs.Prelude.{◌≡◌, ℕ, List, [], ◌∷◌, ◌++◌, map, true, Option, Some, None, IsSome, option_map}
+use Rattle.std.specs.Prelude.{◌≡◌, ℕ, ◌+◌, List, [], ◌∷◌, ◌++◌, map, true, Option, Some, None, IsSome, option_map}
 use Rattle.std.specs.List.{list_all}
 use Rattle.isp_base.specs.declared.types.Elem.{Elem}
 use Rattle.isp_base.specs.declared.types.Gang.{Gang}
@@ -80,6 +80,9 @@ with_instr i d = record d { code = d.code ++ i ∷ [] }
 
 abbrev pub with_register : Rate → Elem → Draft → Draft
 with_register r t d = record d { rows = with_fresh_at r t d.rows }
+
+abbrev pub with_mask : Draft → Draft
+with_mask d = record d { masks = d.masks + 1 }
 
 abbrev pub with_target : ℕ → ℕ → Draft → Draft
 with_target at to d = record d { code = patched d.code at to }

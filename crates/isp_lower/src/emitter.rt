@@ -1,9 +1,9 @@
 //! The code of a program while it is written.
 ghost use Rattle.std.specs.Prelude.{◌≡◌, ◌<◌, length, IfOk, OnErr, OnOk};
 ghost use Rattle.isp_typed.specs.Views.{function_of, program_of};
-ghost use Rattle.isp_lower.specs.Drafts.{CanBeWritten, HasAllNamed, HasNamed, IsBegun, begun, draft_of, finished, first_draft, with_instr, with_place, with_register, with_target, with_text};
+ghost use Rattle.isp_lower.specs.Drafts.{CanBeWritten, HasAllNamed, HasNamed, IsBegun, begun, draft_of, finished, first_draft, with_instr, with_mask, with_place, with_register, with_target, with_text};
 ghost use Rattle.isp_lower.specs.Header.{HeadingFits};
-ghost use Rattle.isp_lower.specs.Layout.{register};
+ghost use Rattle.isp_lower.specs.Layout.{mask_register, register};
 ghost use Rattle.isp_lower.specs.Named.{Unnamed};
 ghost use Rattle.isp_lower.specs.Patched.{IsJump, instr_at};
 ghost use Rattle.isp_lower.specs.Rows.{fresh_at, rows_at};
@@ -11,7 +11,7 @@ ghost use Rattle.isp_lower.specs.Rows.{fresh_at, rows_at};
 use crate::beginning::{begin, no_registers};
 use crate::header::heading_of;
 use crate::listing::{add_functions, add_places, add_texts};
-use crate::numbered::{PlaceNumber, RegisterNumber, TextNumber};
+use crate::numbered::{MaskNumber, PlaceNumber, RegisterNumber, TextNumber};
 use crate::reserve::Reserve;
 use crate::types::{Body, Emitter};
 use isp_base::{Elem, Rate, Span};
@@ -75,14 +75,12 @@ impl<'p> Emitter<'p> {
         self.body.text(bytes)
     }
 
-    /// Adds an instruction, all of whose registers the function at work has, and gives its number. 0 where memory is
-    /// refused, or there are 4,294,967,295 instructions.
+    /// Adds an instruction and gives its number. 0 where memory is refused, or there are 4,294,967,295 instructions.
     pub fn emit(&mut self, instr: Instr) -> Result<u32, AllocError>
-        requires begun { IsBegun (draft_of self.old) }
-        requires there { HasNamed (draft_of self.old) instr }
+        requires { IsBegun (draft_of self.old) }
         ensures number { IfOk result (λ n. n ≡ length (draft_of self.old).code) }
         ensures added { OnOk result (draft_of self.new ≡ with_instr instr (draft_of self.old)) }
-        ensures all_named { HasAllNamed (draft_of self.old) → OnOk result (HasAllNamed (draft_of self.new)) }
+        ensures all_named { HasAllNamed (draft_of self.old) → HasNamed (draft_of self.old) instr → OnOk result (HasAllNamed (draft_of self.new)) }
         ensures refused { OnErr result (draft_of self.new ≡ draft_of self.old) }
     {
         self.body.append(instr)
@@ -100,6 +98,19 @@ impl<'p> Emitter<'p> {
         ensures refused { OnErr result (draft_of self.new ≡ draft_of self.old) }
     {
         self.reserved.registers.fresh(rate, elem)
+    }
+
+    /// One more mask register of the function at work, and its number: no instruction names it, and no earlier call gave
+    /// it. Code in the slots behind its number leaves it as it is. 0 where there are 4,294,967,295 masks.
+    pub fn fresh_mask(&mut self) -> Result<MaskNumber, AllocError>
+        requires { IsBegun (draft_of self.old) }
+        ensures number { IfOk result (λ m. m.number ≡ (draft_of self.old).masks) }
+        ensures added { OnOk result (draft_of self.new ≡ with_mask (draft_of self.old)) }
+        ensures all_named { HasAllNamed (draft_of self.old) → OnOk result (HasAllNamed (draft_of self.new)) }
+        ensures unnamed { HasAllNamed (draft_of self.old) → IfOk result (λ m. Unnamed (mask_register m.number) (draft_of self.old).code) }
+        ensures refused { OnErr result (draft_of self.new ≡ draft_of self.old) }
+    {
+        self.reserved.fresh_mask()
     }
 
     /// The jump of a number leads to another instruction; nothing else changes.

@@ -1,5 +1,5 @@
 //! The registers that code asks for, before it is written.
-ghost use Rattle.std.specs.Prelude.{◌≡◌, ◌+◌, IfOk, OnOk};
+ghost use Rattle.std.specs.Prelude.{◌≡◌, ◌+◌, IfOk, OnErr, OnOk};
 ghost use Rattle.isp_base.specs.Ranks.{same_elem};
 ghost use Rattle.isp_base.specs.declared.types.Elem.TheVariants.{I64};
 ghost use Rattle.isp_base.specs.declared.types.Rate.TheVariants.{Uniform, Varying};
@@ -11,7 +11,7 @@ ghost use Rattle.isp_lower.specs.Rows.{Place};
 ghost use Rattle.isp_lower.specs.Reserved.{Gives, choice_asks, logic_asks, packed_load_asks, packed_store_asks};
 
 use crate::library::value_rate;
-use crate::numbered::Slot;
+use crate::numbered::{MaskNumber, Slot};
 use crate::registers::Registers;
 use isp_base::{Elem, Rate, Ty};
 use isp_typed::{
@@ -62,6 +62,17 @@ impl Reserve {
             self.masks = slot.after()?.number;
         }
         Ok(())
+    }
+
+    /// One more mask, and its number. Memory is refused where there are 4,294,967,295.
+    pub fn fresh_mask(&mut self) -> Result<MaskNumber, AllocError>
+        ensures number { IfOk result (λ m. m.number ≡ self.old.masks) }
+        ensures added { OnOk result (self.new ≡ record self.old { masks = self.old.masks + 1 }) }
+        ensures refused { OnErr result (self.new ≡ self.old) }
+    {
+        let slot = Slot { number: self.masks };
+        self.masks = slot.after()?.number;
+        Ok(slot.mask())
     }
 
     /// The number of the next slot.
