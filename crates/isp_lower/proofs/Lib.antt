@@ -61,3 +61,4 @@ mod Aparts
 mod NamedThere
 mod Writable
 mod Spans
+mod GoingOn

@@ -1,11 +1,12 @@
 -- What holds of the code of every expression and assignment.
-use Rattle.std.specs.Prelude.{ℕ, List, ◌+◌, length}
+use Rattle.std.specs.Prelude.{ℕ, List, ◌≡◌, ◌+◌, length}
 use Rattle.isp_base.specs.Sets.{Mask}
 use Rattle.isp_code.specs.Conf.{Conf}
 use Rattle.std.specs.List.{All}
 use Rattle.isp_typed.specs.Fine.{FineExpr, FineSimple, FineItem}
 use Rattle.isp_typed.specs.Typed.{TExpr, TSimple, TItem, TFunction, type_of}
 use Rattle.isp_typed.specs.declared.variable.Variable.{Variable}
+use Rattle.isp_meaning.specs.Outcomes.{Stops}
 use Rattle.isp_meaning.specs.State.{State}
 use Rattle.isp_meaning.specs.Expressions.{value}
 use Rattle.isp_meaning.specs.Simple.{simple, items}
@@ -17,8 +18,9 @@ use Rattle.isp_base.specs.declared.types.Rate.{Rate}
 use Rattle.isp_lower.specs.Sound.{Links, PartSound, IsRegister, ExprPresent, SimplePresent, ItemsPresent}
 use Rattle.isp_lower.specs.Items.{items_code, items_places}
 use Rattle.isp_lower.specs.Simple.{simple_code, simple_places}
-use Rattle.isp_lower.specs.Setting.{Setting, IsSettled, gang_of, calls_of, AreAt, Holds}
+use Rattle.isp_lower.specs.Setting.{Setting, IsSettled, with_turns, gang_of, calls_of, AreAt, Holds}
 use Rattle.isp_lower.specs.Runs.{Enters, Runs, DoneRuns}
+use Rattle.isp_lower.specs.Steps.{GoesOn}
 use Rattle.isp_lower.specs.Fits.{ExprFits, SimpleFits, ItemsFit}
 use Rattle.isp_lower.specs.Code.{found, expr_places, expr_code}
 
@@ -40,6 +42,17 @@ SimpleRuns =
 abbrev pub ItemsRun : Type 0
 ItemsRun =
     (w : Setting) → IsSettled w → (xs : List TItem) (pc p k n q : ℕ) (a : Mask) (s : State) (c : Conf) → ItemsFit w n xs → AreAt w.routine.code pc (items_code w.layout xs pc p k n) → AreAt w.code.places p (items_places w.layout xs) → Enters w pc k n a s c q → DoneRuns w c (pc + length (items_code w.layout xs pc p k n)) n q (items (gang_of w) w.frame (calls_of w) xs a s)
+
+-- Where the meaning of an expression is cut for each number of turns that a loop may make, its code goes on without end, and
+-- the two outputs are beginnings of each other's.
+abbrev pub ExprGoesOn : Type 0
+ExprGoesOn =
+    (w : Setting) → ((m : ℕ) → IsSettled (with_turns w m)) → (x : TExpr) (pc p k n q : ℕ) (a : Mask) (s : State) (c : Conf) (cuts : ℕ → State) → ExprFits w x n → AreAt w.routine.code pc (expr_code w.layout x pc p k n) → AreAt w.code.places p (expr_places w.layout x) → Enters w pc k n a s c q → ((m : ℕ) → value (gang_of w) w.frame (calls_of (with_turns w m)) x a s ≡ Stops (cuts m)) → GoesOn w.code c cuts
+
+-- The same of what stands before a semicolon.
+abbrev pub SimpleGoesOn : Type 0
+SimpleGoesOn =
+    (w : Setting) → ((m : ℕ) → IsSettled (with_turns w m)) → (x : TSimple) (pc p k n q : ℕ) (a : Mask) (s : State) (c : Conf) (cuts : ℕ → State) → SimpleFits w x n → AreAt w.routine.code pc (simple_code w.layout x pc p k n) → AreAt w.code.places p (simple_places w.layout x) → Enters w pc k n a s c q → ((m : ℕ) → simple (gang_of w) w.frame (calls_of (with_turns w m)) x a s ≡ Stops (cuts m)) → GoesOn w.code c cuts
 
 -- A layout from rows gives each name a register of its own.
 abbrev pub LayoutsAreApart : Type 0

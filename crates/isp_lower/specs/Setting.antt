@@ -44,6 +44,10 @@ pub record Setting : Type 0 where
   pub members : Mask
   pub start : ℕ
 
+-- the same call where a loop makes so many turns
+abbrev pub with_turns : Setting → ℕ → Setting
+with_turns w m = record w { turns = m }
+
 abbrev pub gang_of : Setting → ℕ
 gang_of w = gang_width w.code.gang
 

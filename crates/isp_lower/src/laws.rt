@@ -1,5 +1,5 @@
 //! What holds of all code. No code is run here: each function carries a law in its contract.
-ghost use Rattle.isp_lower.specs.Laws.{ExprRuns, ExprSound, ItemsRun, ItemsSound, LayoutsAreApart, SimpleRuns, SimpleSound};
+ghost use Rattle.isp_lower.specs.Laws.{ExprGoesOn, ExprRuns, ExprSound, ItemsRun, ItemsSound, LayoutsAreApart, SimpleGoesOn, SimpleRuns, SimpleSound};
 
 /// The code of an expression gives its value in the lanes of a mask, traps as it traps, and goes on
 /// where it is cut, within 32 instructions for each unit of work. Variables, and the registers that
@@ -19,6 +19,18 @@ pub fn assignments_run()
 /// alone; an array that all lanes share is set whole.
 pub fn declarations_run()
     ensures { ItemsRun }
+{}
+
+/// Where the value of an expression is cut for each number of turns that a loop may make, its code goes on
+/// without end: what each cut has written is the beginning of the output after some number of
+/// instructions, and the output after each number of instructions is the beginning of some cut's.
+pub fn expressions_go_on()
+    ensures { ExprGoesOn }
+{}
+
+/// The same of the code of a value, of an assignment, and of `op=`, `++` and `--`.
+pub fn assignments_go_on()
+    ensures { SimpleGoesOn }
 {}
 
 /// A layout from lists of rows, in which a register has the number of the first row of its name, gives

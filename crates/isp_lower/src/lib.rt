@@ -33,8 +33,8 @@ mod written;
 pub use expression::{expr, index, operand};
 pub use header::Heading;
 pub use laws::{
-    assignments_run, assignments_sound, declarations_run, declarations_sound, expressions_run,
-    expressions_sound, layouts_are_apart,
+    assignments_go_on, assignments_run, assignments_sound, declarations_run, declarations_sound,
+    expressions_go_on, expressions_run, expressions_sound, layouts_are_apart,
 };
 pub use leaves::{copy, mask, scalar, the_others, vector, where_so};
 pub use numbered::{MaskNumber, PlaceNumber, RegisterNumber, Slot, TextNumber};
