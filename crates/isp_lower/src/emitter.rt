@@ -16,14 +16,16 @@ use crate::reserve::Reserve;
 use crate::types::{Body, Emitter};
 use isp_base::{Elem, Rate, Span};
 use isp_code::{Code, Instr};
-use isp_typed::{Program, TypedFunction};
+use isp_rates::Checked;
+use isp_typed::TypedFunction;
 use std::alloc::{AllocError, Global};
 
 impl<'p> Emitter<'p> {
-    /// No code, no place, no text and no function, for a program's gang.
-    pub fn new(alloc: Global, program: &'p Program) -> Emitter<'p>
-        ensures { draft_of result ≡ first_draft (program_of program.now) }
+    /// No code, no place, no text and no function, for a checked program's gang.
+    pub fn new(alloc: Global, checked: &'p Checked) -> Emitter<'p>
+        ensures { draft_of result ≡ first_draft (program_of checked.now) }
     {
+        let program = checked.program();
         Emitter {
             gang: program.gang,
             callees: &program.functions,

@@ -9,7 +9,8 @@ ghost use Rattle.isp_masks.specs.Lowered.{AreLowered, HasCode, IsFineFunction};
 use crate::routine::function;
 use isp_code::Code;
 use isp_lower::Emitter;
-use isp_typed::{Program, TypedFunction};
+use isp_rates::Checked;
+use isp_typed::TypedFunction;
 use std::alloc::{AllocError, Global};
 
 /// Writes the routines of functions, in their order, and the places in the source and the texts that they name.
@@ -27,12 +28,12 @@ fn routines(e: &mut Emitter, functions: &[TypedFunction]) -> Result<(), AllocErr
     Ok(())
 }
 
-/// The code of a program: a routine for each function, in their order, and the places in the source and the texts that they name.
-pub(crate) fn program(alloc: Global, program: &Program) -> Result<Code, AllocError>
-    requires { IsAccepted (program_of program.now) }
-    ensures { IfOk result (λ code. HasCode (program_of program.now) code) }
+/// The code of a checked program: a routine for each function, in their order, and the places in the source and the texts that they name.
+pub(crate) fn program(alloc: Global, checked: &Checked) -> Result<Code, AllocError>
+    ensures accepted { IsAccepted (program_of checked.now) }
+    ensures code { IfOk result (λ code. HasCode (program_of checked.now) code) }
 {
-    let mut e = Emitter::new(alloc, program);
-    routines(&mut e, &program.functions)?;
+    let mut e = Emitter::new(alloc, checked);
+    routines(&mut e, &checked.program().functions)?;
     e.finish()
 }

@@ -15,5 +15,5 @@ pub fn lower(alloc: Global, checked: &Checked) -> Result<Code, AllocError>
     ensures agrees { IfOk result (λ code. Agrees (program_of checked.now) code) }
     ensures accepted { IfOk result (λ code. code_fault code ≡ None) }
 {
-    program(alloc, checked.program())
+    program(alloc, checked)
 }

@@ -6,8 +6,10 @@ ghost use Rattle.isp_typed.specs.Views.{function_of};
 
 use isp_base::{Elem, Gang, Name, Rate, Signature, Span, Ty};
 use isp_code::{Code, Function, Instr, Returns};
+use isp_lex::SourceFault;
 use isp_lower::{Emitter, PlaceNumber, RegisterNumber, TextNumber};
-use isp_typed::{Holds, Program, TypedBlock, TypedFunction, Variable};
+use isp_rates::{Checked, check};
+use isp_typed::{Holds, Program, Typed, TypedBlock, TypedFunction, Variable};
 use std::alloc::{AllocError, Global};
 use std::test::Fail;
 
@@ -46,6 +48,15 @@ fn function(alloc: Global) -> Result<TypedFunction, AllocError>
     })
 }
 
+// A program of a gang of 8, without functions.
+pub(crate) fn no_function(alloc: Global) -> Result<Checked, SourceFault> {
+    let program = Program {
+        gang: Gang::W8,
+        functions: Vec::new(alloc),
+    };
+    check(alloc, Typed::new(program))
+}
+
 // The numbers that calls give, in their order, and the finished code.
 #[derive(Drop)]
 struct Written {
@@ -57,13 +68,13 @@ struct Written {
 }
 
 // A function of a fresh register, the second scalar one, and a return; a place and a text.
-fn made(alloc: Global, program: &Program, f: &TypedFunction) -> Result<Written, AllocError>
+fn made(alloc: Global, checked: &Checked, f: &TypedFunction) -> Result<Written, AllocError>
     requires fits { HeadingFits (function_of f.now) }
     requires named { name_fits (function_of f.now).name ≡ true }
     requires params { params_of (function_of f.now).parameters (function_of f.now).variables ≡ [] }
     requires locals { locals_of (function_of f.now).variables ≡ [] }
 {
-    let mut e = Emitter::new(alloc, program);
+    let mut e = Emitter::new(alloc, checked);
     e.begin(f)?;
     let register = e.fresh(Rate::Uniform, Elem::I64)?;
     let instruction = e.emit(Instr::Return(None))?;
@@ -94,12 +105,9 @@ fn is_routine(f: &Function) -> bool {
 #[test]
 fn one_function(rt: HostRuntime) -> Result<(), Fail> {
     let alloc = rt.alloc();
-    let program = Program {
-        gang: Gang::W8,
-        functions: Vec::new(alloc),
-    };
+    let checked = no_function(alloc)?;
     let f = function(alloc)?;
-    let all = made(alloc, &program, &f)?;
+    let all = made(alloc, &checked, &f)?;
     assert!(rt;
         all.register.number == 1 && all.instruction == 0,
         "another register or instruction"

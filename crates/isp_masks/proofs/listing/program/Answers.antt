@@ -4,35 +4,40 @@ use Rattle.std.proofs.lemmas.Result.{IfOk-weaker}
 use Rattle.isp_code.specs.Writable.{has_byte, place_fits}
 use Rattle.isp_lower.specs.Drafts.{Draft, all_routines, draft_of, finished}
 use Rattle.isp_typed.specs.Views.{functions_of, program_of}
+use Rattle.isp_typed.specs.declared.function.Program.{Program}
 use Rattle.isp_masks.specs.Lowered.{AreLowered, HasCode, IsFineFunction}
 use Rattle.isp_masks.proofs.Listings.{has_finished}
 use Rattle.isp_masks.proofs.Lowers.{routines_fit}
 use Rattle.isp_masks.proofs.listing.program.Goals as goal
 
 pub routines-requires : goal.routines-requires
-routines-requires c = record {
-  none = ap all_routines c.new-e.ensures;
-  tables = record { places = ap (λ (d : Draft). list_all place_fits d.places) c.new-e.ensures; texts = ap (λ (d : Draft). list_all has_byte d.texts) c.new-e.ensures };
-  fine = subst (λ fs. All IsFineFunction (functions_of fs)) (sym c.deref.ensures.value) (λ k d lt. (functions_of c.args.program.now.functions.items, c.requires.fine.each k d lt));
-}
+routines-requires c =
+    let are = c.deref.ensures.value ∙ ap (λ (p : Program). p.functions.items) c.program.ensures.same in
+    record {
+      none = ap all_routines c.new-e.ensures;
+      tables = record { places = ap (λ (d : Draft). list_all place_fits d.places) c.new-e.ensures; texts = ap (λ (d : Draft). list_all has_byte d.texts) c.new-e.ensures };
+      fine = subst (λ fs. All IsFineFunction (functions_of fs)) (sym are) (λ k d lt. (functions_of c.args.checked.now.functions.items, c.program.ensures.accepted.fine.each k d lt));
+    }
 
 pub finish-requires : goal.finish-requires
 finish-requires c =
-    let p = program_of c.args.program.now in
+    let p = program_of c.args.checked.now in
     let d = draft_of c.routines.new.e in
+    let are = c.deref.ensures.value ∙ ap (λ (p : Program). p.functions.items) c.program.ensures.same in
     let lowered =
-    subst (λ fs. AreLowered fs p.functions (all_routines d) d.places d.texts) (ap (λ (z : Draft). z.callees) c.new-e.ensures) (subst (λ fs. AreLowered (draft_of c.new-e.result).callees (functions_of fs) (all_routines d) d.places d.texts) c.deref.ensures.value c.in_ok-routines.ensures.lowered) in
+    subst (λ fs. AreLowered fs p.functions (all_routines d) d.places d.texts) (ap (λ (z : Draft). z.callees) c.new-e.ensures) (subst (λ fs. AreLowered (draft_of c.new-e.result).callees (functions_of fs) (all_routines d) d.places d.texts) are c.in_ok-routines.ensures.lowered) in
     let gang = c.in_ok-routines.ensures.gang ∙ ap (λ (z : Draft). z.gang) c.new-e.ensures in
     record {
       tables = c.in_ok-routines.ensures.tables;
-      routines = routines_fit p (finished d) c.requires (has_finished p d lowered gang);
+      routines = routines_fit p (finished d) c.program.ensures.accepted (has_finished p d lowered gang);
     }
 
-pub returns : goal.returns
-returns c =
-    let p = program_of c.args.program.now in
+pub returns-clause-code : goal.returns-clause-code
+returns-clause-code c =
+    let p = program_of c.args.checked.now in
     let d = draft_of c.routines.new.e in
+    let are = c.deref.ensures.value ∙ ap (λ (p : Program). p.functions.items) c.program.ensures.same in
     let lowered =
-    subst (λ fs. AreLowered fs p.functions (all_routines d) d.places d.texts) (ap (λ (z : Draft). z.callees) c.new-e.ensures) (subst (λ fs. AreLowered (draft_of c.new-e.result).callees (functions_of fs) (all_routines d) d.places d.texts) c.deref.ensures.value c.in_ok-routines.ensures.lowered) in
+    subst (λ fs. AreLowered fs p.functions (all_routines d) d.places d.texts) (ap (λ (z : Draft). z.callees) c.new-e.ensures) (subst (λ fs. AreLowered (draft_of c.new-e.result).callees (functions_of fs) (all_routines d) d.places d.texts) are c.in_ok-routines.ensures.lowered) in
     let gang = c.in_ok-routines.ensures.gang ∙ ap (λ (z : Draft). z.gang) c.new-e.ensures in
     IfOk-weaker c.finish.result (λ code. code ≡ finished d) (λ code. HasCode p code) (λ code is. subst (HasCode p) (sym is) (has_finished p d lowered gang)) c.finish.ensures
