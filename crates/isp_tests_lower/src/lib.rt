@@ -3,3 +3,5 @@
 
 #[cfg(test)]
 mod emitted;
+#[cfg(test)]
+mod written;
