@@ -1,10 +1,91 @@
 //! Arguments and answers: what a text is bound to, why it is refused, and what an answer says.
+use crate::operators::elem_named;
 use isp_base::{Argument, Array, Elem, Name, Parameter, Signature, Value, wrap};
-use isp_bind::{BindFault, answer, bind};
-use isp_testing::Hoard;
+use isp_bind::{answer, bind};
+use isp_testing::{number, parted};
 use std::alloc::{AllocError, Global};
 use std::process::Abort;
 use std::test::Fail;
+
+/// Each line: the parameters, a text, and the refusal, or the answer with the arrays as they were bound and the last value
+/// as the result. Both ends of each type, and one past each; what JSON has beside the whole numbers of 64 bits; members by
+/// their names, where of two of one name the later counts, and a name may be written by escapes; each refusal.
+const TEXTS: &str = r##"x:int8;{"x":-128};{"arrays":{},"result":-128}
+x:int8;{"x":127};{"arrays":{},"result":127}
+x:int8;{"x":-129};75 OutOfRange
+x:int8;{"x":128};75 OutOfRange
+x:uint8;{"x":0};{"arrays":{},"result":0}
+x:uint8;{"x":255};{"arrays":{},"result":255}
+x:uint8;{"x":-1};75 OutOfRange
+x:uint8;{"x":256};75 OutOfRange
+x:int16;{"x":-32768};{"arrays":{},"result":-32768}
+x:int16;{"x":32767};{"arrays":{},"result":32767}
+x:int16;{"x":-32769};75 OutOfRange
+x:int16;{"x":32768};75 OutOfRange
+x:uint16;{"x":0};{"arrays":{},"result":0}
+x:uint16;{"x":65535};{"arrays":{},"result":65535}
+x:uint16;{"x":-1};75 OutOfRange
+x:uint16;{"x":65536};75 OutOfRange
+x:int32;{"x":-2147483648};{"arrays":{},"result":-2147483648}
+x:int32;{"x":2147483647};{"arrays":{},"result":2147483647}
+x:int32;{"x":-2147483649};75 OutOfRange
+x:int32;{"x":2147483648};75 OutOfRange
+x:uint32;{"x":0};{"arrays":{},"result":0}
+x:uint32;{"x":4294967295};{"arrays":{},"result":4294967295}
+x:uint32;{"x":-1};75 OutOfRange
+x:uint32;{"x":4294967296};75 OutOfRange
+x:int64;{"x":-9223372036854775808};{"arrays":{},"result":-9223372036854775808}
+x:int64;{"x":9223372036854775807};{"arrays":{},"result":9223372036854775807}
+x:int64;{"x":9223372036854775808};75 OutOfRange
+x:uint64;{"x":0};{"arrays":{},"result":0}
+x:uint64;{"x":18446744073709551615};{"arrays":{},"result":18446744073709551615}
+x:uint64;{"x":-1};75 OutOfRange
+x:bool;{"x":true};{"arrays":{},"result":true}
+x:bool;{"x":false};{"arrays":{},"result":false}
+x:bool;{"x":1};74 WrongKind
+x:bool;{"x":0};74 WrongKind
+x:int32;{"x":true};74 WrongKind
+x:int32;{"x":0};{"arrays":{},"result":0}
+x:int32;{"x":-0};74 WrongKind
+x:uint8;{"x":1.0};74 WrongKind
+x:uint8;{"x":1e2};74 WrongKind
+x:uint8;{"x":1e400};70 NotJson
+x:uint64;{"x":18446744073709551616};74 WrongKind
+x:int8;{"x":18446744073709551616};74 WrongKind
+x:int64;{"x":-9223372036854775809};74 WrongKind
+x:int64;{"x":null};74 WrongKind
+x:int64;{"x":"1"};74 WrongKind
+x:int64;{"x":[1]};74 WrongKind
+x:int64;{"x":{}};74 WrongKind
+a:int16[] n:uint8;{"n":1.5,"a":[],"n":7};{"arrays":{"a":[]},"result":7}
+a:int16[] n:uint8;{"n":7,"a":[],"n":1.5};74 WrongKind
+a:int16[] n:uint8;{"\u0061":[3],"\u006e":4};{"arrays":{"a":[3]},"result":4}
+a:int16[] n:uint8;{"A":[3],"n":4};72 Missing
+a:int16[] n:uint8;{"b":1};72 Missing
+a:int16[] n:uint8;{"b":1,"a":[40000],"n":4};75 OutOfRange
+a:int16[] n:uint8;{"b":1,"a":[3],"n":4};73 Extra
+a:int16[] n:uint8;{"a":[3],"n":4,"":0};73 Extra
+a:int16[] n:uint8;{"n":256,"a":[1,2.5,40000]};74 WrongKind
+a:int16[] n:uint8;{"n":256,"a":[1,40000,2.5]};75 OutOfRange
+a:int16[] n:uint8;{"n":true,"a":[40000]};75 OutOfRange
+x:int8;{};72 Missing
+x:int8;{"x":1.5};74 WrongKind
+x:int8;{"x":1,"y":2};73 Extra
+x:int8;[];71 NotObject
+x:int8;{;70 NotJson
+"##;
+
+/// Each line: the type of a result, its bits, and how it is shown.
+const RESULTS: &str = r##"bool 1 true
+int8 128 -128
+uint8 128 128
+int16 32768 -32768
+uint16 32768 32768
+int32 2147483648 -2147483648
+uint32 2147483648 2147483648
+int64 9223372036854775808 -9223372036854775808
+uint64 9223372036854775808 9223372036854775808
+"##;
 
 fn parameter(
     alloc: Global,
@@ -19,19 +100,17 @@ fn parameter(
     })
 }
 
-fn one_value(alloc: Global, elem: Elem) -> Result<Signature, Fail> {
+/// The parameters that a text names with their types; `[]` stands behind the type of an array.
+pub(crate) fn signature(alloc: Global, words: &str) -> Result<Signature, Fail> {
+    let mut params = Vec::new(alloc);
+    for word in words.split(' ') {
+        let (name, kind) = parted(word, ':');
+        let array = kind.strip_suffix("[]");
+        let elem = elem_named(array.unwrap_or(kind)).ok_or("a type of another name")?;
+        params.push(parameter(alloc, name, elem, array.is_some())?)?;
+    }
     Ok(Signature {
-        params: vec![in alloc; parameter(alloc, "x", elem, false)?]?,
-        result: None,
-    })
-}
-
-// An array `a` and a value `n`.
-fn array_and_value(alloc: Global, array: Elem, value: Elem) -> Result<Signature, Fail> {
-    let a = parameter(alloc, "a", array, true)?;
-    let n = parameter(alloc, "n", value, false)?;
-    Ok(Signature {
-        params: vec![in alloc; a, n]?,
+        params,
         result: None,
     })
 }
@@ -53,127 +132,26 @@ fn outcome(alloc: Global, signature: &Signature, text: &str) -> Result<String, F
     Ok(answer(alloc, signature, arrays.as_slice(), returned)?)
 }
 
-fn expect(
-    rt: &impl Abort,
-    alloc: Global,
-    signature: &Signature,
-    text: &str,
-    wanted: &str,
-) -> Result<(), Fail> {
-    let found = outcome(alloc, signature, text)?;
-    assert!(rt; found.as_str() == wanted, "{text}: {found}");
+fn compare_text(rt: &impl Abort, alloc: Global, line: &str) -> Result<(), Fail> {
+    let (words, rest) = parted(line, ';');
+    let (text, wanted) = parted(rest, ';');
+    let found = outcome(alloc, &signature(alloc, words)?, text)?;
+    assert!(rt; found.as_str() == wanted, "{line}: {found}");
     Ok(())
 }
 
-// Both ends of each type, and one past each.
 #[test]
-fn ends_of_each_type(rt: HostRuntime) -> Result<(), Fail> {
-    let alloc = rt.alloc();
-    for (elem, below, least, greatest, above) in [
-        (Elem::I8, "-129", "-128", "127", "128"),
-        (Elem::U8, "-1", "0", "255", "256"),
-        (Elem::I16, "-32769", "-32768", "32767", "32768"),
-        (Elem::U16, "-1", "0", "65535", "65536"),
-        (
-            Elem::I32,
-            "-2147483649",
-            "-2147483648",
-            "2147483647",
-            "2147483648",
-        ),
-        (Elem::U32, "-1", "0", "4294967295", "4294967296"),
-        (
-            Elem::I64,
-            "",
-            "-9223372036854775808",
-            "9223372036854775807",
-            "9223372036854775808",
-        ),
-        (Elem::U64, "-1", "0", "18446744073709551615", ""),
-    ] {
-        let signature = one_value(alloc, elem)?;
-        for number in [least, greatest] {
-            let text = format!(in alloc; "{{\"x\":{number}}}")?;
-            let wanted = format!(in alloc; "{{\"arrays\":{{}},\"result\":{number}}}")?;
-            expect(&rt, alloc, &signature, text.as_str(), wanted.as_str())?;
-        }
-        for number in [below, above] {
-            if !number.is_empty() {
-                let text = format!(in alloc; "{{\"x\":{number}}}")?;
-                expect(&rt, alloc, &signature, text.as_str(), "75 OutOfRange")?;
-            }
-        }
+fn texts(rt: HostRuntime) -> Result<(), Fail> {
+    let mut lines = 0u64;
+    for line in TEXTS.lines() {
+        compare_text(&rt, rt.alloc(), line)?;
+        lines = lines.saturating_add(1);
     }
+    assert_eq!(rt; lines, 63);
     Ok(())
 }
 
-// What JSON has beside the whole numbers of 64 bits.
-#[test]
-fn kinds(rt: HostRuntime) -> Result<(), Fail> {
-    let alloc = rt.alloc();
-    for (elem, text, wanted) in [
-        (
-            Elem::Bool,
-            "{\"x\":true}",
-            "{\"arrays\":{},\"result\":true}",
-        ),
-        (
-            Elem::Bool,
-            "{\"x\":false}",
-            "{\"arrays\":{},\"result\":false}",
-        ),
-        (Elem::Bool, "{\"x\":1}", "74 WrongKind"),
-        (Elem::Bool, "{\"x\":0}", "74 WrongKind"),
-        (Elem::I32, "{\"x\":true}", "74 WrongKind"),
-        (Elem::I32, "{\"x\":0}", "{\"arrays\":{},\"result\":0}"),
-        (Elem::I32, "{\"x\":-0}", "74 WrongKind"),
-        (Elem::U8, "{\"x\":1.0}", "74 WrongKind"),
-        (Elem::U8, "{\"x\":1e2}", "74 WrongKind"),
-        (Elem::U8, "{\"x\":1e400}", "70 NotJson"),
-        (Elem::U64, "{\"x\":18446744073709551616}", "74 WrongKind"),
-        (Elem::I8, "{\"x\":18446744073709551616}", "74 WrongKind"),
-        (Elem::I64, "{\"x\":-9223372036854775809}", "74 WrongKind"),
-        (Elem::I64, "{\"x\":null}", "74 WrongKind"),
-        (Elem::I64, "{\"x\":\"1\"}", "74 WrongKind"),
-        (Elem::I64, "{\"x\":[1]}", "74 WrongKind"),
-        (Elem::I64, "{\"x\":{}}", "74 WrongKind"),
-    ] {
-        let signature = one_value(alloc, elem)?;
-        expect(&rt, alloc, &signature, text, wanted)?;
-    }
-    Ok(())
-}
-
-// Members by their names: of two of one name the later counts, and a name may be written by escapes.
-#[test]
-fn names(rt: HostRuntime) -> Result<(), Fail> {
-    let alloc = rt.alloc();
-    let signature = array_and_value(alloc, Elem::I16, Elem::U8)?;
-    for (text, wanted) in [
-        (
-            "{\"n\":1.5,\"a\":[],\"n\":7}",
-            "{\"arrays\":{\"a\":[]},\"result\":7}",
-        ),
-        ("{\"n\":7,\"a\":[],\"n\":1.5}", "74 WrongKind"),
-        (
-            "{\"\\u0061\":[3],\"\\u006e\":4}",
-            "{\"arrays\":{\"a\":[3]},\"result\":4}",
-        ),
-        ("{\"A\":[3],\"n\":4}", "72 Missing"),
-        ("{\"b\":1}", "72 Missing"),
-        ("{\"b\":1,\"a\":[40000],\"n\":4}", "75 OutOfRange"),
-        ("{\"b\":1,\"a\":[3],\"n\":4}", "73 Extra"),
-        ("{\"a\":[3],\"n\":4,\"\":0}", "73 Extra"),
-        ("{\"n\":256,\"a\":[1,2.5,40000]}", "74 WrongKind"),
-        ("{\"n\":256,\"a\":[1,40000,2.5]}", "75 OutOfRange"),
-        ("{\"n\":true,\"a\":[40000]}", "75 OutOfRange"),
-    ] {
-        expect(&rt, alloc, &signature, text, wanted)?;
-    }
-    Ok(())
-}
-
-fn push_number(array: &mut Array, number: i128) -> Result<(), AllocError> {
+pub(crate) fn push_number(array: &mut Array, number: i128) -> Result<(), AllocError> {
     let elem = array.elem();
     array.push(wrap(elem, number))
 }
@@ -218,74 +196,28 @@ fn answer_of_each_type(rt: HostRuntime) -> Result<(), Fail> {
     Ok(())
 }
 
-#[test]
-fn result_of_each_type(rt: HostRuntime) -> Result<(), Fail> {
-    let alloc = rt.alloc();
+fn compare_result(rt: &impl Abort, alloc: Global, line: &str) -> Result<(), Fail> {
+    let (word, rest) = parted(line, ' ');
+    let (bits, shown) = parted(rest, ' ');
+    let elem = elem_named(word).ok_or("a type of another name")?;
+    let bits = number(bits).ok_or("no number")?;
     let signature = Signature {
         params: Vec::new(alloc),
         result: Some(Elem::I8),
     };
-    for (elem, bits, shown) in [
-        (Elem::Bool, 1, "true"),
-        (Elem::I8, 0x80, "-128"),
-        (Elem::U8, 0x80, "128"),
-        (Elem::I16, 0x8000, "-32768"),
-        (Elem::U16, 0x8000, "32768"),
-        (Elem::I32, 0x8000_0000, "-2147483648"),
-        (Elem::U32, 0x8000_0000, "2147483648"),
-        (Elem::I64, 0x8000_0000_0000_0000, "-9223372036854775808"),
-        (Elem::U64, 0x8000_0000_0000_0000, "9223372036854775808"),
-    ] {
-        let text = answer(alloc, &signature, &[], Some(Value { elem, bits }))?;
-        let wanted = format!(in alloc; "{{\"arrays\":{{}},\"result\":{shown}}}")?;
-        assert_eq!(rt; text.as_str(), wanted.as_str());
-    }
+    let text = answer(alloc, &signature, &[], Some(Value { elem, bits }))?;
+    let wanted = format!(in alloc; "{{\"arrays\":{{}},\"result\":{shown}}}")?;
+    assert_eq!(rt; text.as_str(), wanted.as_str());
     Ok(())
 }
 
-// Each refusal once, of one value.
 #[test]
-fn refusals(rt: HostRuntime) -> Result<(), Fail> {
-    let alloc = rt.alloc();
-    let signature = one_value(alloc, Elem::I8)?;
-    for (text, wanted) in [
-        ("{\"x\":-128}", "{\"arrays\":{},\"result\":-128}"),
-        ("{\"x\":128}", "75 OutOfRange"),
-        ("{}", "72 Missing"),
-        ("{\"x\":1.5}", "74 WrongKind"),
-        ("{\"x\":1,\"y\":2}", "73 Extra"),
-        ("[]", "71 NotObject"),
-        ("{", "70 NotJson"),
-    ] {
-        expect(&rt, alloc, &signature, text, wanted)?;
+fn result_of_each_type(rt: HostRuntime) -> Result<(), Fail> {
+    let mut lines = 0u64;
+    for line in RESULTS.lines() {
+        compare_result(&rt, rt.alloc(), line)?;
+        lines = lines.saturating_add(1);
     }
+    assert_eq!(rt; lines, 9);
     Ok(())
-}
-
-// Memory is refused at each place in turn, and at last the text is bound and answered.
-#[test]
-fn refused_memory(rt: HostRuntime) -> Result<(), Fail> {
-    let alloc = rt.alloc();
-    let signature = array_and_value(alloc, Elem::I32, Elem::Bool)?;
-    let arrays = vec![in alloc; array_of(alloc, Elem::I32, &[1, 2, 3, 4, 5])?]?;
-    let mut hoard = Hoard::new(alloc)?;
-    for step in 0..6000usize {
-        assert!(rt; hoard.leave(16 * step), "the pool is too small");
-        match bind(alloc, &signature, "{\"a\":[1,2,3,4,5],\"n\":true}") {
-            Ok(bound) => assert_eq!(rt; bound.arguments.len(), 2),
-            Err(fault) => {
-                assert_eq!(rt; fault, BindFault::Memory);
-                continue;
-            }
-        }
-        if let Ok(text) = answer(alloc, &signature, arrays.as_slice(), None) {
-            assert_eq!(rt;
-                text.as_str(),
-                "{\"arrays\":{\"a\":[1,2,3,4,5]},\"result\":null}"
-            );
-            assert!(rt; step > 0, "nothing was refused");
-            return Ok(());
-        }
-    }
-    Err(Fail::from("always refused"))
 }

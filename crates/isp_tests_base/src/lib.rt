@@ -7,3 +7,5 @@ mod arguments;
 mod operators;
 #[cfg(test)]
 mod packed;
+#[cfg(test)]
+mod refused;

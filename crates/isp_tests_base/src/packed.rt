@@ -3,10 +3,11 @@ mod table;
 
 use crate::arguments::array_of;
 use crate::operators::elem_named;
+use crate::refused::holds;
 use isp_base::{Argument, Bound, Elem, Name, Parameter, Signature, Value};
 use isp_bind::answer;
 use isp_packed::{NoRoom, PackedFault, pack, unpack};
-use isp_testing::{Hoard, parted};
+use isp_testing::{Tried, parted, sweep_call};
 use std::alloc::Global;
 use std::process::Abort;
 use std::test::Fail;
@@ -114,26 +115,19 @@ fn room_for_an_answer(rt: HostRuntime) -> Result<(), Fail> {
     Ok(())
 }
 
-// Memory is refused at each place in turn, and at last the bytes are unpacked.
+// [7] and true.
 #[test]
-fn refused_to_unpack(rt: HostRuntime) -> Result<(), Fail> {
+fn memory_refused_to_unpack(rt: HostRuntime) -> Result<(), Fail> {
     let alloc = rt.alloc();
     let signature = Signature {
         params: parameters(alloc, "int32[] bool")?,
         result: None,
     };
     let bytes = bytes_of(alloc, "1 0 0 0 0 0 0 0 7 0 0 0 1 0 0 0 0 0 0 0")?;
-    let mut hoard = Hoard::new(alloc)?;
-    for step in 0..6000usize {
-        assert!(rt; hoard.leave(16 * step), "the pool is too small");
+    sweep_call(alloc, "unpack", || {
         match unpack(alloc, &signature, bytes.as_slice()) {
-            Ok(bound) => {
-                assert_eq!(rt; bound.arguments.len(), 2);
-                assert!(rt; step > 0, "nothing was refused");
-                return Ok(());
-            }
-            Err(fault) => assert_eq!(rt; fault, PackedFault::Memory),
+            Ok(bound) => Tried::answered(holds(&bound, &[7], 1)),
+            Err(fault) => Tried::failed(fault == PackedFault::Memory),
         }
-    }
-    Err(Fail::from("always refused"))
+    })
 }
