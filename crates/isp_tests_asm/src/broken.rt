@@ -1,6 +1,7 @@
 //! One text with a line of each kind, broken everywhere, and read and written where memory is refused.
 use isp_asm::{AsmFault, Fault, Rule, read, write};
-use isp_testing::Hoard;
+use isp_code::Code;
+use isp_testing::{Tried, sweep_call};
 use std::alloc::{AllocError, Global};
 use std::process::Abort;
 use std::test::Fail;
@@ -133,46 +134,22 @@ fn each_byte_replaced_by_32(rt: HostRuntime) -> Result<(), Fail> {
     replace_each(&rt, rt.alloc(), WIDE)
 }
 
-// Reads a text with memory refused at each point in turn, and at last writes it again.
-fn read_by_steps(rt: &impl Abort, alloc: Global, text: &str) -> Result<(), Fail> {
-    let mut hoard = Hoard::new(alloc)?;
-    for step in 0..6000usize {
-        assert!(rt; hoard.leave(16 * step), "the pool is too small at {step}");
-        match read(alloc, text) {
-            Ok(code) => {
-                drop(hoard);
-                assert!(rt; step > 0);
-                let again = write(alloc, &code)?;
-                assert!(rt; again.as_str() == text);
-                return Ok(());
-            }
-            Err(fault) => assert_eq!(rt; fault, AsmFault::Memory),
-        }
+// What comes of code that is written: the text, or memory was refused.
+fn written(alloc: Global, code: &Code, text: &str) -> Tried {
+    match write(alloc, code) {
+        Ok(again) => Tried::answered(again.as_str() == text),
+        Err(_) => Tried::Refused,
     }
-    Err(Fail::new("memory was refused each time"))
 }
 
+// Each growth is refused once to the reading and to the writing of a text.
 #[test]
-fn read_with_memory_refused(rt: HostRuntime) -> Result<(), Fail> {
-    read_by_steps(&rt, rt.alloc(), TEXT)
-}
-
-// Writes a text that was read, with memory refused at each point in turn.
-fn write_by_steps(rt: &impl Abort, alloc: Global, text: &str) -> Result<(), Fail> {
-    let code = read(alloc, text).map_err(|_| Fail::new("the text is refused"))?;
-    let mut hoard = Hoard::new(alloc)?;
-    for step in 0..6000usize {
-        assert!(rt; hoard.leave(16 * step), "the pool is too small at {step}");
-        if let Ok(again) = write(alloc, &code) {
-            assert!(rt; step > 0);
-            assert!(rt; again.as_str() == text);
-            return Ok(());
-        }
-    }
-    Err(Fail::new("memory was refused each time"))
-}
-
-#[test]
-fn written_with_memory_refused(rt: HostRuntime) -> Result<(), Fail> {
-    write_by_steps(&rt, rt.alloc(), TEXT)
+fn memory_refused(rt: HostRuntime) -> Result<(), Fail> {
+    let alloc = rt.alloc();
+    sweep_call(alloc, "read", || match read(alloc, TEXT) {
+        Ok(code) => written(alloc, &code, TEXT),
+        Err(fault) => Tried::failed(fault == AsmFault::Memory),
+    })?;
+    let code = read(alloc, TEXT).map_err(|_| Fail::new("the text is refused"))?;
+    sweep_call(alloc, "write", || written(alloc, &code, TEXT))
 }
