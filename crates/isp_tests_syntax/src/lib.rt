@@ -10,6 +10,8 @@ mod line;
 #[cfg(test)]
 mod outcomes;
 #[cfg(test)]
+mod refused;
+#[cfg(test)]
 mod shapes;
 #[cfg(test)]
 mod trees;
