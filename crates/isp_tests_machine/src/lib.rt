@@ -24,6 +24,8 @@ mod registers;
 #[cfg(test)]
 mod runs;
 #[cfg(test)]
+mod sights;
+#[cfg(test)]
 mod sprints;
 #[cfg(test)]
 mod texts;

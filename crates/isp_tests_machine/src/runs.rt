@@ -88,7 +88,8 @@ fn has(array: &Array, items: &[u64]) -> bool {
     true
 }
 
-fn have(arrays: &[Array], lists: &[&[u64]]) -> bool {
+/// Whether arrays have these elements.
+pub fn have(arrays: &[Array], lists: &[&[u64]]) -> bool {
     if arrays.len() != lists.len() {
         return false;
     }
