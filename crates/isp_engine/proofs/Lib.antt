@@ -3,6 +3,7 @@ pub mod Fronts
 pub mod Binds
 pub mod Means
 pub mod Runs
+pub mod BoundRuns
 pub mod Written
 pub mod Streams
 pub mod Sends

@@ -39,7 +39,8 @@ report_over ps (GoesOn out) r h ne = ne h.0
 
 -- ---- one function
 
-module _ (program : Program) (code : Listing) (f : ℕ) (h : TFunction) (g : Routine) (xs : List Argument) (accepted : IsAccepted program) (name : List ℕ) (entry : IsEntry program name xs f h) (agree : RunsAgree program code f g xs) (budget : ℕ) (r : Report) (reports : Reports h.parameters (outcome_after code f g xs budget) r) where
+module _ (program : Program) (code : Listing) (f : ℕ) (h : TFunction) (g : Routine) (xs : List Argument) (accepted : IsAccepted program) (name : List ℕ) (entry : IsEntry program name xs f h) (agree : RunsAgree program code f g xs) (budget : ℕ) (says : Outcome → Type 0) (over : Type 0) (out : List ℕ)
+    (said : says (outcome_after code f g xs budget)) (is_over : over → IsOver (outcome_after code f g xs budget)) (out_is : out ≡ out_of (outcome_after code f g xs budget)) where
   abbrev came : ℕ → Outcome
   came m = outcome_after code f g xs m
 
@@ -49,45 +50,39 @@ module _ (program : Program) (code : Listing) (f : ℕ) (h : TFunction) (g : Rou
   abbrev start : machine.State
   start = machine.Runs (first_conf code f g xs)
 
-  out_is : r.output.items ≡ out_of (came budget)
-  out_is = report_out h.parameters (came budget) r reports
-
   -- the output so far is in that of every greater number of instructions
-  later : (m : ℕ) → budget ≤ m → IsPrefix r.output.items (out_of (came m))
+  later : (m : ℕ) → budget ≤ m → IsPrefix out (out_of (came m))
   later m le = subst (λ z. IsPrefix z (out_of (came m))) (sym out_is) (grows code (rows xs) budget m start le)
 
   -- a run that is over stands at some number of instructions: before the budget is used up, or behind it
-  so_far_of : (n m : ℕ) → IsOver (run n) → came m ≡ run n → IsPrefix r.output.items (out_of (run n))
-  so_far_of n m over e =
+  so_far_of : (n m : ℕ) → IsOver (run n) → came m ≡ run n → IsPrefix out (out_of (run n))
+  so_far_of n m ended e =
       ⊎_elim
-      (λ (lt : budget < m). subst (λ o. IsPrefix r.output.items (out_of o)) e (later m (omega arith)))
-      (λ (le : m ≤ budget). subst (λ o. IsPrefix r.output.items (out_of o)) (longer code (rows xs) m budget start (run n) le over e) (later budget (omega arith)))
+      (λ (lt : budget < m). subst (λ o. IsPrefix out (out_of o)) e (later m (omega arith)))
+      (λ (le : m ≤ budget). subst (λ o. IsPrefix out (out_of o)) (longer code (rows xs) m budget start (run n) le ended e) (later budget (omega arith)))
       (cases_lt budget m)
 
   -- the output of a run for whose work there are instructions enough
   out_soon : (n : ℕ) (o : Outcome) → run n ≡ o → IsPrefix (out_of o) (out_of (came (enough program f xs n)))
-  out_soon n (Ends arrays answer out) e = subst (λ o. IsPrefix out (out_of o)) (sym (agree.soon n (Ends arrays answer out) tt e)) (prefix_self out)
-  out_soon n (Traps t arrays out) e = subst (λ o. IsPrefix out (out_of o)) (sym (agree.soon n (Traps t arrays out) tt e)) (prefix_self out)
-  out_soon n (GoesOn out) e = agree.soon_goes_on n out e
+  out_soon n (Ends arrays answer ys) e = subst (λ o. IsPrefix ys (out_of o)) (sym (agree.soon n (Ends arrays answer ys) tt e)) (prefix_self ys)
+  out_soon n (Traps t arrays ys) e = subst (λ o. IsPrefix ys (out_of o)) (sym (agree.soon n (Traps t arrays ys) tt e)) (prefix_self ys)
+  out_soon n (GoesOn ys) e = agree.soon_goes_on n ys e
 
   -- a run that is over, once the budget is enough for its work
-  reached : (n : ℕ) → IsOver (run n) → enough program f xs n ≤ budget → Reports h.parameters (run n) r
-  reached n over le =
-      subst (λ o. Reports h.parameters o r) (longer code (rows xs) (enough program f xs n) budget start (run n) le over (agree.soon n (run n) over refl)) reports
+  reached : (n : ℕ) → IsOver (run n) → enough program f xs n ≤ budget → says (run n)
+  reached n e le = subst says (longer code (rows xs) (enough program f xs n) budget start (run n) le e (agree.soon n (run n) e refl)) said
 
-  tells : Tells program f h xs budget r
+  pub tells : Tells program f h xs budget says over out
   tells = record {
-    only = λ ne.
-        let k = agree.over_only budget (came budget) (report_over h.parameters (came budget) r reports ne) refl in
-        (k.1.0, subst (λ o. Reports h.parameters o r) (sym k.1.1) reports);
+    only = λ e. let k = agree.over_only budget (came budget) (is_over e) refl in (k.1.0, subst says (sym k.1.1) said);
     reached = reached;
     one_by_one = λ n a ps order p lt le.
         let same = solo_runs_agree program name f h xs n accepted entry a.independent a.ended a.apart ps order p lt in
-        subst (λ o. Reports h.parameters o r) same (reached n (subst IsOver (sym same) tt) le);
-    so_far = λ n over. let k = agree.over (run n) (over, (n, refl)) in so_far_of n k.0 over k.1;
+        subst says same (reached n (subst IsOver (sym same) tt) le);
+    so_far = λ n e. let k = agree.over (run n) (e, (n, refl)) in so_far_of n k.0 e k.1;
     so_far_some = let k = agree.so_far budget in (k.0, subst (λ z. IsPrefix z (out_of (run k.0))) (sym out_is) k.1);
     written = λ n le.
-        prefix_on (out_of (run n)) (out_of (came (enough program f xs n))) r.output.items (out_soon n (run n) refl)
+        prefix_on (out_of (run n)) (out_of (came (enough program f xs n))) out (out_soon n (run n) refl)
         (subst (λ z. IsPrefix (out_of (came (enough program f xs n))) z) (sym out_is) (grows code (rows xs) (enough program f xs n) budget start le));
   }
 
@@ -102,7 +97,12 @@ means_of program code name f h g accepted e k json budget (Ok r) x =
     let reports : Reports h.parameters (outcome_after code f g x.0 budget) r = subst (λ ps. Reports ps (outcome_after code f g x.0 budget) r) k.parameters x.2 in
     let sig = fits h.parameters json x.0 bound in
     let entry : IsEntry program name x.0 f h = record { export = e; fits = sig } in
-    (x.0, bound, tells program code f h g x.0 accepted name entry (k.runs x.0 sig (short h.parameters json x.0 bound)) budget r reports)
+    let came = outcome_after code f g x.0 budget in (
+      x.0,
+      bound,
+      tells program code f h g x.0 accepted name entry (k.runs x.0 sig (short h.parameters json x.0 bound)) budget (λ o. Reports h.parameters o r) (r.ending ≢ Running) r.output.items
+          reports (report_over h.parameters came r reports) (report_out h.parameters came r reports),
+    )
 
 pub means : (program : Program) (code : Listing) → IsAccepted program → Agrees program code → (entry json : List ℕ) (budget : ℕ) (answer : Result Report RunFault) → Executes code entry json budget answer → Means program entry json budget answer
 means program code accepted agrees entry json budget answer x = record {

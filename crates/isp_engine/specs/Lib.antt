@@ -8,6 +8,7 @@ pub mod Stops
 pub mod Sending
 pub mod OneByOne
 pub mod Meaning
+pub mod BoundReports
 pub mod Failures
 pub mod Stories
 pub mod Checking

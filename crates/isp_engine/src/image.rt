@@ -49,7 +49,7 @@ impl Image {
     }
 
     /// The code, which is without a fault.
-    pub(crate) fn verified(&self) -> &Verified
+    pub fn verified(&self) -> &Verified
         ensures { result.now ≡ self.now }
     {
         &self.verified

@@ -2,6 +2,7 @@
 #![tactic(auto)]
 
 mod alone;
+mod bound;
 mod checking;
 mod commands;
 mod failure;
@@ -16,12 +17,14 @@ mod source;
 mod stream;
 mod texts;
 
+pub use bound::execute_bound;
 pub use commands::command;
 pub use failure::Failure;
 pub use fault::{CodeFault, RunFault};
 pub use files::{FileFault, SourceFiles, read_source, read_text};
 pub use image::{Image, compile, load_code};
-pub use report::{Ending, Report};
+pub use isp_machine::{StartFault, Stop};
+pub use report::{BoundReport, Ending, Report};
 pub use run::{execute, run_to};
 pub use sink::{Sink, SinkFault};
 pub use source::front;

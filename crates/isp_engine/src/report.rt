@@ -1,5 +1,6 @@
 //! What a run is reported as.
-use isp_base::Trap;
+use isp_base::{Array, Trap, Value};
+use isp_machine::Stop;
 
 /// How a run stands.
 #[derive(Clone, Copy, Debug, PartialEq, Eq)]
@@ -18,4 +19,16 @@ pub struct Report {
     pub ending: Ending,
     pub output: Vec<u8>,
     pub answer: Option<String>,
+}
+
+/// The report of a run of bound arguments: why it stopped, the output so far, the arrays among the arguments as they are
+/// then, and what it ended with, where it ended and gives something.
+///
+/// `Stop::Memory`: memory was refused to an instruction. The arrays and the output are those of the instructions before it.
+#[derive(Debug, Drop)]
+pub struct BoundReport {
+    pub stop: Stop,
+    pub output: Vec<u8>,
+    pub arrays: Vec<Array>,
+    pub result: Option<Value>,
 }

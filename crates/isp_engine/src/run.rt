@@ -36,24 +36,15 @@ struct Order<'a> {
     budget: u64,
 }
 
-// A second copy of bytes.
-fn copied(alloc: Global, bytes: &[u8]) -> Result<Vec<u8>, AllocError>
-    ensures { IfOk result (λ v. v.items ≡ bytes.now) }
-{
-    let mut copy = Vec::new(alloc);
-    copy.extend_from_slice(bytes)?;
-    Ok(copy)
-}
-
-// The report of a machine that stopped. Memory is wanted where the machine wanted it.
+// The report of a machine that stopped. Memory is wanted where the machine wanted it, and for the answer.
 fn report<const N: usize>(
     alloc: Global,
     signature: &Signature,
-    machine: &Machine<'_, N>,
+    machine: Machine<'_, N>,
     stop: Stop,
 ) -> Result<Report, AllocError>
-    ensures reports { IfOk result (λ r. (rs : List Row) → shapes_of rs ≡ given machine.now
-        → StopsAs stop (state machine.now) → Reports signature.now.params.items (outcome rs (state machine.now)) r) }
+    ensures reports { IfOk result (λ r. (rs : List Row) → shapes_of rs ≡ given machine.entry
+        → StopsAs stop (state machine.entry) → Reports signature.now.params.items (outcome rs (state machine.entry)) r) }
     ensures ran { OnOk result (stop ≡ Memory → ⊥) }
 {
     let (ending, answer) = match stop {
@@ -67,7 +58,7 @@ fn report<const N: usize>(
     };
     Ok(Report {
         ending,
-        output: copied(alloc, machine.output())?,
+        output: machine.into_rest().output,
         answer,
     })
 }
@@ -113,7 +104,7 @@ fn run<const N: usize, W: Sink>(
         Err((_bound, StartFault::NoEntry)) => unreachable!(),
     };
     let stop = stream(&mut machine, order.budget, out)?;
-    let report = report(alloc, order.signature, &machine, stop)?;
+    let report = report(alloc, order.signature, machine, stop)?;
     write_answer(&report.answer, out)?;
     Ok(report)
 }
