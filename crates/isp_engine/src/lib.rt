@@ -24,6 +24,7 @@ pub use fault::{CodeFault, RunFault};
 pub use files::{FileFault, SourceFiles, read_source, read_text};
 pub use image::{Image, compile, load_code};
 pub use isp_machine::{StartFault, Stop};
+pub use lines::tell_line;
 pub use report::{BoundReport, Ending, Report};
 pub use run::{execute, run_to};
 pub use sink::{Sink, SinkFault};

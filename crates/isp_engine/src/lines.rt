@@ -33,7 +33,7 @@ fn write_pieces<W: Sink>(out: &mut W, pieces: &[&str]) -> Result<(), SinkFault>
 
 /// Writes the line of a failure, as far as the sink takes it; nothing where it has failed before.
 #[tactic(auto, using(crate::proofs::Written::told_none))]
-pub(crate) fn tell_line<W: Sink>(failure: &Failure<'_>, out: &mut W)
+pub fn tell_line<W: Sink>(failure: &Failure<'_>, out: &mut W)
     ensures { Told (failure_line failure.now) (W.written out.old) (W.written out.new) (W.has_failed out.new) }
 {
     if !out.failed() {
