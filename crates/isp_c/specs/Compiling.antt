@@ -1,0 +1,42 @@
+-- What isp_compile does.
+use Rattle.std.specs.Prelude.{◌≡◌, ◌≢◌, ℕ, List, codes, Result, Ok, Err, IsUtf8}
+use Rattle.isp_asm.specs.Spelling.{text_of}
+use Rattle.isp_base.specs.Types.{gang_width}
+use Rattle.isp_base.specs.declared.types.Gang.{Gang}
+use Rattle.isp_code.specs.Listing.{Listing}
+use Rattle.isp_engine.specs.Front.{IsFaulty}
+use Rattle.isp_engine.specs.Images.{IsCompilation}
+use Rattle.isp_engine.specs.declared.failure.Failure.TheVariants.{Source, CannotRead, Memory}
+use Rattle.isp_c.specs.Reports.{Refuses}
+use Rattle.isp_c.specs.Rooms.{Gives}
+use Rattle.isp_c.specs.declared.refusal.Refusal.{Refusal}
+use Rattle.isp_c.specs.declared.refusal.Refusal.TheVariants.{NoGang, Failed}
+use Rattle.isp_c.specs.declared.report.Report.{Report}
+
+-- the text of the code that the source is compiled to
+pub record IsCodeText (width : ℕ) (source text : List ℕ) : Type 0 where
+  pub gang : Gang
+  pub width_is : gang_width gang ≡ width
+  pub code : Listing
+  pub compiles : IsCompilation gang source code
+  pub text_is : text ≡ text_of code
+
+-- why there is none
+abbrev pub NoCodeText : ℕ → List ℕ → Refusal → Type 0
+NoCodeText width source NoGang = (g : Gang) → gang_width g ≢ width
+NoCodeText width source (Failed (Source f)) = (g : Gang) × (gang_width g ≡ width) × IsFaulty g source f
+NoCodeText width source (Failed (CannotRead name)) = (name.now ≡ codes "source") × (IsUtf8 source → ⊥)
+NoCodeText width source (Failed Memory) = Unit {0}
+NoCodeText width source f = ⊥
+
+-- the code text is given, or nothing is written and the report says why
+abbrev pub Compiled : List ℕ → List ℕ → Report → ℕ → Result (List ℕ) Refusal → Type 0
+Compiled old new r status (Ok text) = Gives text old new r status
+Compiled old new r status (Err f) = (new ≡ old) × Refuses f 0 r status
+
+abbrev pub IsText : ℕ → List ℕ → Result (List ℕ) Refusal → Type 0
+IsText width source (Ok text) = IsCodeText width source text
+IsText width source (Err f) = NoCodeText width source f
+
+abbrev pub Compiles : ℕ → List ℕ → List ℕ → List ℕ → Report → ℕ → Type 0
+Compiles width source old new r status = (answer : Result (List ℕ) Refusal) × IsText width source answer × Compiled old new r status answer

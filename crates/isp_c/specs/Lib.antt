@@ -1,0 +1,7 @@
+pub mod Lines
+pub mod Refusals
+pub mod Reports
+pub mod Rooms
+pub mod Compiling
+pub mod Running
+pub mod Commanding

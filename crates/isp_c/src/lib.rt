@@ -1,0 +1,21 @@
+//! isp for C: a source text is compiled to code text, code is run over bytes, and each command is done over memory.
+//!
+//! include/isp.h declares these functions, and says what their caller owes. There are no handles: the code text is the
+//! compiled form, which the caller keeps, and each call is on its own. The statuses are those of the program, and 10
+//! where a room is too small.
+#![tactic(auto)]
+
+mod command;
+mod compile;
+mod line;
+mod refusal;
+mod report;
+mod room;
+mod run;
+mod texts;
+
+pub use command::{File, Used, isp_command};
+pub use compile::isp_compile;
+pub use report::{Report, Why};
+pub use run::{Job, isp_run};
+pub use texts::Text;
