@@ -1,0 +1,219 @@
+/* Each way in which a call of isp ends, once: the status, the report, and what the rooms hold then.
+ *
+ * It prints what is otherwise than wanted, and `N calls, M differ`; the status is 1 where one differs. With the word `memory`
+ * memory is refused to the calls (run it under `ulimit -v`), and they must say so and change nothing.
+ */
+#include "isp.h"
+#include <stdlib.h>
+
+static int calls, differ;
+
+static void want(int holds, const char *what, int line)
+{
+    calls++;
+    if (!holds) {
+        differ++;
+        printf("line %d: %s\n", line, what);
+    }
+}
+#define WANT(x) want(x, #x, __LINE__)
+
+static struct isp_report report;
+static char code[4096], output[64];
+
+static uint8_t compiled(const char *source, uint32_t gang)
+{
+    memset(code, '#', sizeof code);
+    return isp_compile(source, strlen(source), gang, code, sizeof code, &report);
+}
+
+/* whether all bytes are still what they were filled with */
+static int untouched(const char *room, size_t size)
+{
+    for (size_t i = 0; i < size; i++)
+        if (room[i] != '#')
+            return 0;
+    return 1;
+}
+
+static uint8_t ran(const char *entry, uint64_t budget, void *packed, size_t size, size_t room)
+{
+    size_t used = strlen(code);
+    struct isp_job job = {isp_string(entry), budget};
+    memset(output, '#', sizeof output);
+    return isp_run(code, used, &job, packed, size, output, room, &report);
+}
+
+/* compiles for a gang of 4, and ends the code text with a zero */
+static void kernel(const char *source)
+{
+    WANT(compiled(source, 4) == ISP_OK);
+    code[report.used] = 0;
+}
+
+static void compiling(void)
+{
+    const char *plus = "export void f(uniform int a[]) { a[programIndex] = a[programIndex] + 1; }";
+    WANT(compiled(plus, 4) == ISP_OK && report.used > 100 && report.line[0] == 0 && report.why.number == 0);
+    WANT(memcmp(code, "isp 1 gang 4\n", 13) == 0 && code[report.used - 1] == '\n');
+    size_t wanted = report.used;
+    WANT(untouched(code + wanted, sizeof code - wanted));
+
+    memset(code, '#', sizeof code);
+    WANT(isp_compile(plus, strlen(plus), 4, code, wanted, &report) == ISP_OK && untouched(code + wanted, 100));
+    memset(code, '#', sizeof code);
+    WANT(isp_compile(plus, strlen(plus), 4, code, wanted - 1, &report) == ISP_ROOM && report.used == wanted && untouched(code, sizeof code));
+    WANT(strcmp(report.line, "isp: no room\n") == 0);
+    WANT(isp_compile(plus, strlen(plus), 4, "", 0, &report) == ISP_ROOM && report.used == wanted);
+
+    WANT(compiled("export void f() { x = 1; }", 4) == ISP_SOURCE && untouched(code, sizeof code) && report.used == 0);
+    WANT(report.why.number == 20 && report.why.begin == 18 && report.why.end == 19);
+    WANT(strcmp(report.line, "isp: 20 UnknownName at 18..19\n") == 0);
+    WANT(compiled("", 32) == ISP_OK);
+    WANT(compiled(plus, 5) == ISP_WORDS && untouched(code, sizeof code) && strcmp(report.line, "isp: no such gang\n") == 0);
+    WANT(compiled(plus, 0) == ISP_WORDS && compiled(plus, 4294967295u) == ISP_WORDS);
+    WANT(compiled("// \xe9", 4) == ISP_TEXT && strcmp(report.line, "isp: cannot read source\n") == 0);
+    WANT(compiled("\xe9", 5) == ISP_TEXT);
+}
+
+static void running(void)
+{
+    kernel("export uniform int f(uniform int n, uniform int a[]) { a[programIndex] = a[programIndex] + n; print(\"%\\n\", n); return -n; }");
+    unsigned char packed[40] = {0}, before[40], *at = isp_put_value(packed, 7);
+    int elements[] = {1, 2, 3, 4};
+    isp_put_array(at, elements, 4, 4);
+    memcpy(before, packed, sizeof packed);
+    size_t size = ISP_VALUE_SIZE + ISP_ARRAY_SIZE(4, 4);
+
+    /* the array is in front now, and the bytes behind it stay */
+    WANT(ran("f", 1000, packed, size, sizeof output) == ISP_OK && (int32_t)report.result == -7 && report.result >> 32 == 0);
+    WANT(report.used == 2 && memcmp(output, "7\n", 2) == 0 && untouched(output + 2, sizeof output - 2));
+    isp_take_array(packed, elements, 4, 4);
+    WANT(elements[0] == 8 && elements[1] == 9 && elements[2] == 10 && elements[3] == 11);
+    WANT(memcmp(packed + 24, before + 24, 16) == 0);
+
+    memcpy(packed, before, sizeof packed);
+    WANT(ran("f", 1000, packed, size, 2) == ISP_OK);
+    memcpy(packed, before, sizeof packed);
+    WANT(ran("f", 1000, packed, size, 1) == ISP_ROOM && report.used == 2 && untouched(output, sizeof output));
+    WANT(memcmp(packed, before, sizeof packed) == 0);
+
+    WANT(ran("g", 1000, packed, size, sizeof output) == ISP_ARGUMENTS && report.why.number == 50 && report.used == 0);
+    WANT(strcmp(report.line, "isp: 50 NoEntry\n") == 0);
+    WANT(ran("\xe9", 1000, packed, size, sizeof output) == ISP_ARGUMENTS && report.why.number == 50);
+    WANT(ran("f", 1000, packed, size - 1, sizeof output) == ISP_ARGUMENTS && report.why.number == 72 && report.why.parameter == 1);
+    WANT(ran("f", 1000, packed, 0, sizeof output) == ISP_ARGUMENTS && report.why.number == 72 && report.why.parameter == 0);
+    WANT(ran("f", 1000, packed, size + 1, sizeof output) == ISP_ARGUMENTS && report.why.number == 73);
+    packed[4] = 1; /* above the width of an int */
+    WANT(ran("f", 1000, packed, size, sizeof output) == ISP_ARGUMENTS && report.why.number == 75 && report.why.parameter == 0);
+    packed[4] = 0;
+    uint64_t many = 16777217;
+    memcpy(packed + 8, &many, 8);
+    WANT(ran("f", 1000, packed, size, sizeof output) == ISP_ARGUMENTS && report.why.number == 76 && report.why.parameter == 1);
+    memcpy(packed, before, sizeof packed);
+    WANT(untouched(output, sizeof output));
+
+    WANT(ran("f", 3, packed, size, sizeof output) == ISP_BUDGET && memcmp(packed, before, sizeof packed) == 0);
+    WANT(strcmp(report.line, "isp: budget used\n") == 0);
+}
+
+static void trapping(void)
+{
+    kernel("export void f(uniform int a[], uniform bool b[]) { a[programIndex] = 5; print(\"x\"); a[4 / a[3 * programIndex]] = 1; }");
+    unsigned char packed[8 + 16 + 8 + 2], *at = packed;
+    int elements[] = {0, 0, 0, 0};
+    unsigned char flags[] = {1, 2};
+    at = isp_put_array(at, elements, 4, 4);
+    isp_put_array(at, flags, 2, 1);
+    WANT(ran("f", 1000, packed, sizeof packed, sizeof output) == ISP_ARGUMENTS && report.why.number == 75);
+    WANT(report.why.parameter == 1 && report.why.element == 1);
+    packed[sizeof packed - 1] = 0;
+    WANT(ran("f", 1000, packed, sizeof packed, sizeof output) == ISP_TRAP && report.why.trap == ISP_TRAP_INDEX && report.why.number == 0);
+    WANT(report.why.begin == 90 && report.why.end == 109 && report.why.instance == 2);
+    WANT(strcmp(report.line, "isp: trap index at 90..109, instance 2\n") == 0);
+    isp_take_array(packed, elements, 4, 4);
+    WANT(elements[0] == 5 && elements[3] == 5 && report.used == 1 && output[0] == 'x');
+}
+
+static void reading(void)
+{
+    unsigned char packed[8] = {0};
+    strcpy(code, "isp 1 gang 4\nplace 0 4\nfunc f export void\nm 1\nret\nend\n");
+    WANT(ran("f", 10, packed, 0, 0) == ISP_CODE && report.why.number == 60 && report.why.line == 5);
+    strcpy(code, "isp 1 gang 4\nfunc f export void\nm 1\njmp L1\nend\n");
+    WANT(ran("f", 10, packed, 0, 0) == ISP_CODE && report.why.number == 42 && report.why.function == 0 && report.why.instruction == 0);
+    WANT(strcmp(report.line, "isp: 42 BadJump in function 0, instruction 0\n") == 0);
+    strcpy(code, "\xe9");
+    WANT(ran("f", 10, packed, 0, 0) == ISP_TEXT && strcmp(report.line, "isp: cannot read code\n") == 0);
+}
+
+static void commanding(void)
+{
+    char out[4096], err[4096];
+    struct isp_streams to = {out, sizeof out, err, sizeof err, {0, 0}};
+    struct isp_text source = isp_string("export void f(uniform int a[]) { a[programIndex] = a[programIndex] + 1; }");
+    WANT(isp_check(source, 4, &to) == ISP_OK && to.used.out == 17 && memcmp(out, "ok\nf independent\n", 17) == 0 && to.used.err == 0);
+    WANT(isp_json(source, 4, isp_string("f"), isp_string("{\"a\":[1,2,3,4]}"), 1000, &to) == ISP_OK);
+    WANT(to.used.out == 41 && memcmp(out, "{\"arrays\":{\"a\":[2,3,4,5]},\"result\":null}\n", 41) == 0);
+    WANT(isp_json(source, 4, isp_string("f"), isp_string("{}"), 1000, &to) == ISP_ARGUMENTS && memcmp(err, "isp: 72 Missing\n", to.used.err) == 0);
+    WANT(isp_json(source, 4, isp_string("f"), isp_string("{\"a\":[1]}"), 1000, &to) == ISP_TRAP);
+    WANT(isp_json(source, 4, isp_string("f"), isp_string("{\"a\":[1,2,3,4]}"), 2, &to) == ISP_BUDGET);
+    WANT(isp_solo(source, 4, isp_string("f"), isp_string("{\"a\":[1,2,3,4]}"), 1000, &to) == ISP_OK && to.used.out == 41);
+    struct isp_text shared = isp_string("export void f(uniform int a[]) { a[0] = reduce_add(programIndex); }");
+    WANT(isp_solo(shared, 4, isp_string("f"), isp_string("{\"a\":[1]}"), 1000, &to) == ISP_DEPENDENT && to.used.out == 0);
+    WANT(isp_asm(source, 4, &to) == ISP_OK && memcmp(out, "isp 1 gang 4\n", 13) == 0);
+    size_t wanted = to.used.out;
+    memset(out, '#', sizeof out);
+    to.out_room = wanted - 1;
+    WANT(isp_asm(source, 4, &to) == ISP_ROOM && to.used.out == wanted && untouched(out, sizeof out));
+    to.out_room = wanted;
+    WANT(isp_asm(source, 4, &to) == ISP_OK && untouched(out + wanted, sizeof out - wanted));
+    WANT(isp_asm(isp_string("x"), 4, &to) == ISP_SOURCE && memcmp(err, "isp: 10 Unexpected at 0..1\n", to.used.err) == 0);
+    memset(err, '#', sizeof err);
+    to.err_room = to.used.err - 1;
+    WANT(isp_asm(isp_string("x"), 4, &to) == ISP_ROOM && untouched(err, sizeof err));
+    to.err_room = sizeof err;
+    WANT(isp_asm(source, 7, &to) == ISP_WORDS && to.used.err > 0);
+    struct isp_text words[] = {isp_string("check"), isp_string("nosuch")};
+    WANT(isp_command(words, 2, &(struct isp_file){source, source}, 0, out, sizeof out, err, sizeof err, &to.used) == ISP_TEXT);
+    WANT(memcmp(err, "isp: cannot read nosuch\n", to.used.err) == 0 && to.used.err == 24);
+    words[0] = isp_string("\xe9");
+    WANT(isp_command(words, 2, &(struct isp_file){source, source}, 0, out, sizeof out, err, sizeof err, &to.used) == ISP_WORDS);
+}
+
+/* Every call says that memory is refused, and changes nothing. */
+static void without_memory(void)
+{
+    const char *source = "export void f(uniform int n) { }";
+    unsigned char packed[8] = {1};
+    void *held = NULL, *more;
+    kernel(source);
+    memset(output, '#', sizeof output);
+    while ((more = malloc(65536)))
+        memcpy(more, &held, sizeof held), held = more;
+    while ((more = malloc(64)))
+        memcpy(more, &held, sizeof held), held = more;
+    struct isp_job job = {isp_string("f"), 1000};
+    WANT(isp_run(code, strlen(code), &job, packed, 8, output, sizeof output, &report) == ISP_MEMORY && packed[0] == 1);
+    WANT(strcmp(report.line, "isp: memory\n") == 0 && report.used == 0 && untouched(output, sizeof output));
+    memset(code, '#', sizeof code);
+    WANT(isp_compile(source, strlen(source), 4, code, sizeof code, &report) == ISP_MEMORY && untouched(code, sizeof code));
+    struct isp_streams to = {code, sizeof code, output, sizeof output, {1, 1}};
+    WANT(isp_check(isp_string(source), 4, &to) == ISP_MEMORY && to.used.out == 0 && untouched(code, sizeof code));
+    WANT(untouched(output + to.used.err, sizeof output - to.used.err));
+}
+
+int main(int count, char **words)
+{
+    if (count > 1 && strcmp(words[1], "memory") == 0) {
+        without_memory();
+    } else {
+        compiling();
+        running();
+        trapping();
+        reading();
+        commanding();
+    }
+    printf("%d calls, %d differ\n", calls, differ);
+    return differ != 0;
+}
