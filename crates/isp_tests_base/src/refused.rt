@@ -52,8 +52,8 @@ fn counts(array: &Array, length: usize) -> bool {
 // One more element of an array whose room is used up.
 fn pushed(alloc: Global, elem: Elem, hoard: &mut Hoard, bytes: usize) -> Result<Tried, Fail> {
     let mut array = Array::empty(alloc, elem);
-    for number in 0..64i128 {
-        push_number(&mut array, number)?;
+    for number in 0..64u64 {
+        push_number(&mut array, number as i128)?;
     }
     hoard.beside(bytes)?;
     let first = push_number(&mut array, 64);
