@@ -145,8 +145,7 @@ fn callee(alloc: Global) -> Result<Function, Fail> {
     Ok(function)
 }
 
-/// Adds a function, which is not refused.
-pub(crate) fn add(code: &mut Code, function: Function) -> Result<(), Fail> {
+fn add(code: &mut Code, function: Function) -> Result<(), Fail> {
     match code.add_function(function) {
         Ok(()) => Ok(()),
         Err((_function, _limit)) => Err(Fail::from("the function was refused")),
@@ -531,8 +530,8 @@ fn written_by_hand(rt: HostRuntime) -> Result<(), Fail> {
     Ok(())
 }
 
-/// Puts the lane numbers into `a`.
-pub(crate) fn scatter(alloc: Global) -> Result<Function, Fail> {
+// Puts the lane numbers into `a`.
+fn scatter(alloc: Global) -> Result<Function, Fail> {
     let mut code = Vec::new(alloc);
     code.push(Instr::Vector {
         result: V0,
@@ -561,8 +560,7 @@ pub(crate) fn scatter(alloc: Global) -> Result<Function, Fail> {
     Ok(function)
 }
 
-/// The same with its place, whose number it gives.
-pub(crate) fn add_scatter(alloc: Global, code: &mut Code) -> Result<u32, Fail> {
+fn add_scatter(alloc: Global, code: &mut Code) -> Result<u32, Fail> {
     let place = code.add_place(Span { start: 0, end: 4 })?;
     add(code, scatter(alloc)?)?;
     Ok(place)
@@ -579,8 +577,8 @@ fn takes_an_array(verified: &Verified) -> bool {
     }
 }
 
-/// Whether the verified code is of the scatter alone.
-pub(crate) fn is_scatter(verified: &Verified) -> bool {
+// Whether the verified code is of the scatter alone.
+fn is_scatter(verified: &Verified) -> bool {
     verified.code().functions().len() == 1
         && matches!(verified.gang(), Gang::W4)
         && takes_an_array(verified)

@@ -3,5 +3,3 @@
 
 #[cfg(test)]
 mod codes;
-#[cfg(test)]
-mod refused;

@@ -116,7 +116,7 @@ fn no_memory(rt: HostRuntime) -> Result<(), Fail> {
     let image = compiled(alloc, SHORT)?;
     let bound = bound(alloc)?;
     let mut hoard = Hoard::new(alloc)?;
-    assert!(rt; hoard.leave(0), "the pool is too small");
+    assert!(rt; hoard.beside(0).is_ok(), "the pool is too small");
     match execute_bound(alloc, &image, "f", bound, 1_000) {
         Ok(_report) => Err(Fail::from("nothing was refused")),
         Err((bound, fault)) => {
@@ -134,7 +134,7 @@ fn memory_in_the_middle(rt: HostRuntime) -> Result<(), Fail> {
     let image = compiled(alloc, ENDLESS)?;
     let bound = bound(alloc)?;
     let mut hoard = Hoard::new(alloc)?;
-    assert!(rt; hoard.leave(65_536), "the pool is too small");
+    assert!(rt; hoard.beside(65_536).is_ok(), "the pool is too small");
     let Ok(report) = execute_bound(alloc, &image, "f", bound, 100_000_000) else {
         return Err(Fail::from("the run does not begin"));
     };

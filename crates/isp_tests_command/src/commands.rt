@@ -207,7 +207,7 @@ fn refuse_memory(rt: &impl Abort, alloc: Global, line: &str, bytes: u64) -> Resu
     err.bytes.reserve(10_000)?;
     let mut hoard = Hoard::new(alloc)?;
     for step in 0..128_000usize {
-        assert!(rt; hoard.leave(16 * step), "the pool is too small");
+        assert!(rt; hoard.beside(16 * step).is_ok(), "the pool is too small");
         let mut out = Count { bytes: 0 };
         err.bytes.clear();
         err.room = 10_000;

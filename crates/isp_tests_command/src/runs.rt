@@ -59,7 +59,7 @@ fn memory_refused_to_compile(rt: HostRuntime) -> Result<(), Fail> {
     let alloc = rt.alloc();
     let mut hoard = Hoard::new(alloc)?;
     for step in 0..128_000usize {
-        assert!(rt; hoard.leave(16 * step), "the pool is too small");
+        assert!(rt; hoard.beside(16 * step).is_ok(), "the pool is too small");
         match compile(alloc, DOUBLE, Gang::W4) {
             Ok(_) => {
                 assert!(rt; step > 0, "nothing was refused");
@@ -78,7 +78,7 @@ fn memory_refused_to_execute(rt: HostRuntime) -> Result<(), Fail> {
     let image = compile(alloc, DOUBLE, Gang::W4)?;
     let mut hoard = Hoard::new(alloc)?;
     for step in 0..128_000usize {
-        assert!(rt; hoard.leave(16 * step), "the pool is too small");
+        assert!(rt; hoard.beside(16 * step).is_ok(), "the pool is too small");
         match execute(alloc, &image, "f", "{\"a\":[5,6,7,8]}", 100) {
             Ok(report) => {
                 assert_eq!(rt; report.ending, Ending::Ended);

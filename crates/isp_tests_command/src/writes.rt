@@ -222,7 +222,7 @@ fn memory_refused(rt: HostRuntime) -> Result<(), Fail> {
     out.bytes.reserve(1000)?;
     let mut hoard = Hoard::new(alloc)?;
     for step in 0..128_000usize {
-        assert!(&rt; hoard.leave(16 * step), "the pool is too small");
+        assert!(&rt; hoard.beside(16 * step).is_ok(), "the pool is too small");
         out.bytes.clear();
         match runs(alloc, &image, 1000, &mut out) {
             Ok(report) => {

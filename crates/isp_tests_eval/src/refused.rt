@@ -57,7 +57,7 @@ fn memory_refused_to_evaluate(rt: HostRuntime) -> Result<(), Fail> {
     let bound = bound(alloc, &checked)?;
     let mut hoard = Hoard::new(alloc)?;
     for step in 0..128_000usize {
-        assert!(rt; hoard.leave(16 * step), "the pool is too small");
+        assert!(rt; hoard.beside(16 * step).is_ok(), "the pool is too small");
         if let Some(right) = evaluated(alloc, &checked, &bound) {
             assert!(rt;
                 right && step > 0,

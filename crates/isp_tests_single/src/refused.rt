@@ -66,7 +66,7 @@ fn memory_refused_to_a_run(rt: HostRuntime) -> Result<(), Fail> {
     };
     let mut hoard = Hoard::new(alloc)?;
     for step in 0..128_000usize {
-        assert!(rt; hoard.leave(16 * step), "the pool is too small");
+        assert!(rt; hoard.beside(16 * step).is_ok(), "the pool is too small");
         if let Ok(run) = ran(alloc, &checked, &bound, function) {
             assert!(rt;
                 is_right(&run) && step > 0,

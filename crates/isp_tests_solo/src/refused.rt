@@ -47,7 +47,7 @@ fn memory_refused_to_one_by_one(rt: HostRuntime) -> Result<(), Fail> {
     let bound = bound(alloc, &checked, "{\"a\":[0,0,0],\"b\":[5,6,7]}")?;
     let mut hoard = Hoard::new(alloc)?;
     for step in 0..128_000usize {
-        assert!(rt; hoard.leave(16 * step), "the pool is too small");
+        assert!(rt; hoard.beside(16 * step).is_ok(), "the pool is too small");
         if let Some(right) = reported(alloc, &checked, &bound) {
             assert!(rt; right && step > 0, "another report, or nothing was refused");
             return Ok(());
