@@ -3,5 +3,3 @@
 
 #[cfg(test)]
 mod emitted;
-#[cfg(test)]
-mod written;
