@@ -77,7 +77,7 @@ fn a_run(rt: HostRuntime) -> Result<(), Fail> {
     };
     assert!(rt; matches!(report.stop, Stop::Ended));
     assert!(rt; has_left(&report, &[13, 15, 17, 19]));
-    assert!(rt; report.output.as_slice() == b"y");
+    assert!(rt; report.output.as_slice() == b"y".as_slice());
     match report.result {
         Some(value) => assert_eq!(rt; value.bits, 4),
         None => return Err(Fail::from("no result")),
