@@ -25,4 +25,4 @@ pub use order::Kind;
 pub use reader::read;
 pub use row::Tail;
 pub use shape::{Ending, Shape};
-pub use writer::write;
+pub use writer::{write, write_instr};

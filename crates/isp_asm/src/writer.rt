@@ -3,6 +3,7 @@ ghost use Rattle.std.specs.Prelude.{◌≡◌, ◌++◌, ◌∷◌, [], ◌≤�
 ghost use Rattle.std.specs.List.{flat_map};
 ghost use Rattle.isp_code.specs.Listing.{routine_of};
 ghost use Rattle.isp_asm.specs.Heads.{head_word};
+ghost use Rattle.isp_asm.specs.Rows.{instr_words};
 ghost use Rattle.isp_asm.specs.Spelling as says;
 ghost use Rattle.isp_asm.specs.Spelling.{export_word, instr_line, kind_word, if_any, line_text, line_words, lines_text, local_line, param_line, place_line, returns_words, routine_lines, scalars_line, sharing_word, spaced, text_line, text_of, vectors_line};
 ghost use Rattle.isp_asm.specs.Words.{type_word};
@@ -23,6 +24,15 @@ pub fn write(alloc: Global, code: &Code) -> Result<String, AllocError>
     page.texts(code)?;
     page.functions(code.functions())?;
     Ok(page.into_text())
+}
+
+/// The line of an instruction, with its line feed, as it stands in the text of code.
+pub fn write_instr(alloc: Global, instr: &Instr) -> Result<String, AllocError>
+    ensures { IfOk result (λ s. string_bytes s ≡ line_text (instr_words instr.now)) }
+{
+    let mut line = Page::new(alloc);
+    line.instr(instr)?;
+    Ok(line.into_text())
 }
 
 impl Page {
