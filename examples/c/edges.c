@@ -1,10 +1,12 @@
 /* Each way in which a call of isp ends, once: the status, the report, and what the rooms hold then.
  *
  * It prints what is otherwise than wanted, and `N calls, M differ`; the status is 1 where one differs. With the word `memory`
- * memory is refused to the calls (run it under `ulimit -v`), and they must say so and change nothing.
+ * memory is refused to the calls (run it under `ulimit -v`), and they must say so and change nothing. With the word `many` a kernel is
+ * called a million times, and the process must not grow.
  */
 #include "isp.h"
 #include <stdlib.h>
+#include <time.h>
 
 static int calls, differ;
 
@@ -203,10 +205,44 @@ static void without_memory(void)
     WANT(untouched(output + to.used.err, sizeof output - to.used.err));
 }
 
+/* The bytes of memory that the process has (Linux). */
+static long resident(void)
+{
+    long pages = 0, all = 0;
+    FILE *file = fopen("/proc/self/statm", "r");
+    WANT(file && fscanf(file, "%ld %ld", &all, &pages) == 2);
+    if (file)
+        fclose(file);
+    return pages * 4096;
+}
+
+/* A million calls of a kernel over 16 elements. */
+static void many_calls(void)
+{
+    enum { CALLS = 1000000, COUNT = 16 };
+    static unsigned char packed[ISP_ARRAY_SIZE(COUNT, 4)];
+    int elements[COUNT] = {0}, same = 1;
+    kernel("export void f(uniform int a[]) { foreach (i = 0 ... 16) a[i] = a[i] + 1; }");
+    isp_put_array(packed, elements, COUNT, 4);
+    WANT(ran("f", 1000, packed, sizeof packed, 0) == ISP_OK);
+    long before = resident();
+    clock_t start = clock();
+    for (int i = 1; i < CALLS; i++)
+        same &= ran("f", 1000, packed, sizeof packed, 0) == ISP_OK;
+    double spent = (double)(clock() - start) / CLOCKS_PER_SEC;
+    WANT(same && resident() - before < 65536);
+    isp_take_array(packed, elements, COUNT, 4);
+    for (int i = 0; i < COUNT; i++)
+        WANT(elements[i] == CALLS);
+    fprintf(stderr, "%.1f microseconds a call\n", spent * 1e6 / CALLS);
+}
+
 int main(int count, char **words)
 {
     if (count > 1 && strcmp(words[1], "memory") == 0) {
         without_memory();
+    } else if (count > 1 && strcmp(words[1], "many") == 0) {
+        many_calls();
     } else {
         compiling();
         running();
