@@ -63,7 +63,7 @@ struct isp_why {
     size_t element;       /* of that parameter, from 0 */
 };
 
-/* What isp_compile and isp_run say of themselves. They write all of it, whatever it held. */
+/* What isp_compile, isp_run and isp_native say of themselves. They write all of it, whatever it held. */
 struct isp_report {
     size_t used;          /* bytes that were written to the room; with ISP_ROOM, how many are wanted */
     uint64_t result;      /* what the entry returned: its bits, zero above its width; 0 where it returns nothing */
@@ -107,6 +107,12 @@ struct isp_job {
  * ISP_ARGUMENTS, ISP_TEXT, ISP_MEMORY, ISP_CODE, ISP_ROOM: `packed` and `output` are as they were. */
 uint8_t isp_run(const char *code, size_t code_size, const struct isp_job *job, void *packed, size_t packed_size, char *output,
                 size_t room, struct isp_report *report);
+
+/* Reads code text, and writes its C file at the front of `file`, which has room for `room` bytes: a line for each instruction, of which
+ * a C compiler makes native code with isp_machine.h (docs/EMBEDDING.md). report->used is its length; the bytes behind it stay.
+ *
+ * ISP_OK, or ISP_TEXT, ISP_MEMORY, ISP_CODE, ISP_ROOM: then `file` is as it was. */
+uint8_t isp_native(const char *code, size_t code_size, char *file, size_t room, struct isp_report *report);
 
 /* ---- arguments and answers as bytes
  *

@@ -8,18 +8,22 @@
     kernel.brighten(pixels=pixels, count=len(pixels), level=50)
 
 `tools/library` builds the shared library. It is looked for in the folder `lib` beside this file's folder, or where the
-environment's ISP_LIBRARY says. Nothing else is needed but the standard library. Of this module nothing is proved; it is
-tested (tools/library-test).
+environment's ISP_LIBRARY says. Nothing else is needed but the standard library, and for `native=True` a C compiler. Of this
+module nothing is proved; it is tested (tools/library-test).
 """
 import ctypes
 import functools
 import os
 import re
+import shlex
 import struct
+import subprocess
+import tempfile
 from typing import NamedTuple, Optional
 
 __all__ = [
-    "ArgumentsError", "BudgetUsed", "CodeError", "Error", "Kernel", "Parameter", "Signature", "SourceError", "Trap", "compile", "load",
+    "ArgumentsError", "BudgetUsed", "CodeError", "Error", "Kernel", "Native", "NativeError", "Parameter", "Signature", "SourceError", "Trap",
+    "compile", "load",
 ]
 
 BUDGET = 100_000_000
@@ -92,6 +96,13 @@ class ArgumentsError(Error):
         super().__init__(_ARGUMENTS, text)
 
 
+class NativeError(Error):
+    """There is no native code: the C compiler is missing, or has refused the file."""
+
+    def __init__(self, text):
+        super().__init__(_WORDS, text)
+
+
 class CodeError(Error):
     """Code text is refused: `number` as in docs/FAULTS.md, with the `line`, or the `function` and the `instruction`."""
 
@@ -155,9 +166,10 @@ def _library():
     bytes_of, size, to = ctypes.c_char_p, ctypes.c_size_t, ctypes.c_void_p
     report = ctypes.POINTER(_Report)
     found.isp_compile.argtypes = [bytes_of, size, ctypes.c_uint32, to, size, report]
+    found.isp_native.argtypes = [bytes_of, size, to, size, report]
     found.isp_run.argtypes = [bytes_of, size, ctypes.POINTER(_Job), to, size, to, size, report]
     found.isp_command.argtypes = [ctypes.POINTER(_Text), size, ctypes.POINTER(_File), size, to, size, to, size, ctypes.POINTER(_Used)]
-    for call in (found.isp_compile, found.isp_run, found.isp_command):
+    for call in (found.isp_compile, found.isp_run, found.isp_native, found.isp_command):
         call.restype = ctypes.c_uint8
     return found
 
@@ -179,29 +191,37 @@ def _command(words, files):
 # ---- compiling
 
 
-def compile(source, gang=4):
-    """Compiles the text of a source for a gang of 4, 8, 16 or 32 instances, and returns the kernel.
+def compile(source, gang=4, native=False):
+    """Compiles the text of a source for a gang of 4, 8, 16 or 32 instances, and returns the kernel; with `native` one that a
+    C compiler has made native code of (Native).
 
-    SourceError where the source is refused, ValueError for another gang, MemoryError where memory is refused.
+    SourceError where the source is refused, ValueError for another gang, MemoryError where memory is refused, NativeError where
+    the C compiler is missing or fails.
     """
     text = source.encode()
-    report = _Report(used=65536)
-    while True:
-        code = ctypes.create_string_buffer(max(1, report.used))
-        status = _library().isp_compile(text, len(text), gang, code, len(code), ctypes.byref(report))
-        if status != _ROOM:
-            break
+    status, code, report = _written(lambda room, size, report: _library().isp_compile(text, len(text), gang, room, size, report))
     if status == _SOURCE:
         raise SourceError(report.text(), report.why, source)
     if status == _WORDS:
         raise ValueError(f"a gang has 4, 8, 16 or 32 instances, not {gang}")
     _raise_else(status, report)
-    return Kernel(code.raw[: report.used].decode(), source, gang)
+    return (Native if native else Kernel)(code, source, gang)
 
 
-def load(code):
-    """Returns the kernel of code text, as `isp asm` and `kernel.code` give it. A call refuses code with a fault (CodeError)."""
-    return Kernel(code, None, None)
+def load(code, native=False):
+    """Returns the kernel of code text, as `isp asm` and `kernel.code` give it. Code with a fault is refused (CodeError): by a
+    call, and with `native` here."""
+    return (Native if native else Kernel)(code, None, None)
+
+
+def _written(call):
+    """Makes a call that writes a text, with room enough; returns the status, the text and the report."""
+    report = _Report(used=65536)
+    while True:
+        room = ctypes.create_string_buffer(max(1, report.used))
+        status = call(room, len(room), ctypes.byref(report))
+        if status != _ROOM:
+            return status, room.raw[: report.used].decode(), report
 
 
 def _raise_else(status, report):
@@ -337,6 +357,113 @@ class Kernel:
                 return status, report, output.raw[: report.used]
 
 
+# ---- native code
+
+
+_ENDED, _TRAPPED = 0, 1
+_WRITE = ctypes.CFUNCTYPE(ctypes.c_bool, ctypes.c_void_p, ctypes.POINTER(ctypes.c_char), ctypes.c_size_t)
+_IN_C = {
+    "b": ctypes.c_bool, "i8": ctypes.c_int8, "u8": ctypes.c_uint8, "i16": ctypes.c_int16, "u16": ctypes.c_uint16, "i32": ctypes.c_int32,
+    "u32": ctypes.c_uint32, "i64": ctypes.c_int64, "u64": ctypes.c_uint64,
+}
+
+
+class _NativeRun(ctypes.Structure):
+    """`struct isp_run` of include/isp_machine.h."""
+
+    _fields_ = [("write", _WRITE), ("to", ctypes.c_void_p), ("kind", ctypes.c_int)]
+    _fields_ += [(name, ctypes.c_uint32) for name in ("start", "end", "instance")]
+    _fields_ += [("steps", ctypes.c_uint64), ("most_steps", ctypes.c_uint64)]
+
+
+class Native(Kernel):
+    """A kernel whose code a C compiler has made native code of. Its calls are those of a Kernel, with these differences:
+
+    - The arrays are not copied. No two of a call may overlap (TypeError).
+    - There is no budget: a loop without an end does not end.
+    - The code is the proved one; of the C compiler and of include/isp_machine.h nothing is proved (docs/EMBEDDING.md).
+
+    The compiler is `cc` or what the environment's CC says, with `-O3 -march=native` or what CFLAGS says. isp_machine.h is looked for
+    in the folder `include` beside this file's folder, or where ISP_INCLUDE says.
+    """
+
+    def __init__(self, code, source, gang):
+        super().__init__(code, source, gang)
+        status, self.c_text, report = _written(
+            lambda room, size, report: _library().isp_native(self._text, len(self._text), room, size, report))
+        _raise_else(status, report)
+        self._calls = _built(self.c_text)
+
+    def _run(self, entry, /, *, _budget=None, **arguments):
+        if _budget is not None:
+            raise TypeError("native code has no budget")
+        signature = self.signatures[entry]
+        views = _views(entry, signature, arguments)
+        _check_apart(entry, views)
+        words, written = [], []
+        for number, it in enumerate(signature.parameters):
+            if it.is_array:
+                _check_elements(number, it, views[it.name])
+            words += _array_in_c(it, views[it.name]) if it.is_array else [_IN_C[it.code](_number(it, arguments[it.name]))]
+        result = _IN_C[_code_of(signature.result)]() if signature.result else None
+        words += [] if result is None else [ctypes.byref(result)]
+        write = _WRITE(lambda to, at, count: written.append(at[:count]) is None)
+        run = _NativeRun(write=write)
+        end = getattr(self._calls, f"isp_{entry}")(ctypes.byref(run), *words)
+        self.output = b"".join(written)
+        if end == _TRAPPED:
+            why = _Why(trap=run.kind + 1, begin=run.start, end=run.end, instance=run.instance)
+            text = f"trap {_KINDS[why.trap]} at {run.start}..{run.end}, instance {run.instance}"
+            raise Trap(text, why, self.source)
+        if end != _ENDED:
+            raise MemoryError("isp: memory")
+        return None if result is None else result.value
+
+
+def _built(text):
+    """Returns the functions of a C file, built and loaded."""
+    root = os.path.dirname(os.path.dirname(os.path.realpath(__file__)))
+    include = os.environ.get("ISP_INCLUDE") or os.path.join(root, "include")
+    flags = shlex.split(os.environ.get("CFLAGS", "-O3 -march=native"))
+    with tempfile.TemporaryDirectory() as folder:
+        source, made = os.path.join(folder, "kernel.c"), os.path.join(folder, "kernel.so")
+        with open(source, "w", encoding="ascii") as file:
+            file.write(text)
+        words = [*shlex.split(os.environ.get("CC", "cc")), "-std=gnu11", *flags, "-shared", "-fPIC", "-I", include, source, "-o", made]
+        try:
+            done = subprocess.run(words, capture_output=True, text=True)
+        except OSError as error:
+            raise NativeError(f"no C compiler: {error}") from None
+        if done.returncode:
+            raise NativeError(f"the C compiler ended with status {done.returncode}: {done.stderr[:1000]}")
+        return ctypes.CDLL(made)
+
+
+def _array_in_c(parameter, view):
+    """Returns the first element and the count, as a call in C takes them."""
+    held = (ctypes.c_char * max(1, view.nbytes)).from_buffer(view if view.nbytes else bytearray(1))
+    return [held, ctypes.c_uint64(view.nbytes // parameter.item_size)]
+
+
+def _check_elements(number, parameter, view):
+    """Refuses arrays that the library refuses: the elements of C's bool are 0 and 1, and no array is longer than 16,777,216."""
+    if view.nbytes // parameter.item_size > 1 << 24:
+        raise ArgumentsError("76 TooLong", _Why(number=76, parameter=number))
+    others = view.tobytes().lstrip(b"\0\1") if parameter.code == "b" and view.nbytes else b""
+    if others:
+        raise ArgumentsError("75 OutOfRange", _Why(number=75, parameter=number, element=view.nbytes - len(others)))
+
+
+def _check_apart(entry, views):
+    """Refuses arrays that overlap."""
+    held = {name: ctypes.addressof(ctypes.c_char.from_buffer(view)) for name, view in views.items() if view.nbytes}
+    behind = 0
+    for at, name in sorted((at, name) for name, at in held.items()):
+        if at < behind:
+            raise TypeError(f"{entry}: {name} overlaps another array, and native code changes both in place")
+        behind = at + views[name].nbytes
+
+
 # ---- signatures, from the header lines of the code text
 
 
@@ -394,15 +521,20 @@ def _packed(parameter, given, view):
     """Returns the bytes of an argument."""
     if view is not None:
         return struct.pack("<Q", view.nbytes // parameter.item_size) + (view.tobytes() if view.nbytes else b"")
-    bits, is_signed = parameter.bits, parameter.code.startswith("i")
+    return struct.pack("<Q", _number(parameter, given) & (1 << parameter.bits) - 1)
+
+
+def _number(parameter, given):
+    """Returns a value as a number that its type has."""
     try:
         number = given.__index__()
     except AttributeError:
         raise TypeError(f"{parameter.name} is {parameter.type}, not {type(given).__name__}") from None
-    low, high = (-(1 << bits - 1), 1 << bits - 1) if is_signed else (0, 1 << bits)
+    bits = parameter.bits
+    low, high = (-(1 << bits - 1), 1 << bits - 1) if parameter.code.startswith("i") else (0, 1 << bits)
     if not low <= number < high:
         raise OverflowError(f"{parameter.name} is {parameter.type}, which has no {number}")
-    return struct.pack("<Q", number & (1 << bits) - 1)
+    return number
 
 
 def _unpack(packed, views):
@@ -415,11 +547,16 @@ def _unpack(packed, views):
         at += view.nbytes
 
 
+def _code_of(type_):
+    """Returns the code's word of a type."""
+    return next(code for code, name in _NAMES.items() if name == type_)
+
+
 def _value(type_, bits):
     """Returns the value that these bits are."""
     if type_ is None:
         return None
-    code = next(code for code, name in _NAMES.items() if name == type_)
+    code = _code_of(type_)
     if code == "b":
         return bool(bits)
     width = _TYPES[code][1]

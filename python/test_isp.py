@@ -5,10 +5,12 @@ import json
 import os
 import pathlib
 import pickle
+import shutil
 import subprocess
 import sys
 import tempfile
 import unittest
+import unittest.mock
 
 ROOT = pathlib.Path(__file__).resolve().parents[1]
 sys.path.insert(0, str(ROOT / "python"))
@@ -71,6 +73,63 @@ class Kernels(unittest.TestCase):
             words = [PROGRAM, "run", "--gang", "16", path.with_suffix(".ispc"), path.stem, path.with_suffix(".json")]
             with self.subTest(kernel=path.stem):
                 self.assertEqual(subprocess.run(words, capture_output=True, text=True, check=True).stdout, path.read_text())
+
+
+@unittest.skipUnless(shutil.which("cc"), "there is no C compiler")
+class NativeCode(unittest.TestCase):
+    """Code that a C compiler has made native does what the library does."""
+
+    @classmethod
+    def setUpClass(cls):
+        os.environ.setdefault("CFLAGS", "-O1")
+
+    def test_kernels(self):
+        for path in sorted(ROOT.glob("examples/*.answer")):
+            source, arguments = path.with_suffix(".ispc").read_text(), json.loads(path.with_suffix(".json").read_text())
+            with self.subTest(kernel=path.stem):
+                kernel = isp.compile(source, 8, native=True)
+                self.assertEqual(answer(kernel, path.stem, arguments, lambda it, values: array.array(ARRAYS[it.code], values)), path.read_text())
+
+    def test_values(self):
+        source = """export uniform int8 f(uniform int8 x, uniform bool b) { print("% %\\n", x, b); return x - 1; }
+            export uniform bool g(uniform uint64 n) { return n == 18446744073709551615; } export void register() { }"""
+        kernel = isp.compile(source, native=True)
+        self.assertEqual(kernel.f(x=-128, b=True), 127)
+        self.assertEqual(kernel.output, b"-128 true\n")
+        self.assertIs(kernel.g(n=2**64 - 1), True)
+        self.assertIsNone(kernel["register"]())
+        self.assertEqual(pickle.loads(pickle.dumps(kernel)).f(x=1, b=False), 0)
+        self.assertEqual(isp.load(kernel.code, native=True).f(x=1, b=False), 0)
+
+    def test_trap(self):
+        kernel, plain = (isp.compile("export void f(uniform int a[]) {\n    a[0] = 7;\n    a[1] = 1 / a[1];\n}", native=it) for it in (True, False))
+        traps = []
+        for it in (kernel, plain):
+            values = array.array("i", [1, 0])
+            with self.assertRaises(isp.Trap) as found:
+                it.f(a=values)
+            self.assertEqual(list(values), [7, 0])
+            traps.append(vars(found.exception) | {"text": str(found.exception)})
+        self.assertEqual(*traps)
+
+    def test_refused(self):
+        kernel = isp.compile("export void f(uniform int8 a[], uniform bool b[]) { }", native=True)
+        with self.assertRaises(isp.ArgumentsError) as found:
+            kernel.f(a=bytearray(4), b=bytearray(b"\0\1\2"))
+        self.assertEqual((found.exception.number, found.exception.parameter, found.exception.element), (75, 1, 2))
+        with self.assertRaises(isp.ArgumentsError) as found:
+            kernel.f(a=bytearray((1 << 24) + 1), b=bytearray())
+        self.assertEqual((found.exception.number, found.exception.parameter), (76, 0))
+        whole = memoryview(bytearray(4))
+        kernel.f(a=whole[:2], b=whole[2:])
+        with self.assertRaisesRegex(TypeError, "f: b overlaps another array"):
+            kernel.f(a=whole[:3], b=whole[2:])
+        with self.assertRaisesRegex(TypeError, "no budget"):
+            kernel.f(a=bytearray(), b=bytearray(), _budget=1)
+        with self.assertRaises(isp.CodeError):
+            isp.load("isp 1 gang 4\nfunc f export void\nm 1\njmp L1\nend\n", native=True)
+        with unittest.mock.patch.dict(os.environ, {"CC": "/nowhere/cc"}), self.assertRaisesRegex(isp.NativeError, "no C compiler"):
+            isp.compile(PLUS, native=True)
 
 
 class Calls(unittest.TestCase):

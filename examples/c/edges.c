@@ -149,6 +149,25 @@ static void reading(void)
     WANT(ran("f", 10, packed, 0, 0) == ISP_TEXT && strcmp(report.line, "isp: cannot read code\n") == 0);
 }
 
+static void translating(void)
+{
+    static char file[65536];
+    kernel("export void f(uniform int a[]) { a[programIndex] = a[programIndex] + 1; }");
+    size_t size = strlen(code);
+    memset(file, '#', sizeof file);
+    WANT(isp_native(code, size, file, sizeof file, &report) == ISP_OK && report.line[0] == 0 && report.why.number == 0);
+    size_t wanted = report.used;
+    WANT(wanted > 100 && untouched(file + wanted, sizeof file - wanted));
+    file[wanted] = 0;
+    WANT(strstr(file, "#include \"isp_machine.h\"\n") && strstr(file, "enum isp_end isp_f("));
+    memset(file, '#', sizeof file);
+    WANT(isp_native(code, size, file, wanted, &report) == ISP_OK && untouched(file + wanted, 100));
+    memset(file, '#', sizeof file);
+    WANT(isp_native(code, size, file, wanted - 1, &report) == ISP_ROOM && report.used == wanted && untouched(file, sizeof file));
+    WANT(isp_native(code, size - 1, file, sizeof file, &report) == ISP_CODE && report.why.number == 60 && untouched(file, sizeof file));
+    WANT(isp_native("\xe9", 1, file, sizeof file, &report) == ISP_TEXT && strcmp(report.line, "isp: cannot read code\n") == 0);
+}
+
 static void commanding(void)
 {
     char out[4096], err[4096];
@@ -248,6 +267,7 @@ int main(int count, char **words)
         running();
         trapping();
         reading();
+        translating();
         commanding();
     }
     printf("%d calls, %d differ\n", calls, differ);

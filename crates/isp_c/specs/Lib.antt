@@ -4,4 +4,5 @@ pub mod Reports
 pub mod Rooms
 pub mod Compiling
 pub mod Running
+pub mod Translating
 pub mod Commanding

@@ -42,7 +42,7 @@ pub extern "C" fn isp_compile(
 }
 
 // Writes the bytes that a call gives.
-fn give(bytes: &[u8], room: &mut [u8], report: &mut Report) -> u8
+pub(crate) fn give(bytes: &[u8], room: &mut [u8], report: &mut Report) -> u8
     ensures { Gives bytes.now room.old room.new report.new result }
 {
     if !put(bytes, room) {

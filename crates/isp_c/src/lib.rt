@@ -8,6 +8,7 @@
 mod command;
 mod compile;
 mod line;
+mod native;
 mod refusal;
 mod report;
 mod room;
@@ -16,6 +17,7 @@ mod texts;
 
 pub use command::{File, Used, isp_command};
 pub use compile::isp_compile;
+pub use native::isp_native;
 pub use report::{Report, Why};
 pub use run::{Job, isp_run};
 pub use texts::Text;

@@ -98,7 +98,7 @@ fn no_entry() -> Refusal<'static>
     Refusal::Failed(Failure::Run(RunFault::NoEntry))
 }
 
-fn loaded(alloc: Global, text: &str) -> Result<Image, Refusal<'static>>
+pub(crate) fn loaded(alloc: Global, text: &str) -> Result<Image, Refusal<'static>>
     ensures ok { IfOk result (IsLoaded text.now) }
     ensures err { IfErr result (NoLoad text.now) }
 {
