@@ -1,0 +1,369 @@
+"use strict";
+
+const $ = (id) => document.getElementById(id);
+const { examples, faults } = JSON.parse($("data").textContent);
+const SHOWN = 200000;   // characters of output that are shown
+const NUMBERED = 20000; // lines that get a number
+
+const TABS = {
+    run: "What the run wrote, and its answer: the arrays as they are then, and the result.",
+    asm: "The code of the machine: each line is one instruction.",
+    check: "For each exported function, whether its instances are independent, or which rule it breaks and where.",
+    solo: "The answer where each instance runs alone, one after another. Independent functions give that of the gang.",
+};
+
+// ---- the machine: a Worker, which is ended where a run is to stop
+
+class Machine {
+    constructor() {
+        this.wasm = unzipped($("wasm").textContent);
+        this.code = URL.createObjectURL(new Blob([$("worker").textContent], { type: "text/javascript" }));
+        this.count = 0;
+        this.begin();
+    }
+
+    begin() {
+        this.waiting = new Map();
+        this.worker = new Worker(this.code);
+        this.worker.onmessage = ({ data }) => {
+            this.waiting.get(data.id)(data);
+            this.waiting.delete(data.id);
+        };
+        this.ready = this.wasm.then((wasm) => this.worker.postMessage({ wasm }));
+    }
+
+    // Does one command; answers { status, out, err }, { error }, or null where it was stopped.
+    async command(words, files) {
+        for (let ready; ready !== this.ready; await ready) {
+            ready = this.ready;
+        }
+        const id = ++this.count;
+        return new Promise((resolve) => {
+            this.waiting.set(id, resolve);
+            this.worker.postMessage({ id, words, files });
+        });
+    }
+
+    stop() {
+        const stopped = [...this.waiting.values()];
+        this.worker.terminate();
+        this.begin();
+        stopped.forEach((resolve) => resolve(null));
+    }
+}
+
+async function unzipped(base64) {
+    const bytes = Uint8Array.from(atob(base64), (it) => it.charCodeAt(0));
+    const stream = new Blob([bytes]).stream().pipeThrough(new DecompressionStream("gzip"));
+    return new Uint8Array(await new Response(stream).arrayBuffer());
+}
+
+const machine = new Machine();
+let tab = "run", running = 0;
+
+// ---- runs
+
+function words() {
+    const gang = ["--gang", $("gang").value], names = ["source", $("entry").value, "arguments"];
+    return {
+        run: ["run", ...gang, "--budget", $("budget").value.trim(), ...names],
+        asm: ["asm", ...gang, "source"],
+        check: ["check", ...gang, "source"],
+        solo: ["solo", ...gang, ...names],
+    }[tab];
+}
+
+async function run() {
+    if (running) {
+        machine.stop();
+    }
+    const mine = ++running, started = performance.now();
+    clear("Running ..");
+    $("stop").disabled = false;
+    const files = [{ name: "source", text: $("source").value }, { name: "arguments", text: $("arguments").value }];
+    const done = await machine.command(words(), files);
+    if (mine !== running) {
+        return;
+    }
+    running = 0;
+    $("stop").disabled = true;
+    if (!done) {
+        clear("Stopped.");
+    } else if (done.error) {
+        clear(`The page could not run this: ${done.error}. The program isp can.`);
+    } else {
+        show(done, performance.now() - started);
+    }
+}
+
+function clear(state) {
+    $("about").textContent = TABS[tab];
+    $("state").textContent = state;
+    $("out").textContent = "";
+    $("out").className = tab === "asm" ? "code" : "";
+    $("fault").hidden = $("picture").hidden = true;
+    mark(null);
+}
+
+function show({ status, out, err }, time) {
+    const text = new TextDecoder().decode(out), line = new TextDecoder().decode(err);
+    clear(`${status ? "" : "Done. "}Status ${status}, ${time.toFixed(time < 10 ? 1 : 0)} ms.`);
+    showOutput(text);
+    if (line) {
+        showFault(line);
+    }
+    if (status === 0 && (tab === "run" || tab === "solo")) {
+        showPicture(text);
+    }
+}
+
+// ---- output, with the places in it as buttons
+
+const PLACE = /\b(\d+)\.\.(\d+)/g;
+
+function showOutput(text) {
+    const shown = text.slice(0, SHOWN);
+    if (tab === "check") {
+        $("out").replaceChildren(...withPlaces(shown));
+    } else {
+        $("out").textContent = shown;
+    }
+    if (text.length > SHOWN) {
+        $("state").textContent += ` The first ${SHOWN} of ${text.length} characters are shown.`;
+    }
+}
+
+function withPlaces(text) {
+    const parts = [];
+    let behind = 0;
+    for (const found of text.matchAll(PLACE)) {
+        const button = document.createElement("button");
+        button.className = "place";
+        button.textContent = found[0];
+        button.onclick = () => select(mark([+found[1], +found[2]]));
+        parts.push(text.slice(behind, found.index), button);
+        behind = found.index + found[0].length;
+    }
+    return [...parts, text.slice(behind)];
+}
+
+function showFault(text) {
+    const line = document.createElement("p"), place = / at (\d+)\.\.(\d+)/.exec(text);
+    line.className = "line";
+    line.textContent = text.trim();
+    const span = place ? mark([+place[1], +place[2]]) : null;
+    const parts = [line];
+    if (span) {
+        const button = document.createElement("button");
+        button.className = "place";
+        button.textContent = placeOf(span[0]);
+        button.onclick = () => select(span);
+        line.append(" ", button);
+    }
+    const fault = faults[(/^(?:.* )?isp: (\d+ \w+|trap \w+|rule \d|not apart|budget used|turns used|memory)/.exec(text) || [])[1]];
+    if (fault) {
+        parts.push(paragraph(fault.sentence), paragraph(fault.fix), ...tableOf(fault.rows));
+    }
+    $("fault").replaceChildren(...parts);
+    $("fault").hidden = false;
+}
+
+function paragraph(text) {
+    const made = document.createElement("p");
+    made.textContent = text;
+    return made;
+}
+
+function tableOf(rows) {
+    if (!rows.length) {
+        return [];
+    }
+    const table = document.createElement("table");
+    for (const [at, fix] of rows) {
+        const row = table.insertRow();
+        row.insertCell().textContent = at;
+        row.insertCell().textContent = fix;
+    }
+    return [table];
+}
+
+// ---- places: the program counts bytes, and the page characters
+
+function indexes([begin, end]) {
+    const bytes = new TextEncoder().encode($("source").value), text = (from, to) => new TextDecoder().decode(bytes.slice(from, to));
+    const first = text(0, begin).length;
+    return [first, first + text(begin, end).length];
+}
+
+// Marks a span of bytes, and answers it in characters; marks nothing without one.
+function mark(bytes) {
+    const source = $("source").value, span = bytes && indexes(bytes);
+    if (!span) {
+        $("marks").textContent = "";
+        return null;
+    }
+    const marked = document.createElement("mark");
+    marked.textContent = source.slice(...span) || " ";
+    $("marks").replaceChildren(source.slice(0, span[0]), marked, source.slice(span[1]) + "\n");
+    follow();
+    return span;
+}
+
+function placeOf(index) {
+    const before = $("source").value.slice(0, index), line = before.split("\n");
+    return `line ${line.length}, column ${[...line.at(-1)].length + 1}`;
+}
+
+function select(span) {
+    const source = $("source"), line = source.value.slice(0, span[0]).split("\n").length;
+    source.focus();
+    source.setSelectionRange(...span);
+    const height = parseFloat(getComputedStyle(source).lineHeight);
+    source.scrollTop = Math.max(0, (line - 4) * height);
+    follow();
+}
+
+// ---- the editor
+
+function follow() {
+    const { scrollTop, scrollLeft } = $("source");
+    $("marks").scrollTop = $("numbers").scrollTop = scrollTop;
+    $("marks").scrollLeft = scrollLeft;
+}
+
+function edited() {
+    const source = $("source").value;
+    const lines = Math.min(source.split("\n").length, NUMBERED);
+    if ($("numbers").dataset.lines !== String(lines)) {
+        $("numbers").dataset.lines = lines;
+        $("numbers").textContent = Array.from({ length: lines }, (_, i) => i + 1).join("\n") + "\n";
+    }
+    mark(null);
+    const names = new Set([...source.slice(0, SHOWN).matchAll(/\bexport\b[\w\s]*?\b(\w+)\s*\(/g)].map((it) => it[1]));
+    $("entries").replaceChildren(...[...names].map((it) => new Option(it)));
+    if (names.size && !names.has($("entry").value)) {
+        $("entry").value = [...names][0];
+    }
+    follow();
+}
+
+// ---- pictures
+
+function showPicture(text) {
+    const { arrays } = JSON.parse(text.trimEnd().split("\n").at(-1));
+    const names = Object.keys(arrays).filter((it) => arrays[it].length > 1);
+    if (!names.length) {
+        return;
+    }
+    const chosen = names.includes($("array").value) ? $("array").value : names[0];
+    $("array").replaceChildren(...names.map((it) => new Option(it, it, false, it === chosen)));
+    $("width").value ||= widthOf(arrays[chosen].length);
+    $("array").onchange = $("width").oninput = $("times").oninput = () => draw(arrays[$("array").value]);
+    $("picture").hidden = false;
+    draw(arrays[chosen]);
+}
+
+// The argument `width`, or the side of a square.
+function widthOf(count) {
+    const given = /"width"\s*:\s*(\d+)/.exec($("arguments").value);
+    return given ? given[1] : Math.ceil(Math.sqrt(count));
+}
+
+function draw(values) {
+    const width = Math.min(Math.max(Math.floor(+$("width").value) || 1, 1), 4096), times = +$("times").value || 0;
+    const height = Math.min(Math.ceil(values.length / width), 4096), canvas = $("canvas");
+    [canvas.width, canvas.height] = [width, height];
+    const image = new ImageData(width, height);
+    for (let i = 0; i < Math.min(values.length, width * height); i++) {
+        const grey = typeof values[i] === "boolean" ? 255 * values[i] : values[i] * times;
+        image.data.set([grey, grey, grey, 255], 4 * i);
+    }
+    canvas.getContext("2d").putImageData(image, 0, 0);
+}
+
+// ---- tabs, examples, links, keys
+
+function choose(name) {
+    tab = name;
+    for (const it of Object.keys(TABS)) {
+        $(`tab-${it}`).setAttribute("aria-selected", it === name);
+        $(`tab-${it}`).tabIndex = it === name ? 0 : -1;
+    }
+    $("panel").setAttribute("aria-labelledby", `tab-${name}`);
+}
+
+for (const name of Object.keys(TABS)) {
+    $(`tab-${name}`).onclick = () => {
+        choose(name);
+        run();
+    };
+}
+
+document.querySelector("[role=tablist]").onkeydown = ({ key }) => {
+    const names = Object.keys(TABS), step = { ArrowRight: 1, ArrowLeft: -1 }[key];
+    if (step) {
+        const next = $(`tab-${names.at((names.indexOf(tab) + step) % names.length)}`);
+        next.focus();
+        next.click();
+    }
+};
+
+function fill({ source, entry, given, gang }) {
+    $("source").value = source;
+    $("entry").value = entry;
+    $("arguments").value = given;
+    $("gang").value = gang || $("gang").value;
+    $("width").value = "";
+    edited();
+    choose("run");
+    run();
+}
+
+for (const name of Object.keys(examples)) {
+    $("example").add(new Option(name));
+}
+
+$("example").onchange = () => {
+    const name = $("example").value;
+    if (name) {
+        fill({ ...examples[name], entry: name });
+    }
+};
+
+$("link").onclick = () => {
+    const kept = { source: $("source").value, entry: $("entry").value, given: $("arguments").value, gang: $("gang").value };
+    location.hash = encodeURIComponent(JSON.stringify(kept));
+    navigator.clipboard?.writeText(location.href).catch(() => {});
+    $("state").textContent = "The address of this page has the source and the arguments now.";
+};
+
+function linked() {
+    try {
+        return JSON.parse(decodeURIComponent(location.hash.slice(1)));
+    } catch {
+        return null;
+    }
+}
+
+$("source").oninput = () => {
+    $("example").value = "";
+    edited();
+};
+$("source").onscroll = follow;
+$("run").onclick = run;
+$("stop").onclick = () => machine.stop();
+document.onkeydown = (event) => {
+    if (event.key === "Enter" && event.ctrlKey) {
+        event.preventDefault();
+        run();
+    } else if (event.key === "Escape" && running) {
+        machine.stop();
+    }
+};
+
+const first = Object.keys(examples).includes("brighten") ? "brighten" : Object.keys(examples)[0];
+const kept = linked();
+if (!kept) {
+    $("example").value = first;
+}
+fill(kept && typeof kept.source === "string" ? kept : { ...examples[first], entry: first });
