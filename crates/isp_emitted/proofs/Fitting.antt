@@ -1,24 +1,20 @@
 -- What is asked for is in the table of registers, and stays there.
-use Rattle.std.proofs.Common.{◌≡◌, ℕ, ◌<◌, ◌≤◌, List, sym, subst, arith}
+use Rattle.std.proofs.Common.{ℕ, ◌≤◌, List, sym, subst, arith}
 use Rattle.isp_base.specs.declared.types.Elem.{Elem}
 use Rattle.isp_base.specs.declared.types.Rate.{Rate}
 use Rattle.isp_base.specs.declared.types.Rate.TheVariants.{Uniform, Varying}
 use Rattle.isp_code.specs.Listing.{Routine}
-use Rattle.isp_typed.specs.Fine.{FineExpr, FineSimple}
-use Rattle.isp_typed.specs.Typed.{TExpr, TSimple}
 use Rattle.isp_typed.specs.declared.variable.Variable.{Variable as Declared}
 use Rattle.isp_lower.specs.Asks.{Ask, Nothing, Both, Register, ArrayOf, LocalOf, MaskOf, Number, Loads, expr_asks, simple_asks}
-use Rattle.isp_lower.specs.Emitted.{Grows, HasRow, HasArray, HasLoaded, rows_of}
-use Rattle.isp_lower.specs.Fits.{ExprFits, SimpleFits}
-use Rattle.isp_lower.specs.Layout.{Layout}
-use Rattle.isp_lower.specs.Rated.{IsRated, SimpleRated}
+use Rattle.isp_lower.specs.Emitted.{Grows, HasRow, rows_of}
 use Rattle.isp_lower.specs.Reserved.{Has}
 use Rattle.isp_lower.specs.Rows.{Name, Variable, layout_of}
 use Rattle.isp_lower.specs.Setting.{Setting}
 use Rattle.isp_lower.specs.Tables.{IsNamedIn, Table}
 use Rattle.isp_lower.specs.declared.reserve.Reserve.{Reserve}
-use Rattle.isp_emitted.specs.Fitting.{WrittenFits, ReservedStays}
+use Rattle.isp_emitted.specs.Fitting.{WrittenFits}
 use Rattle.isp_emitted.specs.OfRows.{IsOfRows}
+use Rattle.isp_emitted.specs.Staying.{ReservedStays}
 use Rattle.isp_emitted.proofs.Arrays.{AreHeld, expr_held, simple_held}
 use Rattle.isp_emitted.proofs.Rows.{named_in, row_stays, some_stays}
 

@@ -1,3 +1,10 @@
 mod Rows
 mod Arrays
 mod Fitting
+mod Same
+mod SameCode
+mod SameSimple
+mod Staying
+mod Parts
+mod Written
+mod Finished

@@ -1,5 +1,5 @@
 -- The register of a name that has a row has the type of the row, and rows that are added change neither.
-use Rattle.std.proofs.Common.{◌≡◌, ℕ, zero, suc, ◌+◌, List, [], ◌∷◌, ◌++◌, map, Option, Some, None, Bool, true, false, refl, sym, ap, ◌∙◌, subst, arith}
+use Rattle.std.proofs.Common.{◌≡◌, ℕ, zero, suc, ◌+◌, List, [], ◌∷◌, ◌++◌, Option, Some, None, Bool, true, false, refl, sym, ap, ◌∙◌, subst, arith}
 use Rattle.std.specs.Prelude.{◌==◌, if◌then◌else◌, is_some, slice_get}
 use Rattle.std.proofs.lemmas.Option.{get_or_from_slice_get}
 use Rattle.isp_base.specs.declared.types.Elem.{Elem}
@@ -38,7 +38,7 @@ typed_at : (rows : List Row) (types : List Elem) (x : Name) (t : Elem) → Start
 typed_at rows types x t starts e =
     subst (λ ts. slice_get ts (number_in rows x) ≡ Some t) (sym starts.is) (front_at (types_of rows) starts.rest (number_in rows x) t (row_typed rows x t e))
 
-numbered_in : (rates : ℕ → List Rate) (rows : Rows) (r : Rate) (x : Name) → number_in (rows_at rows r) x ≡ numbered (layout_of rates rows) r x
+pub numbered_in : (rates : ℕ → List Rate) (rows : Rows) (r : Rate) (x : Name) → number_in (rows_at rows r) x ≡ numbered (layout_of rates rows) r x
 numbered_in rates rows r (Variable v) = refl
 numbered_in rates rows r Result = refl
 numbered_in rates rows r (Spare t j) = refl
@@ -72,3 +72,14 @@ some_stays old new x begins e = go (elem_in old x) refl e
     go : (o : Option Elem) → elem_in old x ≡ o → is_some o ≡ true → is_some (elem_in new x) ≡ true
     go None at h = absurd (cc)
     go (Some t) at h = ap is_some (row_stays old new x t begins at)
+
+number_stays : (rows more : List Row) (x : Name) (t : Elem) → elem_in rows x ≡ Some t → number_in (rows ++ more) x ≡ number_in rows x
+number_stays [] more x t e = absurd (cc)
+number_stays (z ∷ rows) more x t e = go (name_number z.name == name_number x) (number_stays rows more x t) e
+  where
+    go : (b : Bool) → (elem_in rows x ≡ Some t → number_in (rows ++ more) x ≡ number_in rows x) → (if b then Some z.elem else elem_in rows x) ≡ Some t → (if b then 0 else 1 + number_in (rows ++ more) x) ≡ (if b then 0 else 1 + number_in rows x)
+    go true later h = refl
+    go false later h = ap (λ n. 1 + n) (later h)
+
+pub same_number : (old new : List Row) (x : Name) (t : Elem) → Begins old new → elem_in old x ≡ Some t → number_in new x ≡ number_in old x
+same_number old new x t begins e = ap (λ rows. number_in rows x) begins.is ∙ number_stays old begins.more x t e

@@ -1,9 +1,9 @@
 -- What the laws ask of a tree is so of one whose registers an emitter reserved.
-use Rattle.std.specs.Prelude.{ℕ, ◌≤◌}
+use Rattle.std.specs.Prelude.{ℕ}
 use Rattle.isp_typed.specs.Fine.{FineExpr, FineSimple}
 use Rattle.isp_typed.specs.Typed.{TExpr, TSimple}
-use Rattle.isp_lower.specs.Asks.{Ask, expr_asks, simple_asks}
-use Rattle.isp_lower.specs.Emitted.{Grows, rows_of}
+use Rattle.isp_lower.specs.Asks.{expr_asks, simple_asks}
+use Rattle.isp_lower.specs.Emitted.{rows_of}
 use Rattle.isp_lower.specs.Fits.{ExprFits, SimpleFits}
 use Rattle.isp_lower.specs.Rated.{IsRated, SimpleRated}
 use Rattle.isp_lower.specs.Reserved.{Has}
@@ -11,13 +11,8 @@ use Rattle.isp_lower.specs.Setting.{Setting}
 use Rattle.isp_lower.specs.declared.reserve.Reserve.{Reserve}
 use Rattle.isp_emitted.specs.OfRows.{IsOfRows}
 
--- In a call whose routine has the registers of a reserve: names, types and rates accept the tree, and what its code asks for is
--- there.
+-- In a call whose routine has the registers of a reserve: names, types and rates accept the tree, and the reserve has what its code
+-- asks for.
 pub record WrittenFits : Type 0 where
   pub exprs : (w : Setting) (r : Reserve) (x : TExpr) (n : ℕ) → IsOfRows w (rows_of r.registers) → FineExpr w.program.functions w.function.variables x → IsRated w.program.functions x → Has r (expr_asks x n) → ExprFits w x n
   pub simples : (w : Setting) (r : Reserve) (x : TSimple) (n : ℕ) → IsOfRows w (rows_of r.registers) → FineSimple w.program.functions w.function.variables x → SimpleRated w.program.functions x → Has r (simple_asks x n) → SimpleFits w x n
-
--- what is there stays there, as rows and masks are added
-abbrev pub ReservedStays : Type 0
-ReservedStays =
-    (old new : Reserve) (a : Ask) → Grows old.registers new.registers → old.masks ≤ new.masks → Has old a → Has new a

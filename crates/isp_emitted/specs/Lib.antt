@@ -1,2 +1,6 @@
 pub mod OfRows
 pub mod Fitting
+pub mod Staying
+pub mod Parts
+pub mod Finished
+pub mod Written

@@ -1,6 +1,10 @@
-//! Laws for who writes code of expressions through an emitter: what was written does what the tree means. No code is run here.
+//! Laws for who writes code through an emitter: an expression or an assignment that was written does what the tree means. No code
+//! is run here.
 #![tactic(auto)]
 
 mod laws;
 
-pub use laws::{reserved_stays, written_fits};
+pub use laws::{
+    code_stays, finished_has, parts_stay, places_stay, reserved_stays, written_fits,
+    written_goes_on, written_runs,
+};

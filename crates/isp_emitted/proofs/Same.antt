@@ -1,0 +1,300 @@
+-- Two layouts in which what code asks for lies in the same registers: where values are found, and the parts that are no trees.
+use Rattle.std.proofs.Common.{◌≡◌, ℕ, List, [], ◌∷◌, ◌++◌, Option, Some, None, Bool, true, false, refl, sym, ap, ap₂, ◌∙◌}
+use Rattle.std.specs.Prelude.{◌&&◌, not}
+use Rattle.std.proofs.Math.Path.{fun_ext}
+use Rattle.isp_base.specs.declared.types.Elem.{Elem}
+use Rattle.isp_base.specs.declared.types.Elem.TheVariants.{I64}
+use Rattle.isp_base.specs.declared.types.Rate.{Rate}
+use Rattle.isp_base.specs.declared.types.Rate.TheVariants.{Uniform, Varying}
+use Rattle.isp_base.specs.declared.types.Ty.{Ty}
+use Rattle.isp_base.specs.declared.types.Value.{Value}
+use Rattle.isp_code.specs.declared.instr.Instr.{Instr}
+use Rattle.isp_meaning.specs.Calls.{same_rate}
+use Rattle.isp_meaning.specs.Payloads.{converted}
+use Rattle.isp_typed.specs.Typed.{TExpr, t_constant, t_program_index, t_place, t_convert, t_cast, t_unary, t_binary, t_compare, t_logic, t_choose, t_call, t_library, t_packed_store, t_packed_load, TPlace, t_variable, t_element, type_of}
+use Rattle.isp_lower.specs.Asks.{Ask, Nothing, Both, Register, ArrayOf, LocalOf, MaskOf, Number, Loads, lift_asks, taken, whole_asks, index_asks, is_lane, start_asks, element_asks, copy_asks, value_asks, expr_asks, target_asks}
+use Rattle.isp_lower.specs.Code.{two, guard, choice, pair_code, constant_of, convert, constant, copy, splat, read_by, lifted, lift_code, part_to, lift_to, convert_to, is_copied, variable_found, place_found, found, operand, operand_of, whole, whole_of, index, index_of, is_whole, names, is_counter, counts, is_run, start_in, start_code, index_by, index_by_of, variable_read, read_code, stays, stays_at, is_short}
+use Rattle.isp_lower.specs.Layout.{Layout}
+use Rattle.isp_lower.specs.Rows.{numbered}
+
+-- ---- pieces of code
+
+pub two_same : (pc : ℕ) (a a' : List Instr) (b b' : ℕ → List Instr) → a ≡ a' → ((q : ℕ) → b q ≡ b' q) → two pc a b ≡ two pc a' b'
+two_same pc a a' b b' ea eb = ap₂ (two pc) ea (fun_ext eb)
+
+pub guard_same : (go go' : ℕ → Instr) (pc : ℕ) (a a' : ℕ → List Instr) → go ≡ go' → ((q : ℕ) → a q ≡ a' q) → guard go pc a ≡ guard go' pc a'
+guard_same go go' pc a a' eg ea = ap₂ (λ g b. guard g pc b) eg (fun_ext ea)
+
+pub choice_same : (go go' : ℕ → Instr) (pc : ℕ) (a a' b b' : ℕ → List Instr) → go ≡ go' → ((q : ℕ) → a q ≡ a' q) → ((q : ℕ) → b q ≡ b' q) → choice go pc a b ≡ choice go' pc a' b'
+choice_same go go' pc a a' b b' eg ea eb =
+    ap (λ g. choice g pc a b) eg ∙ ap₂ (choice go' pc) (fun_ext ea) (fun_ext eb)
+
+pub joined_same : (a a' b b' : List Instr) → a ≡ a' → b ≡ b' → (a ++ b) ≡ (a' ++ b')
+joined_same a a' b b' ea eb = ap₂ (λ x y. x ++ y) ea eb
+
+pub pair_same : (pc : ℕ) (a a' : List Instr) (b b' : ℕ → List Instr) (i i' : Instr) → a ≡ a' → ((q : ℕ) → b q ≡ b' q) → i ≡ i' → pair_code pc a b i ≡ pair_code pc a' b' i'
+pair_same pc a a' b b' i i' ea eb ei =
+    two_same pc a a' (λ q. b q ++ i ∷ []) (λ q. b' q ++ i' ∷ []) ea (λ q. joined_same (b q) (b' q) (i ∷ []) (i' ∷ []) (eb q) (ap (λ z. z ∷ []) ei))
+
+-- ---- two layouts
+
+-- code calls the same functions, reads the same variables by a copy, and is in no run
+pub record Alike (l m : Layout) : Type 0 where
+  pub rates : l.rates ≡ m.rates
+  pub loaded : l.loaded ≡ m.loaded
+  pub first : l.in_run ≡ false
+  pub second : m.in_run ≡ false
+
+abbrev pub SameIn : Layout → Layout → Ask → Type 0
+SameIn l m Nothing = Unit {0}
+SameIn l m (Both x y) = SameIn l m x × SameIn l m y
+SameIn l m (Register r x t) = numbered l r x ≡ numbered m r x
+SameIn l m (ArrayOf b) = l.array b.number ≡ m.array b.number
+SameIn l m (LocalOf b) = l.array b.number ≡ m.array b.number
+SameIn l m (MaskOf k) = Unit {0}
+SameIn l m (Number k) = Unit {0}
+SameIn l m (Loads v) = Unit {0}
+
+-- no index counts lanes but that of the lane
+none_counts : (k : Layout) → k.in_run ≡ false → (r : Rate) (v : ℕ) → is_counter k r v ≡ false
+none_counts k out Uniform v = refl
+none_counts k out Varying v = ap (λ b. b && names k k.run v) out
+
+counts_lane : (k : Layout) → k.in_run ≡ false → (i : TExpr) → counts k i ≡ is_lane i
+counts_lane k out (t_constant v sp) = refl
+counts_lane k out (t_program_index sp) = refl
+counts_lane k out (t_place (t_variable v t sp)) = none_counts k out t.rate v
+counts_lane k out (t_place (t_element b i t sp)) = refl
+counts_lane k out (t_convert e x) = refl
+counts_lane k out (t_cast x t sp) = refl
+counts_lane k out (t_unary o x t sp) = refl
+counts_lane k out (t_binary o x y t sp) = refl
+counts_lane k out (t_compare c x y r sp) = refl
+counts_lane k out (t_logic g x y r sp) = refl
+counts_lane k out (t_choose c x y t sp) = refl
+counts_lane k out (t_call c t) = refl
+counts_lane k out (t_library f e xs t sp) = refl
+counts_lane k out (t_packed_store b x sp) = refl
+counts_lane k out (t_packed_load b v sp) = refl
+
+module _ (l m : Layout) (alike : Alike l m) where
+  -- ---- values of one rate or type where another is wanted
+
+  pub lifted_same : (r given : Rate) (t : Elem) (x y n : ℕ) → x ≡ y → SameIn l m (lift_asks r given t n) → lifted l r given t x n ≡ lifted m r given t y n
+  lifted_same Uniform given t x y n e f = e
+  lifted_same Varying Uniform t x y n e f = f
+  lifted_same Varying Varying t x y n e f = e
+
+  pub lift_same : (r given : Rate) (t : Elem) (x y k n : ℕ) → x ≡ y → SameIn l m (lift_asks r given t n) → lift_code l r given t x k n ≡ lift_code m r given t y k n
+  lift_same Uniform given t x y k n e f = refl
+  lift_same Varying Uniform t x y k n e f = ap₂ (λ d z. splat d z k ∷ []) f e
+  lift_same Varying Varying t x y k n e f = refl
+
+  pub part_same : (r given : Rate) (d d' x y : ℕ) → d ≡ d' → x ≡ y → part_to l r given d x ≡ part_to m r given d' y
+  part_same Uniform given d d' x y ed e = ed
+  part_same Varying Uniform d d' x y ed e = e
+  part_same Varying Varying d d' x y ed e = ed
+
+  pub lift_to_same : (r given : Rate) (d d' x y k : ℕ) → d ≡ d' → x ≡ y → lift_to l r given d x k ≡ lift_to m r given d' y k
+  lift_to_same Uniform given d d' x y k ed e = refl
+  lift_to_same Varying Uniform d d' x y k ed e = ap₂ (λ c z. splat c z k ∷ []) ed e
+  lift_to_same Varying Varying d d' x y k ed e = refl
+
+  pub convert_same : (o : Option Value) (t : Elem) (r : Rate) (d d' x y k : ℕ) (c c' : List Instr) → d ≡ d' → x ≡ y → c ≡ c' → convert_to l o t r d x k c ≡ convert_to m o t r d' y k c'
+  convert_same None t r d d' x y k c c' ed e ec =
+      joined_same c c' (convert r d x k ∷ []) (convert r d' y k ∷ []) ec (ap₂ (λ a b. convert r a b k ∷ []) ed e)
+  convert_same (Some v) t r d d' x y k c c' ed e ec = ap (λ a. constant a t (converted v.elem t v.bits) ∷ []) ed
+
+  -- ---- where values are found
+
+  pub copied_same : (r : Rate) (v : ℕ) → is_copied l r v ≡ is_copied m r v
+  copied_same Uniform v = refl
+  copied_same Varying v = ap (λ (f : ℕ → Bool). f v) alike.loaded
+
+  copy_same : (r : Rate) (t : Elem) (v n : ℕ) → is_copied m r v ≡ true → SameIn l m (copy_asks r t n) → l.spare r t n ≡ m.spare r t n
+  copy_same Uniform t v n e f = absurd (cc)
+  copy_same Varying t v n e f = f
+
+  variable_same : (t : Ty) (v n : ℕ) → l.variable t.rate v ≡ m.variable t.rate v → SameIn l m (copy_asks t.rate t.elem n) → variable_found l (is_copied l t.rate v) t v n ≡ variable_found m (is_copied m t.rate v) t v n
+  variable_same t v n e f = ap (λ b. variable_found l b t v n) (copied_same t.rate v) ∙ go (is_copied m t.rate v) refl
+    where
+      go : (b : Bool) → is_copied m t.rate v ≡ b → variable_found l b t v n ≡ variable_found m b t v n
+      go true is = copy_same t.rate t.elem v n is f
+      go false is = e
+
+  place_same : (z : TPlace) (n : ℕ) → SameIn l m (target_asks z n) → SameIn l m (value_asks z n) → place_found l z n ≡ place_found m z n
+  place_same (t_variable v t sp) n f g = variable_same t v n f g
+  place_same (t_element b i t sp) n f g = g
+
+  pub found_same : (x : TExpr) (n : ℕ) → SameIn l m (expr_asks x n) → found l x n ≡ found m x n
+  found_same (t_constant v sp) n f = f
+  found_same (t_program_index sp) n f = f
+  found_same (t_place q) n f = place_same q n f.0 f.1
+  found_same (t_convert e x) n f = f.0
+  found_same (t_cast x t sp) n f =
+      lifted_same t.rate (type_of x).rate (type_of x).elem (found l x n) (found m x n) n (found_same x n f.1) f.0
+  found_same (t_unary o x t sp) n f = f.0
+  found_same (t_binary o x y t sp) n f = f.0
+  found_same (t_compare c x y r sp) n f = f.0
+  found_same (t_logic g x y r sp) n f = f.0
+  found_same (t_choose c x y t sp) n f = f.0
+  found_same (t_call c t) n f = f.0
+  found_same (t_library g e xs t sp) n f = f.0
+  found_same (t_packed_store b x sp) n f = f.0
+  found_same (t_packed_load b v sp) n f = f.0
+
+  pub operand_same : (r : Rate) (x : TExpr) (n : ℕ) → SameIn l m (taken r x n (expr_asks x n)) → operand l r x n ≡ operand m r x n
+  operand_same r x n f =
+      lifted_same r (type_of x).rate (type_of x).elem (found l x n) (found m x n) n (found_same x n f.1) f.0
+
+  pub operand_of_same : (r : Rate) (x : TExpr) (k n : ℕ) (c c' : List Instr) → SameIn l m (taken r x n (expr_asks x n)) → c ≡ c' → operand_of l r x k n c ≡ operand_of m r x k n c'
+  operand_of_same r x k n c c' f e =
+      joined_same c c' (lift_code l r (type_of x).rate (type_of x).elem (found l x n) k n) (lift_code m r (type_of x).rate (type_of x).elem (found m x n) k n) e (lift_same r (type_of x).rate (type_of x).elem (found l x n) (found m x n) k n (found_same x n f.1) f.0)
+
+  -- an argument is asked for at a varying rate, whatever rate its parameter has
+  pub argument_found : (r : Rate) (x : TExpr) (n : ℕ) → SameIn l m (taken Varying x n (expr_asks x n)) → operand l r x n ≡ operand m r x n
+  argument_found Uniform x n f = found_same x n f.1
+  argument_found Varying x n f = operand_same Varying x n f
+
+  pub argument_of_same : (r : Rate) (x : TExpr) (k n : ℕ) (c c' : List Instr) → SameIn l m (taken Varying x n (expr_asks x n)) → c ≡ c' → operand_of l r x k n c ≡ operand_of m r x k n c'
+  argument_of_same Uniform x k n c c' f e = ap (λ z. z ++ []) e
+  argument_of_same Varying x k n c c' f e = operand_of_same Varying x k n c c' f e
+
+  -- ---- indices
+
+  whole_same : (b : Bool) (i : TExpr) (n : ℕ) → SameIn l m (whole_asks i n (expr_asks i n)) → whole l b i n ≡ whole m b i n
+  whole_same true i n f = found_same i n f.1
+  whole_same false i n f = f.0
+
+  whole_of_same : (b : Bool) (i : TExpr) (k n : ℕ) (c c' : List Instr) → SameIn l m (whole_asks i n (expr_asks i n)) → c ≡ c' → whole_of l b i k n c ≡ whole_of m b i k n c'
+  whole_of_same true i k n c c' f e = e
+  whole_of_same false i k n c c' f e =
+      convert_same (constant_of i) I64 (type_of i).rate (l.spare (type_of i).rate I64 n) (m.spare (type_of i).rate I64 n) (found l i n) (found m i n) k c c' f.0 (found_same i n f.1) e
+
+  pub index_same : (r : Rate) (i : TExpr) (n : ℕ) → SameIn l m (index_asks r i n (expr_asks i n)) → index l r i n ≡ index m r i n
+  index_same r i n f =
+      let b = is_whole (type_of i).elem in
+      lifted_same r (type_of i).rate I64 (whole l b i n) (whole m b i n) n (whole_same b i n f.1) f.0
+
+  pub index_of_same : (r : Rate) (i : TExpr) (k n : ℕ) (c c' : List Instr) → SameIn l m (index_asks r i n (expr_asks i n)) → c ≡ c' → index_of l r i k n c ≡ index_of m r i k n c'
+  index_of_same r i k n c c' f e =
+      let b = is_whole (type_of i).elem in
+      joined_same (whole_of l b i k n c) (whole_of m b i k n c') (lift_code l r (type_of i).rate I64 (whole l b i n) k n) (lift_code m r (type_of i).rate I64 (whole m b i n) k n) (whole_of_same b i k n c c' f.1 e) (lift_same r (type_of i).rate I64 (whole l b i n) (whole m b i n) k n (whole_same b i n f.1) f.0)
+
+  pub run_same : (g : Rate) (i : TExpr) → is_run l g i ≡ is_run m g i
+  run_same Uniform i = counts_lane l alike.first i ∙ sym (counts_lane m alike.second i)
+  run_same Varying i = refl
+
+  start_same : (i : TExpr) (n : ℕ) → is_lane i ≡ true → SameIn l m (start_asks i n) → l.spare Uniform I64 n ≡ m.spare Uniform I64 n
+  start_same (t_constant v sp) n e f = absurd (cc)
+  start_same (t_program_index sp) n e f = f
+  start_same (t_place q) n e f = absurd (cc)
+  start_same (t_convert t x) n e f = absurd (cc)
+  start_same (t_cast x t sp) n e f = absurd (cc)
+  start_same (t_unary o x t sp) n e f = absurd (cc)
+  start_same (t_binary o x y t sp) n e f = absurd (cc)
+  start_same (t_compare c x y r sp) n e f = absurd (cc)
+  start_same (t_logic g x y r sp) n e f = absurd (cc)
+  start_same (t_choose c x y t sp) n e f = absurd (cc)
+  start_same (t_call c t) n e f = absurd (cc)
+  start_same (t_library g t xs u sp) n e f = absurd (cc)
+  start_same (t_packed_store b x sp) n e f = absurd (cc)
+  start_same (t_packed_load b v sp) n e f = absurd (cc)
+
+  pub by_same : (g r : Rate) (i : TExpr) (n : ℕ) → SameIn l m (element_asks g r i n (expr_asks i n)) → index_by l (is_run l g i) r i n ≡ index_by m (is_run m g i) r i n
+  by_same Varying r i n f = index_same r i n f.1
+  by_same Uniform r i n f =
+      ap (λ b. index_by l b r i n) (counts_lane l alike.first i) ∙ go (is_lane i) refl ∙ sym (ap (λ b. index_by m b r i n) (counts_lane m alike.second i))
+    where
+      go : (b : Bool) → is_lane i ≡ b → index_by l b r i n ≡ index_by m b r i n
+      go true is = ap (λ b. start_in l b n) is ∙ start_same i n is f.0 ∙ sym (ap (λ b. start_in m b n) is)
+      go false is = index_same r i n f.1
+
+  pub by_of_same : (g r : Rate) (i : TExpr) (k n : ℕ) (c c' : List Instr) → SameIn l m (element_asks g r i n (expr_asks i n)) → c ≡ c' → index_by_of l (is_run l g i) r i k n c ≡ index_by_of m (is_run m g i) r i k n c'
+  by_of_same Varying r i k n c c' f e = index_of_same r i k n c c' f.1 e
+  by_of_same Uniform r i k n c c' f e =
+      ap (λ b. index_by_of l b r i k n c) (counts_lane l alike.first i) ∙ go (is_lane i) refl ∙ sym (ap (λ b. index_by_of m b r i k n c') (counts_lane m alike.second i))
+    where
+      go : (b : Bool) → is_lane i ≡ b → index_by_of l b r i k n c ≡ index_by_of m b r i k n c'
+      go true is =
+          ap (λ b. start_code l b n) is ∙ ap (λ d. constant d I64 0 ∷ []) (start_same i n is f.0) ∙ sym (ap (λ b. start_code m b n) is)
+      go false is = index_of_same r i k n c c' f.1 e
+
+  -- ---- what is read
+
+  variable_read_same : (d d' : ℕ) (r : Rate) (v k : ℕ) → d ≡ d' → l.variable r v ≡ m.variable r v → variable_read l (is_copied l r v) d r v k ≡ variable_read m (is_copied m r v) d' r v k
+  variable_read_same d d' r v k e f = ap (λ b. variable_read l b d r v k) (copied_same r v) ∙ go (is_copied m r v)
+    where
+      go : (b : Bool) → variable_read l b d r v k ≡ variable_read m b d' r v k
+      go true = ap₂ (λ x y. copy r x y k ∷ []) e f
+      go false = refl
+
+  pub read_same : (d d' : ℕ) (z : TPlace) (p k n : ℕ) → d ≡ d' → SameIn l m (target_asks z n) → read_code l d z p k n ≡ read_code m d' z p k n
+  read_same d d' (t_variable v t sp) p k n e f = variable_read_same d d' t.rate v k e f
+  read_same d d' (t_element b i t sp) p k n e f =
+      ap₂ (λ y x. read_by y t.rate x (l.array b.number) (index_by l (is_run l b.ty.rate i) t.rate i n) k p ∷ []) (run_same b.ty.rate i) e
+      ∙ ap₂ (λ a x. read_by (is_run m b.ty.rate i) t.rate d' a x k p ∷ []) f.0 (by_same b.ty.rate t.rate i n f.1)
+
+  -- ---- what stays in place
+
+  pub stays_same : (x : TExpr) → stays l x ≡ stays m x
+  stays_same (t_constant v sp) = refl
+  stays_same (t_program_index sp) = refl
+  stays_same (t_place (t_variable v t sp)) = ap not (copied_same t.rate v)
+  stays_same (t_place (t_element b i t sp)) = refl
+  stays_same (t_convert e x) = refl
+  stays_same (t_cast x t sp) = ap (λ b. same_rate t.rate (type_of x).rate && b) (stays_same x)
+  stays_same (t_unary o x t sp) = refl
+  stays_same (t_binary o x y t sp) = refl
+  stays_same (t_compare c x y r sp) = refl
+  stays_same (t_logic g x y r sp) = refl
+  stays_same (t_choose c x y t sp) = refl
+  stays_same (t_call c t) = refl
+  stays_same (t_library g e xs t sp) = refl
+  stays_same (t_packed_store b x sp) = refl
+  stays_same (t_packed_load b v sp) = refl
+
+  pub short_same : (r : Rate) (c x y : TExpr) → is_short l r c x y ≡ is_short m r c x y
+  short_same r c x y =
+      ap₂ (λ a b. same_rate r (type_of c).rate && ((same_rate r (type_of x).rate && a) && (same_rate r (type_of y).rate && b))) (stays_same x) (stays_same y)
+
+  both_true : (a b : Bool) → (a && b) ≡ true → (a ≡ true) × (b ≡ true)
+  both_true true b e = (refl, e)
+  both_true false b e = absurd (cc)
+
+  lifted_stays : (r given : Rate) (t : Elem) (x y n : ℕ) → same_rate r given ≡ true → x ≡ y → lifted l r given t x n ≡ lifted m r given t y n
+  lifted_stays Uniform given t x y n e is = is
+  lifted_stays Varying Uniform t x y n e is = absurd (cc)
+  lifted_stays Varying Varying t x y n e is = is
+
+  -- it is found where it is, whatever slot was reserved
+  stayed_same : (x : TExpr) (i n : ℕ) → stays m x ≡ true → SameIn l m (expr_asks x i) → found l x n ≡ found m x n
+  stayed_same (t_constant v sp) i n e f = absurd (cc)
+  stayed_same (t_program_index sp) i n e f = absurd (cc)
+  stayed_same (t_place (t_variable v t sp)) i n e f =
+      ap (λ b. variable_found l b t v n) (copied_same t.rate v) ∙ go (is_copied m t.rate v) e
+    where
+      go : (b : Bool) → not b ≡ true → variable_found l b t v n ≡ variable_found m b t v n
+      go true h = absurd (cc)
+      go false h = f.0
+  stayed_same (t_place (t_element b j t sp)) i n e f = absurd (cc)
+  stayed_same (t_convert u x) i n e f = absurd (cc)
+  stayed_same (t_cast x t sp) i n e f =
+      let both = both_true (same_rate t.rate (type_of x).rate) (stays m x) e in
+      lifted_stays t.rate (type_of x).rate (type_of x).elem (found l x n) (found m x n) n both.0 (stayed_same x i n both.1 f.1)
+  stayed_same (t_unary o x t sp) i n e f = absurd (cc)
+  stayed_same (t_binary o x y t sp) i n e f = absurd (cc)
+  stayed_same (t_compare c x y r sp) i n e f = absurd (cc)
+  stayed_same (t_logic g x y r sp) i n e f = absurd (cc)
+  stayed_same (t_choose c x y t sp) i n e f = absurd (cc)
+  stayed_same (t_call c t) i n e f = absurd (cc)
+  stayed_same (t_library g u xs t sp) i n e f = absurd (cc)
+  stayed_same (t_packed_store b x sp) i n e f = absurd (cc)
+  stayed_same (t_packed_load b v sp) i n e f = absurd (cc)
+
+  -- both sides of a short choice
+  pub sides_found : (r : Rate) (c x y : TExpr) (i j n : ℕ) → is_short m r c x y ≡ true → SameIn l m (expr_asks x i) → SameIn l m (expr_asks y j) → (found l x n ≡ found m x n) × (found l y n ≡ found m y n)
+  sides_found r c x y i j n e f g =
+      let both = (both_true (same_rate r (type_of c).rate) (stays_at m r x && stays_at m r y) e).1 in
+      let sides = both_true (stays_at m r x) (stays_at m r y) both in
+      (stayed_same x i n (both_true (same_rate r (type_of x).rate) (stays m x) sides.0).1 f, stayed_same y j n (both_true (same_rate r (type_of y).rate) (stays m y) sides.1).1 g)

@@ -1,0 +1,116 @@
+-- Where rows are added, code lies as it did.
+use Rattle.std.proofs.Common.{◌≡◌, ℕ, List, [], ◌∷◌, ◌++◌, length, Bool, refl, sym, ap, ◌∙◌, append_assoc, append-nil}
+use Rattle.std.specs.Prelude.{is_some}
+use Rattle.isp_base.specs.declared.types.Elem.{Elem}
+use Rattle.isp_base.specs.declared.types.Rate.{Rate}
+use Rattle.isp_base.specs.declared.types.Rate.TheVariants.{Uniform, Varying}
+use Rattle.isp_lower.specs.Asks.{Ask, Nothing, Both, Register, ArrayOf, LocalOf, MaskOf, Number, Loads, expr_asks, simple_asks}
+use Rattle.isp_lower.specs.Emitted.{Begins, HasRow, rows_of}
+use Rattle.isp_lower.specs.Layout.{Layout}
+use Rattle.isp_lower.specs.Reserved.{Has}
+use Rattle.isp_lower.specs.Rows.{Name, Variable, Fresh, Row, Rows, elem_in, number_in, rows_at, layout_of, with_fresh, with_fresh_at}
+use Rattle.isp_lower.specs.declared.registers.Registers.{Registers}
+use Rattle.isp_lower.specs.declared.reserve.Reserve.{Reserve}
+use Rattle.isp_emitted.specs.Staying.{KeepsPlaces, PlacesStay, CodeStays}
+use Rattle.isp_emitted.proofs.Rows.{numbered_in, same_number}
+use Rattle.isp_emitted.proofs.Same.{Alike, SameIn, found_same}
+use Rattle.isp_emitted.proofs.SameCode.{code_same}
+use Rattle.isp_emitted.proofs.SameSimple.{simple_same}
+
+-- ---- rows that are added
+
+begins_same : (xs ys : List Row) → ys ≡ xs → Begins xs ys
+begins_same xs ys e = record { more = []; is = e ∙ sym (append-nil xs) }
+
+begins_on : (xs ys zs : List Row) → Begins xs ys → Begins ys zs → Begins xs zs
+begins_on xs ys zs a b =
+    record { more = a.more ++ b.more; is = b.is ∙ ap (λ w. w ++ b.more) a.is ∙ append_assoc xs a.more b.more }
+
+begins_fresh : (t : Elem) (xs ys : List Row) → ys ≡ with_fresh t xs → Begins xs ys
+begins_fresh t xs ys e = record { more = record { name = Fresh (length xs); elem = t } ∷ []; is = e }
+
+same_places : (old new : Registers) → rows_of new ≡ rows_of old → KeepsPlaces old new
+same_places old new e =
+    record {
+      grows = record {
+        scalars = begins_same (rows_of old).scalars (rows_of new).scalars (ap (λ (r : Rows). r.scalars) e);
+        vectors = begins_same (rows_of old).vectors (rows_of new).vectors (ap (λ (r : Rows). r.vectors) e);
+        arrays = begins_same (rows_of old).arrays (rows_of new).arrays (ap (λ (r : Rows). r.arrays) e);
+        loaded = begins_same (rows_of old).loaded (rows_of new).loaded (ap (λ (r : Rows). r.loaded) e);
+      };
+      loaded = ap (λ (r : Rows). r.loaded) e;
+    }
+
+fresh_places : (old new : Registers) (r : Rate) (t : Elem) → rows_of new ≡ with_fresh_at r t (rows_of old) → KeepsPlaces old new
+fresh_places old new Uniform t e =
+    record {
+      grows = record {
+        scalars = begins_fresh t (rows_of old).scalars (rows_of new).scalars (ap (λ (r : Rows). r.scalars) e);
+        vectors = begins_same (rows_of old).vectors (rows_of new).vectors (ap (λ (r : Rows). r.vectors) e);
+        arrays = begins_same (rows_of old).arrays (rows_of new).arrays (ap (λ (r : Rows). r.arrays) e);
+        loaded = begins_same (rows_of old).loaded (rows_of new).loaded (ap (λ (r : Rows). r.loaded) e);
+      };
+      loaded = ap (λ (r : Rows). r.loaded) e;
+    }
+fresh_places old new Varying t e =
+    record {
+      grows = record {
+        scalars = begins_same (rows_of old).scalars (rows_of new).scalars (ap (λ (r : Rows). r.scalars) e);
+        vectors = begins_fresh t (rows_of old).vectors (rows_of new).vectors (ap (λ (r : Rows). r.vectors) e);
+        arrays = begins_same (rows_of old).arrays (rows_of new).arrays (ap (λ (r : Rows). r.arrays) e);
+        loaded = begins_same (rows_of old).loaded (rows_of new).loaded (ap (λ (r : Rows). r.loaded) e);
+      };
+      loaded = ap (λ (r : Rows). r.loaded) e;
+    }
+
+on_places : (old mid new : Registers) → KeepsPlaces old mid → KeepsPlaces mid new → KeepsPlaces old new
+on_places old mid new a b =
+    record {
+      grows = record {
+        scalars = begins_on (rows_of old).scalars (rows_of mid).scalars (rows_of new).scalars a.grows.scalars b.grows.scalars;
+        vectors = begins_on (rows_of old).vectors (rows_of mid).vectors (rows_of new).vectors a.grows.vectors b.grows.vectors;
+        arrays = begins_on (rows_of old).arrays (rows_of mid).arrays (rows_of new).arrays a.grows.arrays b.grows.arrays;
+        loaded = begins_on (rows_of old).loaded (rows_of mid).loaded (rows_of new).loaded a.grows.loaded b.grows.loaded;
+      };
+      loaded = b.loaded ∙ a.loaded;
+    }
+
+pub places_stay : PlacesStay
+places_stay = record { same = same_places; fresh = fresh_places; on = on_places }
+
+-- ---- so names lie where they did
+
+module _ (rates : ℕ → List Rate) (old new : Reserve) (keeps : KeepsPlaces old.registers new.registers) where
+  abbrev then : Layout
+  then = layout_of rates (rows_of old.registers)
+
+  abbrev now : Layout
+  now = layout_of rates (rows_of new.registers)
+
+  alike : Alike now then
+  alike =
+      let loaded : (List Row → ℕ → Bool) = λ rows v. is_some (elem_in rows (Variable v)) in
+      record { rates = refl; loaded = ap loaded keeps.loaded; first = refl; second = refl }
+
+  row_number : (q : Rate) (x : Name) (t : Elem) → HasRow old.registers q x t → number_in (rows_at (rows_of new.registers) q) x ≡ number_in (rows_at (rows_of old.registers) q) x
+  row_number Uniform x t f = same_number (rows_of old.registers).scalars (rows_of new.registers).scalars x t keeps.grows.scalars f
+  row_number Varying x t f = same_number (rows_of old.registers).vectors (rows_of new.registers).vectors x t keeps.grows.vectors f
+
+  same_in : (a : Ask) → Has old a → SameIn now then a
+  same_in Nothing f = tt
+  same_in (Both x y) f = (same_in x f.0, same_in y f.1)
+  same_in (Register q x t) f =
+      sym (numbered_in rates (rows_of new.registers) q x) ∙ row_number q x t f ∙ numbered_in rates (rows_of old.registers) q x
+  same_in (ArrayOf b) f = same_number (rows_of old.registers).arrays (rows_of new.registers).arrays (Variable b.number) b.ty.elem keeps.grows.arrays f
+  same_in (LocalOf b) f = same_number (rows_of old.registers).arrays (rows_of new.registers).arrays (Variable b.number) b.ty.elem keeps.grows.arrays f
+  same_in (MaskOf k) f = tt
+  same_in (Number k) f = tt
+  same_in (Loads v) f = tt
+
+pub code_stays : CodeStays
+code_stays =
+    record {
+      exprs = λ rates old new x pc p k n keeps has. code_same (now rates old new keeps) (then rates old new keeps) (alike rates old new keeps) x pc p p k n refl (same_in rates old new keeps (expr_asks x n) has);
+      simples = λ rates old new x pc p k n keeps has. simple_same (now rates old new keeps) (then rates old new keeps) (alike rates old new keeps) x pc p k n (same_in rates old new keeps (simple_asks x n) has);
+      values = λ rates old new x n keeps has. found_same (now rates old new keeps) (then rates old new keeps) (alike rates old new keeps) x n (same_in rates old new keeps (expr_asks x n) has);
+    }

@@ -1,0 +1,5 @@
+use Rattle.isp_emitted.proofs.Staying.{code_stays}
+use Rattle.isp_emitted.proofs.laws.code_stays.Goals as goal
+
+pub returns : goal.returns
+returns c = code_stays
