@@ -22,11 +22,11 @@ pub(crate) const TYPES: [Elem; 9] = [
 pub(crate) const NUMBERS: [i64; 10] = [0, 1, -1, 3, -6, 16, 31, -32, 2_147_483_647, -2_147_483_648];
 
 // How many samples a type has, and how many masks are tried.
-pub(crate) const SAMPLES: usize = 4;
+pub(crate) const SAMPLES: usize = 8;
 
 pub(crate) const MASKS: usize = 7;
 
-// The bits of 0, 1 and the ends of a type, in turn.
+// The bits of 0, 1, the ends of a type and their neighbours, in turn.
 pub(crate) fn sample(elem: Elem, number: usize) -> u64
     ensures { result < 2 ^ width elem }
 {
@@ -35,7 +35,11 @@ pub(crate) fn sample(elem: Elem, number: usize) -> u64
         0 => 0,
         1 => 1,
         2 => greatest,
-        _ => greatest.wrapping_add(1),
+        3 => greatest.wrapping_add(1),
+        4 => 2,
+        5 => u64::MAX,
+        6 => greatest.wrapping_sub(1),
+        _ => greatest.wrapping_add(2),
     };
     low_bits(elem, bits)
 }
