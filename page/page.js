@@ -258,6 +258,7 @@ function showPicture(text) {
     const chosen = names.includes($("array").value) ? $("array").value : names[0];
     $("array").replaceChildren(...names.map((it) => new Option(it, it, false, it === chosen)));
     $("width").value ||= widthOf(arrays[chosen].length);
+    $("times").value ||= Math.max(1, Math.floor(255 / arrays[chosen].reduce((most, it) => Math.max(most, it), 1)));
     $("array").onchange = $("width").oninput = $("times").oninput = () => draw(arrays[$("array").value]);
     $("picture").hidden = false;
     draw(arrays[chosen]);
@@ -313,7 +314,7 @@ function fill({ source, entry, given, gang }) {
     $("entry").value = entry;
     $("arguments").value = given;
     $("gang").value = gang || $("gang").value;
-    $("width").value = "";
+    $("width").value = $("times").value = "";
     edited();
     choose("run");
     run();
