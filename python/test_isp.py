@@ -141,6 +141,30 @@ class Calls(unittest.TestCase):
         self.assertEqual(isp.compile("export uniform uint64 f() { return 18446744073709551615; }").f(), 2**64 - 1)
         self.assertIsNone(isp.compile("export void f() { }").f())
 
+    def test_ends(self):
+        """The ends of every type, as values, elements and results; also as native code."""
+        types = {"b": "bool", "i8": "int8", "u8": "uint8", "i16": "int16", "u16": "uint16", "i32": "int", "u32": "uint", "i64": "int64", "u64": "uint64"}
+        source = " ".join(f"export uniform {name} {code}(uniform {name} a[], uniform {name} x) {{ a[1] = x; return a[0]; }}" for code, name in types.items())
+        for native in (False, bool(shutil.which("cc"))):
+            kernel = isp.compile(source, native=native)
+            for code in types:
+                bits = 1 if code == "b" else int(code[1:])
+                low, high = (-(1 << bits - 1), (1 << bits - 1) - 1) if code[0] == "i" else (0, (1 << bits) - 1)
+                for first, second in ((low, high), (high, low)):
+                    with self.subTest(type=code, first=first, native=native):
+                        values = array.array(ARRAYS[code], [first, 0])
+                        self.assertEqual(kernel[code](a=values, x=second), first)
+                        self.assertEqual(list(values), [first, second])
+
+    def test_longest(self):
+        kernel = isp.compile("export void f(uniform uint8 a[]) { a[16777215] = 5; }")
+        values = bytearray(1 << 24)
+        kernel.f(a=values)
+        self.assertEqual(values[-1], 5)
+        with self.assertRaises(isp.ArgumentsError) as found:
+            kernel.f(a=bytearray((1 << 24) + 1))
+        self.assertEqual((found.exception.number, found.exception.parameter), (76, 0))
+
     def test_much_output(self):
         kernel = isp.compile('export void f(uniform int n) { for (uniform int i = 0; i < n; i++) print("%\\n", i); }')
         kernel.f(n=5000)
