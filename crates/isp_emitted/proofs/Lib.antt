@@ -8,3 +8,4 @@ mod Staying
 mod Parts
 mod Written
 mod Finished
+mod Loaded

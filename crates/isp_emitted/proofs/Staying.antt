@@ -5,13 +5,13 @@ use Rattle.isp_base.specs.declared.types.Elem.{Elem}
 use Rattle.isp_base.specs.declared.types.Rate.{Rate}
 use Rattle.isp_base.specs.declared.types.Rate.TheVariants.{Uniform, Varying}
 use Rattle.isp_lower.specs.Asks.{Ask, Nothing, Both, Register, ArrayOf, LocalOf, MaskOf, Number, Loads, expr_asks, simple_asks}
-use Rattle.isp_lower.specs.Emitted.{Begins, HasRow, rows_of}
+use Rattle.isp_lower.specs.Emitted.{Begins, Grows, HasRow, rows_of}
 use Rattle.isp_lower.specs.Layout.{Layout}
 use Rattle.isp_lower.specs.Reserved.{Has}
 use Rattle.isp_lower.specs.Rows.{Name, Variable, Fresh, Row, Rows, elem_in, number_in, rows_at, layout_of, with_fresh, with_fresh_at}
 use Rattle.isp_lower.specs.declared.registers.Registers.{Registers}
 use Rattle.isp_lower.specs.declared.reserve.Reserve.{Reserve}
-use Rattle.isp_emitted.specs.Staying.{KeepsPlaces, PlacesStay, CodeStays}
+use Rattle.isp_emitted.specs.Staying.{KeepsPlaces, RegistersGrow, CodeStays}
 use Rattle.isp_emitted.proofs.Rows.{numbered_in, same_number}
 use Rattle.isp_emitted.proofs.Same.{Alike, SameIn, found_same}
 use Rattle.isp_emitted.proofs.SameCode.{code_same}
@@ -29,54 +29,53 @@ begins_on xs ys zs a b =
 begins_fresh : (t : Elem) (xs ys : List Row) → ys ≡ with_fresh t xs → Begins xs ys
 begins_fresh t xs ys e = record { more = record { name = Fresh (length xs); elem = t } ∷ []; is = e }
 
-same_places : (old new : Registers) → rows_of new ≡ rows_of old → KeepsPlaces old new
-same_places old new e =
+same_grows : (old new : Registers) → rows_of new ≡ rows_of old → Grows old new
+same_grows old new e =
     record {
-      grows = record {
-        scalars = begins_same (rows_of old).scalars (rows_of new).scalars (ap (λ (r : Rows). r.scalars) e);
-        vectors = begins_same (rows_of old).vectors (rows_of new).vectors (ap (λ (r : Rows). r.vectors) e);
-        arrays = begins_same (rows_of old).arrays (rows_of new).arrays (ap (λ (r : Rows). r.arrays) e);
-        loaded = begins_same (rows_of old).loaded (rows_of new).loaded (ap (λ (r : Rows). r.loaded) e);
-      };
-      loaded = ap (λ (r : Rows). r.loaded) e;
+      scalars = begins_same (rows_of old).scalars (rows_of new).scalars (ap (λ (r : Rows). r.scalars) e);
+      vectors = begins_same (rows_of old).vectors (rows_of new).vectors (ap (λ (r : Rows). r.vectors) e);
+      arrays = begins_same (rows_of old).arrays (rows_of new).arrays (ap (λ (r : Rows). r.arrays) e);
+      loaded = begins_same (rows_of old).loaded (rows_of new).loaded (ap (λ (r : Rows). r.loaded) e);
     }
 
-fresh_places : (old new : Registers) (r : Rate) (t : Elem) → rows_of new ≡ with_fresh_at r t (rows_of old) → KeepsPlaces old new
-fresh_places old new Uniform t e =
+fresh_grows : (old new : Registers) (r : Rate) (t : Elem) → rows_of new ≡ with_fresh_at r t (rows_of old) → Grows old new
+fresh_grows old new Uniform t e =
     record {
-      grows = record {
-        scalars = begins_fresh t (rows_of old).scalars (rows_of new).scalars (ap (λ (r : Rows). r.scalars) e);
-        vectors = begins_same (rows_of old).vectors (rows_of new).vectors (ap (λ (r : Rows). r.vectors) e);
-        arrays = begins_same (rows_of old).arrays (rows_of new).arrays (ap (λ (r : Rows). r.arrays) e);
-        loaded = begins_same (rows_of old).loaded (rows_of new).loaded (ap (λ (r : Rows). r.loaded) e);
-      };
-      loaded = ap (λ (r : Rows). r.loaded) e;
+      scalars = begins_fresh t (rows_of old).scalars (rows_of new).scalars (ap (λ (r : Rows). r.scalars) e);
+      vectors = begins_same (rows_of old).vectors (rows_of new).vectors (ap (λ (r : Rows). r.vectors) e);
+      arrays = begins_same (rows_of old).arrays (rows_of new).arrays (ap (λ (r : Rows). r.arrays) e);
+      loaded = begins_same (rows_of old).loaded (rows_of new).loaded (ap (λ (r : Rows). r.loaded) e);
     }
-fresh_places old new Varying t e =
+fresh_grows old new Varying t e =
     record {
-      grows = record {
-        scalars = begins_same (rows_of old).scalars (rows_of new).scalars (ap (λ (r : Rows). r.scalars) e);
-        vectors = begins_fresh t (rows_of old).vectors (rows_of new).vectors (ap (λ (r : Rows). r.vectors) e);
-        arrays = begins_same (rows_of old).arrays (rows_of new).arrays (ap (λ (r : Rows). r.arrays) e);
-        loaded = begins_same (rows_of old).loaded (rows_of new).loaded (ap (λ (r : Rows). r.loaded) e);
-      };
-      loaded = ap (λ (r : Rows). r.loaded) e;
+      scalars = begins_same (rows_of old).scalars (rows_of new).scalars (ap (λ (r : Rows). r.scalars) e);
+      vectors = begins_fresh t (rows_of old).vectors (rows_of new).vectors (ap (λ (r : Rows). r.vectors) e);
+      arrays = begins_same (rows_of old).arrays (rows_of new).arrays (ap (λ (r : Rows). r.arrays) e);
+      loaded = begins_same (rows_of old).loaded (rows_of new).loaded (ap (λ (r : Rows). r.loaded) e);
     }
 
-on_places : (old mid new : Registers) → KeepsPlaces old mid → KeepsPlaces mid new → KeepsPlaces old new
-on_places old mid new a b =
+on_grows : (old mid new : Registers) → Grows old mid → Grows mid new → Grows old new
+on_grows old mid new a b =
     record {
-      grows = record {
-        scalars = begins_on (rows_of old).scalars (rows_of mid).scalars (rows_of new).scalars a.grows.scalars b.grows.scalars;
-        vectors = begins_on (rows_of old).vectors (rows_of mid).vectors (rows_of new).vectors a.grows.vectors b.grows.vectors;
-        arrays = begins_on (rows_of old).arrays (rows_of mid).arrays (rows_of new).arrays a.grows.arrays b.grows.arrays;
-        loaded = begins_on (rows_of old).loaded (rows_of mid).loaded (rows_of new).loaded a.grows.loaded b.grows.loaded;
-      };
-      loaded = b.loaded ∙ a.loaded;
+      scalars = begins_on (rows_of old).scalars (rows_of mid).scalars (rows_of new).scalars a.scalars b.scalars;
+      vectors = begins_on (rows_of old).vectors (rows_of mid).vectors (rows_of new).vectors a.vectors b.vectors;
+      arrays = begins_on (rows_of old).arrays (rows_of mid).arrays (rows_of new).arrays a.arrays b.arrays;
+      loaded = begins_on (rows_of old).loaded (rows_of mid).loaded (rows_of new).loaded a.loaded b.loaded;
     }
 
-pub places_stay : PlacesStay
-places_stay = record { same = same_places; fresh = fresh_places; on = on_places }
+pub registers_grow : RegistersGrow
+registers_grow = record { same = same_grows; fresh = fresh_grows; on = on_grows }
+
+-- with the variables that were loaded before
+abbrev pub loaded_before : Registers → Registers → Registers
+loaded_before old new = record new { loaded = old.loaded }
+
+pub keeps_places : (old new : Registers) → Grows old new → KeepsPlaces old (loaded_before old new)
+keeps_places old new g =
+    record {
+      grows = record { scalars = g.scalars; vectors = g.vectors; arrays = g.arrays; loaded = begins_same (rows_of old).loaded (rows_of old).loaded refl };
+      loaded = refl;
+    }
 
 -- ---- so names lie where they did
 

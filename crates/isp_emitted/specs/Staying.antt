@@ -17,17 +17,16 @@ abbrev pub ReservedStays : Type 0
 ReservedStays =
     (old new : Reserve) (a : Ask) → Grows old.registers new.registers → old.masks ≤ new.masks → Has old a → Has new a
 
--- Registers are added, and no packed load that comes in writes another variable: one that is written so is copied where it is read, and code
--- that was written before reads it in place.
+-- registers are added where no row changes, where a fresh register is, and by two steps that add some
+pub record RegistersGrow : Type 0 where
+  pub same : (old new : Registers) → rows_of new ≡ rows_of old → Grows old new
+  pub fresh : (old new : Registers) (r : Rate) (t : Elem) → rows_of new ≡ with_fresh_at r t (rows_of old) → Grows old new
+  pub on : (old mid new : Registers) → Grows old mid → Grows mid new → Grows old new
+
+-- Registers are added, and the same variables are copied where they are read: those that packed loads write.
 pub record KeepsPlaces (old new : Registers) : Type 0 where
   pub grows : Grows old new
   pub loaded : (rows_of new).loaded ≡ (rows_of old).loaded
-
--- it is so where no row changes, where a fresh register is added, and of two steps
-pub record PlacesStay : Type 0 where
-  pub same : (old new : Registers) → rows_of new ≡ rows_of old → KeepsPlaces old new
-  pub fresh : (old new : Registers) (r : Rate) (t : Elem) → rows_of new ≡ with_fresh_at r t (rows_of old) → KeepsPlaces old new
-  pub on : (old mid new : Registers) → KeepsPlaces old mid → KeepsPlaces mid new → KeepsPlaces old new
 
 -- the code is the same where registers lie as they did when it was written and where they lie now; so is the register of a value
 pub record CodeStays : Type 0 where

@@ -12,6 +12,7 @@ use Rattle.isp_lower.specs.Adding.{Adds, expr_in, layout_in, simple_in}
 use Rattle.isp_lower.specs.Asks.{Ask, expr_asks, simple_asks}
 use Rattle.isp_lower.specs.Code.{found}
 use Rattle.isp_lower.specs.Drafts.{draft_of}
+use Rattle.isp_lower.specs.Emitted.{Grows}
 use Rattle.isp_lower.specs.Rated.{IsRated, SimpleRated}
 use Rattle.isp_lower.specs.Reserved.{Has}
 use Rattle.isp_lower.specs.Runs.{DoneRuns, Enters, Runs}
@@ -22,14 +23,13 @@ use Rattle.isp_lower.specs.declared.sites.Site.{Site}
 use Rattle.isp_lower.specs.declared.types.Emitter.{Emitter}
 use Rattle.isp_emitted.specs.OfRows.{IsOfRows}
 use Rattle.isp_emitted.specs.Parts.{SamePart}
-use Rattle.isp_emitted.specs.Staying.{KeepsPlaces}
 
 -- A call of `expr` or `store` added a piece and took an emitter from old to new, which has what the code asks for. Later calls took it to last, whose
 -- registers the routine has, and the instructions and places that were added stand where they stood.
 pub record HasWritten (w : Setting) (old new last : Emitter) (piece : Piece) (asks : Ask) : Type 0 where
   pub adds : Adds old new piece
   pub has : Has new.reserved asks
-  pub keeps : KeepsPlaces new.reserved.registers last.reserved.registers
+  pub grows : Grows new.reserved.registers last.reserved.registers
   pub rows : IsOfRows w (draft_of last).rows
   pub callees : (draft_of new).callees ≡ w.program.functions
   pub code : SamePart (length (draft_of old).code) (length (draft_of new).code) (draft_of new).code w.routine.code

@@ -4,10 +4,12 @@ ghost use Rattle.isp_code.specs.declared.instr.Instr.{Instr};
 ghost use Rattle.isp_emitted.specs.Finished.{FinishedHas};
 ghost use Rattle.isp_emitted.specs.Fitting.{WrittenFits};
 ghost use Rattle.isp_emitted.specs.Parts.{PartsStay, PatchedStays};
-ghost use Rattle.isp_emitted.specs.Staying.{CodeStays, PlacesStay, ReservedStays};
+ghost use Rattle.isp_emitted.specs.Staying.{CodeStays, RegistersGrow, ReservedStays};
 ghost use Rattle.isp_emitted.specs.Written.{WrittenGoesOn, WrittenRuns};
 
-use isp_lower::{assignments_go_on, assignments_run, expressions_go_on, expressions_run};
+use isp_lower::{
+    assignments_go_on, assignments_run, expressions_go_on, expressions_run, layouts_are_apart,
+};
 
 /// A tree that names, types and rates accept is as the laws of expressions and assignments ask, in a call whose routine has
 /// the registers that an emitter reserved for it.
@@ -20,13 +22,13 @@ pub fn reserved_stays()
     ensures { ReservedStays }
 {}
 
-/// Registers lie where they did where none is added, where a fresh one is, and after two steps that leave them there.
-pub fn places_stay()
-    ensures { PlacesStay }
+/// Registers are added where none changes, where a fresh one is, and by two steps that add some.
+pub fn registers_grow()
+    ensures { RegistersGrow }
 {}
 
 /// The code of an expression or an assignment, and the register of a value, is the same by the registers that there were
-/// when it was written and by those that there are later.
+/// when it was written and by those that there are later, if the same variables are copied where they are read.
 pub fn code_stays()
     ensures { CodeStays }
 {}
@@ -50,6 +52,7 @@ pub fn finished_has()
 pub fn written_runs()
     ensures { WrittenRuns }
 {
+    layouts_are_apart();
     expressions_run();
     assignments_run();
 }
@@ -59,6 +62,7 @@ pub fn written_runs()
 pub fn written_goes_on()
     ensures { WrittenGoesOn }
 {
+    layouts_are_apart();
     expressions_go_on();
     assignments_go_on();
 }

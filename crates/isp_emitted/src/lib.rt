@@ -5,6 +5,6 @@
 mod laws;
 
 pub use laws::{
-    code_stays, finished_has, parts_stay, places_stay, reserved_stays, written_fits,
+    code_stays, finished_has, parts_stay, registers_grow, reserved_stays, written_fits,
     written_goes_on, written_runs,
 };
