@@ -1,70 +1,181 @@
-//! Memory refused to an evaluation, at each place in turn.
+//! Memory refused to the front's last two calls, to the evaluator and to the count of work, at each growth.
 use crate::rows::front;
-use isp_base::{Bound, Gang, Value};
-use isp_bind::bind;
-use isp_model::{EvalFault, Outcome, evaluate};
-use isp_rates::Checked;
-use isp_testing::Hoard;
+use isp_base::{Bound, Gang};
+use isp_bind::{answer, bind};
+use isp_lex::{SourceFault, lex};
+use isp_model::{EvalFault, Outcome, evaluate, work};
+use isp_rates::{Checked, check};
+use isp_syntax::{Tree, parse};
+use isp_testing::{
+    CALLS, COUNTER, Hoard, INC, LOCAL_ARRAY, Program, Tried, UNIQUE, sweep, sweep_call,
+};
+use isp_typed::Typed;
+use isp_types::resolve;
 use std::alloc::Global;
 use std::test::Fail;
 
-/// Its run takes memory for variables, both kinds of local arrays, calls, a `foreach` and what is printed. g(x) is x; b is
-/// 5 + 0, 6 + 1, 7 + 2; even p print b[0], odd p b[1].
-const TEXT: &str =
-    r##"int g(int x) { int t[2]; t[x & 1] = x; return t[x & 1]; } export uniform int f(uniform int a[]) { uniform int b[3]; foreach (i = 0 ... 3) b[i] = a[i] + g(i); print("%\n", b[programIndex & 1]); return b[2]; }"##;
+const TURNS: u64 = 1000;
 
-fn bound(alloc: Global, checked: &Checked) -> Result<Bound, Fail> {
-    match checked.signature("f") {
-        Some(signature) => Ok(bind(alloc, signature, "{\"a\":[5,6,7]}")?),
+/// Programs with their work.
+const WORKS: [(Program<'static>, u64); 2] = [
+    // The body, the foreach, its two bounds; for each of 2 runs: itself, the assignment, index and operand on the left, an
+    // operator, an index and two operands on the right.
+    (INC, 20),
+    // The body, the declaration and its item, index and operand of its value; the foreach_unique and its operand; for each
+    // of 2 turns: itself, the print and its two values.
+    (UNIQUE, 15),
+];
+
+fn bound(alloc: Global, checked: &Checked, program: &Program<'_>) -> Result<Bound, Fail> {
+    match checked.signature(program.entry) {
+        Some(signature) => Ok(bind(alloc, signature, program.arguments)?),
         None => Err(Fail::from("no such function")),
     }
 }
 
-fn is_nine(value: Option<Value>) -> bool {
-    match value {
-        Some(value) => value.bits == 9,
-        None => false,
+// What comes of a run, by its answer and its output.
+fn ended(alloc: Global, checked: &Checked, program: &Program<'_>, outcome: &Outcome) -> Tried {
+    let Some(signature) = checked.signature(program.entry) else {
+        return Tried::Wrong;
+    };
+    let Outcome::Ends {
+        arrays,
+        result: returned,
+        output,
+    } = outcome
+    else {
+        return Tried::Wrong;
+    };
+    match answer(alloc, signature, arrays.as_slice(), *returned) {
+        Ok(text) => Tried::answered(
+            text.as_str() == program.answer && output.as_slice() == program.output.as_bytes(),
+        ),
+        Err(_) => Tried::Wrong,
     }
 }
 
-fn is_right(outcome: &Outcome) -> bool {
-    match outcome {
-        Outcome::Ends {
-            arrays,
-            result,
-            output,
-        } => arrays.len() == 1
-            && is_nine(*result)
-            && output.as_slice() == b"[5,7,5,7]\n".as_slice(),
-        _ => false,
+// What comes of an evaluation with ample memory.
+fn judged(alloc: Global, program: &Program<'_>, checked: &Checked, bound: &Bound) -> Tried {
+    match evaluate(alloc, checked, program.entry, bound, TURNS) {
+        Ok(outcome) => ended(alloc, checked, program, &outcome),
+        Err(_) => Tried::Wrong,
     }
 }
 
-// Whether an evaluation is right. None where memory was refused.
-fn evaluated(alloc: Global, checked: &Checked, bound: &Bound) -> Option<bool> {
-    match evaluate(alloc, checked, "f", bound, 0) {
-        Ok(outcome) => Some(is_right(&outcome)),
-        Err(EvalFault::Memory) => None,
-        Err(EvalFault::NoEntry | EvalFault::NotIndependent(_)) => Some(false),
+// What comes of types with ample memory, by the run of their program.
+fn rated(alloc: Global, program: &Program<'_>, bound: &Bound, typed: Typed) -> Tried {
+    match check(alloc, typed) {
+        Ok(checked) => judged(alloc, program, &checked, bound),
+        Err(_) => Tried::Wrong,
     }
 }
 
-// Memory is refused to `evaluate` at each place in turn, and at last comes the outcome.
-#[test]
-fn memory_refused_to_evaluate(rt: HostRuntime) -> Result<(), Fail> {
-    let alloc = rt.alloc();
-    let checked = front(alloc, TEXT, Gang::W4)?;
-    let bound = bound(alloc, &checked)?;
-    let mut hoard = Hoard::new(alloc)?;
-    for step in 0..128_000usize {
-        assert!(rt; hoard.beside(16 * step).is_ok(), "the pool is too small");
-        if let Some(right) = evaluated(alloc, &checked, &bound) {
-            assert!(rt;
-                right && step > 0,
-                "another outcome, or nothing was refused"
-            );
-            return Ok(());
+fn resolves(
+    alloc: Global,
+    program: &Program<'_>,
+    tree: &Tree,
+    bound: &Bound,
+    hoard: &mut Hoard,
+    bytes: usize,
+) -> Result<Tried, Fail> {
+    hoard.beside(bytes)?;
+    let first = resolve(alloc, tree, Gang::W4);
+    hoard.ample();
+    match first {
+        Ok(typed) => Ok(rated(alloc, program, bound, typed)),
+        Err(SourceFault::Memory) => {
+            let typed = resolve(alloc, tree, Gang::W4)?;
+            Ok(rated(alloc, program, bound, typed).retried())
         }
+        Err(SourceFault::Refused(_fault)) => Ok(Tried::Wrong),
     }
-    Err(Fail::from("always refused"))
+}
+
+// Where memory is refused the program is lost, and its rates are asked of a new one.
+fn checks(
+    alloc: Global,
+    program: &Program<'_>,
+    tree: &Tree,
+    bound: &Bound,
+    hoard: &mut Hoard,
+    bytes: usize,
+) -> Result<Tried, Fail> {
+    let typed = resolve(alloc, tree, Gang::W4)?;
+    hoard.beside(bytes)?;
+    let first = check(alloc, typed);
+    hoard.ample();
+    match first {
+        Ok(checked) => Ok(judged(alloc, program, &checked, bound)),
+        Err(SourceFault::Memory) => {
+            let typed = resolve(alloc, tree, Gang::W4)?;
+            Ok(rated(alloc, program, bound, typed).retried())
+        }
+        Err(SourceFault::Refused(_fault)) => Ok(Tried::Wrong),
+    }
+}
+
+fn evaluates(
+    alloc: Global,
+    program: &Program<'_>,
+    checked: &Checked,
+    bound: &Bound,
+    hoard: &mut Hoard,
+    bytes: usize,
+) -> Result<Tried, Fail> {
+    hoard.beside(bytes)?;
+    let first = evaluate(alloc, checked, program.entry, bound, TURNS);
+    hoard.ample();
+    match first {
+        Ok(outcome) => Ok(ended(alloc, checked, program, &outcome)),
+        Err(EvalFault::Memory) => Ok(judged(alloc, program, checked, bound).retried()),
+        Err(_) => Ok(Tried::Wrong),
+    }
+}
+
+fn swept(alloc: Global, program: &Program<'_>) -> Result<(), Fail> {
+    let tokens = lex(alloc, program.source)?;
+    let tree = parse(alloc, &tokens)?;
+    let checked = front(alloc, program.source, Gang::W4)?;
+    let bound = bound(alloc, &checked, program)?;
+    sweep(alloc, "resolve", |hoard, bytes| {
+        resolves(alloc, program, &tree, &bound, hoard, bytes)
+    })?;
+    sweep(alloc, "check", |hoard, bytes| {
+        checks(alloc, program, &tree, &bound, hoard, bytes)
+    })?;
+    sweep(alloc, "evaluate", |hoard, bytes| {
+        evaluates(alloc, program, &checked, &bound, hoard, bytes)
+    })
+}
+
+#[test]
+fn memory_refused_to_rows(rt: HostRuntime) -> Result<(), Fail> {
+    for program in &[INC, LOCAL_ARRAY, COUNTER] {
+        swept(rt.alloc(), program)?;
+    }
+    Ok(())
+}
+
+#[test]
+fn memory_refused_to_unique_and_calls(rt: HostRuntime) -> Result<(), Fail> {
+    for program in &[UNIQUE, CALLS] {
+        swept(rt.alloc(), program)?;
+    }
+    Ok(())
+}
+
+#[test]
+fn memory_refused_to_work(rt: HostRuntime) -> Result<(), Fail> {
+    let alloc = rt.alloc();
+    for (program, wanted) in &WORKS {
+        let checked = front(alloc, program.source, Gang::W4)?;
+        let bound = bound(alloc, &checked, program)?;
+        sweep_call(alloc, "work", || {
+            match work(alloc, &checked, program.entry, &bound, TURNS) {
+                Ok(count) => Tried::answered(count == *wanted),
+                Err(fault) => Tried::failed(matches!(fault, EvalFault::Memory)),
+            }
+        })?;
+    }
+    Ok(())
 }
