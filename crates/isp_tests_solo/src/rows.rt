@@ -70,8 +70,13 @@ pub(crate) fn front(alloc: Global, source: &str, gang: Gang) -> Result<Checked, 
 }
 
 /// The arguments of the entry `f`.
-pub(crate) fn bound(alloc: Global, checked: &Checked, json: &str) -> Result<Bound, Fail> {
-    match checked.signature("f") {
+pub(crate) fn bound(
+    alloc: Global,
+    checked: &Checked,
+    entry: &str,
+    json: &str,
+) -> Result<Bound, Fail> {
+    match checked.signature(entry) {
         Some(signature) => Ok(bind(alloc, signature, json)?),
         None => Err(Fail::from("no such function")),
     }
@@ -122,7 +127,7 @@ fn run(alloc: Global, source: &str, call: Call<'_>) -> Result<String, Fail> {
     let Some(signature) = checked.signature("f") else {
         return Err(Fail::from("no such entry"));
     };
-    let bound = bound(alloc, &checked, call.arguments)?;
+    let bound = bound(alloc, &checked, "f", call.arguments)?;
     let report = one_by_one(alloc, &checked, call.entry, &bound, call.turns);
     Ok(reported(alloc, signature, report)?)
 }
