@@ -1,0 +1,9 @@
+mod Lanes
+mod Ranges
+mod Sums
+mod Executes
+mod Ends
+mod Walks
+mod Words
+mod Members
+mod Pushed

@@ -1,0 +1,5 @@
+use Rattle.isp_traces.proofs.Walks.{SoFar}
+use Rattle.isp_traces.proofs.counting.count.Given as goal
+
+abbrev pub invariant-loop-done : goal.invariant-loop-done
+invariant-loop-done g l = SoFar l.done l.fn.machine l.machine l.stop l.counts
