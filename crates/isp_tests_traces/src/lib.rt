@@ -1,4 +1,4 @@
-//! Worked examples of counts, against numbers that were found without the crates.
+//! Worked examples of counts and traces, against numbers and lines that were found without the crates.
 #![tactic(auto)]
 
 #[cfg(test)]
@@ -7,3 +7,5 @@ mod counts;
 mod kernels;
 #[cfg(test)]
 mod runs;
+#[cfg(test)]
+mod traces;

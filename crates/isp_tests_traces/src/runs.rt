@@ -1,7 +1,7 @@
-//! What is counted of a run of code text.
+//! What is counted and traced of a run of code text.
 use isp_asm::read;
 use isp_base::{Argument, Array, Bound, Elem, Value, low_bits};
-use isp_traces::{count_run, counts_line};
+use isp_traces::{Window, count_run, counts_line, trace_run};
 use isp_verify::{Verified, verify};
 use std::alloc::Global;
 use std::test::Fail;
@@ -61,6 +61,16 @@ pub fn counts(alloc: Global, case: Case, budget: u64) -> Result<Vec<u8>, Fail> {
     let bound = bound(alloc, case.given)?;
     match count_run(alloc, &code, case.entry, bound, budget) {
         Ok(counted) => Ok(counts_line(alloc, &code, &counted.counts)?),
+        Err(_fault) => Err(Fail::from("no run")),
+    }
+}
+
+/// The lines of the steps of a window.
+pub fn lines(alloc: Global, case: Case, window: Window, budget: u64) -> Result<Vec<u8>, Fail> {
+    let code = verified(alloc, case.code)?;
+    let bound = bound(alloc, case.given)?;
+    match trace_run(alloc, &code, case.entry, bound, window, budget) {
+        Ok(traced) => Ok(traced.text),
         Err(_fault) => Err(Fail::from("no run")),
     }
 }

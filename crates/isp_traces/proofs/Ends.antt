@@ -1,14 +1,17 @@
--- Behind the end of a run nothing more is counted.
-use Rattle.std.proofs.Common.{◌≡◌, refl, sym, ap, ◌∙◌, subst, ℕ, zero, suc, ◌+◌, ◌-◌, ◌≤◌, arith}
+-- Behind the end of a run nothing more is counted and no line more is written.
+use Rattle.std.proofs.Common.{◌≡◌, refl, sym, ap, ◌∙◌, subst, ℕ, zero, suc, ◌+◌, ◌-◌, ◌≤◌, [], ◌++◌, arith, Bool}
+use Rattle.std.proofs.lemmas.List.{append-nil}
 use Rattle.isp_base.specs.declared.trap.Trap.{Trap}
 use Rattle.isp_code.specs.Conf.{State, Runs, Trapped, Ended}
 use Rattle.isp_code.specs.Listing.{Listing}
 use Rattle.isp_code.specs.Machine.{advance, after}
 use Rattle.isp_machine.specs.Kept.{Kept, state}
 use Rattle.isp_machine.specs.Runs.{IsEnded, IsRunning, IsTrapped, Made, conf}
+use Rattle.isp_traces.specs.Steps.{line_between, lines}
 use Rattle.isp_traces.specs.Tallies.{in_function, is_kind, nothing}
 use Rattle.isp_traces.specs.declared.tallies.Counts.{Counts}
 use Rattle.isp_traces.specs.reader.Adding.{plus}
+use Rattle.isp_traces.proofs.Ranges.{lines_more}
 use Rattle.isp_traces.proofs.Sums.{AreSums, Chosen, every, plus_nothing, step_tally, tally}
 
 -- the run is at an end
@@ -26,6 +29,11 @@ no_tally : (code : Listing) (chosen : Chosen) (s : State) → IsOver s → step_
 no_tally code chosen (Runs c) over = absurd over
 no_tally code chosen (Trapped t c) over = refl
 no_tally code chosen (Ended x c) over = refl
+
+no_line : (code : Listing) (lanes : Bool) (k : ℕ) (s s1 : State) → IsOver s → line_between code lanes k s s1 ≡ []
+no_line code lanes k (Runs c) s1 over = absurd over
+no_line code lanes k (Trapped t c) s1 over = refl
+no_line code lanes k (Ended x c) s1 over = refl
 
 pub trapped_over : (t : Trap) (s : State) → IsTrapped t s → IsOver s
 trapped_over t (Runs c) is = is
@@ -71,6 +79,23 @@ module _ (code : Listing) (s : State) (m : ℕ) (over : IsOver (after code m s))
 
   pub state_later : (b : ℕ) → m ≤ b → after code b s ≡ after code m s
   state_later b le = let e : b ≡ b - m + m = omega (arith, le) in ap (λ n. after code n s) e ∙ same_state (b - m)
+
+  same_lines : (lanes : Bool) (from k n : ℕ) → from + n ≡ m → lines code lanes s from (k + n) ≡ lines code lanes s from n
+  same_lines lanes from zero n e = let z : zero + n ≡ n = omega arith in ap (λ i. lines code lanes s from i) z
+  same_lines lanes from (suc k) n e =
+      let z : suc k + n ≡ suc (k + n) = omega arith in
+      let there : from + (k + n) ≡ k + m = omega (arith, e) in
+      ap (λ i. lines code lanes s from i) z
+      ∙ lines_more code lanes s from (k + n) (from + (k + n)) refl
+      ∙ ap (λ t. lines code lanes s from (k + n) ++ t) (no_line code lanes (from + (k + n)) (after code (from + (k + n)) s) _ (subst (λ (i : ℕ). IsOver (after code i s)) (sym there) (over_later k)))
+      ∙ append-nil (lines code lanes s from (k + n))
+      ∙ same_lines lanes from k n e
+
+  pub lines_later : (lanes : Bool) (from b : ℕ) → from ≤ m → m ≤ b → lines code lanes s from (m - from) ≡ lines code lanes s from (b - from)
+  lines_later lanes from b low le =
+      let e : b - m + (m - from) ≡ b - from = omega (arith, low, le) in
+      let at : from + (m - from) ≡ m = omega (arith, low) in
+      sym (same_lines lanes from (b - m) (m - from) at) ∙ ap (λ i. lines code lanes s from i) e
 
 -- so many instructions, of which the last have not been made since the run was at an end
 pub made_later : (old now : Kept) (m b : ℕ) → m ≤ b → IsOver (state now) → Made m old now → Made b old now

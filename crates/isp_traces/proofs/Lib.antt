@@ -5,5 +5,8 @@ mod Executes
 mod Ends
 mod Walks
 mod Words
+mod Parts
 mod Members
 mod Pushed
+mod Items
+mod Found

@@ -4,4 +4,6 @@ pub mod Executed
 pub mod Tallies
 pub mod Counting
 pub mod Texts
+pub mod Steps
+pub mod Tracing
 pub mod reader
