@@ -8,4 +8,6 @@ mod machines;
 #[cfg(test)]
 mod programs;
 #[cfg(test)]
+mod refused;
+#[cfg(test)]
 mod runs;

@@ -5,11 +5,9 @@ ghost use Rattle.isp_base.specs.Types.{gang_width};
 use isp_base::{Array, Bound, Gang, Value};
 use isp_code::Code;
 use isp_machine::{Machine, Stop};
-use isp_masks::lower;
 use isp_model::Outcome;
-use isp_rates::Checked;
 use isp_verify::{Verified, verify};
-use std::alloc::{AllocError, Global};
+use std::alloc::Global;
 
 /// More instructions than any program of the tables takes.
 pub(crate) const AMPLE: u64 = 1_000_000;
@@ -102,22 +100,21 @@ fn verified(alloc: Global, code: Code) -> Option<Verified> {
     }
 }
 
-/// Whether the machine, given the code of a program and ample instructions, comes to the same.
-pub(crate) fn is_reached(
+/// Whether the machine, given code and ample instructions, comes to the same.
+pub(crate) fn comes_to(
     alloc: Global,
-    checked: &Checked,
+    code: Code,
     entry: &str,
     bound: Bound,
     outcome: &Outcome,
-) -> Result<bool, AllocError> {
-    let code = lower(alloc, checked)?;
+) -> bool {
     let Some(code) = verified(alloc, code) else {
-        return Ok(false);
+        return false;
     };
-    Ok(match code.gang() {
+    match code.gang() {
         Gang::W4 => runs_to::<4>(alloc, &code, entry, bound, outcome),
         Gang::W8 => runs_to::<8>(alloc, &code, entry, bound, outcome),
         Gang::W16 => runs_to::<16>(alloc, &code, entry, bound, outcome),
         Gang::W32 => runs_to::<32>(alloc, &code, entry, bound, outcome),
-    })
+    }
 }

@@ -1,9 +1,10 @@
 //! One program in two ways: its code run, and the program itself evaluated.
-use crate::machines::{AMPLE, is_reached};
+use crate::machines::{AMPLE, comes_to};
 use crate::programs::Row;
 use isp_base::Signature;
 use isp_bind::{answer, bind};
 use isp_engine::{Ending, Image, execute, front};
+use isp_masks::lower;
 use isp_model::{Outcome, evaluate};
 use std::alloc::{AllocError, Global};
 use std::test::Fail;
@@ -52,7 +53,8 @@ pub(crate) fn evaluated(alloc: Global, source: &str, row: Row<'_>) -> Result<Str
     let bound = bind(alloc, signature, row.arguments)?;
     let outcome = evaluate(alloc, &checked, row.entry, &bound, AMPLE)?;
     let line = told(alloc, signature, &outcome)?;
-    if !is_reached(alloc, &checked, row.entry, bound, &outcome)? {
+    let code = lower(alloc, &checked)?;
+    if !comes_to(alloc, code, row.entry, bound, &outcome) {
         return Err(Fail::from("the code comes to something else"));
     }
     Ok(line)
