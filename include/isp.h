@@ -63,7 +63,7 @@ struct isp_why {
     size_t element;       /* of that parameter, from 0 */
 };
 
-/* What isp_compile, isp_run and isp_native say of themselves. They write all of it, whatever it held. */
+/* What isp_compile, isp_run, isp_native and isp_trace say of themselves. They write all of it, whatever it held. */
 struct isp_report {
     size_t used;          /* bytes that were written to the room; with ISP_ROOM, how many are wanted */
     uint64_t result;      /* what the entry returned: its bits, zero above its width; 0 where it returns nothing */
@@ -113,6 +113,26 @@ uint8_t isp_run(const char *code, size_t code_size, const struct isp_job *job, v
  *
  * ISP_OK, or ISP_TEXT, ISP_MEMORY, ISP_CODE, ISP_ROOM: then `file` is as it was. */
 uint8_t isp_native(const char *code, size_t code_size, char *file, size_t room, struct isp_report *report);
+
+/* Which steps of a run have a line: `count` of them from number `from` on, where the first has number 0. Where `lanes` is not 0 a line
+ * shows the vector that its step wrote. */
+struct isp_trace {
+    struct isp_job job;
+    uint64_t from, count;
+    uint32_t lanes;
+};
+
+/* Reads code text, runs `trace->job.entry` from the arguments in `packed`, which stay as they are, and writes the lines of these steps at
+ * the front of `lines`, which has room for `room` bytes. report->used is their length; the bytes behind them stay. A line is
+ *
+ *     3 share L3: mtest m3 v2 m0 m0=1111 -> m3=1110
+ *
+ * the number of the step, the function, the number of the instruction in it, its line of code text, the masks that it reads, lane 0
+ * first, and what it wrote.
+ *
+ * ISP_OK, or ISP_ARGUMENTS, ISP_TEXT, ISP_MEMORY, ISP_CODE, ISP_ROOM: then `lines` is as it was. */
+uint8_t isp_trace(const char *code, size_t code_size, const struct isp_trace *trace, const void *packed, size_t packed_size, char *lines,
+                  size_t room, struct isp_report *report);
 
 /* ---- arguments and answers as bytes
  *

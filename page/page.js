@@ -10,6 +10,7 @@ const TABS = {
     asm: "The code of the machine: each line is one instruction.",
     check: "For each exported function, whether its instances are independent, or which rule it breaks and where.",
     solo: "The answer where each instance runs alone, one after another. Independent functions give that of the gang.",
+    trace: "Each instruction that is executed, the masks that it reads, and what it writes. A lane that is on is filled, lane 0 first.",
 };
 
 // ---- the machine: a Worker, which is ended where a run is to stop
@@ -33,14 +34,23 @@ class Machine {
     }
 
     // Does one command; answers { status, out, err }, { error }, or null where it was stopped.
-    async command(words, files) {
+    command(words, files) {
+        return this.asked({ words, files });
+    }
+
+    // Traces a run: `isp_trace` of include/isp.h. Answers the same.
+    trace(trace) {
+        return this.asked({ trace });
+    }
+
+    async asked(what) {
         for (let ready; ready !== this.ready; await ready) {
             ready = this.ready;
         }
         const id = ++this.count;
         return new Promise((resolve) => {
             this.waiting.set(id, resolve);
-            this.worker.postMessage({ id, words, files });
+            this.worker.postMessage({ id, ...what });
         });
     }
 
@@ -70,7 +80,65 @@ function words() {
         asm: ["asm", ...gang, "source"],
         check: ["check", ...gang, "source"],
         solo: ["solo", ...gang, ...names],
+        // what the steps begin with: the arguments are tried, and the code is made
+        trace: ["run", ...gang, "--budget", "0", ...names],
     }[tab];
+}
+
+// The steps of the run, where the source, the entry and the arguments are taken: a budget of 0 ends with status 4 then.
+async function traced(files) {
+    const tried = await machine.command(words(), files);
+    if (!tried || tried.error || tried.status !== 4) {
+        return tried;
+    }
+    const made = await machine.command(["asm", "--gang", $("gang").value, "source"], files);
+    if (!made || made.error || made.status) {
+        return made;
+    }
+    const code = new TextDecoder().decode(made.out), entry = $("entry").value, numbers = ["budget", "from", "count"];
+    const [budget, from, count] = numbers.map((it) => /^\d{1,18}$/.test($(it).value.trim()) ? $(it).value.trim() : "0");
+    return machine.trace({ code, entry, packed: packed(code, entry, $("arguments").value), budget, from, count, lanes: $("lanes").checked });
+}
+
+// ---- arguments as bytes, in the form of isp.h
+
+const WIDTHS = { b: 1, i8: 1, u8: 1, i16: 2, u16: 2, i32: 4, u32: 4, i64: 8, u64: 8 };
+
+// The parameters of an exported function: its lines `par a i32 name` of the code text.
+function parameters(code, entry) {
+    const lines = code.split("\n"), first = lines.findIndex((it) => it.startsWith(`func ${entry} export`));
+    const found = [];
+    for (const line of lines.slice(first + 1)) {
+        const [word, kind, type, name] = line.split(" ");
+        if (word !== "par") {
+            break;
+        }
+        found.push({ isArray: kind === "a", width: WIDTHS[type], name });
+    }
+    return found;
+}
+
+function packed(code, entry, text) {
+    const exact = (_, value, { source }) => typeof value === "number" ? BigInt(source) : value;
+    const given = JSON.parse(text, exact), parts = [];
+    for (const { isArray, width, name } of parameters(code, entry)) {
+        const values = isArray ? given[name] : [given[name]], bytes = isArray ? width : 8;
+        const part = new DataView(new ArrayBuffer((isArray ? 8 : 0) + bytes * values.length));
+        if (isArray) {
+            part.setBigUint64(0, BigInt(values.length), true);
+        }
+        values.forEach((it, i) => writeBits(part, (isArray ? 8 : 0) + bytes * i, BigInt(it), width, bytes));
+        parts.push(new Uint8Array(part.buffer));
+    }
+    return new Uint8Array(parts.flatMap((it) => [...it]));
+}
+
+// The bits of a number in its width, in so many bytes.
+function writeBits(view, at, number, width, bytes) {
+    const bits = BigInt.asUintN(8 * width, number);
+    for (let i = 0; i < bytes; i++) {
+        view.setUint8(at + i, Number((bits >> BigInt(8 * i)) & 255n));
+    }
 }
 
 async function run() {
@@ -81,7 +149,8 @@ async function run() {
     clear("Running ..");
     $("stop").disabled = false;
     const files = [{ name: "source", text: $("source").value }, { name: "arguments", text: $("arguments").value }];
-    const done = await machine.command(words(), files);
+    const asked = tab === "trace" ? traced(files) : machine.command(words(), files);
+    const done = await asked.catch((error) => ({ error: String(error) }));
     if (mine !== running) {
         return;
     }
@@ -101,14 +170,19 @@ function clear(state) {
     $("state").textContent = state;
     $("out").textContent = "";
     $("out").className = tab === "asm" ? "code" : "";
-    $("fault").hidden = $("picture").hidden = true;
+    $("fault").hidden = $("picture").hidden = $("steps").hidden = true;
+    $("window").hidden = tab !== "trace";
     mark(null);
 }
 
 function show({ status, out, err }, time) {
     const text = new TextDecoder().decode(out), line = new TextDecoder().decode(err);
     clear(`${status ? "" : "Done. "}Status ${status}, ${time.toFixed(time < 10 ? 1 : 0)} ms.`);
-    showOutput(text);
+    if (tab === "trace" && !line) {
+        showSteps(text);
+    } else {
+        showOutput(text);
+    }
     if (line) {
         showFault(line);
     }
@@ -145,6 +219,50 @@ function withPlaces(text) {
         behind = found.index + found[0].length;
     }
     return [...parts, text.slice(behind)];
+}
+
+// A line is `3 share L3: mtest m3 v2 m0 m0=1111 -> m3=1110`.
+const STEP = /^(\d+) (\S+) (L\d+): (.*?)((?: m\d+=[01]+)*)(?: -> (.*))?$/;
+
+function showSteps(text) {
+    const table = document.createElement("table"), head = table.createTHead().insertRow();
+    for (const it of ["step", "where", "instruction", "reads", "writes"]) {
+        const cell = document.createElement("th");
+        cell.textContent = it;
+        head.append(cell);
+    }
+    const body = table.createTBody(), lines = text.split("\n").filter((it) => it);
+    for (const line of lines) {
+        const found = STEP.exec(line);
+        if (!found) {
+            continue;
+        }
+        const [, number, name, place, instruction, masks, written] = found, row = body.insertRow();
+        [number, `${name} ${place}`, instruction].forEach((it) => row.insertCell().textContent = it);
+        row.insertCell().append(...masks.trim().split(" ").filter((it) => it).flatMap(squares));
+        row.insertCell().append(...(written ? squares(written) : []));
+    }
+    $("steps").replaceChildren(table);
+    $("steps").hidden = false;
+    $("state").textContent += ` ${lines.length} steps.`;
+}
+
+// `m3=1110` as its name and a square for each lane; anything else as it is.
+function squares(text) {
+    const [name, bits] = text.split("=");
+    if (!/^[01]+$/.test(bits || "") || !name.startsWith("m")) {
+        return [text];
+    }
+    const lanes = document.createElement("span");
+    lanes.className = "lanes";
+    lanes.role = "img";
+    lanes.ariaLabel = bits;
+    lanes.append(...[...bits].map((it) => {
+        const square = document.createElement("i");
+        square.className = it === "1" ? "on" : "";
+        return square;
+    }));
+    return [name, lanes];
 }
 
 function showFault(text) {
@@ -351,6 +469,7 @@ $("source").oninput = () => {
     edited();
 };
 $("source").onscroll = follow;
+$("from").onchange = $("count").onchange = $("lanes").onchange = run;
 $("run").onclick = run;
 $("stop").onclick = () => machine.stop();
 document.onkeydown = (event) => {

@@ -1,8 +1,9 @@
-// Does commands of isp, each by a new instance of the module, and so over memory of its own.
+// Does commands of isp and traces runs, each by a new instance of the module, and so over memory of its own.
 "use strict";
 
 const OUT = 8 << 20, ERR = 64 << 10;
-const TEXT = 16;   // bytes of a struct isp_text; a struct isp_file is two of them (include/isp.h)
+// bytes of structs of include/isp.h: a struct isp_file is two of isp_text
+const TEXT = 16, TRACE = 48, REPORT = 216;
 let module;
 
 onmessage = async ({ data }) => {
@@ -12,7 +13,8 @@ onmessage = async ({ data }) => {
     }
     try {
         const instance = await WebAssembly.instantiate(await module, {});
-        postMessage({ id: data.id, ...command(instance.exports, data.words, data.files) });
+        const done = data.trace ? traced(instance.exports, data.trace) : command(instance.exports, data.words, data.files);
+        postMessage({ id: data.id, ...done });
     } catch (error) {
         postMessage({ id: data.id, error: String(error) });
     }
@@ -37,6 +39,33 @@ function command(isp, words, files) {
     }
     const [out, err] = done.places.map((place, i) => new Uint8Array(isp.memory.buffer, Number(place), done.sizes[i]).slice());
     return { status: done.status, out, err };
+}
+
+// What `isp_trace` does with code, an entry, arguments as bytes, and the steps that are asked for: its status, and the lines.
+function traced(isp, { code, entry, packed, budget, from, count, lanes }) {
+    const texts = [code, entry].map((it) => new TextEncoder().encode(it));
+    const [codeAt, entryAt, packedAt] = [...texts, packed].map((it) => placed(isp, it));
+    const trace = placed(isp, new Uint8Array(TRACE)), report = room(isp, REPORT);
+    const view = new DataView(isp.memory.buffer, Number(trace), TRACE);
+    [entryAt, BigInt(texts[1].length), BigInt(budget), BigInt(from), BigInt(count)].forEach((it, i) => view.setBigUint64(8 * i, it, true));
+    view.setUint32(40, lanes ? 1 : 0, true);
+    const call = (size) => {
+        const place = room(isp, size);
+        const status = isp.isp_trace(codeAt, BigInt(texts[0].length), trace, packedAt, BigInt(packed.length), place, BigInt(size), report);
+        return { status, place, used: Number(new DataView(isp.memory.buffer, Number(report), 8).getBigUint64(0, true)) };
+    };
+    let done = call(OUT);
+    if (done.status === 10) {
+        done = call(done.used);
+    }
+    return { status: done.status, out: new Uint8Array(isp.memory.buffer, Number(done.place), done.used).slice(), err: new Uint8Array() };
+}
+
+// Puts bytes into memory.
+function placed(isp, bytes) {
+    const at = room(isp, bytes.length);
+    new Uint8Array(isp.memory.buffer, Number(at), bytes.length).set(bytes);
+    return at;
 }
 
 // Puts texts into memory, where their structs stand one behind another: first those of the words, then two for each file.

@@ -168,6 +168,38 @@ static void translating(void)
     WANT(isp_native("\xe9", 1, file, sizeof file, &report) == ISP_TEXT && strcmp(report.line, "isp: cannot read code\n") == 0);
 }
 
+static void stepping(void)
+{
+    kernel("export void f(uniform int a[]) { a[programIndex] = a[programIndex] + 1; }");
+    unsigned char packed[ISP_ARRAY_SIZE(4, 4)], before[sizeof packed];
+    int elements[] = {5, 6, 7, 8};
+    isp_put_array(packed, elements, 4, 4);
+    memcpy(before, packed, sizeof packed);
+    static char lines[4096];
+    size_t size = strlen(code);
+    struct isp_trace all = {{isp_string("f"), 1000}, 0, 1000, 1}, two = {{isp_string("f"), 1000}, 1, 2, 0};
+    memset(lines, '#', sizeof lines);
+    WANT(isp_trace(code, size, &all, packed, sizeof packed, lines, sizeof lines, &report) == ISP_OK && report.line[0] == 0);
+    size_t used = report.used, steps = 0;
+    for (size_t i = 0; i < used; i++)
+        steps += lines[i] == '\n';
+    WANT(strncmp(lines, "0 f L0: ", 8) == 0 && untouched(lines + used, sizeof lines - used));
+    lines[used] = 0;
+    WANT(strstr(lines, "=[6,7,8,9]\n") && strstr(lines, " m0=1111"));
+    WANT(memcmp(packed, before, sizeof packed) == 0);
+    /* as many steps as the run takes: with one instruction less the budget is used up */
+    WANT(ran("f", steps - 1, packed, sizeof packed, sizeof output) == ISP_BUDGET && ran("f", steps, packed, sizeof packed, sizeof output) == ISP_OK);
+    memcpy(packed, before, sizeof packed);
+    WANT(isp_trace(code, size, &two, packed, sizeof packed, lines, sizeof lines, &report) == ISP_OK && strncmp(lines, "1 f L1: ", 8) == 0);
+    size_t wanted = report.used;
+    memset(lines, '#', sizeof lines);
+    WANT(isp_trace(code, size, &two, packed, sizeof packed, lines, wanted - 1, &report) == ISP_ROOM && report.used == wanted && untouched(lines, sizeof lines));
+    WANT(isp_trace(code, size, &two, packed, sizeof packed - 1, lines, sizeof lines, &report) == ISP_ARGUMENTS && report.why.number == 72);
+    two.job.entry = isp_string("g");
+    WANT(isp_trace(code, size, &two, packed, sizeof packed, lines, sizeof lines, &report) == ISP_ARGUMENTS && report.why.number == 50);
+    WANT(isp_trace(code, size - 1, &all, packed, sizeof packed, lines, sizeof lines, &report) == ISP_CODE && untouched(lines, sizeof lines));
+}
+
 static void commanding(void)
 {
     char out[4096], err[4096];
@@ -271,6 +303,7 @@ int main(int count, char **words)
         trapping();
         reading();
         translating();
+        stepping();
         commanding();
     }
     printf("%d calls, %d differ\n", calls, differ);

@@ -7,8 +7,7 @@ use Rattle.isp_code.specs.Listing.{Listing}
 use Rattle.isp_engine.specs.Front.{IsFaulty}
 use Rattle.isp_engine.specs.Images.{IsCompilation}
 use Rattle.isp_engine.specs.declared.failure.Failure.TheVariants.{Source, CannotRead, Memory}
-use Rattle.isp_c.specs.Reports.{Refuses}
-use Rattle.isp_c.specs.Rooms.{Gives}
+use Rattle.isp_c.specs.Rooms.{Answers}
 use Rattle.isp_c.specs.declared.refusal.Refusal.{Refusal}
 use Rattle.isp_c.specs.declared.refusal.Refusal.TheVariants.{NoGang, Failed}
 use Rattle.isp_c.specs.declared.report.Report.{Report}
@@ -29,14 +28,9 @@ NoCodeText width source (Failed (CannotRead name)) = (name.now ≡ codes "source
 NoCodeText width source (Failed Memory) = Unit {0}
 NoCodeText width source f = ⊥
 
--- the code text is given, or nothing is written and the report says why
-abbrev pub Compiled : List ℕ → List ℕ → Report → ℕ → Result (List ℕ) Refusal → Type 0
-Compiled old new r status (Ok text) = Gives text old new r status
-Compiled old new r status (Err f) = (new ≡ old) × Refuses f 0 r status
-
 abbrev pub IsText : ℕ → List ℕ → Result (List ℕ) Refusal → Type 0
 IsText width source (Ok text) = IsCodeText width source text
 IsText width source (Err f) = NoCodeText width source f
 
 abbrev pub Compiles : ℕ → List ℕ → List ℕ → List ℕ → Report → ℕ → Type 0
-Compiles width source old new r status = (answer : Result (List ℕ) Refusal) × IsText width source answer × Compiled old new r status answer
+Compiles width source old new r status = (answer : Result (List ℕ) Refusal) × IsText width source answer × Answers old new r status answer

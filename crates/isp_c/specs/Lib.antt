@@ -5,4 +5,5 @@ pub mod Rooms
 pub mod Compiling
 pub mod Running
 pub mod Translating
+pub mod Tracing
 pub mod Commanding

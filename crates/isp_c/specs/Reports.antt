@@ -1,5 +1,5 @@
 -- What a call says of itself: its report and its status.
-use Rattle.std.specs.Prelude.{◌≡◌, ℕ, [], replicate}
+use Rattle.std.specs.Prelude.{◌≡◌, ℕ, []}
 use Rattle.isp_c.specs.Lines.{line_bytes}
 use Rattle.isp_c.specs.Refusals.{line_of, nothing, status_of, why_of}
 use Rattle.isp_c.specs.declared.refusal.Refusal.{Refusal}

@@ -1,6 +1,7 @@
 -- Bytes in a room.
-use Rattle.std.specs.Prelude.{◌≡◌, ℕ, ◌<◌, ◌≤◌, List, ◌++◌, drop, length}
+use Rattle.std.specs.Prelude.{◌≡◌, ℕ, ◌<◌, ◌≤◌, List, ◌++◌, drop, length, Result, Ok, Err}
 use Rattle.isp_c.specs.Reports.{Done, Refuses}
+use Rattle.isp_c.specs.declared.refusal.Refusal.{Refusal}
 use Rattle.isp_c.specs.declared.refusal.Refusal.TheVariants.{Short}
 use Rattle.isp_c.specs.declared.report.Report.{Report}
 
@@ -12,3 +13,8 @@ fronted bytes room = bytes ++ drop (length bytes) room
 pub record Gives (bytes old new : List ℕ) (r : Report) (status : ℕ) : Type 0 where
   pub whole : length bytes ≤ length old → (new ≡ fronted bytes old) × Done (length bytes) 0 r status
   pub short : length old < length bytes → (new ≡ old) × Refuses Short (length bytes) r status
+
+-- bytes are given, or nothing is written and the report says why
+abbrev pub Answers : List ℕ → List ℕ → Report → ℕ → Result (List ℕ) Refusal → Type 0
+Answers old new r status (Ok bytes) = Gives bytes old new r status
+Answers old new r status (Err f) = (new ≡ old) × Refuses f 0 r status

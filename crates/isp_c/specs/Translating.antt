@@ -4,8 +4,7 @@ use Rattle.isp_code.specs.Listing.{Listing}
 use Rattle.isp_engine.specs.Images.{IsLoaded}
 use Rattle.isp_engine.specs.declared.failure.Failure.TheVariants.{CannotRead}
 use Rattle.isp_native.specs.Text.{c_text}
-use Rattle.isp_c.specs.Reports.{Refuses}
-use Rattle.isp_c.specs.Rooms.{Gives}
+use Rattle.isp_c.specs.Rooms.{Answers}
 use Rattle.isp_c.specs.Running.{NoLoad}
 use Rattle.isp_c.specs.declared.refusal.Refusal.{Refusal}
 use Rattle.isp_c.specs.declared.refusal.Refusal.TheVariants.{Failed}
@@ -26,10 +25,5 @@ abbrev pub IsFile : List ℕ → Result (List ℕ) Refusal → Type 0
 IsFile code (Ok file) = IsCFile code file
 IsFile code (Err f) = NoCFile code f
 
--- the file is given, or nothing is written and the report says why
-abbrev pub Given : List ℕ → List ℕ → Report → ℕ → Result (List ℕ) Refusal → Type 0
-Given old new r status (Ok file) = Gives file old new r status
-Given old new r status (Err f) = (new ≡ old) × Refuses f 0 r status
-
 abbrev pub Translates : List ℕ → List ℕ → List ℕ → Report → ℕ → Type 0
-Translates code old new r status = (answer : Result (List ℕ) Refusal) × IsFile code answer × Given old new r status answer
+Translates code old new r status = (answer : Result (List ℕ) Refusal) × IsFile code answer × Answers old new r status answer

@@ -14,6 +14,7 @@ mod report;
 mod room;
 mod run;
 mod texts;
+mod trace;
 
 pub use command::{File, Used, isp_command};
 pub use compile::isp_compile;
@@ -21,3 +22,4 @@ pub use native::isp_native;
 pub use report::{Report, Why};
 pub use run::{Job, isp_run};
 pub use texts::Text;
+pub use trace::{Trace, isp_trace};

@@ -92,7 +92,7 @@ fn ran(
     executed(alloc, &image, entry, bound, job.budget)
 }
 
-fn no_entry() -> Refusal<'static>
+pub(crate) fn no_entry() -> Refusal<'static>
     ensures { result ≡ no_entry }
 {
     Refusal::Failed(Failure::Run(RunFault::NoEntry))
@@ -110,7 +110,7 @@ pub(crate) fn loaded(alloc: Global, text: &str) -> Result<Image, Refusal<'static
 }
 
 // The arguments that the bytes hold for an entry.
-fn bound(
+pub(crate) fn bound(
     alloc: Global,
     image: &Image,
     entry: &str,
