@@ -1,7 +1,8 @@
 #!/usr/bin/env python3
-"""Writes crates/isp_requests/data/pages.rows from the examples of the pages, so that `rt ci` runs what the pages show.
+"""Writes crates/isp_requests/data/pages.rows from the examples of the pages, so that `rt ci` runs what the pages show, and the text of crates/isp_remedies.
 
-    tools/page_rows.py              writes the rows of README.md and docs/, and the count of requests in crates/isp_requests/stdout
+    tools/page_rows.py              writes the rows of README.md and docs/, the count of requests in crates/isp_requests/stdout, and from
+                                    docs/FAULTS.md crates/isp_remedies/src/page.rt
     tools/page_rows.py --check      ends with status 1 where these are stale, where tools/explain says something else than a page, or where a
                                     row of a table of docs/FAULTS.md is the fix of no program among these and among those of ported.rows
 
@@ -25,9 +26,13 @@ import subprocess
 import sys
 import tempfile
 
+sys.dont_write_bytecode = True
+import explained as explanations  # noqa: E402
+
 ROOT = os.path.dirname(os.path.dirname(os.path.realpath(__file__)))
 CRATE = "crates/isp_requests"
 ROWS = f"{CRATE}/data/pages.rows"
+REMEDIES = "crates/isp_remedies/src/page.rt"
 COUNT = f"{CRATE}/stdout"
 PORTED = "crates/isp_cases/data/ported.rows"
 HEAD = """. What the examples of README.md and of the pages of docs/ show. Written by tools/page_rows.py.
@@ -202,7 +207,7 @@ def main():
     differ += unused(rows)
     for why in differ:
         print(why, file=sys.stderr)
-    for name, wanted in ((ROWS, text), (COUNT, counted(text))):
+    for name, wanted in ((ROWS, text), (COUNT, counted(text)), (REMEDIES, explanations.page())):
         if check and (not os.path.isfile(f"{ROOT}/{name}") or contents(name) != wanted):
             differ.append(name)
             print(f"page_rows.py: {name} is stale", file=sys.stderr)
