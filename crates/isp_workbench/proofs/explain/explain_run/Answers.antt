@@ -1,0 +1,20 @@
+use Rattle.std.proofs.Common.{Err, Some, refl, subst, sym}
+use Rattle.isp_workbench.proofs.Stories.{run_story, unrun_story}
+use Rattle.isp_workbench.proofs.explain.explain_run.Goals as goal
+
+pub returns-in-Ok : goal.returns-in-Ok
+returns-in-Ok g c =
+    let e = c.run_texts.ensures in
+    let holds = g.F.SourceFiles.holds c.args.files.now in
+    let source = subst (λ b. holds c.args.request.now.source.now (Some b)) (sym c.as_str-source.ensures.value) c.in-Ok.ensures.source in
+    let json = subst (λ b. holds c.args.call.arguments.now (Some b)) (sym c.as_str-json.ensures.value) c.in-Ok.ensures.json in (
+      e.0,
+      e.1,
+      run_story holds c.args.request.now c.args.call
+          (record { gang = c.args.request.now.gang; budget = c.args.request.now.budget; source = c.as_str-source.result; entry = c.args.call.entry; json = c.as_str-json.result })
+          refl refl refl source json _ _ _ e.0 e.2,
+    )
+
+pub returns-in-Err : goal.returns-in-Err
+returns-in-Err g c =
+    (Err c.in-Err.failure, c.unread.ensures, unrun_story (g.F.SourceFiles.holds c.args.files.now) c.args.request.now c.args.call _ _ c.in-Err.failure c.requires c.in-Err.ensures.err)

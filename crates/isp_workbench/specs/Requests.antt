@@ -1,0 +1,62 @@
+-- What `ispx` does for a request, and how it ends: the stories of isp_engine, for the same files.
+--     ExplainedCall    `explain` is `isp check`, or where it has an entry `isp run`
+--     WroteC           `c` writes the page of the code
+--     Answered         a request has its story, and its exit status; and of `c` the line on standard error
+--     Commands         some request is answered; or the words are refused, and nothing went out
+-- `tells line` says that a line went to standard error. What `explain` writes there is no part of a promise.
+use Rattle.std.specs.Prelude.{◌≡◌, ◌⊎◌, ℕ, List, [], Bool, Option, Some, None, Result, ⊤}
+use Rattle.isp_code.specs.Listing.{Listing}
+use Rattle.isp_words.specs.declared.words.CheckRequest.{CheckRequest}
+use Rattle.isp_words.specs.declared.words.RunRequest.{RunRequest}
+use Rattle.isp_engine.specs.declared.failure.Failure.{Failure}
+use Rattle.isp_engine.specs.Checking.{WroteVerdicts}
+use Rattle.isp_engine.specs.Commands.{Refused, RunEnds, exit_status, job_of_run}
+use Rattle.isp_engine.specs.Failures.{line_of}
+use Rattle.isp_engine.specs.Sinks.{TookAll}
+use Rattle.isp_engine.specs.Stories.{Holds, Stops, Unread, Writes}
+use Rattle.ispx_words.specs.declared.words.Call.{Call}
+use Rattle.ispx_words.specs.declared.words.CRequest.{CRequest}
+use Rattle.ispx_words.specs.declared.words.ExplainRequest.{ExplainRequest}
+use Rattle.ispx_words.specs.declared.words.Request.{Request}
+use Rattle.ispx_words.specs.declared.words.Request.TheVariants.{Explain, C}
+use Rattle.isp_workbench.specs.Texts.{GivesCode, GivesNone, c_page}
+
+-- ---- explain
+
+abbrev pub as_check : ExplainRequest → CheckRequest
+as_check q = record { gang = q.gang; source = q.source }
+
+abbrev pub as_run : ExplainRequest → Call → RunRequest
+as_run q call = record { gang = q.gang; budget = q.budget; source = q.source; entry = call.entry; arguments = call.arguments }
+
+abbrev pub ExplainedCall : Holds → ExplainRequest → Option Call → Option (List ℕ) → Option (List ℕ) → Bool → Result ⊤ Failure → Type 0
+ExplainedCall holds q None old new failed end = WroteVerdicts holds (as_check q) old new failed end
+ExplainedCall holds q (Some call) old new failed end = RunEnds holds (job_of_run (as_run q call)) old new failed end
+
+-- ---- c
+
+-- the text of the file gives the code
+pub record HasCode (holds : Holds) (q : CRequest) (code : Listing) : Type 0 where
+  pub text : List ℕ
+  pub has_text : holds q.file.now (Some text)
+  pub gives : GivesCode q.gang text code
+
+-- it cannot be read, or gives none
+abbrev pub HasNoCode : Holds → CRequest → Failure → Type 0
+HasNoCode holds q f = Unread holds q.file.now f ⊎ ((text : List ℕ) × holds q.file.now (Some text) × GivesNone q.gang text f)
+
+abbrev pub WroteC : Holds → CRequest → Option (List ℕ) → Option (List ℕ) → Bool → Result ⊤ Failure → Type 0
+WroteC holds q old new failed end = ((code : Listing) × HasCode holds q code × Writes (c_page q.is_header code) old new failed end) ⊎ Stops (HasNoCode holds q) old new failed end
+
+-- ---- the whole
+
+-- it ends in such a way, and has the status of that
+abbrev pub AnsweredBy : (Result ⊤ Failure → Type 0) → ℕ → Type 0
+AnsweredBy ends status = (end : Result ⊤ Failure) × (status ≡ exit_status end) × ends end
+
+abbrev pub Answered : Holds → Request → Option (List ℕ) → Option (List ℕ) → Bool → (List ℕ → Type 0) → ℕ → Type 0
+Answered holds (Explain q) old new failed tells status = AnsweredBy (ExplainedCall holds q q.call old new failed) status
+Answered holds (C q) old new failed tells status = AnsweredBy (λ end. WroteC holds q old new failed end × tells (line_of end)) status
+
+abbrev pub Commands : Holds → Option (List ℕ) → Option (List ℕ) → Bool → (List ℕ → Type 0) → ℕ → Type 0
+Commands holds old new failed tells status = (Refused tells status × TookAll [] old new failed) ⊎ ((q : Request) × Answered holds q old new failed tells status)

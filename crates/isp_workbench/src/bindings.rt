@@ -1,0 +1,150 @@
+//! Where the arguments of an entry are refused.
+use crate::page::Source;
+use isp_base::{Elem, Parameter, Signature, greatest_of, low_mask};
+use isp_bind::BindFault;
+use serde_json::{Number, Value as Json};
+use std::alloc::{AllocError, Global};
+use std::fmt::Write;
+
+/// The elements that an array may have.
+const LONGEST: usize = 16_777_216;
+
+/// What is refused, and where.
+#[derive(Clone, Copy)]
+struct Refused<'a> {
+    fault: BindFault,
+    site: Site<'a>,
+}
+
+#[derive(Clone, Copy)]
+enum Site<'a> {
+    Parameter(&'a str),
+    Element(&'a str, usize),
+    Member(&'a str),
+}
+
+/// `FILE: FAULT: WHERE`, where the arguments of this text are refused: by line and column where it is no JSON, else by the
+/// parameter and the element, or the member.
+pub(crate) fn push_arguments(
+    page: &mut String,
+    alloc: Global,
+    arguments: Source<'_, '_>,
+    signature: &Signature,
+    fault: BindFault,
+) -> Result<(), AllocError> {
+    page.push_str(arguments.name)?;
+    match Json::from_str(alloc, arguments.text) {
+        Ok(value) => push_site(page, signature, &value, fault),
+        Err(error) => {
+            let (line, column) = (error.line(), error.column());
+            write!(page, ":{line}:{column}: {fault}\n")
+        }
+    }
+}
+
+fn push_site(
+    page: &mut String,
+    signature: &Signature,
+    value: &Json,
+    fault: BindFault,
+) -> Result<(), AllocError> {
+    match first_refusal(signature, value) {
+        Some(refused) if refused.fault == fault => match refused.site {
+            Site::Parameter(name) => write!(page, ": {fault}: parameter \"{name}\"\n"),
+            Site::Element(name, element) => {
+                write!(page, ": {fault}: parameter \"{name}\", element {element}\n")
+            }
+            Site::Member(name) => write!(page, ": {fault}: member \"{name}\"\n"),
+        },
+        _ => write!(page, ": {fault}\n"),
+    }
+}
+
+// The first refusal of an object that should have the arguments.
+fn first_refusal<'a>(signature: &'a Signature, value: &'a Json) -> Option<Refused<'a>> {
+    for parameter in &signature.params {
+        if let Some(refused) = refused_for(parameter, value) {
+            return Some(refused);
+        }
+    }
+    let extra = extra(signature, value)?;
+    Some(Refused {
+        fault: BindFault::Extra,
+        site: Site::Member(extra),
+    })
+}
+
+fn extra<'a>(signature: &Signature, value: &'a Json) -> Option<&'a str> {
+    for key in value.as_object()?.keys() {
+        if !has_parameter(signature, key.as_str()) {
+            return Some(key.as_str());
+        }
+    }
+    None
+}
+
+fn has_parameter(signature: &Signature, name: &str) -> bool {
+    signature
+        .params
+        .iter()
+        .any(|parameter| parameter.name.as_str() == name)
+}
+
+fn refused_for<'a>(parameter: &'a Parameter, value: &'a Json) -> Option<Refused<'a>> {
+    let name = parameter.name.as_str();
+    let site = Site::Parameter(name);
+    let Some(found) = value.get(name) else {
+        return Some(Refused {
+            fault: BindFault::Missing,
+            site,
+        });
+    };
+    if !parameter.is_array {
+        let fault = element_fault(parameter.elem, found)?;
+        return Some(Refused { fault, site });
+    }
+    match found.as_array() {
+        Some(values) => refused_in(parameter, values),
+        None => Some(Refused {
+            fault: BindFault::WrongKind,
+            site,
+        }),
+    }
+}
+
+fn refused_in<'a>(parameter: &'a Parameter, values: &[Json]) -> Option<Refused<'a>> {
+    let name = parameter.name.as_str();
+    if values.len() > LONGEST {
+        return Some(Refused {
+            fault: BindFault::TooLong,
+            site: Site::Parameter(name),
+        });
+    }
+    for (element, value) in values.iter().enumerate() {
+        if let Some(fault) = element_fault(parameter.elem, value) {
+            return Some(Refused {
+                fault,
+                site: Site::Element(name, element),
+            });
+        }
+    }
+    None
+}
+
+// Why a value is none of an element type.
+fn element_fault(elem: Elem, value: &Json) -> Option<BindFault> {
+    if elem == Elem::Bool {
+        return match value.as_bool() {
+            Some(_) => None,
+            None => Some(BindFault::WrongKind),
+        };
+    }
+    let Some(whole) = value.as_number().and_then(Number::as_i128) else {
+        return Some(BindFault::WrongKind);
+    };
+    let greatest = i128::from(greatest_of(elem));
+    if whole > greatest || whole < greatest - i128::from(low_mask(elem)) {
+        return Some(BindFault::OutOfRange);
+    }
+    None
+}

@@ -1,0 +1,82 @@
+//! The whole program, over what it is handed.
+ghost use Rattle.std.specs.Prelude.{◌≡◌, false};
+ghost use Rattle.isp_engine.specs.Commands.{Refused, exit_status};
+ghost use Rattle.isp_engine.specs.Failures.{line_of};
+ghost use Rattle.isp_engine.specs.Sinks.{Told};
+ghost use Rattle.isp_workbench.specs.Requests.{Answered, Commands};
+
+use crate::explain::explain;
+use crate::native::c_file;
+use crate::output::show;
+use clap::Error;
+use clap::error::ErrorKind;
+use isp_engine::{Failure, Sink, SourceFiles, tell_line};
+use ispx_words::{Request, read_words};
+use std::alloc::Global;
+
+/// Does what `words` ask for, the first of which is the program's name, and answers the exit status.
+///
+/// `explain [--gang G] [--budget B] SOURCE [ENTRY ARGUMENTS]` does what `isp check` or `isp run` does, with the same output and
+/// the same status, and says on `err` what went wrong, where, and what to write instead. `c [--gang G] [--header] FILE` writes
+/// the code of a text, or with a gang that of a source, as a C file; where its status is not 0 the line of `isp` goes to `err`.
+/// Where `err` fails, or has failed before, the rest of it is lost.
+pub fn command<F: SourceFiles, O: Sink, E: Sink>(
+    alloc: Global,
+    words: &[String],
+    files: &F,
+    out: &mut O,
+    err: &mut E,
+) -> u8
+    requires { O.has_failed out.old ≡ false }
+    ensures { Commands (F.holds files.now) (O.written out.old) (O.written out.new) (O.has_failed out.new)
+        (λ line. Told line (E.written err.old) (E.written err.new) (E.has_failed err.new)) result }
+{
+    match read_words(alloc, words) {
+        Ok(request) => answer(alloc, &request, files, out, err),
+        Err(error) => refuse(alloc, &error, err),
+    }
+}
+
+fn answer<F: SourceFiles, O: Sink, E: Sink>(
+    alloc: Global,
+    request: &Request<'_>,
+    files: &F,
+    out: &mut O,
+    err: &mut E,
+) -> u8
+    requires { O.has_failed out.old ≡ false }
+    ensures { Answered (F.holds files.now) request.now (O.written out.old) (O.written out.new) (O.has_failed out.new)
+        (λ line. Told line (E.written err.old) (E.written err.new) (E.has_failed err.new)) result }
+{
+    match request {
+        Request::Explain(wanted) => explain(alloc, wanted, files, out, err),
+        Request::C(wanted) => tell(c_file(alloc, wanted, files, out), err),
+    }
+}
+
+// Writes the line that says why the program ends so, and answers the exit status.
+fn tell<E: Sink>(end: Result<(), Failure<'_>>, err: &mut E) -> u8
+    ensures status { result ≡ exit_status end.entry }
+    ensures line { Told (line_of end.entry) (E.written err.old) (E.written err.new) (E.has_failed err.new) }
+{
+    match end {
+        Ok(()) => 0,
+        Err(failure) => {
+            tell_line(&failure, err);
+            failure.status()
+        }
+    }
+}
+
+// Shows the text of refused words, and answers the exit status.
+fn refuse<E: Sink>(alloc: Global, error: &Error, err: &mut E) -> u8
+    ensures { Refused (λ line. Told line (E.written err.old) (E.written err.new) (E.has_failed err.new)) result }
+{
+    if error.kind() == ErrorKind::OutOfMemory {
+        return tell(Err(Failure::Memory), err);
+    }
+    if let Ok(text) = format!(in alloc; "{error}") {
+        show(text.as_str(), err);
+    }
+    2
+}

@@ -1,0 +1,62 @@
+//! Code as a C file.
+ghost use Rattle.std.specs.Prelude.{◌≡◌, false, string_bytes, IfOk, IfErr};
+ghost use Rattle.isp_workbench.specs.Requests.{HasCode, HasNoCode, WroteC};
+ghost use Rattle.isp_workbench.specs.Texts.{GivesCode, GivesNone, c_page};
+
+use crate::output::write_text;
+use crate::texts::read;
+use isp_base::Gang;
+use isp_engine::{Failure, Image, Sink, SourceFiles, compile, load_code};
+use isp_native::{header, write};
+use ispx_words::CRequest;
+use std::alloc::{AllocError, Global};
+
+/// Writes the C file of a code text, or of the code of a source, or its prototypes.
+pub(crate) fn c_file<'a, F: SourceFiles, O: Sink>(
+    alloc: Global,
+    request: &CRequest<'a>,
+    files: &F,
+    out: &mut O,
+) -> Result<(), Failure<'a>>
+    requires { O.has_failed out.old ≡ false }
+    ensures { WroteC (F.holds files.now) request.now (O.written out.old) (O.written out.new) (O.has_failed out.new) result }
+{
+    let image = code_of(alloc, request, files)?;
+    let page = page_of(alloc, &image, request.is_header)?;
+    write_text(page.as_str(), out)
+}
+
+// The code of the file.
+fn code_of<'a, F: SourceFiles>(
+    alloc: Global,
+    request: &CRequest<'a>,
+    files: &F,
+) -> Result<Image, Failure<'a>>
+    ensures ok { IfOk result (HasCode (F.holds files.now) request.now) }
+    ensures err { IfErr result (HasNoCode (F.holds files.now) request.now) }
+{
+    let text = read(alloc, files, request.file)?;
+    let image = image_of(alloc, request.gang, text.as_str())?;
+    Ok(image)
+}
+
+// The code that a text gives.
+fn image_of(alloc: Global, gang: Option<Gang>, text: &str) -> Result<Image, Failure<'static>>
+    ensures ok { IfOk result (GivesCode gang text.now) }
+    ensures err { IfErr result (GivesNone gang text.now) }
+{
+    match gang {
+        Some(gang) => Ok(compile(alloc, text, gang)?),
+        None => Ok(load_code(alloc, text)?),
+    }
+}
+
+fn page_of(alloc: Global, image: &Image, is_header: bool) -> Result<String, AllocError>
+    ensures { IfOk result (λ s. string_bytes s ≡ c_page is_header image.now) }
+{
+    if is_header {
+        header(alloc, image.code())
+    } else {
+        write(alloc, image.code())
+    }
+}

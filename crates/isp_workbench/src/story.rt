@@ -1,0 +1,198 @@
+//! What is said of a failure: where it is, the sentence and the remedy of docs/FAULTS.md.
+ghost use Rattle.std.specs.Prelude.{find};
+ghost use Rattle.std.specs.Option.{IsSome};
+ghost use Rattle.isp_rates.specs.Exports.{is_entry};
+
+use crate::bindings::push_arguments;
+use crate::page::{Source, push_place};
+use isp_base::{Gang, Trap};
+use isp_bind::BindFault;
+use isp_engine::{Failure, RunFault, front};
+use isp_independence::Dependence;
+use isp_lex::Fault;
+use isp_rates::Checked;
+use isp_remedies::{Spot, advice_on};
+use std::alloc::{AllocError, Global};
+use std::fmt::Write;
+
+/// What was done, as far as it was read: the source, and the entry with its arguments.
+#[derive(Clone, Copy)]
+pub(crate) struct Asked<'n, 't> {
+    source: Source<'n, 't>,
+    gang: Gang,
+    call: Option<Given<'n, 't>>,
+}
+
+/// An entry, and its arguments.
+#[derive(Clone, Copy)]
+pub(crate) struct Given<'n, 't> {
+    pub(crate) entry: &'n str,
+    pub(crate) arguments: Source<'n, 't>,
+}
+
+impl<'n, 't> Asked<'n, 't> {
+    pub(crate) fn of(
+        name: &'n str,
+        text: &'t str,
+        gang: Gang,
+        call: Option<Given<'n, 't>>,
+    ) -> Asked<'n, 't> {
+        Asked {
+            source: Source { name, text },
+            gang,
+            call,
+        }
+    }
+}
+
+/// Where a source is refused, why, and what to write instead.
+pub(crate) fn source_story(
+    alloc: Global,
+    asked: &Asked<'_, '_>,
+    fault: Fault,
+) -> Result<String, AllocError> {
+    let what = format!(in alloc; "{}", fault.rule)?;
+    let spot = Spot::new(alloc, asked.source.text, fault.span);
+    let mut page = String::new(alloc);
+    push_place(&mut page, asked.source, fault.span, what.as_str())?;
+    push_advice(&mut page, what.as_str(), spot.as_ref())?;
+    Ok(page)
+}
+
+/// Where a run trapped, for which instance, and what to write instead.
+pub(crate) fn trap_story(
+    alloc: Global,
+    asked: &Asked<'_, '_>,
+    trap: Trap,
+) -> Result<String, AllocError> {
+    let fault = format!(in alloc; "trap {}", trap.kind)?;
+    let what = format!(in alloc; "{fault}, instance {}", trap.instance)?;
+    let mut page = String::new(alloc);
+    push_place(&mut page, asked.source, trap.place, what.as_str())?;
+    push_advice(&mut page, fault.as_str(), None)?;
+    Ok(page)
+}
+
+/// Why an entry was not run: what is exported, or which of its arguments is refused.
+pub(crate) fn entry_story(
+    alloc: Global,
+    asked: &Asked<'_, '_>,
+    fault: RunFault,
+) -> Result<String, AllocError> {
+    let mut page = String::new(alloc);
+    push_refusal(&mut page, alloc, asked, fault)?;
+    push_advice(&mut page, fault.text(), None)?;
+    Ok(page)
+}
+
+/// The words by which docs/FAULTS.md has a failure without a place.
+pub(crate) fn plain_fault(failure: &Failure<'_>) -> &'static str {
+    match failure {
+        Failure::BudgetUsed => "budget used",
+        Failure::CannotRead(_) => "cannot read",
+        Failure::CannotWrite => "cannot write",
+        Failure::Memory => "memory",
+        _ => "",
+    }
+}
+
+// The sentence and the remedy of a fault, by what stands at its place.
+fn push_advice(page: &mut String, fault: &str, spot: Option<&Spot<'_>>) -> Result<(), AllocError> {
+    let Some(advice) = advice_on(fault) else {
+        return Ok(());
+    };
+    page.push_str(advice.sentence)?;
+    page.push_str("\nFix: ")?;
+    page.push_str(advice.remedy(spot))?;
+    page.push_str("\n")
+}
+
+// Why an entry was not run.
+fn push_refusal(
+    page: &mut String,
+    alloc: Global,
+    asked: &Asked<'_, '_>,
+    fault: RunFault,
+) -> Result<(), AllocError> {
+    let (Some(call), Ok(checked)) = (asked.call, front(alloc, asked.source.text, asked.gang)) else {
+        return write!(page, "isp: {fault}\n");
+    };
+    match fault {
+        RunFault::Arguments(fault) => push_unbound(page, alloc, &checked, call, fault),
+        _ => {
+            let (name, entry) = (asked.source.name, call.entry);
+            write!(page, "{name}: {fault}: {entry}\n    exported: ")?;
+            push_exports(page, &checked)
+        }
+    }
+}
+
+fn push_unbound(
+    page: &mut String,
+    alloc: Global,
+    checked: &Checked,
+    call: Given<'_, '_>,
+    fault: BindFault,
+) -> Result<(), AllocError> {
+    match checked.signature(call.entry) {
+        Some(signature) => push_arguments(page, alloc, call.arguments, signature, fault),
+        None => write!(page, "isp: {fault}\n"),
+    }
+}
+
+// The names of the exported functions.
+fn push_exports(page: &mut String, checked: &Checked) -> Result<(), AllocError> {
+    let mut comma = "";
+    for k in 0..checked.exports().len() {
+        if let Some(name) = checked.export(k) {
+            write!(page, "{comma}{name}")?;
+            comma = ", ";
+        }
+    }
+    page.push_str(if comma.is_empty() { "nothing\n" } else { "\n" })
+}
+
+/// Which rule each exported function breaks that is no independent entry, where, and what to write instead.
+pub(crate) fn notes(alloc: Global, asked: &Asked<'_, '_>) -> Result<String, AllocError> {
+    let mut page = String::new(alloc);
+    if let Ok(checked) = front(alloc, asked.source.text, asked.gang) {
+        push_notes(&mut page, alloc, asked.source, &checked)?;
+    }
+    Ok(page)
+}
+
+fn push_notes(
+    page: &mut String,
+    alloc: Global,
+    source: Source<'_, '_>,
+    checked: &Checked,
+) -> Result<(), AllocError> {
+    for k in 0..checked.exports().len() {
+        if let Some(name) = checked.export(k) {
+            if let Some(dependence) = breach(checked, name) {
+                push_note(page, alloc, source, name, dependence)?;
+            }
+        }
+    }
+    Ok(())
+}
+
+// The first breach of an exported function as an independent entry.
+fn breach(checked: &Checked, name: &str) -> Option<Dependence>
+    requires { IsSome (find (is_entry name.now) checked.now.functions.items) }
+{
+    checked.independent(name).err()
+}
+
+fn push_note(
+    page: &mut String,
+    alloc: Global,
+    source: Source<'_, '_>,
+    name: &str,
+    dependence: Dependence,
+) -> Result<(), AllocError> {
+    let fault = format!(in alloc; "rule {}", dependence.rule.number())?;
+    let what = format!(in alloc; "{name} dependent: {fault}")?;
+    push_place(page, source, dependence.span, what.as_str())?;
+    push_advice(page, fault.as_str(), None)
+}

@@ -1,0 +1,6 @@
+//! The command words of `ispx`, and what they ask for.
+#![tactic(auto)]
+
+mod words;
+
+pub use words::{CRequest, Call, ExplainRequest, Request, read_words};
