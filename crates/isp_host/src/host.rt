@@ -13,12 +13,12 @@ use std::rt::Files;
 
 /// The system's files.
 #[derive(Drop)]
-pub(crate) struct HostFiles<'a, R> {
+pub struct HostFiles<'a, R> {
     rt: &'a R,
 }
 
 impl<'a, R: Files> HostFiles<'a, R> {
-    pub(crate) fn new(rt: &'a R) -> HostFiles<'a, R> {
+    pub fn new(rt: &'a R) -> HostFiles<'a, R> {
         HostFiles { rt }
     }
 }
@@ -46,13 +46,13 @@ fn unopened(kind: ErrorKind) -> FileFault
 
 /// The standard output or the standard error. It does not tell what was written.
 #[derive(Drop)]
-pub(crate) struct HostOutput<'a, P> {
+pub struct HostOutput<'a, P> {
     to: &'a P,
     has_failed: bool,
 }
 
 impl<'a, P: Print> HostOutput<'a, P> {
-    pub(crate) fn new(to: &'a P) -> HostOutput<'a, P>
+    pub fn new(to: &'a P) -> HostOutput<'a, P>
         ensures { result.has_failed ≡ false }
     {
         HostOutput {
