@@ -1,42 +1,48 @@
 #!/usr/bin/env python3
-"""Writes crates/isp_requests/data/pages.rows from the examples of the pages, so that `rt ci` runs what the pages show, and the text of crates/isp_remedies.
+"""Writes from the pages what `rt ci` compares with the programs, and the table from which `ispx` takes its texts.
 
-    tools/page_rows.py              writes the rows of README.md and docs/, the count of requests in crates/isp_requests/stdout, and from
-                                    docs/FAULTS.md crates/isp_remedies/src/page.rt
-    tools/page_rows.py --check      ends with status 1 where these are stale, where tools/explain says something else than a page, or where a
-                                    row of a table of docs/FAULTS.md is the fix of no program among these and among those of ported.rows
+    tools/page_rows.py              writes the files below, and the count of requests in crates/isp_requests/stdout
+    tools/page_rows.py --check      ends with status 1 where one of these is stale, where a page shows another explanation than tools/explained.py
+                                    works out, or where a row of a table of docs/FAULTS.md is the fix of no program among these and among those of
+                                    ported.rows
+
+- crates/isp_requests/data/pages.rows: the examples of README.md and docs/, so that the gate runs what the pages show.
+- crates/isp_requests/data/explain.rows: what `ispx explain` has to say of each example of a page that is refused or trapped, and of each source of
+  ported.rows that is refused, by tools/explained.py.
+- crates/isp_remedies/src/page.rt: the sentences and the fixes of docs/FAULTS.md.
 
 An example is a block between ``` that begins with `$ `:
 
     $ cat NAME                      the lines of a file up to the next `$ `; it stays as it is until it is shown anew
     $ isp WORD..                    what it prints, and last `[STATUS]` where that is not 0; `$ bin/isp WORD..` too
     $ isp WORD.. > NAME             what it prints is what the `$ cat NAME` behind it shows
-    $ isp WORD.. 2>&1 | tools/explain NAME..
-                                    what tools/explain makes of what the same command printed before
+    $ ispx WORD..                   the same of `ispx`; of `ispx explain` all behind what `isp` writes to standard output goes to standard error
 
 Other commands count for nothing. A file that a page does not show is taken from the repository, where it is there. Of a command that
 goes into another, or reads a file that is not shown since another made it, there is no row; its name is printed. The format of the
 rows stands in crates/isp_requests/src/main.rt.
 """
-import importlib.machinery
-import importlib.util
 import os
 import re
-import subprocess
 import sys
-import tempfile
 
 sys.dont_write_bytecode = True
-import explained as explanations  # noqa: E402
+import explained  # noqa: E402
 
 ROOT = os.path.dirname(os.path.dirname(os.path.realpath(__file__)))
 CRATE = "crates/isp_requests"
 ROWS = f"{CRATE}/data/pages.rows"
+EXPLAIN = f"{CRATE}/data/explain.rows"
 REMEDIES = "crates/isp_remedies/src/page.rt"
 COUNT = f"{CRATE}/stdout"
 PORTED = "crates/isp_cases/data/ported.rows"
+# how a row says whose words it has
+PROGRAM = {"isp": "words", "ispx": "ispx"}
 HEAD = """. What the examples of README.md and of the pages of docs/ show. Written by tools/page_rows.py.
 . What docs/FAULTS.md and docs/INDEPENDENCE.md show was worked out from the rules before it was run, but for the place of 11, which is left open.
+"""
+EXPLAIN_HEAD = """. What `ispx explain` says of what docs/ shows as refused or stopped, and of each source that crates/isp_cases/data/ported.rows has as refused.
+. Written by tools/page_rows.py; worked out by tools/explained.py, which has the rules in Python, from docs/FAULTS.md.
 """
 
 
@@ -97,16 +103,18 @@ def parted(shown):
     return (status, [], lines) if status == 2 else (status, lines[:-1], lines[-1:])
 
 
-def row(heading, words, files, shown):
-    """Yields the lines of a row: a request, and what it shows."""
+def row(heading, words, files, shown, program="words", outs=None):
+    """Yields the lines of a row: a request, and what it shows, of which so many lines are of standard output."""
     status, out, err = parted(shown)
+    if outs is not None:
+        out, err = [*out, *err][:outs], [*out, *err][outs:]
     yield f"=== {heading}"
     for word in words:
         if word in files:
             yield f"file {word} {spelt(files[word])}"
         elif re.search(r"[./]", word) and os.path.isfile(f"{ROOT}/{word}"):
             yield f"file {word} {spelt(contents(word))}"
-    yield f"words {' '.join(words)}"
+    yield f"{program} {' '.join(words)}"
     if status:
         yield f"status {status}"
     if out:
@@ -115,18 +123,23 @@ def row(heading, words, files, shown):
         yield f"err {spelt(text_of(err)[:-1])}"
 
 
-def explained(words, given, files):
-    """Returns the lines of tools/explain behind a command that printed these."""
-    with tempfile.TemporaryDirectory() as folder:
-        for name, text in files.items():
-            with open(os.path.join(folder, os.path.basename(name)), "w", encoding="utf-8") as file:
-                file.write(text)
-        ran = subprocess.run([f"{ROOT}/tools/explain", *words], cwd=folder, input=given, stdout=subprocess.PIPE, text=True, check=False)
-    return ran.stdout.split("\n")[:-1]
+def as_isp(words):
+    """Returns the words of `isp` for those of `ispx explain`."""
+    options = sum(2 for word in words if word.startswith("--"))
+    return ["check" if len(words) - options == 1 else "run", *words]
+
+
+def told(words, files, printed):
+    """Returns what `ispx explain` has to print where `isp` prints this, and how many lines of it are of standard output."""
+    status, out, err = parted(printed)
+    names = [word for word in words if not word.startswith("--") and not word.isdigit()]
+    noted = [line for line in out if explained.FAULT.fullmatch(line)] if words and len(names) == 1 else []
+    lines = [line for of_err in [*noted, *err] for line in explained.explained(of_err, names, files)]
+    return [*out, *lines, *([f"[{status}]"] if status else [])], len(out)
 
 
 def rows_of(page):
-    """Returns the lines of a page's rows, and what tools/explain says otherwise than the page."""
+    """Returns the lines of a page's rows, and where the page shows another explanation."""
     files, unseen, rows, printed, differ = {}, set(), [], {}, []
     for heading, steps in examples(page):
         for (command, shown), (following, after) in zip(steps, [*steps[1:], ("", [])]):
@@ -138,49 +151,83 @@ def rows_of(page):
             if words[0] == "cat" and len(words) == 2:
                 files[words[1]] = text_of(shown)
                 unseen.discard(words[1])
-            elif words[0] != "isp":
+            elif words[:2] == ["ispx", "explain"]:
+                wanted, outs = told(words[2:], files, printed[tuple(as_isp(words[2:]))])
+                if wanted != shown:
+                    differ.append(f"{heading}: tools/explained.py says\n{text_of(wanted)}")
+                rows += row(heading, words[1:], files, shown, "ispx", outs)
+            elif words[0] not in ("isp", "ispx"):
                 continue
-            elif "tools/explain" in words:
-                at = words.index("tools/explain")
-                said = explained(words[at + 1 :], text_of(printed.get(tuple(words[1 : at - 2]), [])), files)
-                if said != shown:
-                    differ.append(f"{heading}: tools/explain says\n{text_of(said)}")
             elif into and following == f"cat {into}" and not unseen.intersection(words[:-1]):
-                rows += row(heading, words[1:-2], files, after)
+                rows += row(heading, words[1:-2], files, after, PROGRAM[words[0]])
             elif into or "|" in words or unseen.intersection(words):
                 print(f"page_rows.py: no row of `{command}`", file=sys.stderr)
             else:
-                rows += row(heading, words[1:], files, shown)
-                printed[tuple(words[1:])] = shown[: -1 if parted(shown)[0] else None]
+                rows += row(heading, words[1:], files, shown, PROGRAM[words[0]])
+                printed[tuple(words[1:])] = shown
     return rows, differ
 
 
-def refused(rows):
-    """Yields the fault, the source and the span of each source that rows refuse, those of this page and those of PORTED."""
-    files = {}
-    for line in rows:
+def records(rows):
+    """Yields the heading, the words, the files and what is shown of each row of a request to `isp`."""
+    heading, words, files, status, out, err = "", None, {}, 0, "", ""
+    for line in [*rows, "=== "]:
         word, _, rest = line.partition(" ")
-        if word == "file":
+        rest = rest.replace("␤", "\n").replace("␉", "\t")
+        if word == "===":
+            if words:
+                lines = [*out.split("\n")[:-1], *([err] if err else [])]
+                yield heading, words, files, [*lines, *([f"[{status}]"] if status else [])]
+            heading, words, files, status, out, err = rest, None, {}, 0, "", ""
+        elif word == "file":
             files.__setitem__(*rest.split(" ", 1))
         elif word == "words":
-            name = rest.split(" ")[-1]
-        elif word == "err" and (fault := re.match(r"isp: (\d+) \w+ at (\d+)\.\.(\d+)$", rest)) and name in files:
-            yield fault[1], files[name].replace("␤", "\n").replace("␉", "\t").encode(), int(fault[2]), int(fault[3])
+            words = rest.split(" ")
+        elif word == "status":
+            status = int(rest)
+        elif word == "out":
+            out = rest
+        elif word == "err":
+            err = rest
+
+
+def explanations(rows):
+    """Yields the lines of a row for each row of a check or a run that is refused or stopped, and for each source of PORTED that is refused."""
+    for heading, words, files, shown in records(rows):
+        if words[0] in ("check", "run") and parted(shown)[0] != 2:
+            wanted, outs = told(words[1:], files, shown)
+            if wanted == shown:
+                continue
+            yield from row(heading, ["explain", *words[1:]], files, wanted, "ispx", outs)
+    for number, (fault, source, start, end) in enumerate(ported(), 1):
+        shown = [f"isp: {fault} at {start}..{end}", "[1]"]
+        wanted, outs = told(["s.ispc"], {"s.ispc": source.decode()}, shown)
+        yield from row(f"ported.rows, {number}", ["explain", "s.ispc"], {"s.ispc": source.decode()}, wanted, "ispx", outs)
+
+
+def ported():
+    """Yields the fault, the source and the span of each source that PORTED has as refused."""
     for line in contents(PORTED).split("\n"):
-        if fault := re.match(r"refuses (\d+) \w+\|(.*)⟦(.*)⟧(.*)", line):
+        if fault := re.match(r"refuses (\d+ \w+)\|(.*)⟦(.*)⟧(.*)", line):
             before, marked, after = (part.encode() for part in fault.groups()[1:])
             yield fault[1], before + marked + after, len(before), len(before + marked)
 
 
+def refused(rows):
+    """Yields the fault, the source and the span of each source that rows refuse, those of this page and those of PORTED."""
+    for _, words, files, shown in records(rows):
+        err = parted(shown)[2]
+        name = words[-1]
+        if err and (fault := re.match(r"isp: (\d+ \w+) at (\d+)\.\.(\d+)$", err[-1])) and name in files:
+            yield fault[1], files[name].encode(), int(fault[2]), int(fault[3])
+    yield from ported()
+
+
 def unused(rows):
     """Yields the rows of the tables of docs/FAULTS.md that are the fix of no program."""
-    loader = importlib.machinery.SourceFileLoader("explain", f"{ROOT}/tools/explain")
-    explain = importlib.util.module_from_spec(importlib.util.spec_from_loader("explain", loader))
-    loader.exec_module(explain)
-    tables, used = {heading: [cell for cell, _ in table] for heading, (_, _, table) in explain.pages_faults().items()}, set()
-    for number, source, start, end in refused(rows):
-        heading = next((it for it in tables if it.startswith(f"{number} ")), "")
-        spot = explain.Spot(source, start, end)
+    tables, used = {heading: [cell for cell, _ in table] for heading, (_, _, table) in explained.pages_faults().items()}, set()
+    for heading, source, start, end in refused(rows):
+        spot = explained.Spot(source, start, end)
         used.add((heading, next((cell for cell in tables.get(heading, []) if spot.fits(cell)), "")))
     for heading, cells in tables.items():
         yield from (f"{heading}: no program for the row {cell}" for cell in cells if (heading, cell) not in used)
@@ -188,7 +235,8 @@ def unused(rows):
 
 def counted(rows):
     """Returns the line that crates/isp_requests prints where all of its requests come out."""
-    names = [name for name in contents(f"{CRATE}/args").split() if name != os.path.basename(ROWS)]
+    made = [os.path.basename(name) for name in (ROWS, EXPLAIN)]
+    names = [name for name in contents(f"{CRATE}/args").split() if name not in made]
     requests = "".join(contents(f"{CRATE}/data/{name}") for name in names) + rows
     return f"{requests.count('=== ')} requests, 0 differ\n"
 
@@ -203,11 +251,12 @@ def main():
         of_page, otherwise = rows_of(page)
         rows += of_page
         differ += otherwise
-    text = HEAD + text_of(rows)
+    text, explain = HEAD + text_of(rows), EXPLAIN_HEAD + text_of(explanations(rows))
     differ += unused(rows)
     for why in differ:
         print(why, file=sys.stderr)
-    for name, wanted in ((ROWS, text), (COUNT, counted(text)), (REMEDIES, explanations.page())):
+    made = ((ROWS, text), (EXPLAIN, explain), (REMEDIES, explained.page()), (COUNT, counted(text + explain)))
+    for name, wanted in made:
         if check and (not os.path.isfile(f"{ROOT}/{name}") or contents(name) != wanted):
             differ.append(name)
             print(f"page_rows.py: {name} is stale", file=sys.stderr)

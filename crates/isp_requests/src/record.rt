@@ -1,6 +1,5 @@
 //! One request, line by line.
 use crate::fakes::{Page, Shelf};
-use isp_engine::command;
 use isp_testing::{Marked, number, parted, spelt_out};
 use std::alloc::{AllocError, Global};
 
@@ -12,10 +11,18 @@ pub(crate) struct Record<'a> {
     files: Shelf<'a>,
     /// The place in the file that was written last, as `S..E`.
     place: String,
+    program: Program,
     words: &'a str,
     status: u64,
     out: String,
     err: String,
+}
+
+/// Whose words they are.
+#[derive(Clone, Copy)]
+enum Program {
+    Isp,
+    Ispx,
 }
 
 // What comes out of a request.
@@ -33,6 +40,7 @@ impl<'a> Record<'a> {
             name,
             files: Shelf::new(alloc),
             place: String::new(alloc),
+            program: Program::Isp,
             words: "",
             status: 0,
             out: String::new(alloc),
@@ -45,7 +53,8 @@ impl<'a> Record<'a> {
         let (word, rest) = parted(line, ' ');
         match word {
             "file" => self.put_file(rest)?,
-            "words" => self.words = rest,
+            "words" => self.ask(Program::Isp, rest),
+            "ispx" => self.ask(Program::Ispx, rest),
             "kept" => self.keep(rest)?,
             "status" => self.status = number(rest).unwrap_or(0),
             "out" => self.out = self.placed(rest)?,
@@ -56,6 +65,11 @@ impl<'a> Record<'a> {
             _ => {}
         }
         Ok(())
+    }
+
+    fn ask(&mut self, program: Program, words: &'a str) {
+        self.program = program;
+        self.words = words;
     }
 
     fn put_file(&mut self, rest: &'a str) -> Result<(), AllocError> {
@@ -88,14 +102,18 @@ impl<'a> Record<'a> {
     // What the words come to.
     fn answer(&self) -> Result<Answer, AllocError> {
         let alloc = self.alloc;
-        let line = format!(in alloc; "isp {}", self.words)?;
+        let line = format!(in alloc; "{} {}", self.program.name(), self.words)?;
         let words: Vec<String> = line
             .as_str()
             .split(' ')
             .map(|word| String::from_str(alloc, word))
             .try_collect(alloc)?;
         let (mut out, mut err) = (Page::new(alloc), Page::new(alloc));
-        let status = command(alloc, words.as_slice(), &self.files, &mut out, &mut err);
+        let (words, files) = (words.as_slice(), &self.files);
+        let status = match self.program {
+            Program::Isp => isp_engine::command(alloc, words, files, &mut out, &mut err),
+            Program::Ispx => isp_workbench::command(alloc, words, files, &mut out, &mut err),
+        };
         Ok(Answer { status, out, err })
     }
 
@@ -109,5 +127,14 @@ impl<'a> Record<'a> {
         let (out, err) = (out.text(alloc)?, err.text(alloc)?);
         let difference = format!(in alloc; "{}: status {status}, {out}, {err}", self.name)?;
         Ok(Some(difference))
+    }
+}
+
+impl Program {
+    fn name(self) -> &'static str {
+        match self {
+            Program::Isp => "isp",
+            Program::Ispx => "ispx",
+        }
     }
 }

@@ -1,0 +1,1 @@
+export void f(uniform int a[]) { a[programIndex] = a[programIndex] * 2 + 1; }
