@@ -4,6 +4,7 @@ const $ = (id) => document.getElementById(id);
 const { examples, faults } = JSON.parse($("data").textContent);
 const SHOWN = 200000;   // characters of output that are shown
 const NUMBERED = 20000; // lines that get a number
+const ROWS = 5000;      // steps that are shown
 
 const TABS = {
     run: "What the run wrote, and its answer: the arrays as they are then, and the result.",
@@ -95,9 +96,15 @@ async function traced(files) {
     if (!made || made.error || made.status) {
         return made;
     }
-    const code = new TextDecoder().decode(made.out), entry = $("entry").value, numbers = ["budget", "from", "count"];
-    const [budget, from, count] = numbers.map((it) => /^\d{1,18}$/.test($(it).value.trim()) ? $(it).value.trim() : "0");
+    const code = new TextDecoder().decode(made.out), entry = $("entry").value, [budget, from, count] = ["budget", "from", "count"].map(number);
     return machine.trace({ code, entry, packed: packed(code, entry, $("arguments").value), budget, from, count, lanes: $("lanes").checked });
+}
+
+// The whole number in a field, at most what 64 bits hold; 0 where there is none.
+function number(name) {
+    const text = $(name).value.trim(), most = 2n ** 64n - 1n;
+    const found = /^\d+$/.test(text) ? BigInt(text) : 0n;
+    return found < most ? found : most;
 }
 
 // ---- arguments as bytes, in the form of isp.h
@@ -130,7 +137,9 @@ function packed(code, entry, text) {
         values.forEach((it, i) => writeBits(part, (isArray ? 8 : 0) + bytes * i, BigInt(it), width, bytes));
         parts.push(new Uint8Array(part.buffer));
     }
-    return new Uint8Array(parts.flatMap((it) => [...it]));
+    const whole = new Uint8Array(parts.reduce((sum, it) => sum + it.length, 0));
+    parts.reduce((at, it) => (whole.set(it, at), at + it.length), 0);
+    return whole;
 }
 
 // The bits of a number in its width, in so many bytes.
@@ -232,7 +241,7 @@ function showSteps(text) {
         head.append(cell);
     }
     const body = table.createTBody(), lines = text.split("\n").filter((it) => it);
-    for (const line of lines) {
+    for (const line of lines.slice(0, ROWS)) {
         const found = STEP.exec(line);
         if (!found) {
             continue;
@@ -244,7 +253,7 @@ function showSteps(text) {
     }
     $("steps").replaceChildren(table);
     $("steps").hidden = false;
-    $("state").textContent += ` ${lines.length} steps.`;
+    $("state").textContent += ` ${lines.length} steps${lines.length > ROWS ? `, of which the first ${ROWS} are shown` : ""}.`;
 }
 
 // `m3=1110` as its name and a square for each lane; anything else as it is.

@@ -2,8 +2,8 @@
 "use strict";
 
 const OUT = 8 << 20, ERR = 64 << 10;
-// bytes of structs of include/isp.h: a struct isp_file is two of isp_text
-const TEXT = 16, TRACE = 48, REPORT = 216;
+// bytes of structs of include/isp.h: a struct isp_file is two of isp_text; the line of a report stands at its end
+const TEXT = 16, TRACE = 48, REPORT = 216, LINE = 128;
 let module;
 
 onmessage = async ({ data }) => {
@@ -47,7 +47,7 @@ function traced(isp, { code, entry, packed, budget, from, count, lanes }) {
     const [codeAt, entryAt, packedAt] = [...texts, packed].map((it) => placed(isp, it));
     const trace = placed(isp, new Uint8Array(TRACE)), report = room(isp, REPORT);
     const view = new DataView(isp.memory.buffer, Number(trace), TRACE);
-    [entryAt, BigInt(texts[1].length), BigInt(budget), BigInt(from), BigInt(count)].forEach((it, i) => view.setBigUint64(8 * i, it, true));
+    [entryAt, BigInt(texts[1].length), budget, from, count].forEach((it, i) => view.setBigUint64(8 * i, it, true));
     view.setUint32(40, lanes ? 1 : 0, true);
     const call = (size) => {
         const place = room(isp, size);
@@ -58,7 +58,8 @@ function traced(isp, { code, entry, packed, budget, from, count, lanes }) {
     if (done.status === 10) {
         done = call(done.used);
     }
-    return { status: done.status, out: new Uint8Array(isp.memory.buffer, Number(done.place), done.used).slice(), err: new Uint8Array() };
+    const line = new Uint8Array(isp.memory.buffer, Number(report) + REPORT - LINE, LINE), err = line.slice(0, line.indexOf(0));
+    return { status: done.status, out: new Uint8Array(isp.memory.buffer, Number(done.place), done.status ? 0 : done.used).slice(), err };
 }
 
 // Puts bytes into memory.
