@@ -103,10 +103,8 @@ def page():
 
 /// A section for each fault, from a line feed, `# ` and its words on: the sentence, the fix, and the rows of its table. A row is
 /// `@ ` and what may stand at the place, `? ` and what has to hold around it, and its fix.
-pub(crate) fn page() -> &'static str {{
-    "
-{text}"
-}}
+pub(crate) const PAGE: &str = "
+{text}";
 '''
 
 

@@ -1,5 +1,5 @@
 //! What the page says of a fault.
-use crate::page::page;
+use crate::page::PAGE;
 use crate::spot::Spot;
 
 /// What the page says of a fault. Texts are broken into lines.
@@ -15,7 +15,7 @@ pub struct Advice {
 
 /// What the page says of a fault, by the words that its line has for it: `30 VaryingToUniform`, `trap divide`, `rule 4`.
 pub fn advice_on(fault: &str) -> Option<Advice> {
-    for section in page().split("\n# ") {
+    for section in PAGE.split("\n# ") {
         if let Some((words, body)) = section.split_once("\n") {
             if words == fault {
                 return Some(Advice::of(body));

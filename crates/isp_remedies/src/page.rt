@@ -2,8 +2,7 @@
 
 /// A section for each fault, from a line feed, `# ` and its words on: the sentence, the fix, and the rows of its table. A row is
 /// `@ ` and what may stand at the place, `? ` and what has to hold around it, and its fix.
-pub(crate) fn page() -> &'static str {
-    "
+pub(crate) const PAGE: &str = "
 # 1 BadByte
 No token begins with this character: a point, `#`, `@`, `'`, or a character outside ASCII.
 Fix: retype what a word processor changed: `-` for `–`, `\"` for `“`. Outside comments and string
@@ -470,5 +469,4 @@ Fix: end other programs, or use smaller arrays and a shorter source.
 The command line is refused, or asks for help. Standard error has clap's message, or one line if an
 argument is not valid UTF-8. The status is 2.
 Fix: write the command as in the README (README.md#commands), with the options after the command's
-name: `isp check --gang 8 wait.ispc`. `isp check --help` lists them."
-}
+name: `isp check --gang 8 wait.ispc`. `isp check --help` lists them.";

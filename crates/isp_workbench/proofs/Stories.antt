@@ -17,10 +17,10 @@ use Rattle.isp_engine.specs.Images.{IsCompilation, IsNotLoaded}
 use Rattle.isp_engine.specs.Stories.{Holds, Reads, SourceFails, Unread, UnreadOf}
 use Rattle.isp_engine.proofs.Requests.{unread_first, unread_second}
 use Rattle.isp_engine.proofs.Written.{adds_nil}
-use Rattle.ispx_words.specs.declared.words.Call.{Call}
+use Rattle.isp_words.specs.declared.words.RunRequest.{RunRequest}
 use Rattle.ispx_words.specs.declared.words.ExplainRequest.{ExplainRequest}
 use Rattle.isp_workbench.specs.declared.done.Job.{Job as Done}
-use Rattle.isp_workbench.specs.Requests.{as_check, as_run}
+use Rattle.isp_workbench.specs.Requests.{as_check}
 use Rattle.isp_workbench.specs.Texts.{ChecksText, GivesNone, RunsTexts}
 
 -- ---- a text that gives no code
@@ -77,38 +77,39 @@ module _ (holds : Holds) (q : ExplainRequest) where
 
 -- ---- a run
 
-module _ (holds : Holds) (q : ExplainRequest) (call : Call) where
-  unread_of : (f : Failure) → UnreadOf holds q.source.now call.arguments.now f → NotGiven holds (job_of_run (as_run q call)) f
-  unread_of f h =
-      elim h [ inl k ↦ unread_first holds (job_of_run (as_run q call)) f k | inr k ↦ unread_second holds (job_of_run (as_run q call)) k.0.0 k.0.1 f k.1 ]
+module _ (holds : Holds) (q : RunRequest) where
+  pub not_given : (f : Failure) → UnreadOf holds q.source.now q.arguments.now f → NotGiven holds (job_of_run q) f
+  not_given f h = elim h [ inl k ↦ unread_first holds (job_of_run q) f k | inr k ↦ unread_second holds (job_of_run q) k.0.0 k.0.1 f k.1 ]
 
-  pub unrun_story : (old : Option (List ℕ)) (failed : Bool) (f : Failure) → failed ≡ false → UnreadOf holds q.source.now call.arguments.now f
-      → RunEnds holds (job_of_run (as_run q call)) old old failed (Err f)
-  unrun_story old failed f fresh h = inr (unread_of f h, (sym (adds_nil old), fresh))
+  pub unrun_story : (old : Option (List ℕ)) (failed : Bool) (f : Failure) → failed ≡ false → UnreadOf holds q.source.now q.arguments.now f
+      → RunEnds holds (job_of_run q) old old failed (Err f)
+  unrun_story old failed f fresh h = inr (not_given f h, (sym (adds_nil old), fresh))
 
-  module _ (done : Done) (gang : done.gang ≡ q.gang) (budget : done.budget ≡ q.budget) (entry : done.entry.now ≡ call.entry.now)
-      (source : holds q.source.now (Some done.source.now)) (json : holds call.arguments.now (Some done.json.now)) where
-    abbrev files : Reads holds q.source.now call.arguments.now
-    files = record { text = done.source.now; json = done.json.now; has_text = source; has_json = json }
+  -- what the texts of its files are
+  module _ (files : Reads holds q.source.now q.arguments.now) where
+    pub not_compiled : (f : Failure) → GivesNone (Some q.gang) files.text f → NotGiven holds (job_of_run q) f
+    not_compiled (Source f) h = (files, h)
+    not_compiled Memory h = tt
+    not_compiled (Trapped t) h = absurd h
+    not_compiled BudgetUsed h = absurd h
+    not_compiled (Run f) h = absurd h
+    not_compiled (CannotRead name) h = absurd h
+    not_compiled CannotWrite h = absurd h
+    not_compiled (Code f) h = absurd h
+    not_compiled (TurnsUsed p) h = absurd h
+    not_compiled (NotIndependent d) h = absurd h
+    not_compiled (NotApart n e) h = absurd h
 
-    gives_none : (f : Failure) → GivesNone (Some done.gang) done.source.now f → NotGiven holds (job_of_run (as_run q call)) f
-    gives_none (Source f) h = (files, subst (λ g. IsFaulty g done.source.now f) gang h)
-    gives_none Memory h = tt
-    gives_none (Trapped t) h = absurd h
-    gives_none BudgetUsed h = absurd h
-    gives_none (Run f) h = absurd h
-    gives_none (CannotRead name) h = absurd h
-    gives_none CannotWrite h = absurd h
-    gives_none (Code f) h = absurd h
-    gives_none (TurnsUsed p) h = absurd h
-    gives_none (NotIndependent d) h = absurd h
-    gives_none (NotApart n e) h = absurd h
+  module _ (done : Done) (gang : done.gang ≡ q.gang) (budget : done.budget ≡ q.budget) (entry : done.entry.now ≡ q.entry.now)
+      (source : holds q.source.now (Some done.source.text.now)) (json : holds q.arguments.now (Some done.arguments.text.now)) where
+    abbrev files_of : Reads holds q.source.now q.arguments.now
+    files_of = record { text = done.source.text.now; json = done.arguments.text.now; has_text = source; has_json = json }
 
     pub run_story : (old new : Option (List ℕ)) (failed : Bool) (end : Result ⊤ Failure) → RunsTexts done old new failed end
-        → RunEnds holds (job_of_run (as_run q call)) old new failed end
+        → RunEnds holds (job_of_run q) old new failed end
     run_story old new failed end (inl h) =
-        let image = subst (λ g. IsCompilation g done.source.now h.code) gang h.compiles in
-        let ran = subst (λ e. Ran h.code e done.json.now q.budget old new failed end) entry (subst (λ b. Ran h.code done.entry.now done.json.now b old new failed end) budget h.ran) in
-        inl (record { code = h.code; json = done.json.now; given = record { files = files; json_is = refl; image = image }; ran = ran })
+        let image = subst (λ g. IsCompilation g done.source.text.now h.code) gang h.compiles in
+        let ran = subst (λ e. Ran h.code e done.arguments.text.now q.budget old new failed end) entry (subst (λ b. Ran h.code done.entry.now done.arguments.text.now b old new failed end) budget h.ran) in
+        inl (record { code = h.code; json = done.arguments.text.now; given = record { files = files_of; json_is = refl; image = image }; ran = ran })
     run_story old new failed (Ok u) (inr h) = absurd h
-    run_story old new failed (Err f) (inr h) = inr (gives_none f h.0, h.1)
+    run_story old new failed (Err f) (inr h) = inr (not_compiled files_of f (subst (λ g. GivesNone (Some g) done.source.text.now f) gang h.0), h.1)

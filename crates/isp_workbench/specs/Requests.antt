@@ -1,7 +1,8 @@
 -- What `ispx` does for a request, and how it ends: the stories of isp_engine, for the same files.
 --     ExplainedCall    `explain` is `isp check`, or where it has an entry `isp run`
+--     ShownRun         `count` and `trace` run an entry of a source, and show what the run does
 --     WroteC           `c` writes the page of the code
---     Answered         a request has its story, and its exit status; and of `c` the line on standard error
+--     Answered         a request has its story and its exit status; and but for `explain` the line on standard error
 --     Commands         some request is answered; or the words are refused, and nothing went out
 -- `tells line` says that a line went to standard error. What `explain` writes there is no part of a promise.
 use Rattle.std.specs.Prelude.{◌≡◌, ◌⊎◌, ℕ, List, [], Bool, Option, Some, None, Result, ⊤}
@@ -10,7 +11,7 @@ use Rattle.isp_words.specs.declared.words.CheckRequest.{CheckRequest}
 use Rattle.isp_words.specs.declared.words.RunRequest.{RunRequest}
 use Rattle.isp_engine.specs.declared.failure.Failure.{Failure}
 use Rattle.isp_engine.specs.Checking.{WroteVerdicts}
-use Rattle.isp_engine.specs.Commands.{Refused, RunEnds, exit_status, job_of_run}
+use Rattle.isp_engine.specs.Commands.{Given, NotGiven, Refused, RunEnds, exit_status, job_of_run}
 use Rattle.isp_engine.specs.Failures.{line_of}
 use Rattle.isp_engine.specs.Sinks.{TookAll}
 use Rattle.isp_engine.specs.Stories.{Holds, Stops, Unread, Writes}
@@ -18,7 +19,8 @@ use Rattle.ispx_words.specs.declared.words.Call.{Call}
 use Rattle.ispx_words.specs.declared.words.CRequest.{CRequest}
 use Rattle.ispx_words.specs.declared.words.ExplainRequest.{ExplainRequest}
 use Rattle.ispx_words.specs.declared.words.Request.{Request}
-use Rattle.ispx_words.specs.declared.words.Request.TheVariants.{Explain, C}
+use Rattle.ispx_words.specs.declared.words.Request.TheVariants.{Explain, Count, Trace, C}
+use Rattle.isp_workbench.specs.Runs.{CountShows, ShowEnds, Shows, TraceShows}
 use Rattle.isp_workbench.specs.Texts.{GivesCode, GivesNone, c_page}
 
 -- ---- explain
@@ -32,6 +34,18 @@ as_run q call = record { gang = q.gang; budget = q.budget; source = q.source; en
 abbrev pub ExplainedCall : Holds → ExplainRequest → Option Call → Option (List ℕ) → Option (List ℕ) → Bool → Result ⊤ Failure → Type 0
 ExplainedCall holds q None old new failed end = WroteVerdicts holds (as_check q) old new failed end
 ExplainedCall holds q (Some call) old new failed end = RunEnds holds (job_of_run (as_run q call)) old new failed end
+
+-- ---- count and trace
+
+-- the files are read, the source is compiled, and the entry is run and shown
+pub record ShownRun (shows : Shows) (holds : Holds) (q : RunRequest) (old new : Option (List ℕ)) (failed : Bool) (end : Result ⊤ Failure) : Type 0 where
+  pub code : Listing
+  pub json : List ℕ
+  pub given : Given holds (job_of_run q) code json
+  pub shown : ShowEnds shows q.entry.now code json old new failed end
+
+abbrev pub ShownEnds : Shows → Holds → RunRequest → Option (List ℕ) → Option (List ℕ) → Bool → Result ⊤ Failure → Type 0
+ShownEnds shows holds q old new failed end = ShownRun shows holds q old new failed end ⊎ Stops (NotGiven holds (job_of_run q)) old new failed end
 
 -- ---- c
 
@@ -56,6 +70,8 @@ AnsweredBy ends status = (end : Result ⊤ Failure) × (status ≡ exit_status e
 
 abbrev pub Answered : Holds → Request → Option (List ℕ) → Option (List ℕ) → Bool → (List ℕ → Type 0) → ℕ → Type 0
 Answered holds (Explain q) old new failed tells status = AnsweredBy (ExplainedCall holds q q.call old new failed) status
+Answered holds (Count q) old new failed tells status = AnsweredBy (λ end. ShownEnds (CountShows q) holds q old new failed end × tells (line_of end)) status
+Answered holds (Trace q) old new failed tells status = AnsweredBy (λ end. ShownEnds (TraceShows q) holds q.run old new failed end × tells (line_of end)) status
 Answered holds (C q) old new failed tells status = AnsweredBy (λ end. WroteC holds q old new failed end × tells (line_of end)) status
 
 abbrev pub Commands : Holds → Option (List ℕ) → Option (List ℕ) → Bool → (List ℕ → Type 0) → ℕ → Type 0

@@ -40,11 +40,11 @@ ChecksText gang text old new failed end = ((bytes : List ℕ) × JudgedText gang
 -- the code of the source is run
 pub record RanText (job : Job) (old new : Option (List ℕ)) (failed : Bool) (end : Result ⊤ Failure) : Type 0 where
   pub code : Listing
-  pub compiles : IsCompilation job.gang job.source.now code
-  pub ran : Ran code job.entry.now job.json.now job.budget old new failed end
+  pub compiles : IsCompilation job.gang job.source.text.now code
+  pub ran : Ran code job.entry.now job.arguments.text.now job.budget old new failed end
 
 abbrev pub RunsTexts : Job → Option (List ℕ) → Option (List ℕ) → Bool → Result ⊤ Failure → Type 0
-RunsTexts job old new failed end = RanText job old new failed end ⊎ Stops (GivesNone (Some job.gang) job.source.now) old new failed end
+RunsTexts job old new failed end = RanText job old new failed end ⊎ Stops (GivesNone (Some job.gang) job.source.text.now) old new failed end
 
 -- prototypes, or the whole file
 abbrev pub c_page : Bool → Listing → List ℕ

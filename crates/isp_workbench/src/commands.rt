@@ -8,6 +8,7 @@ ghost use Rattle.isp_workbench.specs.Requests.{Answered, Commands};
 use crate::explain::explain;
 use crate::native::c_file;
 use crate::output::show;
+use crate::runs::{count, trace};
 use clap::Error;
 use clap::error::ErrorKind;
 use isp_engine::{Failure, Sink, SourceFiles, tell_line};
@@ -17,8 +18,11 @@ use std::alloc::Global;
 /// Does what `words` ask for, the first of which is the program's name, and answers the exit status.
 ///
 /// `explain [--gang G] [--budget B] SOURCE [ENTRY ARGUMENTS]` does what `isp check` or `isp run` does, with the same output and
-/// the same status, and says on `err` what went wrong, where, and what to write instead. `c [--gang G] [--header] FILE` writes
-/// the code of a text, or with a gang that of a source, as a C file; where its status is not 0 the line of `isp` goes to `err`.
+/// the same status, and says on `err` what went wrong, where, and what to write instead. `count [--gang G] [--budget B] SOURCE
+/// ENTRY ARGUMENTS` does what `isp run` does, and writes behind the answer a line of JSON with what the instructions come to.
+/// `trace`, with the same words and `[--from N] [--count M] [--lanes]`, writes the line of each step in a window of the run.
+/// `c [--gang G] [--header] FILE` writes the code of a text, or with a gang that of a source, as a C file. Of these three a line of
+/// `isp` goes to `err` where the status is not 0.
 /// Where `err` fails, or has failed before, the rest of it is lost.
 pub fn command<F: SourceFiles, O: Sink, E: Sink>(
     alloc: Global,
@@ -50,6 +54,8 @@ fn answer<F: SourceFiles, O: Sink, E: Sink>(
 {
     match request {
         Request::Explain(wanted) => explain(alloc, wanted, files, out, err),
+        Request::Count(wanted) => tell(count(alloc, wanted, files, out), err),
+        Request::Trace(wanted) => tell(trace(alloc, wanted, files, out), err),
         Request::C(wanted) => tell(c_file(alloc, wanted, files, out), err),
     }
 }

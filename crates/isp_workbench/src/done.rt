@@ -4,6 +4,7 @@ ghost use Rattle.isp_engine.specs.Commands.{Ran, end_of_ending};
 ghost use Rattle.isp_workbench.specs.Texts.{ChecksText, GivesNone, JudgedText, RunsTexts};
 
 use crate::output::write_text;
+use crate::page::Source;
 use isp_base::Gang;
 use isp_engine::{Ending, Failure, Image, Sink, compile, front, run_to};
 use isp_verdicts::verdicts;
@@ -38,9 +39,9 @@ fn judged(alloc: Global, source: &str, gang: Gang) -> Result<String, Failure<'st
 pub(crate) struct Job<'n, 't> {
     pub(crate) gang: Gang,
     pub(crate) budget: u64,
-    pub(crate) source: &'t str,
+    pub(crate) source: Source<'n, 't>,
     pub(crate) entry: &'n str,
-    pub(crate) json: &'t str,
+    pub(crate) arguments: Source<'n, 't>,
 }
 
 /// Compiles the source and runs its entry, as `isp run` does.
@@ -52,7 +53,7 @@ pub(crate) fn run<O: Sink>(
     requires { O.has_failed out.old ≡ false }
     ensures { RunsTexts job.now (O.written out.old) (O.written out.new) (O.has_failed out.new) result }
 {
-    let image = compile(alloc, job.source, job.gang)?;
+    let image = compile(alloc, job.source.text, job.gang)?;
     run_image(alloc, &image, job, out)
 }
 
@@ -64,9 +65,10 @@ fn run_image<O: Sink>(
     out: &mut O,
 ) -> Result<(), Failure<'static>>
     requires { O.has_failed out.old ≡ false }
-    ensures { Ran image.now job.now.entry.now job.now.json.now job.now.budget (O.written out.old) (O.written out.new) (O.has_failed out.new) result }
+    ensures { Ran image.now job.now.entry.now job.now.arguments.text.now job.now.budget (O.written out.old) (O.written out.new) (O.has_failed out.new) result }
 {
-    let report = run_to(alloc, image, job.entry, job.json, job.budget, out)?;
+    let json = job.arguments.text;
+    let report = run_to(alloc, image, job.entry, json, job.budget, out)?;
     end_of(report.ending)
 }
 

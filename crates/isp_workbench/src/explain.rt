@@ -1,18 +1,18 @@
 //! `ispx explain`: what `isp check` or `isp run` does, and what goes wrong in a way that helps.
-ghost use Rattle.std.specs.Prelude.{◌≡◌, false, string_bytes, Some, None, IfOk, IfErr};
-ghost use Rattle.isp_engine.specs.Commands.{exit_status};
+ghost use Rattle.std.specs.Prelude.{◌≡◌, false, None};
+ghost use Rattle.isp_engine.specs.Commands.{RunEnds, exit_status, job_of_run};
 ghost use Rattle.isp_engine.specs.Failures.{status_of};
-ghost use Rattle.isp_engine.specs.Stories.{UnreadOf};
-ghost use Rattle.isp_workbench.specs.Requests.{AnsweredBy, ExplainedCall};
+ghost use Rattle.isp_workbench.specs.Requests.{AnsweredBy, ExplainedCall, as_run as of_explain};
 ghost use Rattle.isp_workbench.specs.Texts.{ChecksText, RunsTexts};
 
 use crate::done::{Job, check, run};
 use crate::output::show;
 use crate::page::Source;
 use crate::story::{Asked, Given, entry_story, notes, plain_fault, source_story, trap_story};
-use crate::texts::read;
+use crate::texts::{read, read_both};
 use isp_engine::{Failure, Sink, SourceFiles, tell_line};
 use isp_remedies::advice_on;
+use isp_words::RunRequest;
 use ispx_words::{Call, ExplainRequest};
 use std::alloc::{AllocError, Global};
 
@@ -29,7 +29,7 @@ pub(crate) fn explain<F: SourceFiles, O: Sink, E: Sink>(
 {
     match request.call {
         None => explain_check(alloc, request, files, out, err),
-        Some(call) => explain_run(alloc, request, call, files, out, err),
+        Some(call) => explain_run(alloc, &as_run(request, call), files, out, err),
     }
 }
 
@@ -60,75 +60,70 @@ fn check_text<O: Sink, E: Sink>(
     ensures { AnsweredBy (ChecksText request.now.gang text.now (O.written out.old) (O.written out.new) (O.has_failed out.new)) result }
 {
     let end = check(alloc, text, request.gang, out);
-    let asked = Asked::of(request.source, text, request.gang, None);
+    let source = Source {
+        name: request.source,
+        text,
+    };
+    let asked = Asked::of(source, request.gang, None);
     note(alloc, &asked, &end, err);
     say(alloc, &asked, &end, err)
 }
 
+// The words of `isp run` that ask for the same.
+fn as_run<'a>(request: &ExplainRequest<'a>, call: Call<'a>) -> RunRequest<'a>
+    ensures { result ≡ of_explain request.now call }
+{
+    RunRequest {
+        gang: request.gang,
+        budget: request.budget,
+        source: request.source,
+        entry: call.entry,
+        arguments: call.arguments,
+    }
+}
+
 fn explain_run<F: SourceFiles, O: Sink, E: Sink>(
     alloc: Global,
-    request: &ExplainRequest<'_>,
-    call: Call<'_>,
+    wanted: &RunRequest<'_>,
     files: &F,
     out: &mut O,
     err: &mut E,
 ) -> u8
     requires { O.has_failed out.old ≡ false }
-    ensures { AnsweredBy (ExplainedCall (F.holds files.now) request.now (Some call.entry) (O.written out.old) (O.written out.new) (O.has_failed out.new)) result }
+    ensures { AnsweredBy (RunEnds (F.holds files.now) (job_of_run wanted.now) (O.written out.old) (O.written out.new) (O.has_failed out.new)) result }
 {
-    match texts(alloc, request.source, call.arguments, files) {
+    match read_both(alloc, wanted.source, wanted.arguments, files) {
         Ok((source, json)) => {
-            let (source, json) = (source.as_str(), json.as_str());
             let job = Job {
-                gang: request.gang,
-                budget: request.budget,
-                source,
-                entry: call.entry,
-                json,
+                gang: wanted.gang,
+                budget: wanted.budget,
+                source: Source {
+                    name: wanted.source,
+                    text: source.as_str(),
+                },
+                entry: wanted.entry,
+                arguments: Source {
+                    name: wanted.arguments,
+                    text: json.as_str(),
+                },
             };
-            run_texts(alloc, request.source, call.arguments, &job, out, err)
+            run_texts(alloc, &job, out, err)
         }
         Err(failure) => unread(&failure, err),
     }
 }
 
-fn run_texts<O: Sink, E: Sink>(
-    alloc: Global,
-    source: &str,
-    arguments: &str,
-    job: &Job<'_, '_>,
-    out: &mut O,
-    err: &mut E,
-) -> u8
+fn run_texts<O: Sink, E: Sink>(alloc: Global, job: &Job<'_, '_>, out: &mut O, err: &mut E) -> u8
     requires { O.has_failed out.old ≡ false }
     ensures { AnsweredBy (RunsTexts job.now (O.written out.old) (O.written out.new) (O.has_failed out.new)) result }
 {
     let end = run(alloc, job, out);
     let given = Given {
         entry: job.entry,
-        arguments: Source {
-            name: arguments,
-            text: job.json,
-        },
+        arguments: job.arguments,
     };
-    let asked = Asked::of(source, job.source, job.gang, Some(given));
+    let asked = Asked::of(job.source, job.gang, Some(given));
     say(alloc, &asked, &end, err)
-}
-
-// The texts of a source and of arguments.
-fn texts<'a, F: SourceFiles>(
-    alloc: Global,
-    source: &'a str,
-    arguments: &'a str,
-    files: &F,
-) -> Result<(String, String), Failure<'a>>
-    ensures source { IfOk result (λ t. F.holds files.now source.now (Some (string_bytes t.0))) }
-    ensures json { IfOk result (λ t. F.holds files.now arguments.now (Some (string_bytes t.1))) }
-    ensures err { IfErr result (UnreadOf (F.holds files.now) source.now arguments.now) }
-{
-    let text = read(alloc, files, source)?;
-    let json = read(alloc, files, arguments)?;
-    Ok((text, json))
 }
 
 // Says that a text is not read, and answers the exit status.

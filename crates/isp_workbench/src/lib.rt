@@ -8,6 +8,7 @@ mod explain;
 mod native;
 mod output;
 mod page;
+mod runs;
 mod story;
 mod texts;
 

@@ -40,8 +40,12 @@ fn code_of<'a, F: SourceFiles>(
     Ok(image)
 }
 
-// The code that a text gives.
-fn image_of(alloc: Global, gang: Option<Gang>, text: &str) -> Result<Image, Failure<'static>>
+/// The code that a text gives.
+pub(crate) fn image_of(
+    alloc: Global,
+    gang: Option<Gang>,
+    text: &str,
+) -> Result<Image, Failure<'static>>
     ensures ok { IfOk result (GivesCode gang text.now) }
     ensures err { IfErr result (GivesNone gang text.now) }
 {

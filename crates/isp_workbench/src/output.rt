@@ -1,4 +1,4 @@
-//! Text for a sink.
+//! Text and bytes for a sink.
 ghost use Rattle.std.specs.Prelude.{◌≡◌, ◌≤◌, false, length, OnOk, OnErr};
 ghost use Rattle.isp_engine.specs.Sinks.{TookAll, TookSome};
 ghost use Rattle.isp_engine.specs.Stories.{Writes};
@@ -10,7 +10,15 @@ pub(crate) fn write_text<O: Sink>(text: &str, out: &mut O) -> Result<(), Failure
     requires { O.has_failed out.old ≡ false }
     ensures { Writes text.now (O.written out.old) (O.written out.new) (O.has_failed out.new) result }
 {
-    match write_all(out, text.as_bytes()) {
+    write_bytes(text.as_bytes(), out)
+}
+
+/// Writes bytes.
+pub(crate) fn write_bytes<O: Sink>(bytes: &[u8], out: &mut O) -> Result<(), Failure<'static>>
+    requires { O.has_failed out.old ≡ false }
+    ensures { Writes bytes.now (O.written out.old) (O.written out.new) (O.has_failed out.new) result }
+{
+    match write_all(out, bytes) {
         Ok(()) => Ok(()),
         Err(SinkFault) => Err(Failure::CannotWrite),
     }

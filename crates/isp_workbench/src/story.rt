@@ -32,16 +32,11 @@ pub(crate) struct Given<'n, 't> {
 
 impl<'n, 't> Asked<'n, 't> {
     pub(crate) fn of(
-        name: &'n str,
-        text: &'t str,
+        source: Source<'n, 't>,
         gang: Gang,
         call: Option<Given<'n, 't>>,
     ) -> Asked<'n, 't> {
-        Asked {
-            source: Source { name, text },
-            gang,
-            call,
-        }
+        Asked { source, gang, call }
     }
 }
 

@@ -2,6 +2,7 @@
 use clap::error::ErrorKind;
 use clap::{Arg, ArgAction, ArgMatches, Command, Error, value_parser};
 use isp_base::Gang;
+use isp_words::RunRequest;
 use std::alloc::{AllocError, Global};
 
 /// An entry that is run, and the name of the file with its arguments.
@@ -29,10 +30,22 @@ pub struct CRequest<'a> {
     pub file: &'a str,
 }
 
+/// An entry of a source is run, and `count` of its steps from number `from` on are shown; with the lanes that each wrote where
+/// these are wanted.
+#[derive(Clone, Copy, Debug)]
+pub struct TraceRequest<'a> {
+    pub run: RunRequest<'a>,
+    pub from: u64,
+    pub count: u64,
+    pub lanes: bool,
+}
+
 /// What command words ask for. Sources, code and arguments are names of files.
 #[derive(Clone, Copy, Debug)]
 pub enum Request<'a> {
     Explain(ExplainRequest<'a>),
+    Count(RunRequest<'a>),
+    Trace(TraceRequest<'a>),
     C(CRequest<'a>),
 }
 
@@ -63,6 +76,13 @@ fn chosen<'a>(name: &str, inner: &ArgMatches<'a>) -> Option<Request<'a>> {
             source: inner.get_str("SOURCE")?,
             call: call_of(inner),
         })),
+        "count" => Some(Request::Count(run_of(inner)?)),
+        "trace" => Some(Request::Trace(TraceRequest {
+            run: run_of(inner)?,
+            from: inner.get_one::<u64>("from")?,
+            count: inner.get_one::<u64>("count")?,
+            lanes: inner.get_flag("lanes"),
+        })),
         "c" => Some(Request::C(CRequest {
             gang: gang_of(inner),
             is_header: inner.get_flag("header"),
@@ -70,6 +90,16 @@ fn chosen<'a>(name: &str, inner: &ArgMatches<'a>) -> Option<Request<'a>> {
         })),
         _ => None,
     }
+}
+
+fn run_of<'a>(inner: &ArgMatches<'a>) -> Option<RunRequest<'a>> {
+    Some(RunRequest {
+        gang: gang_of(inner)?,
+        budget: inner.get_one::<u64>("budget")?,
+        source: inner.get_str("SOURCE")?,
+        entry: inner.get_str("ENTRY")?,
+        arguments: inner.get_str("ARGUMENTS")?,
+    })
 }
 
 fn call_of<'a>(inner: &ArgMatches<'a>) -> Option<Call<'a>> {
@@ -91,9 +121,13 @@ fn ispx<'a>(alloc: Global) -> Result<Command<'a>, Error> {
     let named = Command::new(alloc, "ispx")
         .bin_name("ispx")?
         .version(VERSION)
-        .about("Explains what `isp` refuses, and writes kernels as C")
+        .about("Explains what `isp` refuses, shows what a run does, and writes kernels as C")
         .subcommand_required(true);
-    Ok(named.subcommand(explain(alloc)?)?.subcommand(c(alloc)?)?)
+    let shown = named
+        .subcommand(explain(alloc)?)?
+        .subcommand(count(alloc)?)?
+        .subcommand(trace(alloc)?)?;
+    Ok(shown.subcommand(c(alloc)?)?)
 }
 
 fn explain<'a>(alloc: Global) -> Result<Command<'a>, AllocError> {
@@ -112,6 +146,68 @@ fn explain<'a>(alloc: Global) -> Result<Command<'a>, AllocError> {
                 .help("Exported function to call"),
         )?
         .arg(named(alloc, "ARGUMENTS").help("File with the function's arguments, a JSON object"))
+}
+
+fn count<'a>(alloc: Global) -> Result<Command<'a>, AllocError> {
+    run(
+        alloc,
+        "count",
+        "Does what `isp run` does, and counts the instructions and the lanes that they use",
+    )
+}
+
+fn trace<'a>(alloc: Global) -> Result<Command<'a>, AllocError> {
+    run(
+        alloc,
+        "trace",
+        "Runs a kernel, and shows each step with its masks",
+    )?
+    .arg(
+        number(alloc, "from", "N")
+            .help("Number of the first step that is shown")
+            .default_value("0"),
+    )?
+    .arg(
+        number(alloc, "count", "M")
+            .help("Steps that are shown")
+            .default_value("1000"),
+    )?
+    .arg(
+        Arg::new(alloc, "lanes")
+            .long("lanes")
+            .help("The vector that each step wrote, too")
+            .action(ArgAction::SetTrue),
+    )
+}
+
+// A command that runs an entry, with the words of `isp run`.
+fn run<'a>(alloc: Global, name: &'a str, about: &'a str) -> Result<Command<'a>, AllocError> {
+    Command::new(alloc, name)
+        .about(about)
+        .arg(gang(alloc).default_value("4"))?
+        .arg(budget(alloc))?
+        .arg(
+            named(alloc, "SOURCE")
+                .required(true)
+                .help("File with the kernels, text in ISPC"),
+        )?
+        .arg(
+            named(alloc, "ENTRY")
+                .required(true)
+                .help("Exported function to call"),
+        )?
+        .arg(
+            named(alloc, "ARGUMENTS")
+                .required(true)
+                .help("File with the function's arguments, a JSON object"),
+        )
+}
+
+fn number<'a>(alloc: Global, name: &'a str, value: &'a str) -> Arg<'a> {
+    Arg::new(alloc, name)
+        .long(name)
+        .value_name(value)
+        .value_parser(value_parser!(u64))
 }
 
 fn c<'a>(alloc: Global) -> Result<Command<'a>, AllocError> {
@@ -146,10 +242,7 @@ fn gang<'a>(alloc: Global) -> Arg<'a> {
 }
 
 fn budget<'a>(alloc: Global) -> Arg<'a> {
-    Arg::new(alloc, "budget")
-        .long("budget")
-        .value_name("B")
+    number(alloc, "budget", "B")
         .help("Instructions that may run")
-        .value_parser(value_parser!(u64))
         .default_value("100000000")
 }

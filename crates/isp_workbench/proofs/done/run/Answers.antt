@@ -7,7 +7,7 @@ use Rattle.isp_workbench.proofs.done.run.Goals as goal
 pub returns-in_err-image : goal.returns-in_err-image
 returns-in_err-image g c =
     let p = err_from_is_err_and c.from_residual.result c.from_residual.ensures.1 in
-    rw (p.1, p.2) (inr (none_compiled c.args.job.now.gang c.args.job.now.source.now _ c.in_err-image.ensures.refused, (sym (adds_nil _), c.requires)))
+    rw (p.1, p.2) (inr (none_compiled c.args.job.now.gang c.args.job.now.source.text.now _ c.in_err-image.ensures.refused, (sym (adds_nil _), c.requires)))
 
 pub returns : goal.returns
 returns g c = inl (record { code = c.in_ok-image.image; compiles = c.in_ok-image.ensures.compiled; ran = c.run_image.ensures })

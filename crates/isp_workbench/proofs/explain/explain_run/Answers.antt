@@ -5,16 +5,17 @@ use Rattle.isp_workbench.proofs.explain.explain_run.Goals as goal
 pub returns-in-Ok : goal.returns-in-Ok
 returns-in-Ok g c =
     let e = c.run_texts.ensures in
+    let q = c.args.wanted.now in
     let holds = g.F.SourceFiles.holds c.args.files.now in
-    let source = subst (λ b. holds c.args.request.now.source.now (Some b)) (sym c.as_str-source.ensures.value) c.in-Ok.ensures.source in
-    let json = subst (λ b. holds c.args.call.arguments.now (Some b)) (sym c.as_str-json.ensures.value) c.in-Ok.ensures.json in (
+    let source = subst (λ b. holds q.source.now (Some b)) (sym c.as_str-source.ensures.value) c.in-Ok.ensures.source in
+    let json = subst (λ b. holds q.arguments.now (Some b)) (sym c.as_str-json.ensures.value) c.in-Ok.ensures.json in (
       e.0,
       e.1,
-      run_story holds c.args.request.now c.args.call
-          (record { gang = c.args.request.now.gang; budget = c.args.request.now.budget; source = c.as_str-source.result; entry = c.args.call.entry; json = c.as_str-json.result })
+      run_story holds q
+          (record { gang = q.gang; budget = q.budget; source = record { name = q.source; text = c.as_str-source.result }; entry = q.entry; arguments = record { name = q.arguments; text = c.as_str-json.result } })
           refl refl refl source json _ _ _ e.0 e.2,
     )
 
 pub returns-in-Err : goal.returns-in-Err
 returns-in-Err g c =
-    (Err c.in-Err.failure, c.unread.ensures, unrun_story (g.F.SourceFiles.holds c.args.files.now) c.args.request.now c.args.call _ _ c.in-Err.failure c.requires c.in-Err.ensures.err)
+    (Err c.in-Err.failure, c.unread.ensures, unrun_story (g.F.SourceFiles.holds c.args.files.now) c.args.wanted.now _ _ c.in-Err.failure c.requires c.in-Err.ensures.err)
