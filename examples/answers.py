@@ -12,7 +12,7 @@ import sys
 import zlib
 
 HERE = pathlib.Path(__file__).resolve().parent
-ROWS = HERE.parent / "crates/isp_cases/data/kernels.rows"
+ROWS = HERE.parent / "crates/isp_tests_cases/data/kernels.rows"
 PICTURE = HERE.parent / "tools/picture"
 
 
@@ -183,7 +183,7 @@ def pictures():
 
 
 def rows():
-    """Each kernel by each gang, as isp_cases reads it."""
+    """Each kernel by each gang, as isp_tests_cases reads it."""
     lines = [". The kernels of examples/, which answers.py writes here; the answers are its own, in Python."]
     for kernel in KERNELS:
         name = kernel.__name__

@@ -1,11 +1,11 @@
 #!/usr/bin/env python3
-"""Writes files of cases for crates/isp_cases from those of an independent implementation, one JSON object a line.
+"""Writes files of cases for crates/isp_tests_cases from those of an independent implementation, one JSON object a line.
 
-    tools/case_rows.py WHAT FILE.jsonl > crates/isp_cases/data/NAME.rows
+    tools/case_rows.py WHAT FILE.jsonl > crates/isp_tests_cases/data/NAME.rows
 
 WHAT is `programs` (gang, source, entry, arguments, and runs with turns, kind, output, work and answer, or trap and arrays), `sources`
 (gang, source, and line, the refusal, or null) or `arguments` (parameters, arguments, and line, or answer). The format of what is written
-stands in crates/isp_cases/src/main.rt.
+stands in crates/isp_tests_cases/src/main.rt.
 """
 import json
 import sys

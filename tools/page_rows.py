@@ -1,13 +1,13 @@
 #!/usr/bin/env python3
 """Writes from the pages what `rt ci` compares with the programs, and the table from which `ispx` takes its texts.
 
-    tools/page_rows.py              writes the files below, and the count of requests in crates/isp_requests/stdout
+    tools/page_rows.py              writes the files below, and the count of requests in crates/isp_tests_requests/stdout
     tools/page_rows.py --check      ends with status 1 where one of these is stale, where a page shows another explanation than tools/explained.py
                                     works out, or where a row of a table of docs/FAULTS.md is the fix of no program among these and among those of
                                     ported.rows
 
-- crates/isp_requests/data/pages.rows: the examples of README.md and docs/, so that the gate runs what the pages show.
-- crates/isp_requests/data/explain.rows: what `ispx explain` has to say of each example of a page that is refused or trapped, and of each source of
+- crates/isp_tests_requests/data/pages.rows: the examples of README.md and docs/, so that the gate runs what the pages show.
+- crates/isp_tests_requests/data/explain.rows: what `ispx explain` has to say of each example of a page that is refused or trapped, and of each source of
   ported.rows that is refused, by tools/explained.py.
 - crates/isp_remedies/src/page.rt: the sentences and the fixes of docs/FAULTS.md.
 
@@ -20,7 +20,7 @@ An example is a block between ``` that begins with `$ `:
 
 Other commands count for nothing. A file that a page does not show is taken from the repository, where it is there. Of a command that
 goes into another, or reads a file that is not shown since another made it, there is no row; its name is printed. The format of the
-rows stands in crates/isp_requests/src/main.rt.
+rows stands in crates/isp_tests_requests/src/main.rt.
 """
 import os
 import re
@@ -30,18 +30,18 @@ sys.dont_write_bytecode = True
 import explained  # noqa: E402
 
 ROOT = os.path.dirname(os.path.dirname(os.path.realpath(__file__)))
-CRATE = "crates/isp_requests"
+CRATE = "crates/isp_tests_requests"
 ROWS = f"{CRATE}/data/pages.rows"
 EXPLAIN = f"{CRATE}/data/explain.rows"
 REMEDIES = "crates/isp_remedies/src/page.rt"
 COUNT = f"{CRATE}/stdout"
-PORTED = "crates/isp_cases/data/ported.rows"
+PORTED = "crates/isp_tests_cases/data/ported.rows"
 # how a row says whose words it has
 PROGRAM = {"isp": "words", "ispx": "ispx"}
 HEAD = """. What the examples of README.md and of the pages of docs/ show. Written by tools/page_rows.py.
 . What docs/FAULTS.md and docs/INDEPENDENCE.md show was worked out from the rules before it was run, but for the place of 11, which is left open.
 """
-EXPLAIN_HEAD = """. What `ispx explain` says of what docs/ shows as refused or stopped, and of each source that crates/isp_cases/data/ported.rows has as refused.
+EXPLAIN_HEAD = """. What `ispx explain` says of what docs/ shows as refused or stopped, and of each source that crates/isp_tests_cases/data/ported.rows has as refused.
 . Written by tools/page_rows.py; worked out by tools/explained.py, which has the rules in Python, from docs/FAULTS.md.
 """
 
@@ -234,7 +234,7 @@ def unused(rows):
 
 
 def counted(rows):
-    """Returns the line that crates/isp_requests prints where all of its requests come out."""
+    """Returns the line that crates/isp_tests_requests prints where all of its requests come out."""
     made = [os.path.basename(name) for name in (ROWS, EXPLAIN)]
     names = [name for name in contents(f"{CRATE}/args").split() if name not in made]
     requests = "".join(contents(f"{CRATE}/data/{name}") for name in names) + rows

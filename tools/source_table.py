@@ -1,5 +1,5 @@
 #!/usr/bin/env python3
-"""Writes library.rows, packed.rows and pairs.rows of crates/isp_cases/data: texts and what becomes of them.
+"""Writes library.rows, packed.rows and pairs.rows of crates/isp_tests_cases/data: texts and what becomes of them.
 
 Each call of the library stands here once with what it takes and gives, as docs/LANGUAGE.md has it,
 and each fault of names, types and rates once; the rows hold each call with each kind of wrong
@@ -72,7 +72,7 @@ FRAME = (
 
 
 def file(name, says, rows):
-    with open(f"crates/isp_cases/data/{name}.rows", "w") as out:
+    with open(f"crates/isp_tests_cases/data/{name}.rows", "w") as out:
         out.write(f". {says}.\n. Written by tools/source_table.py from the rules of the language.\n=== {says.lower()}\nframe {FRAME}\n")
         for row in rows:
             out.write(f"{row}\n")

@@ -1,5 +1,5 @@
 #!/usr/bin/env python3
-"""Writes crates/isp_texts/data/faults.rows: texts that are those of no code, and some that are, with the fault of each.
+"""Writes crates/isp_tests_texts/data/faults.rows: texts that are those of no code, and some that are, with the fault of each.
 
 A reader of its own, written from docs/MACHINE.md (Code text), judges each text. Nothing is taken from the crates. Run it at the top of
 the repository:
@@ -289,9 +289,9 @@ def main():
             seen.add(text)
             found = fault(text)
             out.append(text.replace("\n", "␤") + "|" + (f"{found[0]} {NAMES[found[0]]} at line {found[1]}" if found else "read"))
-    with open("crates/isp_texts/data/faults.rows", "w") as file:
+    with open("crates/isp_tests_texts/data/faults.rows", "w") as file:
         file.write("\n".join(out) + "\n")
-    with open("crates/isp_texts/stdout", "w") as file:
+    with open("crates/isp_tests_texts/stdout", "w") as file:
         file.write(f"faults.rows: {len(out)} texts\n")
     print(len(out), "texts,", sum(row.endswith("|read") for row in out), "without a fault")
 

@@ -1,10 +1,10 @@
 #!/usr/bin/env python3
-"""Writes crates/isp_cases/data/wide.rows: programs by a gang of 32, and what tools/gang.py finds of each.
+"""Writes crates/isp_tests_cases/data/wide.rows: programs by a gang of 32, and what tools/gang.py finds of each.
 
     tools/wide_rows.py              writes them: those of other files of rows, with arrays for 32 instances, and those that stand below
     tools/wide_rows.py --check      runs each run of the other files by tools/gang.py, at its own gang, and prints where that finds another
 
-The format of rows stands in crates/isp_cases/src/main.rt. A record of another file that 32 instances bring to another kind of end, or not to its
+The format of rows stands in crates/isp_tests_cases/src/main.rt. A record of another file that 32 instances bring to another kind of end, or not to its
 end soon, is left out.
 """
 import json
@@ -13,7 +13,7 @@ import sys
 
 from gang import Long, Machine
 
-DATA = pathlib.Path(__file__).resolve().parent.parent / "crates/isp_cases/data"
+DATA = pathlib.Path(__file__).resolve().parent.parent / "crates/isp_tests_cases/data"
 HEAD = """. Programs by a gang of 32: those of the other files, where a gang of 32 can run them, and others that look across lanes and at masks.
 . Found by an evaluator in Python, tools/gang.py, which agrees with every run of the other files. Written by tools/wide_rows.py.
 """

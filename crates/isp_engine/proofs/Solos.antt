@@ -23,7 +23,7 @@ use Rattle.isp_typed.specs.Typed.{Program, TFunction}
 use Rattle.isp_typed.specs.Views.{function_of, program_of}
 use Rattle.isp_typed.specs.declared.function.Program as rust_program
 use Rattle.isp_typed.specs.declared.function.TypedFunction.{TypedFunction}
-use Rattle.isp_words.specs.declared.words.SoloRequest.{SoloRequest}
+use Rattle.isp_command_line.specs.declared.words.SoloRequest.{SoloRequest}
 use Rattle.isp_engine.specs.declared.failure.Failure.{Failure}
 use Rattle.isp_engine.specs.declared.failure.Failure.TheVariants.{Source, Trapped, BudgetUsed, TurnsUsed, Run, CannotRead, CannotWrite, Memory, Code, NotIndependent, NotApart}
 use Rattle.isp_engine.specs.declared.fault.RunFault.TheVariants as run_fault

@@ -2,7 +2,7 @@
 use Rattle.std.specs.Prelude.{◌⊎◌, ℕ, List, Bool, Option, Some, Result, ⊤}
 use Rattle.isp_typed.specs.Typed.{Program}
 use Rattle.isp_verdicts.specs.Verdicts.{Checks}
-use Rattle.isp_words.specs.declared.words.CheckRequest.{CheckRequest}
+use Rattle.isp_command_line.specs.declared.words.CheckRequest.{CheckRequest}
 use Rattle.isp_engine.specs.declared.failure.Failure.{Failure}
 use Rattle.isp_engine.specs.Front.{IsSource}
 use Rattle.isp_engine.specs.Stories.{Holds, SourceFails, Stops, Writes}

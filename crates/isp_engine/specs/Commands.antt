@@ -17,11 +17,11 @@ use Rattle.isp_engine.specs.declared.fault.RunFault.TheVariants.{WriteFailed}
 use Rattle.isp_engine.specs.declared.report.Ending.{Ending}
 use Rattle.isp_engine.specs.declared.report.Ending.TheVariants.{Ended, Trapped as Stopped, Running}
 use Rattle.isp_engine.specs.declared.report.Report.{Report}
-use Rattle.isp_words.specs.declared.words.Request.{Request}
-use Rattle.isp_words.specs.declared.words.Request.TheVariants as request
-use Rattle.isp_words.specs.declared.words.RunRequest.{RunRequest}
-use Rattle.isp_words.specs.declared.words.AsmRequest.{AsmRequest}
-use Rattle.isp_words.specs.declared.words.ExecRequest.{ExecRequest}
+use Rattle.isp_command_line.specs.declared.words.Request.{Request}
+use Rattle.isp_command_line.specs.declared.words.Request.TheVariants as request
+use Rattle.isp_command_line.specs.declared.words.RunRequest.{RunRequest}
+use Rattle.isp_command_line.specs.declared.words.AsmRequest.{AsmRequest}
+use Rattle.isp_command_line.specs.declared.words.ExecRequest.{ExecRequest}
 use Rattle.isp_engine.specs.Failures.{failure_line, line_of, run_failure, status_of}
 use Rattle.isp_engine.specs.Sending.{Sends}
 use Rattle.isp_engine.specs.Sinks.{TookAll}

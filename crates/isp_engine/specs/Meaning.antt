@@ -8,7 +8,7 @@ use Rattle.isp_base.specs.Types.{gang_width}
 use Rattle.isp_base.specs.declared.signature.Argument.{Argument}
 use Rattle.isp_bind.specs.Binding.{bound_of}
 use Rattle.isp_bind.specs.declared.fault.BindFault.{BindFault}
-use Rattle.isp_alone.specs.OneByOne.{IsOrder}
+use Rattle.isp_solo_meaning.specs.OneByOne.{IsOrder}
 use Rattle.isp_meaning.specs.Entries.{IsExport}
 use Rattle.isp_meaning.specs.Runs.{run_of, work_of}
 use Rattle.isp_typed.specs.Typed.{Program, TFunction}

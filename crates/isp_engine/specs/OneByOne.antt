@@ -8,9 +8,9 @@ use Rattle.isp_typed.specs.Typed.{Program, TFunction}
 use Rattle.isp_independence.specs.Independent.{IsIndependent}
 use Rattle.isp_meaning.specs.Payloads.{One}
 use Rattle.isp_meaning.specs.Runs.{answer_as}
-use Rattle.isp_alone.specs.OneByOne.{one_by_one}
-use Rattle.isp_alone.specs.Runs.{solo_run, bound, IsEnded, value_of}
-use Rattle.isp_alone.specs.Touched.{AreApart}
+use Rattle.isp_solo_meaning.specs.OneByOne.{one_by_one}
+use Rattle.isp_solo_meaning.specs.Runs.{solo_run, bound, IsEnded, value_of}
+use Rattle.isp_solo_meaning.specs.Touched.{AreApart}
 
 -- A function is an independent entry, and its instances, each run alone from the bound arrays for n turns a loop, end and touch
 -- nothing that another stores in.

@@ -14,7 +14,7 @@ use Rattle.isp_solo.specs.Report.{IsSoloReport}
 use Rattle.isp_solo.specs.declared.report.SoloReport.{SoloReport}
 use Rattle.isp_solo.specs.declared.report.SoloReport.TheVariants as report
 use Rattle.isp_typed.specs.Typed.{Program, TFunction}
-use Rattle.isp_words.specs.declared.words.SoloRequest.{SoloRequest}
+use Rattle.isp_command_line.specs.declared.words.SoloRequest.{SoloRequest}
 use Rattle.isp_engine.specs.declared.failure.Failure.{Failure}
 use Rattle.isp_engine.specs.declared.failure.Failure.TheVariants.{Source, Trapped, TurnsUsed, Run, CannotRead, Memory, NotIndependent, NotApart}
 use Rattle.isp_engine.specs.declared.fault.RunFault.TheVariants.{NoEntry, Arguments}

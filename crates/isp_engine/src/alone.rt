@@ -12,9 +12,9 @@ use crate::source::front;
 use crate::texts::{read, write_text};
 use isp_base::Signature;
 use isp_bind::{answer, bind};
+use isp_command_line::SoloRequest;
 use isp_rates::Checked;
 use isp_solo::{SoloReport, one_by_one};
-use isp_words::SoloRequest;
 use std::alloc::{AllocError, Global};
 
 /// Writes the answer of an entry whose instances all end, and touch nothing that another writes, each run alone.

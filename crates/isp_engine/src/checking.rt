@@ -8,8 +8,8 @@ use crate::files::SourceFiles;
 use crate::sink::Sink;
 use crate::source::front;
 use crate::texts::{read, write_text};
+use isp_command_line::CheckRequest;
 use isp_verdicts::verdicts;
-use isp_words::CheckRequest;
 use std::alloc::Global;
 
 /// Writes `ok`, and a line for each exported function of a source.

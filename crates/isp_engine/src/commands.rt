@@ -20,7 +20,7 @@ use crate::texts::{read, write_text};
 use clap::error::ErrorKind;
 use isp_asm::write;
 use isp_base::Gang;
-use isp_words::{AsmRequest, ExecRequest, Request, RunRequest, read_words};
+use isp_command_line::{AsmRequest, ExecRequest, Request, RunRequest, read_words};
 use std::alloc::Global;
 
 /// Does what `words` ask for, the first of which is the program's name, and answers the exit status.

@@ -16,14 +16,14 @@ use Rattle.isp_meaning.specs.Entries.{IsEntry}
 use Rattle.isp_meaning.specs.Payloads.{One}
 use Rattle.isp_meaning.specs.Runs.{run_of, answer_as}
 use Rattle.isp_rates.specs.Program.{IsAccepted}
-use Rattle.isp_alone.specs.Answers.{Answer, Has, Bad, Long, reached}
-use Rattle.isp_alone.specs.Longer.{Later}
-use Rattle.isp_alone.specs.OneByOne.{one_by_one, IsOrder}
-use Rattle.isp_alone.specs.Runs.{solo_run, bound, after, IsEnded, value_of}
-use Rattle.isp_alone.specs.Touched.{Reads}
-use Rattle.isp_alone.proofs.MoreTurns.{more_turns_alone}
-use Rattle.isp_alone.proofs.Orders.{reads_decide}
-use Rattle.isp_instances.proofs.Turns.{each_with_its_turns}
+use Rattle.isp_solo_meaning.specs.Answers.{Answer, Has, Bad, Long, reached}
+use Rattle.isp_solo_meaning.specs.Longer.{Later}
+use Rattle.isp_solo_meaning.specs.OneByOne.{one_by_one, IsOrder}
+use Rattle.isp_solo_meaning.specs.Runs.{solo_run, bound, after, IsEnded, value_of}
+use Rattle.isp_solo_meaning.specs.Touched.{Reads}
+use Rattle.isp_solo_meaning.proofs.MoreTurns.{more_turns_alone}
+use Rattle.isp_solo_meaning.proofs.Orders.{reads_decide}
+use Rattle.isp_solo_law.proofs.Turns.{each_with_its_turns}
 use Rattle.isp_headline.specs.Headline.{EachStandsAlone, ComesTo, behind_each, left_by_each}
 
 -- ---- as many turns as any of the first so many instances

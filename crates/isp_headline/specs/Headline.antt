@@ -16,9 +16,9 @@ use Rattle.isp_independence.specs.Independent.{IsIndependent}
 use Rattle.isp_meaning.specs.Entries.{IsExport}
 use Rattle.isp_meaning.specs.Payloads.{One}
 use Rattle.isp_meaning.specs.Runs.{run_of, answer_as}
-use Rattle.isp_alone.specs.OneByOne.{IsOrder}
-use Rattle.isp_alone.specs.Runs.{solo_run, bound, after, IsEnded, value_of}
-use Rattle.isp_alone.specs.Touched.{AreApart}
+use Rattle.isp_solo_meaning.specs.OneByOne.{IsOrder}
+use Rattle.isp_solo_meaning.specs.Runs.{solo_run, bound, after, IsEnded, value_of}
+use Rattle.isp_solo_meaning.specs.Touched.{AreApart}
 use Rattle.isp_code.specs.Entries as code
 use Rattle.isp_code.specs.Listing.{Listing, Routine}
 use Rattle.isp_code.specs.Machine.{outcome_after}

@@ -3,8 +3,8 @@ use Rattle.std.proofs.Common.{◌≡◌, refl, sym, ap, ◌∙◌, ℕ, zero, su
 use Rattle.std.specs.Prelude.{Option, Bool, true, false, ◌&&◌, nat_eq, nat_lt, if◌then◌else◌, IsSome}
 use Rattle.std.proofs.lemmas.Bool.{and_parts}
 use Rattle.std.proofs.lemmas.Bool.Decides.{nat_tests}
-use Rattle.isp_alone.specs.Answers.{Answer}
-use Rattle.isp_alone.specs.Touched.{Reads, Writes, Clash, AreApart}
+use Rattle.isp_solo_meaning.specs.Answers.{Answer}
+use Rattle.isp_solo_meaning.specs.Touched.{Reads, Writes, Clash, AreApart}
 
 pub below_four : (P : ℕ → Type 0) → P 0 → P 1 → P 2 → P 3 → (p : ℕ) → p < 4 → P p
 below_four P a b c d zero lt = a

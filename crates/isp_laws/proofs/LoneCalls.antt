@@ -32,10 +32,10 @@ use Rattle.isp_meaning.specs.Outcomes.{Res, Went, Trapped, Cut}
 use Rattle.isp_meaning.specs.Payloads.{One, Each, sole, spread}
 use Rattle.isp_meaning.specs.State.{State, Frame, below}
 use Rattle.isp_meaning.specs.Statements.{block}
-use Rattle.isp_alone.specs.Alone.{Alone}
-use Rattle.isp_alone.specs.Answers.{End, Does, Dies, Lasts}
-use Rattle.isp_alone.specs.Calls.{value_passed, begun as own_begun, ended as own_ended, called as own_called, own_calls}
-use Rattle.isp_alone.specs.Does.{does_block}
+use Rattle.isp_solo_meaning.specs.Alone.{Alone}
+use Rattle.isp_solo_meaning.specs.Answers.{End, Does, Dies, Lasts}
+use Rattle.isp_solo_meaning.specs.Calls.{value_passed, begun as own_begun, ended as own_ended, called as own_called, own_calls}
+use Rattle.isp_solo_meaning.specs.Does.{does_block}
 use Rattle.isp_laws.specs.Lone.{LooksAtNobody, SharesNone, IsFrameOf, World, ResultAt, ResultIs, Stands, Shares, IsValue, IsAnswer}
 use Rattle.isp_laws.proofs.LoneSets.{just_is, lowest_lone}
 use Rattle.isp_laws.proofs.LoneSims.{CameTo, Left, not_uniform, uniform_value}

@@ -19,12 +19,12 @@ use Rattle.isp_meaning.specs.Simple.{no_step, step_part}
 use Rattle.isp_meaning.specs.Loops.{turns}
 use Rattle.isp_meaning.specs.Rounds.{rounds, round_of_one, unique_rounds}
 use Rattle.isp_meaning.specs.Statements.{all_go, answered, answered_at, jumped, test_part, run, block, run_all}
-use Rattle.isp_alone.specs.Alone.{Alone, written as own_written}
-use Rattle.isp_alone.specs.Answers.{Answer, Has, End, Does, Dies, Lasts, Going, then_always, Done as OwnDone}
-use Rattle.isp_alone.specs.Does.{goes_on, jumped as own_jumped, test_part as own_test_part, does, does_block, does_all}
-use Rattle.isp_alone.specs.Loops.{turns as own_turns}
-use Rattle.isp_alone.specs.Steps.{step_part as own_step_part}
-use Rattle.isp_alone.specs.Values.{OwnCalls, answer}
+use Rattle.isp_solo_meaning.specs.Alone.{Alone, written as own_written}
+use Rattle.isp_solo_meaning.specs.Answers.{Answer, Has, End, Does, Dies, Lasts, Going, then_always, Done as OwnDone}
+use Rattle.isp_solo_meaning.specs.Does.{goes_on, jumped as own_jumped, test_part as own_test_part, does, does_block, does_all}
+use Rattle.isp_solo_meaning.specs.Loops.{turns as own_turns}
+use Rattle.isp_solo_meaning.specs.Steps.{step_part as own_step_part}
+use Rattle.isp_solo_meaning.specs.Values.{OwnCalls, answer}
 use Rattle.isp_laws.specs.Lone.{World, Stands, IsValue, ResultIs, ResultAt}
 use Rattle.isp_laws.proofs.LoneSets.{members_lone}
 use Rattle.isp_laws.proofs.LoneUnique.{unique_lone}

@@ -18,10 +18,10 @@ use Rattle.isp_meaning.specs.Payloads.{Payload, One, Each, sole, spread, mapped}
 use Rattle.isp_meaning.specs.Places.{Place, Variable, Element, variable, written, stored, own_stored, elements, with_elements, outside, held, kept}
 use Rattle.isp_meaning.specs.Simple.{cleared}
 use Rattle.isp_meaning.specs.State.{State, extent}
-use Rattle.isp_alone.specs.Alone.{Alone, put_in, variable as own_variable, written as own_written}
-use Rattle.isp_alone.specs.Answers.{Bad, choose}
-use Rattle.isp_alone.specs.Places.{Spot, AVariable, AnElement, outside as own_outside, element_kept, kept as own_kept, cleared as own_cleared_at}
-use Rattle.isp_alone.specs.Values.{found, held as own_held}
+use Rattle.isp_solo_meaning.specs.Alone.{Alone, put_in, variable as own_variable, written as own_written}
+use Rattle.isp_solo_meaning.specs.Answers.{Bad, choose}
+use Rattle.isp_solo_meaning.specs.Places.{Spot, AVariable, AnElement, outside as own_outside, element_kept, kept as own_kept, cleared as own_cleared_at}
+use Rattle.isp_solo_meaning.specs.Values.{found, held as own_held}
 use Rattle.isp_laws.specs.Lone.{World, Stands, IsValue}
 use Rattle.isp_laws.proofs.LoneSets.{eq_itself, eq_true, eq_turned, just, just_is, just_here, scatter_lone}
 use Rattle.isp_laws.proofs.LoneSims.{CameTo, Follows, not_uniform, as_rate, mapped_value, spread_value, uniform_value, offender_value, some_if}

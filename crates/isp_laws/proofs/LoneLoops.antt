@@ -6,9 +6,9 @@ use Rattle.isp_meaning.specs.State.{State, tick}
 use Rattle.isp_meaning.specs.Payloads.{Payload, is_true, kept_by}
 use Rattle.isp_meaning.specs.Outcomes.{Val, Res, Went, Trapped, Cut, Done, go_on, if_so}
 use Rattle.isp_meaning.specs.Loops.{loop_end, tested, stepped, turns}
-use Rattle.isp_alone.specs.Alone.{Alone}
-use Rattle.isp_alone.specs.Answers.{Answer, How, Going, Broke, Continued, Returned, End, Does, Dies, Lasts, Done as OwnDone, choose}
-use Rattle.isp_alone.specs.Loops.{tested as own_tested, stepped as own_stepped, turned as own_turned, turns as own_turns}
+use Rattle.isp_solo_meaning.specs.Alone.{Alone}
+use Rattle.isp_solo_meaning.specs.Answers.{Answer, How, Going, Broke, Continued, Returned, End, Does, Dies, Lasts, Done as OwnDone, choose}
+use Rattle.isp_solo_meaning.specs.Loops.{tested as own_tested, stepped as own_stepped, turned as own_turned, turns as own_turns}
 use Rattle.isp_base.specs.declared.types.Rate.TheVariants.{Varying}
 use Rattle.isp_laws.specs.Lone.{World, Stands, left}
 use Rattle.isp_laws.proofs.LoneSets.{any_nobody, any_lone, union_nobody, without_nobody, without_itself, lone_if}

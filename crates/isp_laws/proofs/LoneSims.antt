@@ -10,8 +10,8 @@ use Rattle.isp_meaning.specs.Outcomes.{Val, Gives, Fails, Stops, Res, Went, Trap
 use Rattle.isp_meaning.specs.Payloads.{Payload, One, Each, is_true, spread, nothing, mapped, joined, kept_by, offender, if_fails}
 use Rattle.isp_meaning.specs.State.{State}
 use Rattle.isp_meaning.specs.Statements.{branches}
-use Rattle.isp_alone.specs.Alone.{Alone}
-use Rattle.isp_alone.specs.Answers.{Answer, Has, Bad, Long, How, Going, Broke, Continued, Returned, End, Does, Dies, Lasts, and_then, with_answer, unless, choose, then_on}
+use Rattle.isp_solo_meaning.specs.Alone.{Alone}
+use Rattle.isp_solo_meaning.specs.Answers.{Answer, Has, Bad, Long, How, Going, Broke, Continued, Returned, End, Does, Dies, Lasts, and_then, with_answer, unless, choose, then_on}
 use Rattle.isp_laws.specs.Lone.{World, Stands, Comes, IsValue, left, ComesTo}
 use Rattle.isp_laws.proofs.LoneSets.{any_nobody, any_lone, lowest_nobody, lowest_lone, just, each_just, both_just, where_just, lone_if, union_nobody, without_nobody, without_itself}
 

@@ -19,11 +19,11 @@ use Rattle.isp_meaning.specs.Places.{Place}
 use Rattle.isp_meaning.specs.Simple.{update, simple, item, items, first_part, step_part}
 use Rattle.isp_meaning.specs.Statements.{test_part}
 use Rattle.isp_meaning.specs.Expressions.{Calls, value}
-use Rattle.isp_alone.specs.Alone.{Alone}
-use Rattle.isp_alone.specs.Does.{test_part as own_test_part}
-use Rattle.isp_alone.specs.Places.{Spot}
-use Rattle.isp_alone.specs.Steps.{update as own_update, simple as own_simple, item as own_item, items as own_items, first_part as own_first_part, step_part as own_step_part}
-use Rattle.isp_alone.specs.Values.{OwnCalls, answer}
+use Rattle.isp_solo_meaning.specs.Alone.{Alone}
+use Rattle.isp_solo_meaning.specs.Does.{test_part as own_test_part}
+use Rattle.isp_solo_meaning.specs.Places.{Spot}
+use Rattle.isp_solo_meaning.specs.Steps.{update as own_update, simple as own_simple, item as own_item, items as own_items, first_part as own_first_part, step_part as own_step_part}
+use Rattle.isp_solo_meaning.specs.Values.{OwnCalls, answer}
 use Rattle.isp_laws.specs.Lone.{World, Stands, IsValue, IsAnswer}
 use Rattle.isp_laws.proofs.LoneSims.{CameTo, Follows, mapped_value, joined_value, offender_value, came_has, came_then, came_as, came_checked, as_rate, not_uniform}
 use Rattle.isp_laws.proofs.LoneFair.{Fair, FairPlace, FairSimple, FairItem, FairItems, FairFirst}

@@ -29,9 +29,9 @@ use Rattle.isp_meaning.specs.Payloads.{Payload, One, Each, converted, is_true, i
 use Rattle.isp_meaning.specs.Outcomes.{Val, Gives, bind, if_so, value_unless_empty}
 use Rattle.isp_meaning.specs.Library.{library_value, argument, chosen_by, chosen_one}
 use Rattle.isp_meaning.specs.Expressions.{Passed, Values, Store, Calls, needs, settled, value, place, values, call, arguments, passed}
-use Rattle.isp_alone.specs.Alone.{Alone}
-use Rattle.isp_alone.specs.Answers.{Answer, Has, choose}
-use Rattle.isp_alone.specs.Values.{OwnCalls, by_instance, answer, spot, answers, answer_call, arguments as own_arguments, passed as own_passed}
+use Rattle.isp_solo_meaning.specs.Alone.{Alone}
+use Rattle.isp_solo_meaning.specs.Answers.{Answer, Has, choose}
+use Rattle.isp_solo_meaning.specs.Values.{OwnCalls, by_instance, answer, spot, answers, answer_call, arguments as own_arguments, passed as own_passed}
 use Rattle.isp_laws.specs.Lone.{World, Stands, IsValue, IsAnswer}
 use Rattle.isp_laws.proofs.LoneSets.{just, just_is, where_just, lone_if}
 use Rattle.isp_laws.proofs.LoneSims.{CameTo, Follows, not_uniform, rated, as_rate, mapped_value, joined_value, spread_value, kept_value, offender_value, came_has, came_then, came_as, came_alone, came_unless, came_checked}

@@ -15,8 +15,8 @@ use Rattle.isp_meaning.specs.Calls.{calls_at}
 use Rattle.isp_meaning.specs.Expressions.{Values, Store}
 use Rattle.isp_meaning.specs.Payloads.{One}
 use Rattle.isp_meaning.specs.Runs.{handed, first_frame, first_state, no_place}
-use Rattle.isp_alone.specs.Calls.{own_calls}
-use Rattle.isp_alone.specs.Runs.{bound, fresh}
+use Rattle.isp_solo_meaning.specs.Calls.{own_calls}
+use Rattle.isp_solo_meaning.specs.Runs.{bound, fresh}
 use Rattle.isp_laws.specs.Lone.{LooksAtNobody, World, LoneIsAlone}
 use Rattle.isp_laws.proofs.LoneValues.{PassedIs, AllPassed, value_came}
 use Rattle.isp_laws.proofs.LoneDoes.{run_left}

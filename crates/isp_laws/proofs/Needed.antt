@@ -14,9 +14,9 @@ use Rattle.isp_typed.specs.Scoped.{ExprIn}
 use Rattle.isp_rates.specs.Program.{IsAccepted}
 use Rattle.isp_independence.specs.declared.dependence.Restriction.TheVariants.{Crossing, Printing, SharedArray, Outside, Turned, Foreach, Return}
 use Rattle.isp_independence.specs.Reaches.{itself}
-use Rattle.isp_alone.specs.Answers.{Answer}
-use Rattle.isp_alone.specs.Runs.{solo_run, bound, IsEnded}
-use Rattle.isp_alone.specs.Touched.{Reads, Writes}
+use Rattle.isp_solo_meaning.specs.Answers.{Answer}
+use Rattle.isp_solo_meaning.specs.Runs.{solo_run, bound, IsEnded}
+use Rattle.isp_solo_meaning.specs.Touched.{Reads, Writes}
 use Rattle.isp_laws.specs.Words.{at, int, number, index, parameter, program, given, array, value, holding}
 use Rattle.isp_laws.specs.Rules.{zeros, sums, prints, shares, counts, skips, parts, returns, CrossingIsNeeded, PrintingIsNeeded, SharedArrayIsNeeded, OutsideIsNeeded, TurnedIsNeeded, ForeachIsNeeded, ReturnIsNeeded}
 use Rattle.isp_laws.proofs.Fine.{starts, ends, fits0, fits1, fits2, fits3, fits4, le11, le12, le13, le22, le23, le33, array_is, value_is, zero_is, array_declared, range_is, word_of, one_fine, one_scoped, two_fine, two_scoped}

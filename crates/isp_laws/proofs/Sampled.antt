@@ -16,10 +16,10 @@ use Rattle.isp_typed.specs.Fine.{FineExpr, IsDeclared, foreach_index}
 use Rattle.isp_typed.specs.declared.variable.Variable.{Variable}
 use Rattle.isp_rates.specs.Program.{IsAccepted}
 use Rattle.isp_meaning.specs.Runs.{run_of}
-use Rattle.isp_alone.specs.Answers.{Answer}
-use Rattle.isp_alone.specs.OneByOne.{IsOrder}
-use Rattle.isp_alone.specs.Runs.{solo_run, bound, IsEnded}
-use Rattle.isp_instances.proofs.Entry.{solo_runs_agree}
+use Rattle.isp_solo_meaning.specs.Answers.{Answer}
+use Rattle.isp_solo_meaning.specs.OneByOne.{IsOrder}
+use Rattle.isp_solo_meaning.specs.Runs.{solo_run, bound, IsEnded}
+use Rattle.isp_solo_law.proofs.Entry.{solo_runs_agree}
 use Rattle.isp_laws.specs.Words.{at, int, number, read, item, parameter, program, given, value, array, row, array_of}
 use Rattle.isp_laws.specs.Samples.{MeetsAll, Agrees, behind, doubles, halves, given_six, PremisesOfSamples}
 use Rattle.isp_laws.proofs.Fine.{starts, ends, fits0, fits1, fits2, le11, le13, le22, array_is, value_is, zero_is, range_is, word_of, one_fine, one_scoped, two_fine, two_scoped}

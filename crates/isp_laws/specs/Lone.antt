@@ -29,12 +29,12 @@ use Rattle.isp_meaning.specs.Payloads.{Payload, One, Each}
 use Rattle.isp_meaning.specs.Runs.{handed, first_frame, first_state, no_place}
 use Rattle.isp_meaning.specs.State.{State, Frame}
 use Rattle.isp_meaning.specs.Statements.{run}
-use Rattle.isp_alone.specs.Alone.{Alone}
-use Rattle.isp_alone.specs.Answers.{Answer, Has, Bad, Long, How, Going, Broke, Continued, Returned, End, Does, Dies, Lasts}
-use Rattle.isp_alone.specs.Calls.{own_calls}
-use Rattle.isp_alone.specs.Does.{does}
-use Rattle.isp_alone.specs.Runs.{solo_run, bound}
-use Rattle.isp_alone.specs.Values.{answer}
+use Rattle.isp_solo_meaning.specs.Alone.{Alone}
+use Rattle.isp_solo_meaning.specs.Answers.{Answer, Has, Bad, Long, How, Going, Broke, Continued, Returned, End, Does, Dies, Lasts}
+use Rattle.isp_solo_meaning.specs.Calls.{own_calls}
+use Rattle.isp_solo_meaning.specs.Does.{does}
+use Rattle.isp_solo_meaning.specs.Runs.{solo_run, bound}
+use Rattle.isp_solo_meaning.specs.Values.{answer}
 
 -- ---- what looks at nobody: no call that looks across the gang, no `print`, no `foreach` and no `unmasked`, in which others take
 -- part. (A `foreach_active` or a `foreach_unique` over a set of one makes its one turn.)

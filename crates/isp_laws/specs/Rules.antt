@@ -21,9 +21,9 @@ use Rattle.isp_independence.specs.declared.dependence.Restriction.TheVariants.{C
 use Rattle.isp_independence.specs.Independent.{Depends}
 use Rattle.isp_meaning.specs.Entries.{IsEntry}
 use Rattle.isp_meaning.specs.Runs.{run_of}
-use Rattle.isp_alone.specs.OneByOne.{one_by_one}
-use Rattle.isp_alone.specs.Runs.{solo_run, bound, IsEnded}
-use Rattle.isp_alone.specs.Touched.{Clash}
+use Rattle.isp_solo_meaning.specs.OneByOne.{one_by_one}
+use Rattle.isp_solo_meaning.specs.Runs.{solo_run, bound, IsEnded}
+use Rattle.isp_solo_meaning.specs.Touched.{Clash}
 use Rattle.isp_laws.specs.Words.{at, int, number, index, variable, read, array, element, item, join, test, call, assign, declare, if_then}
 use Rattle.isp_laws.specs.Words.{count, foreach, give, holding, value, given, function, parameter, program, row, array_of}
 

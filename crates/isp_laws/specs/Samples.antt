@@ -18,9 +18,9 @@ use Rattle.isp_rates.specs.Program.{IsAccepted}
 use Rattle.isp_independence.specs.Independent.{IsIndependent}
 use Rattle.isp_meaning.specs.Entries.{IsEntry}
 use Rattle.isp_meaning.specs.Runs.{run_of}
-use Rattle.isp_alone.specs.OneByOne.{one_by_one, IsOrder}
-use Rattle.isp_alone.specs.Runs.{solo_run, bound, IsEnded}
-use Rattle.isp_alone.specs.Touched.{AreApart}
+use Rattle.isp_solo_meaning.specs.OneByOne.{one_by_one, IsOrder}
+use Rattle.isp_solo_meaning.specs.Runs.{solo_run, bound, IsEnded}
+use Rattle.isp_solo_meaning.specs.Touched.{AreApart}
 use Rattle.isp_laws.specs.Words.{at, int, number, index, variable, read, element, item, join, test, call, assign, declare, block, if_then}
 use Rattle.isp_laws.specs.Words.{foreach, give, value, given, function, parameter, program, row, array_of}
 

@@ -6,17 +6,17 @@ ghost use Rattle.isp_typed.specs.Views.{function_of};
 ghost use Rattle.isp_meaning.specs.Outcomes.{Val};
 ghost use Rattle.isp_meaning.specs.Payloads.{Payload};
 ghost use Rattle.isp_meaning.specs.Runs.{answer_as, outcome_of, state_of};
-ghost use Rattle.isp_fits.specs.Fits.{GivenFits, RowsFit};
-ghost use Rattle.isp_gang.specs.Seen.{payload_of};
-ghost use Rattle.isp_fits.specs.Cut.{cut, one_cut, rows_cut};
+ghost use Rattle.isp_type_soundness.specs.Fits.{GivenFits, RowsFit};
+ghost use Rattle.isp_gang_values.specs.Seen.{payload_of};
+ghost use Rattle.isp_type_soundness.specs.Cut.{cut, one_cut, rows_cut};
 ghost use Rattle.isp_model.specs.Evaluated.{ResultFits, outcome_seen};
-ghost use Rattle.isp_tasks.specs.Runs.{IsRunOf};
-ghost use Rattle.isp_tasks.specs.Stores.{stores_of};
+ghost use Rattle.isp_gang_run.specs.Runs.{IsRunOf};
+ghost use Rattle.isp_gang_run.specs.Stores.{stores_of};
 
 use crate::outcome::Outcome;
 use isp_base::{Argument, Array, Elem, Value, low_bits};
-use isp_gang::computed::Computed;
-use isp_tasks::{Ending, Run};
+use isp_gang_run::{Ending, Run};
+use isp_gang_values::computed::Computed;
 use isp_typed::TypedFunction;
 use std::alloc::{AllocError, Global};
 

@@ -7,8 +7,8 @@ use crate::ending::outcome;
 use crate::outcome::Outcome;
 use isp_base::Bound;
 use isp_entry::{EvalFault, find};
+use isp_gang_run::run_function;
 use isp_rates::Checked;
-use isp_tasks::run_function;
 use std::alloc::Global;
 
 /// The run of an exported function from bound arguments, where each loop makes at most so many turns each

@@ -1,11 +1,11 @@
 -- What is found among the elements is the first clash.
 use Rattle.std.proofs.Common.{◌≡◌, sym, ap, subst, ◌∙◌, ℕ, ◌<◌, ◌≤◌, ◌⊎◌, inl, inr, ⊎_elim, true, false, Some, None, arith}
 use Rattle.std.proofs.lemmas.Bool.{cases_lt, true≢false}
-use Rattle.isp_alone.specs.Answers.{Answer}
-use Rattle.isp_alone.specs.Touched.{Clash, AreApart}
-use Rattle.isp_single.specs.Touches.{touched_by, is_clash}
-use Rattle.isp_single.specs.declared.touches.Touch.{Touch}
-use Rattle.isp_single.proofs.Touching.{clashes_are_found}
+use Rattle.isp_solo_meaning.specs.Answers.{Answer}
+use Rattle.isp_solo_meaning.specs.Touched.{Clash, AreApart}
+use Rattle.isp_solo_run.specs.Touches.{touched_by, is_clash}
+use Rattle.isp_solo_run.specs.declared.touches.Touch.{Touch}
+use Rattle.isp_solo_run.proofs.Touching.{clashes_are_found}
 use Rattle.isp_solo.specs.Report.{FirstClash}
 use Rattle.isp_solo.specs.Touched.{FirstOfAll}
 

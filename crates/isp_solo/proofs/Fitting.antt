@@ -18,14 +18,14 @@ use Rattle.isp_meaning.specs.Outcomes.{Val, Gives, Fails, Stops}
 use Rattle.isp_meaning.specs.Payloads.{Payload, One}
 use Rattle.isp_meaning.specs.State.{State}
 use Rattle.isp_meaning.specs.Runs.{answer_as, gives_of, meaning, outcome_of, state_of}
-use Rattle.isp_alone.specs.Answers.{Answer}
-use Rattle.isp_alone.specs.OneByOne.{one_by_one}
-use Rattle.isp_alone.specs.Runs.{solo_run, bound, value_of}
-use Rattle.isp_alone.specs.Touched.{AreApart}
-use Rattle.isp_fits.specs.Cut.{rows_cut}
-use Rattle.isp_fits.specs.Fits.{BitsFit, GivenFits, RowsFit}
-use Rattle.isp_fits.proofs.Runs.{elements_fit, result_fits}
-use Rattle.isp_instances.proofs.Entry.{solo_runs_agree}
+use Rattle.isp_solo_meaning.specs.Answers.{Answer}
+use Rattle.isp_solo_meaning.specs.OneByOne.{one_by_one}
+use Rattle.isp_solo_meaning.specs.Runs.{solo_run, bound, value_of}
+use Rattle.isp_solo_meaning.specs.Touched.{AreApart}
+use Rattle.isp_type_soundness.specs.Cut.{rows_cut}
+use Rattle.isp_type_soundness.specs.Fits.{BitsFit, GivenFits, RowsFit}
+use Rattle.isp_type_soundness.proofs.Runs.{elements_fit, result_fits}
+use Rattle.isp_solo_law.proofs.Entry.{solo_runs_agree}
 use Rattle.isp_solo.specs.Left.{rows_left}
 use Rattle.isp_solo.specs.Report.{AllEnd, left_upward, upward}
 use Rattle.isp_solo.proofs.Cuts.{cut_same, left_is}

@@ -3,14 +3,14 @@ use Rattle.std.proofs.Common.{◌≡◌, refl, sym, ap, ap₂, ◌∙◌, ℕ, z
 use Rattle.std.specs.Prelude.{Option, is_some, slice_set}
 use Rattle.std.proofs.lemmas.Bool.{cases_eq, cases_lt}
 use Rattle.isp_base.specs.Maps.{put}
-use Rattle.isp_gang.specs.Growing.{at_each}
-use Rattle.isp_gang.proofs.Vectors.{at_past, at_there, written}
-use Rattle.isp_single.specs.Arrays.{wrote_at, wrote_in, read_in, wrote_seen, read_seen}
-use Rattle.isp_single.specs.Touches.{touched, touch_in, is_clash, FirstClash as FirstIn}
-use Rattle.isp_single.specs.declared.arrays.Shared.{Shared}
-use Rattle.isp_single.specs.declared.touches.Touch.{Touch}
-use Rattle.isp_single.specs.declared.touches.Touch.TheVariants.{Nobody}
-use Rattle.isp_single.proofs.Changed.{put_there, put_apart}
+use Rattle.isp_gang_values.specs.Growing.{at_each}
+use Rattle.isp_gang_values.proofs.Vectors.{at_past, at_there, written}
+use Rattle.isp_solo_run.specs.Arrays.{wrote_at, wrote_in, read_in, wrote_seen, read_seen}
+use Rattle.isp_solo_run.specs.Touches.{touched, touch_in, is_clash, FirstClash as FirstIn}
+use Rattle.isp_solo_run.specs.declared.arrays.Shared.{Shared}
+use Rattle.isp_solo_run.specs.declared.touches.Touch.{Touch}
+use Rattle.isp_solo_run.specs.declared.touches.Touch.TheVariants.{Nobody}
+use Rattle.isp_solo_run.proofs.Changed.{put_there, put_apart}
 use Rattle.isp_solo.specs.Touched.{FirstAt, FirstOfAll, touched_at, touched_seen}
 use Rattle.isp_solo.specs.declared.touched.Touched.{Touched}
 

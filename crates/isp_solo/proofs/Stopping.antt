@@ -5,10 +5,10 @@ use Rattle.isp_base.specs.declared.trap.Trap.{Trap}
 use Rattle.isp_typed.specs.Typed.{TFunction}
 use Rattle.isp_typed.specs.Views.{function_of, functions_of}
 use Rattle.isp_typed.specs.declared.function.TypedFunction.{TypedFunction}
-use Rattle.isp_alone.specs.Answers.{Answer, Bad, Long, reached}
-use Rattle.isp_single.specs.Ends.{IsRunOf, ended_in}
-use Rattle.isp_single.specs.declared.running.Ending.TheVariants.{Trapped, Cut}
-use Rattle.isp_single.specs.declared.running.Run.{Run}
+use Rattle.isp_solo_meaning.specs.Answers.{Answer, Bad, Long, reached}
+use Rattle.isp_solo_run.specs.Ends.{IsRunOf, ended_in}
+use Rattle.isp_solo_run.specs.declared.running.Ending.TheVariants.{Trapped, Cut}
+use Rattle.isp_solo_run.specs.declared.running.Run.{Run}
 use Rattle.isp_solo.specs.Report.{AllEnd, FirstStop}
 
 module _ (gang : ℕ) (run : ℕ → Answer ℕ) (p : ℕ) (r : Run) (below : p < gang) (before : AllEnd run p) (is : IsRunOf (run p) r) where

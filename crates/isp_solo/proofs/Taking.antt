@@ -3,13 +3,13 @@ use Rattle.std.proofs.Common.{◌≡◌, sym, ap, ap₂, subst, ◌∙◌, ℕ, 
 use Rattle.std.specs.Prelude.{Option, is_some}
 use Rattle.std.proofs.lemmas.Bool.{cases_eq}
 use Rattle.isp_base.specs.Rows.{Row}
-use Rattle.isp_alone.specs.Answers.{Answer, Has, reached}
-use Rattle.isp_alone.specs.Runs.{IsEnded, value_of}
-use Rattle.isp_single.specs.Arrays.{wrote_seen, read_seen}
-use Rattle.isp_single.specs.Ends.{IsRunOf, ended_in}
-use Rattle.isp_single.specs.Touches.{touched}
-use Rattle.isp_single.specs.declared.running.Ending.TheVariants.{Gave}
-use Rattle.isp_single.specs.declared.running.Run.{Run}
+use Rattle.isp_solo_meaning.specs.Answers.{Answer, Has, reached}
+use Rattle.isp_solo_meaning.specs.Runs.{IsEnded, value_of}
+use Rattle.isp_solo_run.specs.Arrays.{wrote_seen, read_seen}
+use Rattle.isp_solo_run.specs.Ends.{IsRunOf, ended_in}
+use Rattle.isp_solo_run.specs.Touches.{touched}
+use Rattle.isp_solo_run.specs.declared.running.Ending.TheVariants.{Gave}
+use Rattle.isp_solo_run.specs.declared.running.Run.{Run}
 use Rattle.isp_solo.specs.Left.{rows_over}
 use Rattle.isp_solo.specs.Together.{AreTogether}
 use Rattle.isp_solo.specs.Touched.{touched_seen}

@@ -10,11 +10,11 @@ use Rattle.isp_base.specs.Maps.{or_old}
 use Rattle.isp_base.specs.Types.{gang_width}
 use Rattle.isp_base.specs.declared.signature.Argument.{Argument}
 use Rattle.isp_typed.specs.Typed.{Program}
-use Rattle.isp_alone.specs.Answers.{Answer, reached}
-use Rattle.isp_alone.specs.OneByOne.{one_by_one, IsOrder}
-use Rattle.isp_alone.specs.Runs.{solo_run}
-use Rattle.isp_alone.specs.Touched.{AreApart}
-use Rattle.isp_alone.proofs.Orders.{any_order}
+use Rattle.isp_solo_meaning.specs.Answers.{Answer, reached}
+use Rattle.isp_solo_meaning.specs.OneByOne.{one_by_one, IsOrder}
+use Rattle.isp_solo_meaning.specs.Runs.{solo_run}
+use Rattle.isp_solo_meaning.specs.Touched.{AreApart}
+use Rattle.isp_solo_meaning.proofs.Orders.{any_order}
 use Rattle.isp_solo.specs.Left.{left_by}
 use Rattle.isp_solo.specs.Report.{upward}
 

@@ -4,7 +4,7 @@ use Rattle.isp_base.specs.Arguments.{rows}
 use Rattle.isp_base.specs.Types.{gang_width}
 use Rattle.isp_base.specs.declared.signature.Argument.{Argument}
 use Rattle.isp_typed.specs.Typed.{Program, TFunction}
-use Rattle.isp_alone.specs.Runs.{solo_run, bound}
+use Rattle.isp_solo_meaning.specs.Runs.{solo_run, bound}
 use Rattle.isp_solo.specs.Left.{rows_left}
 use Rattle.isp_solo.specs.Report.{Says}
 use Rattle.isp_solo.specs.declared.report.SoloReport.{SoloReport}

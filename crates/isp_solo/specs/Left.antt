@@ -4,8 +4,8 @@ use Rattle.isp_base.specs.Arguments.{tabulate}
 use Rattle.isp_base.specs.Maps.{or_old}
 use Rattle.isp_base.specs.Rows.{Row}
 use Rattle.isp_base.specs.Values.{width}
-use Rattle.isp_alone.specs.Answers.{Answer, reached}
-use Rattle.isp_alone.specs.Runs.{after}
+use Rattle.isp_solo_meaning.specs.Answers.{Answer, reached}
+use Rattle.isp_solo_meaning.specs.Runs.{after}
 
 -- an element has what was stored there, cut to the width of its type, else what it had
 abbrev pub row_over : Row → (ℕ → Option ℕ) → Row

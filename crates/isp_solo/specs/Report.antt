@@ -11,15 +11,15 @@ use Rattle.isp_independence.specs.Independent.{Depends, IsIndependent}
 use Rattle.isp_meaning.specs.Entries.{IsEntry}
 use Rattle.isp_meaning.specs.Payloads.{One}
 use Rattle.isp_meaning.specs.Runs.{answer_as}
-use Rattle.isp_alone.specs.Alone.{Alone}
-use Rattle.isp_alone.specs.Answers.{Answer, Bad, Long}
-use Rattle.isp_alone.specs.OneByOne.{one_by_one}
-use Rattle.isp_alone.specs.Runs.{solo_run, bound, IsEnded, value_of}
-use Rattle.isp_alone.specs.Touched.{Clash, AreApart}
+use Rattle.isp_solo_meaning.specs.Alone.{Alone}
+use Rattle.isp_solo_meaning.specs.Answers.{Answer, Bad, Long}
+use Rattle.isp_solo_meaning.specs.OneByOne.{one_by_one}
+use Rattle.isp_solo_meaning.specs.Runs.{solo_run, bound, IsEnded, value_of}
+use Rattle.isp_solo_meaning.specs.Touched.{Clash, AreApart}
 use Rattle.isp_entry.specs.Entered.{Begins, NoneBegins}
 use Rattle.isp_entry.specs.declared.fault.EvalFault.{EvalFault}
 use Rattle.isp_entry.specs.declared.fault.EvalFault.TheVariants.{Memory, NoEntry, NotIndependent}
-use Rattle.isp_fits.specs.Fits.{BitsFit}
+use Rattle.isp_type_soundness.specs.Fits.{BitsFit}
 use Rattle.isp_solo.specs.Places.{array_place}
 use Rattle.isp_solo.specs.declared.report.SoloReport.{SoloReport}
 use Rattle.isp_solo.specs.declared.report.SoloReport.TheVariants as report

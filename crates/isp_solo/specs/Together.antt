@@ -1,12 +1,12 @@
 -- What the runs of the first instances come to, taken together.
 use Rattle.std.specs.Prelude.{◌≡◌, ℕ, ◌+◌, ◌<◌, List}
 use Rattle.isp_base.specs.Rows.{Row}
-use Rattle.isp_alone.specs.Answers.{Answer}
-use Rattle.isp_alone.specs.Runs.{IsEnded, value_of}
-use Rattle.isp_single.specs.Ends.{IsRunOf}
-use Rattle.isp_single.specs.Touches.{touched_by}
-use Rattle.isp_single.specs.declared.running.Ending.TheVariants.{Gave}
-use Rattle.isp_single.specs.declared.running.Run.{Run}
+use Rattle.isp_solo_meaning.specs.Answers.{Answer}
+use Rattle.isp_solo_meaning.specs.Runs.{IsEnded, value_of}
+use Rattle.isp_solo_run.specs.Ends.{IsRunOf}
+use Rattle.isp_solo_run.specs.Touches.{touched_by}
+use Rattle.isp_solo_run.specs.declared.running.Ending.TheVariants.{Gave}
+use Rattle.isp_solo_run.specs.declared.running.Run.{Run}
 use Rattle.isp_solo.specs.Left.{rows_left}
 use Rattle.isp_solo.specs.Touched.{touched_seen}
 use Rattle.isp_solo.specs.declared.together.Together.{Together}

@@ -1,9 +1,9 @@
 -- How all elements of all arrays were touched, by array and element, and the first at which two clash.
 use Rattle.std.specs.Prelude.{◌≡◌, ℕ, ◌<◌, List, Option, Some, None, true, false}
-use Rattle.isp_gang.specs.Growing.{at_each}
-use Rattle.isp_single.specs.Touches.{is_clash}
-use Rattle.isp_single.specs.declared.touches.Touch.{Touch}
-use Rattle.isp_single.specs.declared.touches.Touch.TheVariants.{Nobody}
+use Rattle.isp_gang_values.specs.Growing.{at_each}
+use Rattle.isp_solo_run.specs.Touches.{is_clash}
+use Rattle.isp_solo_run.specs.declared.touches.Touch.{Touch}
+use Rattle.isp_solo_run.specs.declared.touches.Touch.TheVariants.{Nobody}
 use Rattle.isp_solo.specs.declared.touched.Touched.{Touched}
 
 abbrev pub touched_at : Touched → ℕ → Touch

@@ -3,7 +3,7 @@ ghost use Rattle.std.specs.Prelude.{◌≡◌, ◌<◌, ℕ, List};
 ghost use Rattle.isp_base.specs.Rows.{Row};
 ghost use Rattle.isp_meaning.specs.Payloads.{One};
 ghost use Rattle.isp_meaning.specs.Runs.{answer_as};
-ghost use Rattle.isp_alone.specs.Answers.{Answer};
+ghost use Rattle.isp_solo_meaning.specs.Answers.{Answer};
 ghost use Rattle.isp_solo.specs.Left.{rows_left};
 ghost use Rattle.isp_solo.specs.Places.{array_place, passed};
 ghost use Rattle.isp_solo.specs.Report.{Says};

@@ -13,8 +13,8 @@ use crate::together::Together;
 use isp_base::{Argument, Bound};
 use isp_entry::{EvalFault, find_number};
 use isp_rates::Checked;
-use isp_single::arrays::Arrays;
-use isp_single::running::{Ending, run_alone};
+use isp_solo_run::arrays::Arrays;
+use isp_solo_run::running::{Ending, run_alone};
 use isp_typed::Program;
 use std::alloc::{AllocError, Global};
 

@@ -3,11 +3,11 @@ ghost use Rattle.std.specs.Prelude.{◌≡◌, ◌++◌, ◌∷◌, [], IfOk, On
 ghost use Rattle.std.specs.List.{All};
 ghost use Rattle.isp_base.specs.Arguments.{rows};
 ghost use Rattle.isp_base.specs.Rows.{Fit};
-ghost use Rattle.isp_single.specs.Arrays.{wrote_seen};
+ghost use Rattle.isp_solo_run.specs.Arrays.{wrote_seen};
 ghost use Rattle.isp_solo.specs.Left.{row_over, rows_over};
 
 use isp_base::{Argument, Array, low_bits};
-use isp_single::arrays::Arrays;
+use isp_solo_run::arrays::Arrays;
 use std::alloc::{AllocError, Global};
 
 /// The arrays among the arguments.

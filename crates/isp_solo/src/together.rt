@@ -3,13 +3,13 @@ ghost use Rattle.std.specs.Prelude.{◌≡◌, ℕ, IfOk, OnOk};
 ghost use Rattle.std.specs.List.{All};
 ghost use Rattle.isp_base.specs.Arguments.{rows};
 ghost use Rattle.isp_base.specs.Rows.{Fit};
-ghost use Rattle.isp_alone.specs.Answers.{Answer};
+ghost use Rattle.isp_solo_meaning.specs.Answers.{Answer};
 ghost use Rattle.isp_solo.specs.Together.{Adds, AreTogether};
 
 use crate::left::{copies, store_run};
 use crate::touched::{Touched, join_run};
 use isp_base::{Argument, Array};
-use isp_single::running::Run;
+use isp_solo_run::running::Run;
 use std::alloc::{AllocError, Global};
 
 /// How the elements were touched, the arrays that the runs leave, and what instance 0 gave.

@@ -1,12 +1,12 @@
 //! How all elements of all arrays were touched, by the runs so far.
 ghost use Rattle.std.specs.Prelude.{◌≡◌, ◌≤◌, ℕ, Some, None, is_some, length, OnOk};
-ghost use Rattle.isp_single.specs.Arrays.{read_in, read_seen, wrote_in, wrote_seen};
-ghost use Rattle.isp_single.specs.Touches as Touches;
-ghost use Rattle.isp_single.specs.declared.touches.Touch.TheVariants.{Nobody};
+ghost use Rattle.isp_solo_run.specs.Arrays.{read_in, read_seen, wrote_in, wrote_seen};
+ghost use Rattle.isp_solo_run.specs.Touches as Touches;
+ghost use Rattle.isp_solo_run.specs.declared.touches.Touch.TheVariants.{Nobody};
 ghost use Rattle.isp_solo.specs.Touched.{FirstAt, FirstOfAll, touched_at, touched_seen};
 
-use isp_single::arrays::{Arrays, Shared};
-use isp_single::touches::{Touch, first_clash, join};
+use isp_solo_run::arrays::{Arrays, Shared};
+use isp_solo_run::touches::{Touch, first_clash, join};
 use std::alloc::{AllocError, Global};
 
 /// How the elements of an array were touched: the first ones, and all others.

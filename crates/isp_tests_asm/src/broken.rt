@@ -1,7 +1,7 @@
 //! One text with a line of each kind, broken everywhere, and read and written where memory is refused.
 use isp_asm::{AsmFault, Fault, Rule, read, write};
 use isp_code::Code;
-use isp_testing::{Tried, sweep_call};
+use isp_tests_support::{Tried, sweep_call};
 use std::alloc::{AllocError, Global};
 use std::process::Abort;
 use std::test::Fail;

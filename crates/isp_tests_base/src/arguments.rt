@@ -2,7 +2,7 @@
 use crate::operators::elem_named;
 use isp_base::{Argument, Array, Elem, Name, Parameter, Signature, Value, wrap};
 use isp_bind::{answer, bind};
-use isp_testing::{number, parted};
+use isp_tests_support::{number, parted};
 use std::alloc::{AllocError, Global};
 use std::process::Abort;
 use std::test::Fail;

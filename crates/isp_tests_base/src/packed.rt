@@ -7,7 +7,7 @@ use crate::refused::holds;
 use isp_base::{Argument, Bound, Elem, Name, Parameter, Signature, Value};
 use isp_bind::answer;
 use isp_packed::{NoRoom, PackedFault, pack, unpack};
-use isp_testing::{Tried, parted, sweep_call};
+use isp_tests_support::{Tried, parted, sweep_call};
 use std::alloc::Global;
 use std::process::Abort;
 use std::test::Fail;

@@ -2,7 +2,7 @@
 use crate::arguments::{array_of, push_number, signature};
 use isp_base::{Argument, Array, Bound, Elem};
 use isp_bind::{BindFault, answer, bind};
-use isp_testing::{Hoard, Tried, sweep, sweep_call};
+use isp_tests_support::{Hoard, Tried, sweep, sweep_call};
 use std::alloc::Global;
 use std::test::Fail;
 

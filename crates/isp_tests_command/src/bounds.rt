@@ -1,7 +1,7 @@
 //! Runs of arguments as they are bound: what they leave, and what comes back where they are refused.
 use isp_base::{Argument, Array, Bound, Elem, Gang, Value, low_bits};
 use isp_engine::{BoundReport, Image, StartFault, Stop, compile, execute_bound};
-use isp_testing::Hoard;
+use isp_tests_support::Hoard;
 use std::alloc::Global;
 use std::test::Fail;
 

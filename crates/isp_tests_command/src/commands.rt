@@ -1,11 +1,11 @@
-//! The whole program over sinks that fail or take a few bytes, and where memory is refused. isp_requests has what it
+//! The whole program over sinks that fail or take a few bytes, and where memory is refused. isp_tests_requests has what it
 //! answers to each kind of request.
 ghost use Rattle.std.specs.Prelude.{◌≡◌, false};
 
 use crate::fakes::{Count, Page, Shelf};
 use isp_asm::{read, write};
 use isp_engine::command;
-use isp_testing::Hoard;
+use isp_tests_support::Hoard;
 use std::alloc::{AllocError, Global};
 use std::process::Abort;
 use std::test::Fail;
@@ -78,7 +78,7 @@ fn run(rt: &impl Abort, alloc: Global, case: &Case<'_>, room: usize) -> Result<(
     Ok(())
 }
 
-// No words: the text of clap begins so. All other words are in isp_requests.
+// No words: the text of clap begins so. All other words are in isp_tests_requests.
 #[test]
 fn refused_words(rt: HostRuntime) -> Result<(), Fail> {
     let alloc = rt.alloc();

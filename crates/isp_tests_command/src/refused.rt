@@ -3,7 +3,7 @@ use isp_asm::write;
 use isp_base::Gang;
 use isp_engine::{CodeFault, Ending, Image, Report, RunFault, compile, execute, front, load_code};
 use isp_lex::SourceFault;
-use isp_testing::{Program, Tried, UNIQUE, sweep_call};
+use isp_tests_support::{Program, Tried, UNIQUE, sweep_call};
 use std::alloc::Global;
 use std::test::Fail;
 

@@ -2,7 +2,7 @@
 use isp_base::Gang;
 use isp_engine::{Ending, RunFault, compile, execute};
 use isp_lex::SourceFault;
-use isp_testing::Hoard;
+use isp_tests_support::Hoard;
 use std::test::Fail;
 
 const DOUBLE: &str =

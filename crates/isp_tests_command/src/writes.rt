@@ -2,7 +2,7 @@
 use crate::fakes::Page;
 use isp_base::{Gang, Span, Trap, TrapKind};
 use isp_engine::{Ending, Image, Report, RunFault, Sink, compile, load_code, run_to};
-use isp_testing::Hoard;
+use isp_tests_support::Hoard;
 use std::alloc::Global;
 use std::process::Abort;
 use std::test::Fail;

@@ -7,7 +7,7 @@ use crate::machines::AMPLE;
 use crate::runs::{evaluated, executed};
 use isp_base::Gang;
 use isp_engine::compile;
-use isp_testing::{Marked, number};
+use isp_tests_support::{Marked, number};
 use std::alloc::{AllocError, Global};
 use std::process::Abort;
 use std::test::Fail;

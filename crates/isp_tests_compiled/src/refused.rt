@@ -7,7 +7,7 @@ use isp_engine::front;
 use isp_masks::lower;
 use isp_model::evaluate;
 use isp_rates::Checked;
-use isp_testing::{Hoard, INC, LOCAL_ARRAY, Program, Tried, UNIQUE, sweep};
+use isp_tests_support::{Hoard, INC, LOCAL_ARRAY, Program, Tried, UNIQUE, sweep};
 use std::alloc::Global;
 use std::test::Fail;
 

@@ -1,5 +1,5 @@
 //! How a run stands that a record says has ended, trapped or been cut.
-use isp_testing::{Marked, parted};
+use isp_tests_support::{Marked, parted};
 use std::alloc::{AllocError, Global};
 
 /// What a record says of the run of a source; a trap has the source's place.

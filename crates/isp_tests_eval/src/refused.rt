@@ -6,7 +6,7 @@ use isp_lex::{SourceFault, lex};
 use isp_model::{EvalFault, Outcome, evaluate, work};
 use isp_rates::{Checked, check};
 use isp_syntax::{Tree, parse};
-use isp_testing::{
+use isp_tests_support::{
     CALLS, COUNTER, Hoard, INC, LOCAL_ARRAY, Program, Tried, UNIQUE, sweep, sweep_call,
 };
 use isp_typed::Typed;

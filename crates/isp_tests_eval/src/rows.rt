@@ -6,7 +6,7 @@ use isp_lex::{SourceFault, lex};
 use isp_model::{Outcome, evaluate};
 use isp_rates::{Checked, check};
 use isp_syntax::parse;
-use isp_testing::{Marked, number, spelt_out};
+use isp_tests_support::{Marked, number, spelt_out};
 use isp_types::resolve;
 use std::alloc::{AllocError, Global};
 use std::process::Abort;

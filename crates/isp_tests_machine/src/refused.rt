@@ -3,7 +3,7 @@ use crate::listing::{Line, Routine, verified};
 use isp_base::{Bound, Gang};
 use isp_code::Returns;
 use isp_machine::{Machine, Stop};
-use isp_testing::Hoard;
+use isp_tests_support::Hoard;
 use isp_verify::Verified;
 use std::alloc::{AllocError, Global};
 use std::test::Fail;

@@ -4,7 +4,7 @@ use isp_base::{Gang, Span};
 use isp_bind::answer;
 use isp_rates::Checked;
 use isp_solo::{EvalFault, SoloReport, one_by_one};
-use isp_testing::{Hoard, INC, Program, Tried, UNIQUE, sweep_call};
+use isp_tests_support::{Hoard, INC, Program, Tried, UNIQUE, sweep_call};
 use std::alloc::Global;
 use std::test::Fail;
 

@@ -6,7 +6,7 @@ use isp_lex::{SourceFault, lex};
 use isp_rates::{Checked, check};
 use isp_solo::{EvalFault, SoloReport, one_by_one};
 use isp_syntax::parse;
-use isp_testing::{Marked, number, parted};
+use isp_tests_support::{Marked, number, parted};
 use isp_types::resolve;
 use std::alloc::{AllocError, Global};
 use std::process::Abort;

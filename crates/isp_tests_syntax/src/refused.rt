@@ -2,7 +2,7 @@
 use crate::shapes::shape;
 use isp_lex::{SourceFault, Tokens, lex};
 use isp_syntax::parse;
-use isp_testing::{INC, Tried, UNIQUE, sweep_call};
+use isp_tests_support::{INC, Tried, UNIQUE, sweep_call};
 use std::alloc::Global;
 use std::test::Fail;
 

@@ -17,8 +17,8 @@ use Rattle.isp_engine.specs.Images.{IsCompilation, IsNotLoaded}
 use Rattle.isp_engine.specs.Stories.{Holds, Reads, SourceFails, Unread, UnreadOf}
 use Rattle.isp_engine.proofs.Requests.{unread_first, unread_second}
 use Rattle.isp_engine.proofs.Written.{adds_nil}
-use Rattle.isp_words.specs.declared.words.RunRequest.{RunRequest}
-use Rattle.ispx_words.specs.declared.words.ExplainRequest.{ExplainRequest}
+use Rattle.isp_command_line.specs.declared.words.RunRequest.{RunRequest}
+use Rattle.ispx_command_line.specs.declared.words.ExplainRequest.{ExplainRequest}
 use Rattle.isp_workbench.specs.declared.done.Job.{Job as Done}
 use Rattle.isp_workbench.specs.Requests.{as_check}
 use Rattle.isp_workbench.specs.Texts.{ChecksText, GivesNone, RunsTexts}

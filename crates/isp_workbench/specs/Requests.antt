@@ -7,19 +7,19 @@
 -- `tells line` says that a line went to standard error. What `explain` writes there is no part of a promise.
 use Rattle.std.specs.Prelude.{◌≡◌, ◌⊎◌, ℕ, List, [], Bool, Option, Some, None, Result, ⊤}
 use Rattle.isp_code.specs.Listing.{Listing}
-use Rattle.isp_words.specs.declared.words.CheckRequest.{CheckRequest}
-use Rattle.isp_words.specs.declared.words.RunRequest.{RunRequest}
+use Rattle.isp_command_line.specs.declared.words.CheckRequest.{CheckRequest}
+use Rattle.isp_command_line.specs.declared.words.RunRequest.{RunRequest}
 use Rattle.isp_engine.specs.declared.failure.Failure.{Failure}
 use Rattle.isp_engine.specs.Checking.{WroteVerdicts}
 use Rattle.isp_engine.specs.Commands.{Given, NotGiven, Refused, RunEnds, exit_status, job_of_run}
 use Rattle.isp_engine.specs.Failures.{line_of}
 use Rattle.isp_engine.specs.Sinks.{TookAll}
 use Rattle.isp_engine.specs.Stories.{Holds, Stops, Unread, Writes}
-use Rattle.ispx_words.specs.declared.words.Call.{Call}
-use Rattle.ispx_words.specs.declared.words.CRequest.{CRequest}
-use Rattle.ispx_words.specs.declared.words.ExplainRequest.{ExplainRequest}
-use Rattle.ispx_words.specs.declared.words.Request.{Request}
-use Rattle.ispx_words.specs.declared.words.Request.TheVariants.{Explain, Count, Trace, C}
+use Rattle.ispx_command_line.specs.declared.words.Call.{Call}
+use Rattle.ispx_command_line.specs.declared.words.CRequest.{CRequest}
+use Rattle.ispx_command_line.specs.declared.words.ExplainRequest.{ExplainRequest}
+use Rattle.ispx_command_line.specs.declared.words.Request.{Request}
+use Rattle.ispx_command_line.specs.declared.words.Request.TheVariants.{Explain, Count, Trace, C}
 use Rattle.isp_workbench.specs.Runs.{CountShows, ShowEnds, Shows, TraceShows}
 use Rattle.isp_workbench.specs.Texts.{GivesCode, GivesNone, c_page}
 

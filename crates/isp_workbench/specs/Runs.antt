@@ -24,8 +24,8 @@ use Rattle.isp_traces.specs.Tracing.{TracedRun}
 use Rattle.isp_traces.specs.declared.runs.Counted.{Counted}
 use Rattle.isp_traces.specs.declared.runs.Traced.{Traced}
 use Rattle.isp_traces.specs.declared.tracing.Window.{Window}
-use Rattle.isp_words.specs.declared.words.RunRequest.{RunRequest}
-use Rattle.ispx_words.specs.declared.words.TraceRequest.{TraceRequest}
+use Rattle.isp_command_line.specs.declared.words.RunRequest.{RunRequest}
+use Rattle.ispx_command_line.specs.declared.words.TraceRequest.{TraceRequest}
 
 -- the arguments that a text gives to the function that is exported under a name
 pub record Binds (code : Listing) (name json : List ℕ) (xs : List Argument) : Type 0 where

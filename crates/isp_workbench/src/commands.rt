@@ -12,7 +12,7 @@ use crate::runs::{count, trace};
 use clap::Error;
 use clap::error::ErrorKind;
 use isp_engine::{Failure, Sink, SourceFiles, tell_line};
-use ispx_words::{Request, read_words};
+use ispx_command_line::{Request, read_words};
 use std::alloc::Global;
 
 /// Does what `words` ask for, the first of which is the program's name, and answers the exit status.

@@ -10,10 +10,10 @@ use crate::output::show;
 use crate::page::Source;
 use crate::story::{Asked, Given, entry_story, notes, plain_fault, source_story, trap_story};
 use crate::texts::{read, read_both};
+use isp_command_line::RunRequest;
 use isp_engine::{Failure, Sink, SourceFiles, tell_line};
 use isp_remedies::advice_on;
-use isp_words::RunRequest;
-use ispx_words::{Call, ExplainRequest};
+use ispx_command_line::{Call, ExplainRequest};
 use std::alloc::{AllocError, Global};
 
 /// Checks a source, or runs an entry of it, as `isp` does, and answers the status of `isp`; says on `err` what went wrong.

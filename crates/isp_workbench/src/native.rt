@@ -8,7 +8,7 @@ use crate::texts::read;
 use isp_base::Gang;
 use isp_engine::{Failure, Image, Sink, SourceFiles, compile, load_code};
 use isp_native::{header, write};
-use ispx_words::CRequest;
+use ispx_command_line::CRequest;
 use std::alloc::{AllocError, Global};
 
 /// Writes the C file of a code text, or of the code of a source, or its prototypes.

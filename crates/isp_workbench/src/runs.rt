@@ -13,11 +13,11 @@ use crate::output::write_bytes;
 use crate::texts::read_both;
 use isp_base::{Bound, Signature};
 use isp_bind::{answer, bind};
+use isp_command_line::RunRequest;
 use isp_engine::{Failure, Image, RunFault, Sink, SourceFiles, StartFault, Stop};
 use isp_traces::{Counted, Traced, Window, count_run, counts_line, trace_run};
 use isp_verify::Verified;
-use isp_words::RunRequest;
-use ispx_words::TraceRequest;
+use ispx_command_line::TraceRequest;
 use std::alloc::{AllocError, Global};
 
 /// What a run shows, and how the program ends behind it.

@@ -5,7 +5,7 @@ use Rattle.isp_base.proofs.Gangs.{some_width}
 use Rattle.isp_base.specs.Types.{gang_width}
 use Rattle.isp_base.specs.declared.types.Elem.{Elem}
 use Rattle.isp_typed.specs.Views.{program_of}
-use Rattle.isp_alone.specs.Runs.{solo_run, bound}
+use Rattle.isp_solo_meaning.specs.Runs.{solo_run, bound}
 use Rattle.isp_solo.specs.Left.{rows_left}
 use Rattle.isp_solo.specs.Report.{Says}
 use Rattle.isp_solo.specs.Together.{AreTogether}

@@ -1,6 +1,6 @@
 use Rattle.isp_base.specs.Arguments.{rows}
 use Rattle.isp_typed.specs.Views.{program_of}
-use Rattle.isp_alone.specs.Runs.{solo_run, bound}
+use Rattle.isp_solo_meaning.specs.Runs.{solo_run, bound}
 use Rattle.isp_solo.specs.Together.{AreTogether}
 use Rattle.isp_solo.proofs.instances.report.Given as goal
 

@@ -1,5 +1,5 @@
 use Rattle.std.proofs.Common.{arith}
-use Rattle.isp_single.specs.Arrays.{wrote_seen}
+use Rattle.isp_solo_run.specs.Arrays.{wrote_seen}
 use Rattle.isp_solo.proofs.Leaving.{stored_none, stored_all}
 use Rattle.isp_solo.proofs.left.store_in.Goals as goal
 

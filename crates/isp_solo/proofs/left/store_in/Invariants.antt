@@ -1,4 +1,4 @@
-use Rattle.isp_single.specs.Arrays.{wrote_seen}
+use Rattle.isp_solo_run.specs.Arrays.{wrote_seen}
 use Rattle.isp_solo.proofs.Leaving.{StoredTo}
 use Rattle.isp_solo.proofs.left.store_in.Given as goal
 

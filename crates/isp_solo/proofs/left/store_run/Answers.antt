@@ -1,7 +1,7 @@
 use Rattle.std.proofs.Common.{◌≡◌, ℕ, suc, ◌+◌, List, arith, ap, subst, sym, ◌∙◌, get_or}
 use Rattle.std.specs.Prelude.{slice_set}
 use Rattle.isp_base.specs.Rows.{Row}
-use Rattle.isp_single.specs.Arrays.{wrote_seen}
+use Rattle.isp_solo_run.specs.Arrays.{wrote_seen}
 use Rattle.isp_solo.specs.Left.{row_over}
 use Rattle.isp_solo.proofs.Leaving.{all_over, first_over, one_over}
 use Rattle.isp_solo.proofs.left.store_run.Goals as goal

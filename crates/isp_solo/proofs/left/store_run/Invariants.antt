@@ -1,5 +1,5 @@
 use Rattle.std.proofs.Common.{◌≡◌}
-use Rattle.isp_single.specs.Arrays.{wrote_seen}
+use Rattle.isp_solo_run.specs.Arrays.{wrote_seen}
 use Rattle.isp_solo.proofs.Leaving.{first_over}
 use Rattle.isp_solo.proofs.left.store_run.Given as goal
 

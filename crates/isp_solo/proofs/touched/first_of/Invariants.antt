@@ -1,5 +1,5 @@
 use Rattle.std.proofs.Common.{◌≡◌, ◌<◌, ℕ, false}
-use Rattle.isp_single.specs.Touches.{is_clash}
+use Rattle.isp_solo_run.specs.Touches.{is_clash}
 use Rattle.isp_solo.specs.Touched.{touched_seen}
 use Rattle.isp_solo.proofs.touched.first_of.Given as goal
 

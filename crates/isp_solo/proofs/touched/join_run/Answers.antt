@@ -1,9 +1,9 @@
 use Rattle.std.proofs.Common.{ap, arith, ◌∙◌, ℕ}
 use Rattle.std.specs.Prelude.{is_some}
 use Rattle.std.proofs.Math.ListN.{length-set}
-use Rattle.isp_single.specs.Arrays.{read_seen, wrote_seen}
-use Rattle.isp_single.specs.Touches.{touched}
-use Rattle.isp_single.specs.declared.touches.Touch.{Touch}
+use Rattle.isp_solo_run.specs.Arrays.{read_seen, wrote_seen}
+use Rattle.isp_solo_run.specs.Touches.{touched}
+use Rattle.isp_solo_run.specs.declared.touches.Touch.{Touch}
 use Rattle.isp_solo.proofs.Joining.{joined_next, joined_all}
 use Rattle.isp_solo.proofs.touched.join_run.Goals as goal
 

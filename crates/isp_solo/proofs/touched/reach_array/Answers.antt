@@ -1,6 +1,6 @@
 use Rattle.std.proofs.Common.{ap, length, ◌∙◌}
-use Rattle.isp_gang.proofs.Vectors.{padded_all, longer}
-use Rattle.isp_single.specs.declared.touches.Touch.TheVariants.{Nobody}
+use Rattle.isp_gang_values.proofs.Vectors.{padded_all, longer}
+use Rattle.isp_solo_run.specs.declared.touches.Touch.TheVariants.{Nobody}
 use Rattle.isp_solo.specs.Touched.{touched_at, touched_seen}
 use Rattle.isp_solo.proofs.touched.reach_array.Goals as goal
 

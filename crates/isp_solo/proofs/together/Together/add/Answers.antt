@@ -1,7 +1,7 @@
 use Rattle.std.proofs.Common.{◌≡◌, ap, ◌∙◌, length, rules, List}
 use Rattle.std.proofs.lemmas.List.{with_items_is}
 use Rattle.isp_base.specs.Rows.{Row}
-use Rattle.isp_single.specs.Arrays.{wrote_seen}
+use Rattle.isp_solo_run.specs.Arrays.{wrote_seen}
 use Rattle.isp_solo.specs.Left.{rows_over}
 use Rattle.isp_solo.proofs.Taking.{one_together}
 use Rattle.isp_solo.proofs.together.Together.add.Goals as goal

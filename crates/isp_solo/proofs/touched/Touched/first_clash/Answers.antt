@@ -1,7 +1,7 @@
 use Rattle.std.proofs.Common.{◌≡◌, sym, subst, ◌∙◌, ℕ, Some, None, length, arith}
 use Rattle.std.specs.Prelude.{List}
-use Rattle.isp_single.specs.Touches.{FirstClash}
-use Rattle.isp_single.specs.declared.touches.Touch.{Touch}
+use Rattle.isp_solo_run.specs.Touches.{FirstClash}
+use Rattle.isp_solo_run.specs.declared.touches.Touch.{Touch}
 use Rattle.isp_solo.specs.Touched.{FirstAt, touched_at}
 use Rattle.isp_solo.proofs.Joining.{found_there, found_past, found_nowhere}
 use Rattle.isp_solo.proofs.touched.Touched.first_clash.Goals as goal

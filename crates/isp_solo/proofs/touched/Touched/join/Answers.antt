@@ -1,10 +1,10 @@
 use Rattle.std.proofs.Common.{◌≡◌, ◌<◌, ap, subst, ◌∙◌, ℕ, length, arith, rules}
 use Rattle.std.specs.Prelude.{List, is_some}
 use Rattle.std.proofs.lemmas.List.{with_items_is}
-use Rattle.isp_gang.specs.Growing.{at_each}
-use Rattle.isp_single.specs.Arrays.{read_in, wrote_in}
-use Rattle.isp_single.specs.Touches.{touched, touch_in}
-use Rattle.isp_single.specs.declared.touches.Touch.{Touch}
+use Rattle.isp_gang_values.specs.Growing.{at_each}
+use Rattle.isp_solo_run.specs.Arrays.{read_in, wrote_in}
+use Rattle.isp_solo_run.specs.Touches.{touched, touch_in}
+use Rattle.isp_solo_run.specs.declared.touches.Touch.{Touch}
 use Rattle.isp_solo.proofs.Joining.{joined_at}
 use Rattle.isp_solo.proofs.touched.Touched.join.Goals as goal
 

@@ -1,7 +1,7 @@
 use Rattle.std.proofs.Common.{ap, refl, length, ◌∙◌}
-use Rattle.isp_gang.specs.Growing.{at_each}
-use Rattle.isp_gang.proofs.Vectors.{padded_all, longer}
-use Rattle.isp_single.specs.declared.touches.Touch.{Touch}
+use Rattle.isp_gang_values.specs.Growing.{at_each}
+use Rattle.isp_gang_values.proofs.Vectors.{padded_all, longer}
+use Rattle.isp_solo_run.specs.declared.touches.Touch.{Touch}
 use Rattle.isp_solo.proofs.touched.Touched.reach.Goals as goal
 
 pub loop-next-preserved : goal.loop-next-preserved

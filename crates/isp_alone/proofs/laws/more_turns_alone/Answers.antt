@@ -1,5 +1,0 @@
-use Rattle.isp_alone.proofs.MoreTurns.{more_turns_alone}
-use Rattle.isp_alone.proofs.laws.more_turns_alone.Goals as goal
-
-pub returns : goal.returns
-returns c = more_turns_alone

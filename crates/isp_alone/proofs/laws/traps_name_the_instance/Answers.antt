@@ -1,5 +1,0 @@
-use Rattle.isp_alone.proofs.MoreTurns.{traps_name_the_instance}
-use Rattle.isp_alone.proofs.laws.traps_name_the_instance.Goals as goal
-
-pub returns : goal.returns
-returns c = traps_name_the_instance

@@ -1,5 +1,0 @@
-use Rattle.isp_gang.proofs.Rows.{begun}
-use Rattle.isp_gang.proofs.cross.shuffled_two.Goals as goal
-
-pub loop-instance-init : goal.loop-instance-init
-loop-instance-init c = begun _

@@ -1,6 +1,0 @@
-use Rattle.std.proofs.Common.{◌≡◌, length}
-use Rattle.isp_gang.specs.Growing.{lanes_of}
-use Rattle.isp_gang.proofs.growing.put_lanes.Given as goal
-
-abbrev pub invariant-loop-next : goal.invariant-loop-next
-invariant-loop-next l = record { same : lanes_of l.values.items ≡ lanes_of l.initial.values.items; long : length l.values.items ≡ l._next }

@@ -1,8 +1,0 @@
-use Rattle.std.proofs.Common.{◌≡◌}
-use Rattle.isp_base.specs.Cross.{any_of}
-use Rattle.isp_meaning.specs.Payloads.{is_true}
-use Rattle.isp_gang.specs.Seen.{map_of}
-use Rattle.isp_gang.proofs.reductions.any_true.Given as goal
-
-abbrev pub invariant-loop-instance : goal.invariant-loop-instance
-invariant-loop-instance l = l.any ≡ any_of is_true l.instance (map_of l.row)

@@ -1,7 +1,0 @@
-use Rattle.std.proofs.Common.{◌≡◌, None}
-use Rattle.isp_base.specs.Cross.{best, fold_below}
-use Rattle.isp_gang.specs.Seen.{map_of}
-use Rattle.isp_gang.proofs.reductions.first.Given as goal
-
-abbrev pub invariant-loop-instance : goal.invariant-loop-instance
-invariant-loop-instance l = l.found ≡ fold_below (best (λ a b. a)) None (map_of l.row) l.instance

@@ -1,9 +1,0 @@
-use Rattle.std.proofs.Common.{None}
-use Rattle.isp_base.specs.Maps.{map2}
-use Rattle.isp_base.specs.Values.{compare_bits}
-use Rattle.isp_gang.specs.Seen.{map_of}
-use Rattle.isp_gang.proofs.Made.{Made}
-use Rattle.isp_gang.proofs.row.compared.Given as goal
-
-abbrev pub invariant-loop-instance : goal.invariant-loop-instance
-invariant-loop-instance l = Made None (map2 (compare_bits l.comparison l.elem) (map_of l.left) (map_of l.right)) l.row l.instance

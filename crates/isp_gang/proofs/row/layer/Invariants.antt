@@ -1,8 +1,0 @@
-use Rattle.std.proofs.Common.{None}
-use Rattle.isp_meaning.specs.Payloads.{layer}
-use Rattle.isp_gang.specs.Seen.{map_of}
-use Rattle.isp_gang.proofs.Made.{Made}
-use Rattle.isp_gang.proofs.row.layer.Given as goal
-
-abbrev pub invariant-loop-instance : goal.invariant-loop-instance
-invariant-loop-instance l = Made None (layer (map_of l.first) (map_of l.second)) l.row l.instance

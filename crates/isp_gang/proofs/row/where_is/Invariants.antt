@@ -1,8 +1,0 @@
-use Rattle.std.proofs.Common.{false}
-use Rattle.isp_base.specs.Maps.{where_true}
-use Rattle.isp_gang.specs.Seen.{is_bool, map_of}
-use Rattle.isp_gang.proofs.Made.{Made}
-use Rattle.isp_gang.proofs.row.where_is.Given as goal
-
-abbrev pub invariant-loop-instance : goal.invariant-loop-instance
-invariant-loop-instance l = Made false (where_true (is_bool l.truth) (map_of l.row)) l.set l.instance

@@ -1,5 +1,0 @@
-use Rattle.isp_gang.proofs.Masks.{begun}
-use Rattle.isp_gang.proofs.row.where_zero.Goals as goal
-
-pub loop-instance-init : goal.loop-instance-init
-loop-instance-init c = begun _

@@ -1,8 +1,0 @@
-use Rattle.std.proofs.Common.{false}
-use Rattle.isp_meaning.specs.Rounds.{have}
-use Rattle.isp_gang.specs.Seen.{map_of}
-use Rattle.isp_gang.proofs.Made.{Made}
-use Rattle.isp_gang.proofs.row.who_have.Given as goal
-
-abbrev pub invariant-loop-instance : goal.invariant-loop-instance
-invariant-loop-instance l = Made false (have (map_of l.row)) l.set l.instance

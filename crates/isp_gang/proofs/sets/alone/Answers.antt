@@ -1,5 +1,0 @@
-use Rattle.isp_gang.proofs.Masks.{alone_made}
-use Rattle.isp_gang.proofs.sets.alone.Goals as goal
-
-pub returns : goal.returns
-returns c = alone_made c.args.instance c.requires

@@ -1,0 +1,17 @@
+use Rattle.std.proofs.Common.{sym, ◌∙◌}
+use Rattle.isp_gang_run.proofs.Unique.{lowest_is, nobody_left, value_goes}
+use Rattle.isp_gang_run.proofs.state.Evaluator.distinct.Goals as goal
+
+pub returns-in-None-clause-ok : goal.returns-in-None-clause-ok
+returns-in-None-clause-ok c =
+    let x = c.deref.result.now in
+    nobody_left c.args.self.now c.args.distinct x.unique x.row (sym c.deref.ensures) c.leave.new.self c.all.result
+    (lowest_is c.gang.ensures c.who_have.ensures c.lowest.ensures ∙ c.in-None.is) c.all.ensures c.leave.ensures
+
+pub returns-clause-ok : goal.returns-clause-ok
+returns-clause-ok c =
+    let x = c.deref.result.now in
+    value_goes c.args.self.now c.args.distinct x.unique x.row (sym c.deref.ensures) c.write.new.self c.both.new.self c.tick.new.self c.tick.ensures
+    c.in-Some.instance c.or_zero-bits.result c.convert.result c.where_same-same.result c.except-rest.result c.in_ok-others-in-Some.others
+    (lowest_is c.gang.ensures c.who_have.ensures c.lowest.ensures ∙ c.in-Some.is)
+    c.or_zero-bits.ensures c.where_same-same.ensures c.convert.ensures c.except-rest.ensures c.in_ok-others-in-Some.ensures.ok c.in_ok-write-in-Some.ensures.ok c.in_ok-both-in-Some.ensures.ok

@@ -1,0 +1,15 @@
+use Rattle.isp_gang_run.proofs.PackedCalls.{store_next, load_next, load_next_halts}
+use Rattle.isp_gang_run.proofs.Results.{on_ok, if_err}
+use Rattle.isp_gang_run.proofs.state.Evaluator.packed.Goals as goal
+
+pub returns-in_ok-both-in-Store-clause-ok : goal.returns-in_ok-both-in-Store-clause-ok
+returns-in_ok-both-in-Store-clause-ok c =
+    store_next c.args.self.now c.both.new.self c.in-Store.value c.args.array c.args.elem c.sole-first.result c.args.span c.args.set c.args.packing c.in-Store.is c.sole-first.ensures c.in_ok-both-in-Store.ensures.ok
+
+pub returns-in-Load-clause-ok : goal.returns-in-Load-clause-ok
+returns-in-Load-clause-ok c =
+    on_ok c.packed_load.result (load_next c.args.self.now c.packed_load.new.self c.in-Load.variable c.sole-first.result c.args.array c.args.elem c.args.span c.args.set c.args.packing c.in-Load.is c.sole-first.ensures) c.packed_load.ensures.ok
+
+pub returns-in-Load-clause-err : goal.returns-in-Load-clause-err
+returns-in-Load-clause-err c =
+    if_err c.packed_load.result (λ e h. load_next_halts c.args.self.now c.packed_load.new.self c.in-Load.variable c.sole-first.result c.args.array c.args.elem c.args.span c.args.set c.args.packing e c.in-Load.is c.sole-first.ensures h) c.packed_load.ensures.err

@@ -1,0 +1,23 @@
+use Rattle.std.proofs.Common.{◌≡◌, sym, ap, ◌∙◌, false}
+use Rattle.isp_base.specs.Sets.{flag_of}
+use Rattle.isp_base.specs.Types.{gang_width}
+use Rattle.isp_gang_values.specs.Left.{is_ready, runs_left}
+use Rattle.isp_gang_run.specs.Tasks.{all_parts}
+use Rattle.isp_gang_run.specs.declared.rounds.Rounds.{Rounds}
+use Rattle.isp_gang_run.proofs.Foreach.{no_round, rounds_same}
+use Rattle.isp_gang_values.proofs.Left.{no_next_run}
+use Rattle.isp_gang_run.proofs.state.Evaluator.rounds.Goals as goal
+
+pub returns-else-ready-clause-ok : goal.returns-else-ready-clause-ok
+returns-else-ready-clause-ok c =
+    let g = c.args.self.now.program.now.gang in
+    let not_ready : is_ready c.carry.new.ranges.items ≡ false = sym (ap is_ready (c.as_slice.ensures.value ∙ ap (λ (x : Rounds). x.ranges.items) c.deref.ensures)) ∙ sym c.is_ready-ready.ensures ∙ c.if-ready.false in
+    no_round c.args.self.now c.leave.new.self c.args.rounds c.all.result
+    (sym (c.carry.ensures.left g ∙ ap (λ (x : Rounds). runs_left (gang_width g) x.ranges.items) c.deref_mut.ensures.value) ∙ no_next_run g c.carry.new.ranges.items c.carry.ensures.within not_ready)
+    (c.all.ensures ∙ ap (λ (x : Rounds). all_parts (flag_of x.set)) c.deref-else-ready.ensures ∙ ap (λ (x : Rounds). all_parts (flag_of x.set)) c.deref_mut.ensures.value) c.leave.ensures
+
+pub returns-in_ok-round-clause-ok : goal.returns-in_ok-round-clause-ok
+returns-in_ok-round-clause-ok c =
+    let g = c.args.self.now.program.now.gang in
+    rounds_same c.args.self.now c.round.new.self c.args.rounds (record c.args.rounds { value = record c.deref_mut.result.now { ranges = c.carry.new.ranges } }) (ap (λ (x : Rounds). x.body) c.deref_mut.ensures.value) (ap (λ (x : Rounds). x.set) c.deref_mut.ensures.value)
+    (c.carry.ensures.left g ∙ ap (λ (x : Rounds). runs_left (gang_width g) x.ranges.items) c.deref_mut.ensures.value) c.in_ok-round.ensures.ok

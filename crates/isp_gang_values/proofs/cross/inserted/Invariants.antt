@@ -1,0 +1,11 @@
+use Rattle.std.proofs.Common.{None}
+use Rattle.isp_base.specs.Cross.{insert}
+use Rattle.isp_base.specs.Maps.{on}
+use Rattle.isp_base.specs.Sets.{flag_of}
+use Rattle.isp_base.specs.Types.{gang_width}
+use Rattle.isp_gang_values.specs.Seen.{map_of}
+use Rattle.isp_gang_values.proofs.Made.{Made}
+use Rattle.isp_gang_values.proofs.cross.inserted.Given as goal
+
+abbrev pub invariant-loop-instance : goal.invariant-loop-instance
+invariant-loop-instance l = Made None (on (flag_of l.set) (insert (gang_width l.gang) (map_of l.row) l.place l.bits)) l.moved l.instance

@@ -1,0 +1,8 @@
+use Rattle.std.proofs.Common.{None}
+use Rattle.isp_base.specs.Maps.{on}
+use Rattle.isp_base.specs.Sets.{flag_of}
+use Rattle.isp_gang_values.proofs.Made.{Made}
+use Rattle.isp_gang_values.proofs.row.repeated.Given as goal
+
+abbrev pub invariant-loop-instance : goal.invariant-loop-instance
+invariant-loop-instance l = Made None (on (flag_of l.set) (λ p. l.bits)) l.row l.instance

@@ -1,0 +1,9 @@
+use Rattle.std.proofs.Common.{false}
+use Rattle.isp_base.specs.Access.{is_zero}
+use Rattle.isp_base.specs.Maps.{where_true}
+use Rattle.isp_gang_values.specs.Seen.{map_of}
+use Rattle.isp_gang_values.proofs.Made.{Made}
+use Rattle.isp_gang_values.proofs.row.where_zero.Given as goal
+
+abbrev pub invariant-loop-instance : goal.invariant-loop-instance
+invariant-loop-instance l = Made false (where_true (is_zero l.operator l.elem) (map_of l.row)) l.set l.instance

@@ -1,6 +1,0 @@
-use Rattle.std.proofs.Common.{◌≡◌, length}
-use Rattle.isp_single.specs.Arrays.{marks_of}
-use Rattle.isp_single.proofs.arrays.mark.Given as goal
-
-abbrev pub invariant-loop-next : goal.invariant-loop-next
-invariant-loop-next l = record { same : marks_of l.marks.items ≡ marks_of l.initial.marks.items; long : length l.marks.items ≡ l._next }

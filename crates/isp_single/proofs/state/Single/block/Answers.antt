@@ -1,8 +1,0 @@
-use Rattle.isp_single.specs.Tasks.{store_seen}
-use Rattle.isp_single.proofs.Runs.{block_is}
-use Rattle.isp_single.proofs.Steps.{tells_by}
-use Rattle.isp_single.proofs.state.Single.block.Goals as goal
-
-pub returns : goal.returns
-returns c =
-    tells_by c.statements.result c.args.self.now c.statements.new.self _ _ (block_is c.args.self.now (store_seen c.args.self.now) c.args.block.now c.as_slice.result.now c.as_slice.ensures.value) c.statements.ensures

@@ -1,8 +1,0 @@
-use Rattle.isp_single.specs.Tasks.{store_seen}
-use Rattle.isp_single.proofs.Nodes.{right_node}
-use Rattle.isp_single.proofs.Steps.{tells_by}
-use Rattle.isp_single.proofs.state.Single.right.Goals as goal
-
-pub returns : goal.returns
-returns c =
-    tells_by c.both.result c.args.self.now c.both.new.self _ _ (right_node c.args.self.now (store_seen c.args.self.now) c.args.joining c.args.right) c.both.ensures

@@ -1,5 +1,0 @@
-use Rattle.isp_single.proofs.Touching.{clashes_are_found}
-use Rattle.isp_single.proofs.touches.clashes_are_found.Goals as goal
-
-pub returns : goal.returns
-returns c = clashes_are_found

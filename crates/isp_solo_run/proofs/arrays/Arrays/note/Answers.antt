@@ -1,0 +1,11 @@
+use Rattle.std.proofs.Common.{true}
+use Rattle.isp_solo_run.proofs.Changed.{wrote_kept, read_set}
+use Rattle.isp_solo_run.proofs.arrays.Arrays.note.Goals as goal
+
+pub returns-clause-wrote : goal.returns-clause-wrote
+returns-clause-wrote c =
+    wrote_kept c.args.self.now.stores.items c.reach.new.self.stores.items c.args.store c.index_mut.result.now c.note.new.self c.in_ok-reach.ensures.there c.in_ok-reach.ensures.wrote c.index_mut.ensures.value c.in_ok-note.ensures.wrote
+
+pub returns-clause-read : goal.returns-clause-read
+returns-clause-read c =
+    read_set c.args.self.now.stores.items c.reach.new.self.stores.items c.args.store c.args.place true c.index_mut.result.now c.note.new.self c.in_ok-reach.ensures.there c.in_ok-reach.ensures.read c.index_mut.ensures.value c.in_ok-note.ensures.read

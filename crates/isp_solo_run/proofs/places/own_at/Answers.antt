@@ -1,0 +1,13 @@
+use Rattle.std.proofs.Common.{◌∙◌, ap, sym}
+use Rattle.isp_gang_values.specs.Growing.{values_of}
+use Rattle.isp_gang_values.proofs.Vectors.{at_there, at_past}
+use Rattle.isp_solo_run.proofs.places.own_at.Goals as goal
+
+pub returns-then-array-arrays : goal.returns-then-array-arrays
+returns-then-array-arrays c =
+    c.at.ensures ∙ ap (λ xs. values_of xs c.args.place) (c.as_slice.ensures.value ∙ ap (λ v. v.items) c.index-arrays-array.is)
+    ∙ sym (ap (λ f. f c.args.place) (at_there (λ v. values_of v.items) (λ e. 0) c.args.arrays.now c.args.array c.index-arrays-array.result c.if-array-arrays.true))
+
+pub returns-else-array-arrays : goal.returns-else-array-arrays
+returns-else-array-arrays c =
+    sym (ap (λ f. f c.args.place) (at_past (λ v. values_of v.items) (λ e. 0) c.args.arrays.now c.args.array c.if-array-arrays.false))

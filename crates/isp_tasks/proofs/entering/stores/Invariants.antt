@@ -1,7 +1,0 @@
-use Rattle.std.proofs.Common.{map}
-use Rattle.isp_tasks.specs.Seen.{passed_seen}
-use Rattle.isp_tasks.proofs.Begun.{Opening}
-use Rattle.isp_tasks.proofs.entering.stores.Given as goal
-
-abbrev pub invariant-loop-place : goal.invariant-loop-place
-invariant-loop-place l = Opening l.variables (map passed_seen l.passed) l.initial.sizes.items l.sizes.items l.named.items l.place

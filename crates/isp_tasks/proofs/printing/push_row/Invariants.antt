@@ -1,7 +1,0 @@
-use Rattle.std.proofs.Common.{◌≡◌}
-use Rattle.isp_gang.specs.Seen.{map_of}
-use Rattle.isp_tasks.proofs.Printed.{items_from}
-use Rattle.isp_tasks.proofs.printing.push_row.Given as goal
-
-abbrev pub invariant-loop-instance : goal.invariant-loop-instance
-invariant-loop-instance l = l.output.items ≡ items_from l.fn.output.items l.elem l.instance (map_of l.row)

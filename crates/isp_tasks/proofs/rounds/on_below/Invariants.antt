@@ -1,7 +1,0 @@
-use Rattle.std.proofs.Common.{false}
-use Rattle.isp_gang.specs.Left.{numbers_below}
-use Rattle.isp_gang.proofs.Made.{Made}
-use Rattle.isp_tasks.proofs.rounds.on_below.Given as goal
-
-abbrev pub invariant-loop-instance : goal.invariant-loop-instance
-invariant-loop-instance l = Made false (numbers_below l.instance-end l.range.next l.range.end) l.set l.instance

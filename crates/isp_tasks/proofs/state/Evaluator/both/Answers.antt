@@ -1,6 +1,0 @@
-use Rattle.isp_tasks.proofs.Steps.{two_first}
-use Rattle.isp_tasks.proofs.state.Evaluator.both.Goals as goal
-
-pub returns-clause-ok : goal.returns-clause-ok
-returns-clause-ok c =
-    two_first c.args.self.now c.later.new.self c.later-2.new.self c.args.second c.args.first c.in_ok-later.ensures.ok c.in_ok-later.ensures.rest c.in_ok-later-2.ensures.ok c.in_ok-later-2.ensures.rest

@@ -1,5 +1,0 @@
-use Rattle.isp_tasks.proofs.Arms.{declared}
-use Rattle.isp_tasks.proofs.state.Evaluator.declare.Goals as goal
-
-pub returns-clause-ok : goal.returns-clause-ok
-returns-clause-ok c = declared c.args.self.now c.both.new.self c.tick.new.self c.tick.ensures c.args.items c.args.set c.in_ok-both.ensures.ok

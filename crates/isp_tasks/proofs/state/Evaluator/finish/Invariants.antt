@@ -1,5 +1,0 @@
-use Rattle.isp_tasks.specs.Ends.{Leads}
-use Rattle.isp_tasks.proofs.state.Evaluator.finish.Given as goal
-
-abbrev pub invariant-loop-count : goal.invariant-loop-count
-invariant-loop-count l = Leads l.initial.self l.self

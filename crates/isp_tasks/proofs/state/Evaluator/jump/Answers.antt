@@ -1,8 +1,0 @@
-use Rattle.std.proofs.Common.{ap}
-use Rattle.isp_meaning.specs.State.{State}
-use Rattle.isp_meaning.specs.Outcomes.{Res}
-use Rattle.isp_tasks.proofs.Arms.{jumped_away}
-use Rattle.isp_tasks.proofs.state.Evaluator.jump.Goals as goal
-
-pub returns : goal.returns
-returns c = jumped_away c.args.self.now c.leave.new.self c.tick.new.self c.tick.ensures c.args.jump c.args.set.now c.jumped.result (λ s. ap (λ (f : State → Res). f s) c.jumped.ensures) c.leave.ensures

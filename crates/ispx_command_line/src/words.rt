@@ -1,0 +1,248 @@
+//! The command words of `ispx`, and what they ask for.
+use clap::error::ErrorKind;
+use clap::{Arg, ArgAction, ArgMatches, Command, Error, value_parser};
+use isp_base::Gang;
+use isp_command_line::RunRequest;
+use std::alloc::{AllocError, Global};
+
+/// An entry that is run, and the name of the file with its arguments.
+#[derive(Clone, Copy, Debug)]
+pub struct Call<'a> {
+    pub entry: &'a str,
+    pub arguments: &'a str,
+}
+
+/// A source is checked, or an entry of it run, for a gang and so many instructions at most; and what goes wrong is explained.
+#[derive(Clone, Copy, Debug)]
+pub struct ExplainRequest<'a> {
+    pub gang: Gang,
+    pub budget: u64,
+    pub source: &'a str,
+    pub call: Option<Call<'a>>,
+}
+
+/// Code is written as a C file, or the prototypes of its exported functions: the code of a text, or where there is a gang that
+/// of a source.
+#[derive(Clone, Copy, Debug)]
+pub struct CRequest<'a> {
+    pub gang: Option<Gang>,
+    pub is_header: bool,
+    pub file: &'a str,
+}
+
+/// An entry of a source is run, and `count` of its steps from number `from` on are shown; with the lanes that each wrote where
+/// these are wanted.
+#[derive(Clone, Copy, Debug)]
+pub struct TraceRequest<'a> {
+    pub run: RunRequest<'a>,
+    pub from: u64,
+    pub count: u64,
+    pub lanes: bool,
+}
+
+/// What command words ask for. Sources, code and arguments are names of files.
+#[derive(Clone, Copy, Debug)]
+pub enum Request<'a> {
+    Explain(ExplainRequest<'a>),
+    Count(RunRequest<'a>),
+    Trace(TraceRequest<'a>),
+    C(CRequest<'a>),
+}
+
+/// What the words ask for, or the text that the user is to see.
+pub fn read_words<'a>(alloc: Global, words: &'a [String]) -> Result<Request<'a>, Error> {
+    let matches = ispx(alloc)?.try_get_matches_from(words)?;
+    let chosen = match matches.subcommand() {
+        Some((name, inner)) => chosen(name, inner),
+        None => None,
+    };
+    match chosen {
+        Some(request) => Ok(request),
+        None => Err(misfit(alloc)?),
+    }
+}
+
+// Each subcommand has a request, so this text is never shown.
+fn misfit(alloc: Global) -> Result<Error, Error> {
+    let mut command = ispx(alloc)?;
+    Ok(command.error(ErrorKind::InvalidSubcommand, "no such command")?)
+}
+
+fn chosen<'a>(name: &str, inner: &ArgMatches<'a>) -> Option<Request<'a>> {
+    match name {
+        "explain" => Some(Request::Explain(ExplainRequest {
+            gang: gang_of(inner)?,
+            budget: inner.get_one::<u64>("budget")?,
+            source: inner.get_str("SOURCE")?,
+            call: call_of(inner),
+        })),
+        "count" => Some(Request::Count(run_of(inner)?)),
+        "trace" => Some(Request::Trace(TraceRequest {
+            run: run_of(inner)?,
+            from: inner.get_one::<u64>("from")?,
+            count: inner.get_one::<u64>("count")?,
+            lanes: inner.get_flag("lanes"),
+        })),
+        "c" => Some(Request::C(CRequest {
+            gang: gang_of(inner),
+            is_header: inner.get_flag("header"),
+            file: inner.get_str("FILE")?,
+        })),
+        _ => None,
+    }
+}
+
+fn run_of<'a>(inner: &ArgMatches<'a>) -> Option<RunRequest<'a>> {
+    Some(RunRequest {
+        gang: gang_of(inner)?,
+        budget: inner.get_one::<u64>("budget")?,
+        source: inner.get_str("SOURCE")?,
+        entry: inner.get_str("ENTRY")?,
+        arguments: inner.get_str("ARGUMENTS")?,
+    })
+}
+
+fn call_of<'a>(inner: &ArgMatches<'a>) -> Option<Call<'a>> {
+    Some(Call {
+        entry: inner.get_str("ENTRY")?,
+        arguments: inner.get_str("ARGUMENTS")?,
+    })
+}
+
+// `gang` lists the widths that may be given, and each has its gang.
+fn gang_of(inner: &ArgMatches<'_>) -> Option<Gang> {
+    Gang::of_width(inner.get_str("gang")?.parse::<usize>().ok()?)
+}
+
+// What `ispx --version` says behind the name.
+const VERSION: &str = "0.1.0";
+
+fn ispx<'a>(alloc: Global) -> Result<Command<'a>, Error> {
+    let named = Command::new(alloc, "ispx")
+        .bin_name("ispx")?
+        .version(VERSION)
+        .about("Explains what `isp` refuses, shows what a run does, and writes kernels as C")
+        .subcommand_required(true);
+    let shown = named
+        .subcommand(explain(alloc)?)?
+        .subcommand(count(alloc)?)?
+        .subcommand(trace(alloc)?)?;
+    Ok(shown.subcommand(c(alloc)?)?)
+}
+
+fn explain<'a>(alloc: Global) -> Result<Command<'a>, AllocError> {
+    Command::new(alloc, "explain")
+        .about("Does what `isp check` or `isp run` does, and explains what goes wrong")
+        .arg(gang(alloc).default_value("4"))?
+        .arg(budget(alloc))?
+        .arg(
+            named(alloc, "SOURCE")
+                .required(true)
+                .help("File with the kernels, text in ISPC"),
+        )?
+        .arg(
+            named(alloc, "ENTRY")
+                .requires_arg("ARGUMENTS")?
+                .help("Exported function to call"),
+        )?
+        .arg(named(alloc, "ARGUMENTS").help("File with the function's arguments, a JSON object"))
+}
+
+fn count<'a>(alloc: Global) -> Result<Command<'a>, AllocError> {
+    run(
+        alloc,
+        "count",
+        "Does what `isp run` does, and counts the instructions and the lanes that they use",
+    )
+}
+
+fn trace<'a>(alloc: Global) -> Result<Command<'a>, AllocError> {
+    run(
+        alloc,
+        "trace",
+        "Runs a kernel, and shows each step with its masks",
+    )?
+    .arg(
+        number(alloc, "from", "N")
+            .help("Number of the first step that is shown")
+            .default_value("0"),
+    )?
+    .arg(
+        number(alloc, "count", "M")
+            .help("Steps that are shown")
+            .default_value("1000"),
+    )?
+    .arg(
+        Arg::new(alloc, "lanes")
+            .long("lanes")
+            .help("The vector that each step wrote, too")
+            .action(ArgAction::SetTrue),
+    )
+}
+
+// A command that runs an entry, with the words of `isp run`.
+fn run<'a>(alloc: Global, name: &'a str, about: &'a str) -> Result<Command<'a>, AllocError> {
+    Command::new(alloc, name)
+        .about(about)
+        .arg(gang(alloc).default_value("4"))?
+        .arg(budget(alloc))?
+        .arg(
+            named(alloc, "SOURCE")
+                .required(true)
+                .help("File with the kernels, text in ISPC"),
+        )?
+        .arg(
+            named(alloc, "ENTRY")
+                .required(true)
+                .help("Exported function to call"),
+        )?
+        .arg(
+            named(alloc, "ARGUMENTS")
+                .required(true)
+                .help("File with the function's arguments, a JSON object"),
+        )
+}
+
+fn number<'a>(alloc: Global, name: &'a str, value: &'a str) -> Arg<'a> {
+    Arg::new(alloc, name)
+        .long(name)
+        .value_name(value)
+        .value_parser(value_parser!(u64))
+}
+
+fn c<'a>(alloc: Global) -> Result<Command<'a>, AllocError> {
+    Command::new(alloc, "c")
+        .about("Writes code as a C file")
+        .arg(gang(alloc))?
+        .arg(header(alloc))?
+        .arg(
+            named(alloc, "FILE").required(true).help(
+                "File with code, as `isp asm` writes it, or with `--gang` with kernels",
+            ),
+        )
+}
+
+fn named<'a>(alloc: Global, name: &'a str) -> Arg<'a> {
+    Arg::new(alloc, name).action(ArgAction::Set)
+}
+
+fn header<'a>(alloc: Global) -> Arg<'a> {
+    Arg::new(alloc, "header")
+        .long("header")
+        .help("The prototypes of the exported functions alone")
+        .action(ArgAction::SetTrue)
+}
+
+fn gang<'a>(alloc: Global) -> Arg<'a> {
+    Arg::new(alloc, "gang")
+        .long("gang")
+        .value_name("G")
+        .help("Instances that run together")
+        .value_parser(["4", "8", "16", "32"].as_slice())
+}
+
+fn budget<'a>(alloc: Global) -> Arg<'a> {
+    number(alloc, "budget", "B")
+        .help("Instructions that may run")
+        .default_value("100000000")
+}
