@@ -5,7 +5,7 @@ ghost use Rattle.isp_c.specs.Commanding.{Commanded, Did, Gives, Holds, bytes_in}
 
 use crate::room::put;
 use crate::texts::Text;
-use isp_engine::{FileFault, Sink, SinkFault, SourceFiles, command};
+use isp_engine::{FileFault, Kept, Sink, SourceFiles, command};
 use std::alloc::{AllocError, AllocFailed, Global};
 
 /// A file for C: its name, and its text.
@@ -67,45 +67,6 @@ fn text(alloc: Global, bytes: &[u8]) -> Result<String, FileFault>
 }
 
 // ---- streams
-
-/// All bytes that are written, until memory is refused.
-#[derive(Drop)]
-struct Kept {
-    bytes: Vec<u8>,
-    has_failed: bool,
-}
-
-impl Kept {
-    fn new(alloc: Global) -> Kept
-        ensures bytes { result.bytes.items ≡ [] }
-        ensures failed { result.has_failed ≡ false }
-    {
-        Kept {
-            bytes: Vec::new(alloc),
-            has_failed: false,
-        }
-    }
-}
-
-impl Sink for Kept {
-    ghost written = { λ k. Some k.bytes.items };
-
-    ghost has_failed = { λ k. k.has_failed };
-
-    fn write(&mut self, bytes: &[u8]) -> Result<usize, SinkFault> {
-        match self.bytes.extend_from_slice(bytes) {
-            Ok(()) => Ok(bytes.len()),
-            Err(_) => {
-                self.has_failed = true;
-                Err(SinkFault)
-            }
-        }
-    }
-
-    fn failed(&self) -> bool {
-        self.has_failed
-    }
-}
 
 /// What a command wrote, and its status.
 #[derive(Drop)]
@@ -217,7 +178,7 @@ fn commanded(alloc: Global, words: &[String], files: &[File<'_>]) -> Option<Writ
     let mut out = Kept::new(alloc);
     let mut err = Kept::new(alloc);
     let status = command(alloc, words, &Held { files }, &mut out, &mut err);
-    if out.has_failed || err.has_failed {
+    if out.failed() || err.failed() {
         return None;
     }
     Some(Written {

@@ -9,7 +9,7 @@ use crate::fault::RunFault;
 use crate::files::SourceFiles;
 use crate::sink::Sink;
 use crate::source::front;
-use crate::texts::{read, write_text};
+use crate::texts::{read_file, write_text};
 use isp_base::Signature;
 use isp_bind::{answer, bind};
 use isp_command_line::SoloRequest;
@@ -40,8 +40,8 @@ fn answered<'a, F: SourceFiles>(
     ensures ok { IfOk result (λ s. Soloed (F.holds files.now) request.now (string_bytes s)) }
     ensures err { IfErr result (SoloFails (F.holds files.now) request.now) }
 {
-    let source = read(alloc, files, request.source)?;
-    let json = read(alloc, files, request.arguments)?;
+    let source = read_file(alloc, files, request.source)?;
+    let json = read_file(alloc, files, request.arguments)?;
     let checked = front(alloc, source.as_str(), request.gang)?;
     entered(alloc, &checked, request.entry, json.as_str(), request.turns)
 }

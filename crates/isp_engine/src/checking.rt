@@ -7,7 +7,7 @@ use crate::failure::Failure;
 use crate::files::SourceFiles;
 use crate::sink::Sink;
 use crate::source::front;
-use crate::texts::{read, write_text};
+use crate::texts::{read_file, write_text};
 use isp_command_line::CheckRequest;
 use isp_verdicts::verdicts;
 use std::alloc::Global;
@@ -35,7 +35,7 @@ fn judged<'a, F: SourceFiles>(
     ensures ok { IfOk result (λ s. Judged (F.holds files.now) request.now (string_bytes s)) }
     ensures err { IfErr result (SourceFails (F.holds files.now) request.now.gang request.now.source.now) }
 {
-    let source = read(alloc, files, request.source)?;
+    let source = read_file(alloc, files, request.source)?;
     let checked = front(alloc, source.as_str(), request.gang)?;
     let text = verdicts(alloc, &checked)?;
     Ok(text)

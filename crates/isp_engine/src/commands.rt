@@ -2,7 +2,6 @@
 ghost use Rattle.std.specs.Prelude.{◌≡◌, ◌≢◌, false, string_bytes, Some, IfOk, IfErr};
 ghost use Rattle.isp_engine.specs.Commands.{Assembled, Commands, Ends, Given, IsImage, IsNoImage, NotGiven, Ran, RunEnds, WroteCode, end_of_ending, exit_status, job_of_exec as of_exec, job_of_run as of_run};
 ghost use Rattle.isp_asm.specs.Spelling.{text_of};
-ghost use Rattle.isp_engine.specs.Failures.{line_of};
 ghost use Rattle.isp_engine.specs.Sinks.{Told};
 ghost use Rattle.isp_engine.specs.Stories.{SourceFails};
 ghost use Rattle.isp_engine.specs.declared.failure.Failure.TheVariants.{Memory};
@@ -12,11 +11,11 @@ use crate::checking::check;
 use crate::failure::Failure;
 use crate::files::SourceFiles;
 use crate::image::{Image, compile, load_code};
-use crate::lines::{show, tell_line};
+use crate::lines::{show, tell_end};
 use crate::report::Ending;
 use crate::run::run_to;
 use crate::sink::Sink;
-use crate::texts::{read, write_text};
+use crate::texts::{read_file, write_text};
 use clap::error::ErrorKind;
 use isp_asm::write;
 use isp_base::Gang;
@@ -44,27 +43,13 @@ pub fn command<F: SourceFiles, O: Sink, E: Sink>(
         (λ line. Told line (E.written err.old) (E.written err.new) (E.has_failed err.new)) result }
 {
     match read_words(alloc, words) {
-        Ok(request) => tell(answer(alloc, &request, files, out), err),
+        Ok(request) => tell_end(answer(alloc, &request, files, out), err),
         Err(error) => {
             if error.kind() == ErrorKind::OutOfMemory {
-                return tell(Err(Failure::Memory), err);
+                return tell_end(Err(Failure::Memory), err);
             }
             show(&error, err);
             2
-        }
-    }
-}
-
-// Writes the line that says why the program ends so, and answers the exit status.
-fn tell<E: Sink>(end: Result<(), Failure<'_>>, err: &mut E) -> u8
-    ensures status { result ≡ exit_status end.entry }
-    ensures line { Told (line_of end.entry) (E.written err.old) (E.written err.new) (E.has_failed err.new) }
-{
-    match end {
-        Ok(()) => 0,
-        Err(failure) => {
-            tell_line(&failure, err);
-            failure.status()
         }
     }
 }
@@ -151,8 +136,8 @@ fn given<'a, F: SourceFiles>(
     ensures ok { IfOk result (λ g. Given (F.holds files.now) job.now g.0 (string_bytes g.1)) }
     ensures err { IfErr result (NotGiven (F.holds files.now) job.now) }
 {
-    let text = read(alloc, files, job.text)?;
-    let json = read(alloc, files, job.arguments)?;
+    let text = read_file(alloc, files, job.text)?;
+    let json = read_file(alloc, files, job.arguments)?;
     let image = image_of(alloc, job.origin, text.as_str())?;
     Ok((image, json))
 }
@@ -215,7 +200,7 @@ fn compiled<'a, F: SourceFiles>(
     ensures ok { IfOk result (Assembled (F.holds files.now) request.now) }
     ensures err { IfErr result (SourceFails (F.holds files.now) request.now.gang request.now.source.now) }
 {
-    let source = read(alloc, files, request.source)?;
+    let source = read_file(alloc, files, request.source)?;
     let image = compile(alloc, source.as_str(), request.gang)?;
     Ok(image)
 }

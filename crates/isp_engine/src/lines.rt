@@ -2,7 +2,8 @@
 ghost use Rattle.std.specs.Prelude.{◌≡◌, ◌++◌, ◌∷◌, [], false, flat_map};
 ghost use Rattle.isp_asm.specs.Faults.{rule_text};
 ghost use Rattle.isp_base.specs.Traps.{kind_text};
-ghost use Rattle.isp_engine.specs.Failures.{clash_line, failure_line};
+ghost use Rattle.isp_engine.specs.Commands.{exit_status};
+ghost use Rattle.isp_engine.specs.Failures.{clash_line, failure_line, line_of};
 ghost use Rattle.isp_engine.specs.declared.failure.Failure.TheVariants.{Code, NotIndependent, Source, Trapped, TurnsUsed};
 ghost use Rattle.isp_engine.specs.declared.fault.CodeFault.TheVariants.{Code as BadCode, Text};
 ghost use Rattle.isp_engine.specs.Sinks.{Told, Wrote};
@@ -38,6 +39,20 @@ pub fn tell_line<W: Sink>(failure: &Failure<'_>, out: &mut W)
 {
     if !out.failed() {
         let _ = write_line(failure, out);
+    }
+}
+
+/// Writes the line that says why the program ends so, where it does not end well, and answers the exit status.
+pub fn tell_end<E: Sink>(end: Result<(), Failure<'_>>, err: &mut E) -> u8
+    ensures status { result ≡ exit_status end.entry }
+    ensures line { Told (line_of end.entry) (E.written err.old) (E.written err.new) (E.has_failed err.new) }
+{
+    match end {
+        Ok(()) => 0,
+        Err(failure) => {
+            tell_line(&failure, err);
+            failure.status()
+        }
     }
 }
 

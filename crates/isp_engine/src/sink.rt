@@ -1,6 +1,8 @@
 //! Where a program's output goes.
-ghost use Rattle.std.specs.Prelude.{◌≡◌, ◌≤◌, ◌||◌, ℕ, List, Bool, false, Option, None, length, IfOk, OnOk, OnErr};
+ghost use Rattle.std.specs.Prelude.{◌≡◌, ◌≤◌, ◌||◌, ℕ, List, [], Bool, false, Option, None, Some, length, IfOk, OnOk, OnErr};
 ghost use Rattle.isp_engine.specs.Sinks.{Takes, TookAll, TookSome, refuses};
+
+use std::alloc::Global;
 
 /// A write failed, and took nothing.
 #[derive(Clone, Copy, Debug, PartialEq, Eq)]
@@ -38,6 +40,45 @@ impl Sink for Nowhere {
 
     fn failed(&self) -> bool {
         false
+    }
+}
+
+/// Keeps all that is written, until memory is refused.
+#[derive(Drop)]
+pub struct Kept {
+    pub bytes: Vec<u8>,
+    has_failed: bool,
+}
+
+impl Kept {
+    pub fn new(alloc: Global) -> Kept
+        ensures bytes { result.bytes.items ≡ [] }
+        ensures failed { result.has_failed ≡ false }
+    {
+        Kept {
+            bytes: Vec::new(alloc),
+            has_failed: false,
+        }
+    }
+}
+
+impl Sink for Kept {
+    ghost written = { λ k. Some k.bytes.items };
+
+    ghost has_failed = { λ k. k.has_failed };
+
+    fn write(&mut self, bytes: &[u8]) -> Result<usize, SinkFault> {
+        match self.bytes.extend_from_slice(bytes) {
+            Ok(()) => Ok(bytes.len()),
+            Err(_) => {
+                self.has_failed = true;
+                Err(SinkFault)
+            }
+        }
+    }
+
+    fn failed(&self) -> bool {
+        self.has_failed
     }
 }
 

@@ -7,19 +7,27 @@ use crate::files::{FileFault, SourceFiles};
 use crate::sink::{Sink, SinkFault, write_all};
 use std::alloc::Global;
 
-/// Writes a text.
-pub(crate) fn write_text<O: Sink>(text: &str, out: &mut O) -> Result<(), Failure<'static>>
+/// Writes a text. `CannotWrite` where a write fails or takes no byte; then the first bytes of it have gone out.
+pub fn write_text<O: Sink>(text: &str, out: &mut O) -> Result<(), Failure<'static>>
     requires { O.has_failed out.old ≡ false }
     ensures { Writes text.now (O.written out.old) (O.written out.new) (O.has_failed out.new) result }
 {
-    match write_all(out, text.as_bytes()) {
+    write_bytes(text.as_bytes(), out)
+}
+
+/// Writes bytes, as `write_text` does a text.
+pub fn write_bytes<O: Sink>(bytes: &[u8], out: &mut O) -> Result<(), Failure<'static>>
+    requires { O.has_failed out.old ≡ false }
+    ensures { Writes bytes.now (O.written out.old) (O.written out.new) (O.has_failed out.new) result }
+{
+    match write_all(out, bytes) {
         Ok(()) => Ok(()),
         Err(SinkFault) => Err(Failure::CannotWrite),
     }
 }
 
-/// The text of a file.
-pub(crate) fn read<'a, F: SourceFiles>(
+/// The text of the file of a name. `CannotRead` where it has none, `Memory` where memory is refused.
+pub fn read_file<'a, F: SourceFiles>(
     alloc: Global,
     files: &F,
     name: &'a str,

@@ -20,7 +20,6 @@
 mod alone;
 mod case;
 mod found;
-mod kept;
 mod ways;
 
 use case::{Case, Tried};

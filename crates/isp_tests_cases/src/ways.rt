@@ -1,11 +1,10 @@
 //! The ways in which a program is run: by the evaluator, and by its code.
 use crate::case::Case;
 use crate::found::Found;
-use crate::kept::Kept;
 use isp_asm::write;
 use isp_base::{Bound, Signature};
 use isp_bind::{answer, bind};
-use isp_engine::{Ending, Image, Report, compile, execute, front, load_code, run_to};
+use isp_engine::{Ending, Image, Kept, Report, compile, execute, front, load_code, run_to};
 use isp_lex::SourceFault;
 use isp_model::{Outcome, evaluate, work};
 use isp_rates::Checked;

@@ -1,5 +1,5 @@
 -- Short words for the nodes of typed trees, arguments and arrays.
-use Rattle.std.specs.Prelude.{ℕ, Bool, true, List, [], Option, codes}
+use Rattle.std.specs.Prelude.{ℕ, zero, suc, Bool, true, List, [], ◌++◌, Option, codes}
 use Rattle.isp_base.specs.Rows.{Row}
 use Rattle.isp_base.specs.declared.types.Gang.{Gang}
 use Rattle.isp_base.specs.declared.types.Elem.{Elem}
@@ -43,3 +43,8 @@ fn g t vs b =
 
 abbrev pub pr : Gang → List TFunction → Program
 pr g fs = record { gang = g; functions = fs }
+
+-- a text, so many times
+abbrev pub times : ℕ → List ℕ → List ℕ
+times zero text = []
+times (suc n) text = text ++ times n text

@@ -1,7 +1,6 @@
 //! The whole program, over what it is handed.
 ghost use Rattle.std.specs.Prelude.{◌≡◌, false};
-ghost use Rattle.isp_engine.specs.Commands.{Refused, exit_status};
-ghost use Rattle.isp_engine.specs.Failures.{line_of};
+ghost use Rattle.isp_engine.specs.Commands.{Refused};
 ghost use Rattle.isp_engine.specs.Sinks.{Told};
 ghost use Rattle.isp_workbench.specs.Requests.{Answered, Commands};
 
@@ -11,7 +10,7 @@ use crate::output::show;
 use crate::runs::{count, trace};
 use clap::Error;
 use clap::error::ErrorKind;
-use isp_engine::{Failure, Sink, SourceFiles, tell_line};
+use isp_engine::{Failure, Sink, SourceFiles, tell_end};
 use ispx_command_line::{Request, read_words};
 use std::alloc::Global;
 
@@ -54,23 +53,9 @@ fn answer<F: SourceFiles, O: Sink, E: Sink>(
 {
     match request {
         Request::Explain(wanted) => explain(alloc, wanted, files, out, err),
-        Request::Count(wanted) => tell(count(alloc, wanted, files, out), err),
-        Request::Trace(wanted) => tell(trace(alloc, wanted, files, out), err),
-        Request::C(wanted) => tell(c_file(alloc, wanted, files, out), err),
-    }
-}
-
-// Writes the line that says why the program ends so, and answers the exit status.
-fn tell<E: Sink>(end: Result<(), Failure<'_>>, err: &mut E) -> u8
-    ensures status { result ≡ exit_status end.entry }
-    ensures line { Told (line_of end.entry) (E.written err.old) (E.written err.new) (E.has_failed err.new) }
-{
-    match end {
-        Ok(()) => 0,
-        Err(failure) => {
-            tell_line(&failure, err);
-            failure.status()
-        }
+        Request::Count(wanted) => tell_end(count(alloc, wanted, files, out), err),
+        Request::Trace(wanted) => tell_end(trace(alloc, wanted, files, out), err),
+        Request::C(wanted) => tell_end(c_file(alloc, wanted, files, out), err),
     }
 }
 
@@ -79,7 +64,7 @@ fn refuse<E: Sink>(alloc: Global, error: &Error, err: &mut E) -> u8
     ensures { Refused (λ line. Told line (E.written err.old) (E.written err.new) (E.has_failed err.new)) result }
 {
     if error.kind() == ErrorKind::OutOfMemory {
-        return tell(Err(Failure::Memory), err);
+        return tell_end(Err(Failure::Memory), err);
     }
     if let Ok(text) = format!(in alloc; "{error}") {
         show(text.as_str(), err);

@@ -9,9 +9,9 @@ use crate::done::{Job, check, run};
 use crate::output::show;
 use crate::page::Source;
 use crate::story::{Asked, Given, entry_story, notes, plain_fault, source_story, trap_story};
-use crate::texts::{read, read_both};
+use crate::texts::read_both;
 use isp_command_line::RunRequest;
-use isp_engine::{Failure, Sink, SourceFiles, tell_line};
+use isp_engine::{Failure, Sink, SourceFiles, read_file, tell_line};
 use isp_remedies::advice_on;
 use ispx_command_line::{Call, ExplainRequest};
 use std::alloc::{AllocError, Global};
@@ -43,7 +43,7 @@ fn explain_check<F: SourceFiles, O: Sink, E: Sink>(
     requires { O.has_failed out.old ≡ false }
     ensures { AnsweredBy (ExplainedCall (F.holds files.now) request.now None (O.written out.old) (O.written out.new) (O.has_failed out.new)) result }
 {
-    match read(alloc, files, request.source) {
+    match read_file(alloc, files, request.source) {
         Ok(text) => check_text(alloc, request, text.as_str(), out, err),
         Err(failure) => unread(&failure, err),
     }

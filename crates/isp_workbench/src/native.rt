@@ -3,10 +3,8 @@ ghost use Rattle.std.specs.Prelude.{◌≡◌, false, string_bytes, IfOk, IfErr}
 ghost use Rattle.isp_workbench.specs.Requests.{HasCode, HasNoCode, WroteC};
 ghost use Rattle.isp_workbench.specs.Texts.{GivesCode, GivesNone, c_page};
 
-use crate::output::write_text;
-use crate::texts::read;
 use isp_base::Gang;
-use isp_engine::{Failure, Image, Sink, SourceFiles, compile, load_code};
+use isp_engine::{Failure, Image, Sink, SourceFiles, compile, load_code, read_file, write_text};
 use isp_native::{header, write};
 use ispx_command_line::CRequest;
 use std::alloc::{AllocError, Global};
@@ -35,7 +33,7 @@ fn code_of<'a, F: SourceFiles>(
     ensures ok { IfOk result (HasCode (F.holds files.now) request.now) }
     ensures err { IfErr result (HasNoCode (F.holds files.now) request.now) }
 {
-    let text = read(alloc, files, request.file)?;
+    let text = read_file(alloc, files, request.file)?;
     let image = image_of(alloc, request.gang, text.as_str())?;
     Ok(image)
 }

@@ -9,12 +9,11 @@ ghost use Rattle.isp_workbench.specs.Requests.{ShownEnds};
 ghost use Rattle.isp_workbench.specs.Runs.{Binds, CountShows, EndsTrace, NotRun, ShowEnds, TraceShows, WritesPage, answer_line, end_of_stop, window_of};
 
 use crate::native::image_of;
-use crate::output::write_bytes;
 use crate::texts::read_both;
 use isp_base::{Bound, Signature};
 use isp_bind::{answer, bind};
 use isp_command_line::RunRequest;
-use isp_engine::{Failure, Image, RunFault, Sink, SourceFiles, StartFault, Stop};
+use isp_engine::{Failure, Image, RunFault, Sink, SourceFiles, StartFault, Stop, write_bytes};
 use isp_traces::{Counted, Traced, Window, count_run, counts_line, trace_run};
 use isp_verify::Verified;
 use ispx_command_line::TraceRequest;
