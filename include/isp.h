@@ -128,7 +128,7 @@ struct isp_trace {
  *     3 share L3: mtest m3 v2 m0 m0=1111 -> m3=1110
  *
  * the number of the step, the function, the number of the instruction in it, its line of code text, the masks that it reads, lane 0
- * first, and what it wrote.
+ * first, and what it wrote. The steps end with the window, with the run, or where trace->job.budget is used up.
  *
  * ISP_OK, or ISP_ARGUMENTS, ISP_TEXT, ISP_MEMORY, ISP_CODE, ISP_ROOM: then `lines` is as it was. */
 uint8_t isp_trace(const char *code, size_t code_size, const struct isp_trace *trace, const void *packed, size_t packed_size, char *lines,

@@ -45,7 +45,7 @@ impl Trace<'_> {
 /// step, the function, the instruction and its line of code text, the masks that it read and what it wrote
 /// (crates/isp_traces/README.md). The result is the status:
 ///
-/// - 0: these are the lines of the steps, as many as the run has.
+/// - 0: these are the lines of the steps, as many as the run has within `job.budget`.
 /// - 5, 6, 7, 8: as isp_run refuses the entry, the arguments, a text, memory or the code.
 /// - 10: `lines` has fewer bytes than the lines, which are as many as `report.used` says.
 ///
