@@ -47,7 +47,7 @@ fn bump(rt: HostRuntime) -> Result<(), Fail> {
 const BUMP_COUNTS: &str =
     "{\"instructions\":39,\"masked\":15,\"lanes_on\":42,\"lanes\":60,\"functions\":{\"bump\":{\"instructions\":39,\"masked\":15,\"lanes_on\":42,\"lanes\":60}},\"kinds\":{\"scalars\":{\"instructions\":15,\"masked\":1,\"lanes_on\":4,\"lanes\":4},\"vectors\":{\"instructions\":10,\"masked\":10,\"lanes_on\":28,\"lanes\":40},\"memory\":{\"instructions\":4,\"masked\":4,\"lanes_on\":10,\"lanes\":16},\"masks\":{\"instructions\":4,\"masked\":0,\"lanes_on\":0,\"lanes\":0},\"jumps\":{\"instructions\":5,\"masked\":0,\"lanes_on\":0,\"lanes\":0},\"calls\":{\"instructions\":1,\"masked\":0,\"lanes_on\":0,\"lanes\":0},\"output\":{\"instructions\":0,\"masked\":0,\"lanes_on\":0,\"lanes\":0},\"asserts\":{\"instructions\":0,\"masked\":0,\"lanes_on\":0,\"lanes\":0}}}\n";
 
-// Counted by a simulation in Python, written from docs/MACHINE.md, whose arrays are those of examples/mandelbrot.answer. The
+// Counted by tools/trace.py, a machine in Python, written from docs/MACHINE.md, whose arrays are those of examples/mandelbrot.answer. The
 // points leave the loop after different numbers of turns, so of more lanes a smaller part is on: 59, 41 and 21 of 100.
 fn mandelbrot(alloc: Global, head: &str) -> Result<Vec<u8>, Fail> {
     let mut code = String::from_str(alloc, head)?;
