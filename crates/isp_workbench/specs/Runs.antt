@@ -1,7 +1,7 @@
 -- What `ispx count` and `ispx trace` write, and how they end.
 --     CountShows, TraceShows    what the run of an entry of code shows, and how the program ends behind it
 --     NotRun                    why an entry does not run
---     ShowEnds                  what it shows goes out, or nothing does
+--     ShowEnds                  what it shows goes out, as far as the sink takes it; or it does not run
 use Rattle.std.specs.Prelude.{◌≡◌, ◌⊎◌, ℕ, ◌+◌, ◌<◌, ◌≤◌, List, [], ◌∷◌, ◌++◌, Bool, Option, Result, Ok, Err, ⊤}
 use Rattle.isp_base.specs.declared.array.Array.{Array}
 use Rattle.isp_base.specs.declared.signature.Argument.{Argument}
