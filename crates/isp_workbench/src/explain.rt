@@ -71,7 +71,7 @@ fn check_text<O: Sink, E: Sink>(
 
 // The words of `isp run` that ask for the same.
 fn as_run<'a>(request: &ExplainRequest<'a>, call: Call<'a>) -> RunRequest<'a>
-    ensures { result ≡ of_explain request.now call }
+    ensures { result ≡ of_explain request.now call.entry }
 {
     RunRequest {
         gang: request.gang,

@@ -7,12 +7,12 @@ returns-in-Ok g c =
     let e = c.run_texts.ensures in
     let q = c.args.wanted.now in
     let holds = g.F.SourceFiles.holds c.args.files.now in
-    let source = subst (λ b. holds q.source.now (Some b)) (sym c.as_str-source.ensures.value) c.in-Ok.ensures.source in
-    let json = subst (λ b. holds q.arguments.now (Some b)) (sym c.as_str-json.ensures.value) c.in-Ok.ensures.json in (
+    let source = subst (λ b. holds q.source.now (Some b)) (sym c.as_str.ensures.value) c.in-Ok.ensures.source in
+    let json = subst (λ b. holds q.arguments.now (Some b)) (sym c.as_str-in-Ok.ensures.value) c.in-Ok.ensures.json in (
       e.0,
       e.1,
       run_story holds q
-          (record { gang = q.gang; budget = q.budget; source = record { name = q.source; text = c.as_str-source.result }; entry = q.entry; arguments = record { name = q.arguments; text = c.as_str-json.result } })
+          (record { gang = q.gang; budget = q.budget; source = record { name = q.source; text = c.as_str.result }; entry = q.entry; arguments = record { name = q.arguments; text = c.as_str-in-Ok.result } })
           refl refl refl source json _ _ _ e.0 e.2,
     )
 
