@@ -187,14 +187,15 @@ static __attribute__((noinline, cold, unused)) enum isp_end ispm_trapped(struct 
 #define ISP_TRAP(kind, q, instance) return ispm_trapped(run, kind, q, instance)
 
 #ifdef ISP_STEPS
-#define ISP_STEP \
+#define ISP_ONE_STEP \
     if (run->steps == run->most_steps) \
         return ISP_NO_STEPS; \
     else \
         run->steps++;
 #else
-#define ISP_STEP
+#define ISP_ONE_STEP
 #endif
+#define ISP_STEP ISP_ONE_STEP
 
 static ISP_UNUSED bool ispm_write(struct isp_run *run, const char *bytes, size_t count)
 {
@@ -276,9 +277,10 @@ ISP_INLINE bool ispm_run_inside(uint64_t i, uint64_t n)
 #define PLACE(q, s, e) static const struct isp_place q ISP_UNUSED = {s, e};
 #define TEXT(t, x) static const char t[] ISP_UNUSED = x;
 
-#define FUNC(f) static ISP_UNUSED enum isp_end f(struct isp_run *run ISP_UNUSED, uint32_t depth ISP_UNUSED, void *result ISP_UNUSED, const ispm_mask *m0_given ISP_UNUSED
-#define SFUNC(f, t) static ISP_UNUSED enum isp_end f(struct isp_run *run ISP_UNUSED, uint32_t depth ISP_UNUSED, t *result, const ispm_mask *m0_given ISP_UNUSED
-#define VFUNC(f, t) static ISP_UNUSED enum isp_end f(struct isp_run *run ISP_UNUSED, uint32_t depth ISP_UNUSED, ispm_v_##t *result, const ispm_mask *m0_given ISP_UNUSED
+#define ISP_KERNEL static ISP_UNUSED
+#define FUNC(f) ISP_KERNEL enum isp_end f(struct isp_run *run ISP_UNUSED, uint32_t depth ISP_UNUSED, void *result ISP_UNUSED, const ispm_mask *m0_given ISP_UNUSED
+#define SFUNC(f, t) ISP_KERNEL enum isp_end f(struct isp_run *run ISP_UNUSED, uint32_t depth ISP_UNUSED, t *result, const ispm_mask *m0_given ISP_UNUSED
+#define VFUNC(f, t) ISP_KERNEL enum isp_end f(struct isp_run *run ISP_UNUSED, uint32_t depth ISP_UNUSED, ispm_v_##t *result, const ispm_mask *m0_given ISP_UNUSED
 #define SPAR(t, s) , t s ISP_UNUSED
 #define VPAR(t, v) , const ispm_v_##t *v##_given ISP_UNUSED
 #define APAR(t, a) , t *a ISP_UNUSED, uint64_t a##_n ISP_UNUSED
@@ -301,7 +303,7 @@ ISP_INLINE bool ispm_run_inside(uint64_t i, uint64_t n)
 #define UARRAY(t, a, n) ISP_LOCAL(t, a, n) const uint64_t a##_n ISP_UNUSED = n;
 #define PARRAY(t, a, n) ISP_LOCAL(t, a, (size_t)n * ISP_GANG) const struct ispm_own a##_n ISP_UNUSED = {n};
 
-/* ==== scalars */
+/* ==== scalars: where a line can do without a block it has none, since at the end of a block gcc 12 goes through all labels of the function */
 
 #define ISP_SET(d, x) ISP_STEP (d) = (ISP_TYPE(d))(x)
 #define ISP_AMOUNT(d, y) ((uint64_t)(y) & (ISP_BITS(d) - 1))
@@ -337,11 +339,9 @@ ISP_INLINE bool ispm_run_inside(uint64_t i, uint64_t n)
 #define ISP_QUOTIENT(x, y) (ISP_MINUS_ONE(y) ? (ISP_TYPE(x))(0 - (uint64_t)(x)) : (ISP_TYPE(x))((x) / (y)))
 #define ISP_REMAINDER(x, y) (ISP_MINUS_ONE(y) ? (ISP_TYPE(x))0 : (ISP_TYPE(x))((x) % (y)))
 #define ISP_SDIVIDE(d, x, y, k, q) \
-    ISP_STEP do { \
-        if ((y) == 0) \
-            ISP_TRAP(ISP_DIVIDE, q, ISP_LOWEST(k)); \
-        (d) = x; \
-    } while (0)
+    ISP_STEP if ((y) == 0) \
+        ISP_TRAP(ISP_DIVIDE, q, ISP_LOWEST(k)); \
+    (d) = x
 #define DIV(d, x, y, k, q) ISP_SDIVIDE(d, ISP_QUOTIENT(x, y), y, k, q)
 #define REM(d, x, y, k, q) ISP_SDIVIDE(d, ISP_REMAINDER(x, y), y, k, q)
 
@@ -433,15 +433,11 @@ ISP_INLINE bool ispm_run_inside(uint64_t i, uint64_t n)
     if ((uint64_t)(i) >= ISP_COUNT(a)) \
     ISP_TRAP(ISP_INDEX, q, ISP_LOWEST(k))
 #define LOAD(d, a, i, k, q) \
-    ISP_STEP do { \
-        ISP_ELEMENT(a, i, k, q); \
-        (d) = (a)[i]; \
-    } while (0)
+    ISP_STEP ISP_ELEMENT(a, i, k, q); \
+    (d) = (a)[i]
 #define STORE(a, i, y, k, q) \
-    ISP_STEP do { \
-        ISP_ELEMENT(a, i, k, q); \
-        (a)[i] = (y); \
-    } while (0)
+    ISP_STEP ISP_ELEMENT(a, i, k, q); \
+    (a)[i] = (y)
 
 /* a lane that is off reads what is at 0; where one is on and inside, that is there */
 #define GATHER(d, a, i, k, q) \
@@ -641,21 +637,21 @@ ISP_INLINE bool ispm_run_inside(uint64_t i, uint64_t n)
     if (ispm_e != ISP_ENDED) \
     return ispm_e
 #define CALL(f, k, q, ...) \
-    ISP_STEP do { \
+    ISP_STEP { \
         ISP_CALL(f, NULL, k, q, ##__VA_ARGS__); \
-    } while (0)
+    }
 #define SCALL(f, d, k, q, ...) \
-    ISP_STEP do { \
+    ISP_STEP { \
         ISP_TYPE(d) ispm_d = 0; \
         ISP_CALL(f, &ispm_d, k, q, ##__VA_ARGS__); \
         (d) = ispm_d; \
-    } while (0)
+    }
 #define VCALL(f, d, k, q, ...) \
-    ISP_STEP do { \
+    ISP_STEP { \
         ISP_TYPE(d) ispm_d = {0}; \
         ISP_CALL(f, &ispm_d, k, q, ##__VA_ARGS__); \
         ISP_PUT(d, ispm_d, ispm_k); \
-    } while (0)
+    }
 
 /* what a run begins with */
 #define ISP_ENTRY(result) run, 1, result, (const ispm_mask[1]){ISP_FULL}
@@ -666,5 +662,14 @@ ISP_INLINE bool ispm_run_inside(uint64_t i, uint64_t n)
         *result = (x); \
         return ISP_ENDED; \
     } while (0)
+
+/* ==== short lines, where the compiler does not optimize, and with -DISP_CALLS: each is a call of one of the macros above */
+
+#if !defined ISP_CALLS && !defined __OPTIMIZE__
+#define ISP_CALLS 1
+#endif
+#if defined ISP_CALLS && ISP_CALLS
+#include "isp_calls.h"
+#endif
 
 #endif

@@ -4,7 +4,9 @@
 - Every budget: with -DISP_STEPS the C file stops at the same instruction as `isp run --budget`, with the same output and answer.
 - Memory: each local array that a run takes is refused in turn. The run says so, and what it had taken is given back.
 - Output: each piece that is written is refused in turn. The run stops there.
-- Length: a kernel of 400 lines is built within a minute.
+- Length: a kernel of 400 lines is built within a minute. (One of 10,000 lines is built by tools/native_large.py.)
+
+Budgets, memory and output are tried with -O1 and with -O0, where each line of vectors is a call. Names are tried with -O0.
 """
 import os
 import re
@@ -16,6 +18,8 @@ import time
 COMPILERS = ("gcc", "clang")
 STRICT = ["-std=gnu11", "-Wall", "-Wextra", "-Werror"]
 LEAKS = ["-fsanitize=undefined,address", "-fno-sanitize-recover=all"]
+# each line in its place, and each line a call (include/isp_calls.h)
+FORMS = (["-O1"], ["-O0"])
 
 # words of C, and of the C file and its header, none of which isp reserves
 NAMES = """main register int8_t uint64_t auto restrict volatile asm errno INT_MAX malloc calloc memcpy run result depth kind m0_given
@@ -156,14 +160,15 @@ class Edges:
     def budgets(self, folder, compiler):
         """Each budget, up to one with which the run comes to its end."""
         text = self.of_source(4, LONG)
-        program = self.built(folder, compiler, text + BUDGETS, ["-O1", "-DISP_STEPS"])
+        programs = [self.built(folder, compiler, text + BUDGETS, [*form, "-DISP_STEPS"]) for form in FORMS]
         source, arguments = f"{folder}/long.ispc", f"{folder}/long.json"
         for path, content in ((source, LONG), (arguments, '{"a":[1,2,30,41]}')):
             with open(path, "w", encoding="utf-8") as file:
                 file.write(content)
-        for budget in range(2000) if program else ():
+        for budget in range(2000) if all(programs) else ():
             wanted = self.said(self.isp, "run", "--budget", str(budget), source, "f", arguments)
-            self.check(f"{compiler}: budget {budget}", self.said(program, str(budget)), wanted)
+            for form, program in zip(FORMS, programs):
+                self.check(f"{compiler} {' '.join(form)}: budget {budget}", self.said(program, str(budget)), wanted)
             if wanted[0] != 4:
                 break
         self.check(f"{compiler}: the run traps within 2,000 instructions", wanted[0], 3)
@@ -172,24 +177,26 @@ class Edges:
         """Each growth and each piece of output refused in turn; what was taken is looked for by the compiler's own check of leaks."""
         text = self.of_source(4, LONG)
         text = REFUSING + "#include <stdlib.h>\n#define calloc sparing\n" + text + REFUSED
-        program = self.built(folder, compiler, text, ["-O1", *LEAKS])
-        if not program:
-            return
+        for form in FORMS:
+            if program := self.built(folder, compiler, text, [*form, *LEAKS]):
+                self.refused(f"{compiler} {' '.join(form)}", program)
+
+    def refused(self, name, program):
         status, whole, counts = self.said(program, "0", "0")
-        self.check(f"{compiler}: nothing refused", status, 3)
+        self.check(f"{name}: nothing refused", status, 3)
         if status != 3:
             return
         grown, written = map(int, counts.split())
         # two arrays in each of four calls; in each of four rounds two values and the three texts around them
-        self.check(f"{compiler}: growths and pieces of output", (grown, written), (8, 20))
+        self.check(f"{name}: growths and pieces of output", (grown, written), (8, 20))
         for growth in range(1, grown + 1):
             status, output, counts = self.said(program, str(growth), "0")
             told = status, whole.startswith(output), counts.split()[0] == str(growth)
-            self.check(f"{compiler}: growth {growth} refused", told, (7, True, True))
+            self.check(f"{name}: growth {growth} refused", told, (7, True, True))
         for piece in range(1, written + 1):
             status, output, counts = self.said(program, "0", str(piece))
             told = status, whole.startswith(output), counts.split()[1] == str(piece)
-            self.check(f"{compiler}: piece {piece} of output refused", told, (7, True, True))
+            self.check(f"{name}: piece {piece} of output refused", told, (7, True, True))
 
     def lengths(self, folder, compiler):
         """A kernel of 400 lines, by a gang of 16."""

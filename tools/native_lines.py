@@ -472,6 +472,21 @@ def calls():
             yield f"lines: calls {deep} deep at {gang}", c.text(before=inner), "f", c.values, wanted
 
 
+def passed():
+    """A vector that is passed is 0 in the lanes that do not call: the called function adds up all lanes."""
+    inner = ["func g inner s i64", "par v i32 x", "s i64", "m 2", "mfull m1", "radd s0 v0 m1", "ret s0", "end"]
+    for gang in GANGS:
+        mask = [int(p % 3 != 1) for p in range(gang)]
+        c = Code(gang, None)
+        a, k, o = c.array("a", "i32", [10 * p + 7 for p in range(gang)]), c.array("k", "b", mask), c.array("o", "i64", [0])
+        zero, x, flags, m, all_lanes = c.constant("i64", 0), c.vector("i32"), c.vector("b"), c.mask(), c.scalar("i64")
+        c.line(f"vload {x} {a} {zero} m0 p0", f"vload {flags} {k} {zero} m0 p0", f"mtest {m} {flags} m0")
+        c.line(f"call f0 {all_lanes} {m} p1 {x}", f"store {o} {zero} {all_lanes} m0 p0")
+        arrays = {"a": c.values["a"], "k": [bool(one) for one in mask], "o": [sum(10 * p + 7 for p in range(gang) if mask[p])]}
+        wanted = {"end": "ends", "writes": "", "result": None, "arrays": arrays}
+        yield f"lines: passed lanes at {gang}", c.text(before=inner), "f", c.values, wanted
+
+
 def tests():
     dice = random.Random(1)
     yield from rounds("operators", plain_lines, dice)
@@ -481,3 +496,4 @@ def tests():
     yield from rounds("printing", printed_lines, dice)
     yield from traps(dice)
     yield from calls()
+    yield from passed()
