@@ -1,7 +1,8 @@
 /* The lines of isp_machine.h as calls, for long kernels: a line is some twenty words in place of hundreds.
  *
  * The first part makes a function of each line of vectors. Its body is the macro of isp_machine.h of that name, once for each type, so what a line does is
- * said there alone. The second part gives the macro a new body, a call of the function, for the code below. isp_machine.h includes this file.
+ * said there alone. The second part gives the macro a new body, a call of the function, for the code below. isp_machine.h includes this file, with
+ * -DISP_CALLS and where the compiler does not optimize.
  */
 #ifndef ISP_CALLS_H
 #define ISP_CALLS_H
@@ -384,7 +385,7 @@ ISP_FUNCTION void *ispm_passed(int type, void *d, void *x, const ispm_mask *k)
 #undef ISP_STEP
 #define ISP_STEP ISP_ONE_STEP
 
-/* a function of the code is no more than calls, and is not optimized: of a long one gcc and clang would take minutes */
+/* a function of the code is little more than calls, and is not optimized: of a long one gcc would analyze the pointers longer than all the rest takes */
 #ifdef __OPTIMIZE__
 #undef ISP_KERNEL
 #ifdef __clang__
