@@ -14,6 +14,7 @@ mod locals;
 mod machine;
 mod masks;
 mod operands;
+mod order;
 mod packed;
 mod passed;
 mod returns;

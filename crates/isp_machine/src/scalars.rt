@@ -20,7 +20,8 @@ use crate::frame::Frame;
 use crate::here::Here;
 use crate::kernels::{first_lane, plain_operator};
 use crate::operands::Access;
-use isp_base::{Elem, Trap, TrapKind, UnaryOp, apply_nonzero, apply_unary, compare, convert, wrap};
+use crate::order::compare;
+use isp_base::{Elem, Trap, TrapKind, UnaryOp, apply_nonzero, apply_unary, convert, wrap};
 use isp_code::{Class, Instr, Plain, Register, ScalarInstr};
 use isp_store::Arrays;
 

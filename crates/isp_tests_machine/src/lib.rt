@@ -18,6 +18,8 @@ mod listing;
 #[cfg(test)]
 mod locals;
 #[cfg(test)]
+mod orders;
+#[cfg(test)]
 mod refused;
 #[cfg(test)]
 mod registers;
