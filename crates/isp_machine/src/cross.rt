@@ -222,16 +222,16 @@ pub(crate) fn across<const N: usize>(
     here: &Here,
     frame: &mut Frame<N>,
     register: Register,
-    instr: VectorInstr,
+    instr: &VectorInstr,
 )
     requires gang { N ≡ gang_width here.now.code.gang }
     requires shaped { Shaped here.now.routine frame.old }
-    requires operands { AllFine here.now.code here.now.routine (vector_operands register instr) }
-    requires across { IsTrue (is_across instr) }
+    requires operands { AllFine here.now.code here.now.routine (vector_operands register instr.now) }
+    requires across { IsTrue (is_across instr.now) }
     ensures pc { frame.new.pc ≡ frame.old.pc }
-    ensures written { (s : Held) → InPlace here.now s frame.old register instr frame.new }
+    ensures written { (s : Held) → InPlace here.now s frame.old register instr.now frame.new }
 {
-    match instr {
+    match *instr {
         VectorInstr::Scan { op, value, mask } => {
             scan(here, frame, Target { register, mask }, op, value)
         }

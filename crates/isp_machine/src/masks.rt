@@ -103,15 +103,20 @@ fn mask_value<const N: usize>(
 }
 
 /// Writes a mask register, and goes on to the next instruction.
-pub(crate) fn mask<const N: usize>(here: &Here, frame: &mut Frame<N>, d: Register, instr: MaskInstr)
+pub(crate) fn mask<const N: usize>(
+    here: &Here,
+    frame: &mut Frame<N>,
+    d: Register,
+    instr: &MaskInstr,
+)
     requires gang { N ≡ gang_width here.now.code.gang }
     requires few { N ≤ 64 }
     requires shaped { Shaped here.now.routine frame.old }
-    requires operands { AllFine here.now.code here.now.routine (mask_operands d instr) }
+    requires operands { AllFine here.now.code here.now.routine (mask_operands d instr.now) }
     requires next { frame.old.pc + 1 < length here.now.routine.code }
-    ensures { (s : Held) → Opened here.now.routine (shapes s) frame.old → Goes here.now (Instr.Mask d instr) s frame.old s frame.new }
+    ensures { (s : Held) → Opened here.now.routine (shapes s) frame.old → Goes here.now (Instr.Mask d instr.now) s frame.old s frame.new }
 {
-    let value = mask_value(here, frame, d, instr);
+    let value = mask_value(here, frame, d, *instr);
     let _count = here.count();
     frame.set_mask(d.number, value);
     frame.next();

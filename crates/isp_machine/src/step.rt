@@ -55,7 +55,7 @@ fn compute<const N: usize>(
     match instr {
         Instr::Scalar { result, instr } => scalar(here, frame, stores, *result, *instr)?,
         Instr::Vector { result, instr } => vector(here, frame, stores, *result, *instr)?,
-        Instr::Mask { result, instr } => mask(here, frame, *result, *instr),
+        Instr::Mask { result, instr } => mask(here, frame, *result, instr),
         Instr::Divide { .. } => divide(here, frame, instr)?,
         Instr::Store { .. } | Instr::StoreRun { .. } => store_shared(here, frame, stores, instr)?,
         Instr::PackedStore { .. } | Instr::PackedLoad { .. } => packed(here, frame, stores, instr)?,

@@ -64,7 +64,7 @@ pub(crate) fn change<const N: usize>(
         VectorInstr::Splat { value, mask } => splat(here, frame, Target { register, mask }, value),
         VectorInstr::Index(mask) => number(here, frame, Target { register, mask }),
         VectorInstr::Gather { .. } | VectorInstr::LoadRun { .. } => unreachable!(),
-        _ => across(here, frame, register, *instr),
+        _ => across(here, frame, register, instr),
     }
 }
 
