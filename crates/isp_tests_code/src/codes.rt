@@ -145,7 +145,8 @@ fn callee(alloc: Global) -> Result<Function, Fail> {
     Ok(function)
 }
 
-fn add(code: &mut Code, function: Function) -> Result<(), Fail> {
+/// Adds a function, which is not refused.
+pub(crate) fn add(code: &mut Code, function: Function) -> Result<(), Fail> {
     match code.add_function(function) {
         Ok(()) => Ok(()),
         Err((_function, _limit)) => Err(Fail::from("the function was refused")),
@@ -530,8 +531,8 @@ fn written_by_hand(rt: HostRuntime) -> Result<(), Fail> {
     Ok(())
 }
 
-// Puts the lane numbers into `a`.
-fn scatter(alloc: Global) -> Result<Function, Fail> {
+/// Puts the lane numbers into `a`.
+pub(crate) fn scatter(alloc: Global) -> Result<Function, Fail> {
     let mut code = Vec::new(alloc);
     code.push(Instr::Vector {
         result: V0,
@@ -560,7 +561,8 @@ fn scatter(alloc: Global) -> Result<Function, Fail> {
     Ok(function)
 }
 
-fn add_scatter(alloc: Global, code: &mut Code) -> Result<u32, Fail> {
+/// The same with its place, whose number it gives.
+pub(crate) fn add_scatter(alloc: Global, code: &mut Code) -> Result<u32, Fail> {
     let place = code.add_place(Span { start: 0, end: 4 })?;
     add(code, scatter(alloc)?)?;
     Ok(place)
@@ -577,8 +579,8 @@ fn takes_an_array(verified: &Verified) -> bool {
     }
 }
 
-// Whether the verified code is of the scatter alone.
-fn is_scatter(verified: &Verified) -> bool {
+/// Whether the verified code is of the scatter alone.
+pub(crate) fn is_scatter(verified: &Verified) -> bool {
     verified.code().functions().len() == 1
         && matches!(verified.gang(), Gang::W4)
         && takes_an_array(verified)

@@ -3,3 +3,5 @@
 
 #[cfg(test)]
 mod codes;
+#[cfg(test)]
+mod refused;
