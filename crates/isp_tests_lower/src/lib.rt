@@ -3,3 +3,7 @@
 
 #[cfg(test)]
 mod emitted;
+#[cfg(test)]
+mod refused;
+#[cfg(test)]
+mod written;
