@@ -9,9 +9,9 @@ use isp_code::{
 };
 use std::test::Fail;
 
-// f(n): where n is 0 it gives 0. Else it puts n into a local array, calls itself with n - 1, and
-// gives the sum of what comes back, of what the array holds then, and of what it held at first.
-static NESTED: [Routine<'static>; 1] = [Routine {
+/// f(n): where n is 0 it gives 0. Else it puts n into a local array, calls itself with n - 1, and
+/// gives the sum of what comes back, of what the array holds then, and of what it held at first.
+pub static NESTED: [Routine<'static>; 1] = [Routine {
     name: "f",
     exported: true,
     returns: Returns::Scalar(Elem::I32),
@@ -184,8 +184,8 @@ fn lane_of_depth(rt: HostRuntime) -> Result<(), Fail> {
     Ok(())
 }
 
-// f calls g(v0, a0) under the lanes below 2, twice, and prints what came back.
-const CALLER: Routine<'static> = Routine {
+/// f calls g(v0, a0) under the lanes below 2, twice, and prints what came back.
+pub const CALLER: Routine<'static> = Routine {
     name: "f",
     exported: true,
     returns: Returns::Nothing,
@@ -215,9 +215,9 @@ const CALLER: Routine<'static> = Routine {
     ],
 };
 
-// g prints what it is given and its own array, puts the lane numbers plus 5 there in all lanes,
-// stores them in a under its mask, and gives them back.
-const CALLEE: Routine<'static> = Routine {
+/// g prints what it is given and its own array, puts the lane numbers plus 5 there in all lanes,
+/// stores them in a under its mask, and gives them back.
+pub const CALLEE: Routine<'static> = Routine {
     name: "g",
     exported: false,
     returns: Returns::Vector(Elem::I32),

@@ -109,8 +109,8 @@ fn is_result(value: Option<Value>, bits: Option<u64>) -> bool {
     }
 }
 
-// Whether a run shows this after so many further instructions.
-fn shows<const N: usize>(machine: &mut Machine<'_, N>, budget: u64, seen: &Seen) -> bool {
+/// Whether a run shows this after so many further instructions.
+pub fn shows<const N: usize>(machine: &mut Machine<'_, N>, budget: u64, seen: &Seen) -> bool {
     is_wanted(machine.run(budget), seen.stop)
         && machine.output() == seen.output.as_bytes()
         && have(machine.arrays(), seen.arrays)
