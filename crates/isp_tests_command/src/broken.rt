@@ -9,7 +9,7 @@ use std::test::Fail;
 const INC: &str =
     "export void inc(uniform int a[], uniform int n) { foreach (i = 0 ... n) a[i] = a[i] + 1; }";
 
-const ARGUMENTS: &str = "{\"a\":[1,2,3,4,5,6],\"n\":6}";
+const ARGUMENTS: &str = "{\"a\":[1,2,3,4,5],\"n\":5}";
 
 fn code_text(alloc: Global) -> Result<String, Fail> {
     let image = compile(alloc, INC, Gang::W4).map_err(|_| Fail::new("the source is refused"))?;

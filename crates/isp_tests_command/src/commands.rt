@@ -1,11 +1,10 @@
-//! The whole program over sinks that fail or take a few bytes, and where memory is refused. isp_tests_requests has what it
+//! The whole program over sinks that fail or take a few bytes. isp_tests_requests has what it
 //! answers to each kind of request.
 ghost use Rattle.std.specs.Prelude.{◌≡◌, false};
 
 use crate::fakes::{Count, Page, Shelf};
 use isp_asm::{read, write};
 use isp_engine::command;
-use isp_tests_support::Hoard;
 use std::alloc::{AllocError, Global};
 use std::process::Abort;
 use std::test::Fail;
@@ -13,7 +12,8 @@ use std::test::Fail;
 const DOUBLE: &str =
     "export void f(uniform int a[]) { a[programIndex] = a[programIndex] * 2 + 1; }";
 
-const FILES: [(&str, &str); 8] = [
+/// The files in memory.
+pub(crate) const FILES: [(&str, &str); 8] = [
     ("double.ispc", DOUBLE),
     (
         "endless.ispc",
@@ -33,9 +33,8 @@ const FILES: [(&str, &str); 8] = [
     ),
 ];
 
-const ANSWER: &str = "{\"arrays\":{\"a\":[11,13,15,17]},\"result\":null}\n";
-
-const SCATTERED: &str = "{\"arrays\":{\"a\":[0,1,2,3]},\"result\":null}\n";
+/// What the runs of double.ispc with four.json send.
+pub(crate) const ANSWER: &str = "{\"arrays\":{\"a\":[11,13,15,17]},\"result\":null}\n";
 
 /// The command words behind `isp`, and what must come out.
 #[derive(Drop)]
@@ -46,14 +45,15 @@ struct Case<'a> {
     err: &'a str,
 }
 
-fn words(alloc: Global, line: &str) -> Result<Vec<String>, AllocError> {
+/// The words of a line.
+pub(crate) fn words(alloc: Global, line: &str) -> Result<Vec<String>, AllocError> {
     line.split(' ')
         .map(|word| String::from_str(alloc, word))
         .try_collect(alloc)
 }
 
-// A sink that has so much room, and takes five bytes a write.
-fn page(alloc: Global, room: usize) -> Page
+/// A sink that has so much room, and takes five bytes a write.
+pub(crate) fn page(alloc: Global, room: usize) -> Page
     ensures { result.has_failed ≡ false }
 {
     Page {
@@ -198,63 +198,4 @@ fn line_cut_off(rt: HostRuntime) -> Result<(), Fail> {
         assert!(rt; err.bytes.as_slice() == &line[..room]);
     }
     Ok(())
-}
-
-// Memory is refused at each place in turn: the status is 7 and nothing goes out, and at last so many bytes do.
-fn refuse_memory(rt: &impl Abort, alloc: Global, line: &str, bytes: u64) -> Result<(), Fail> {
-    let words = words(alloc, line)?;
-    let mut err = page(alloc, 10_000);
-    err.bytes.reserve(10_000)?;
-    let mut hoard = Hoard::new(alloc)?;
-    for step in 0..128_000usize {
-        assert!(rt; hoard.beside(16 * step).is_ok(), "the pool is too small");
-        let mut out = Count { bytes: 0 };
-        err.bytes.clear();
-        err.room = 10_000;
-        let files = Shelf { files: &FILES };
-        let status = command(alloc, words.as_slice(), &files, &mut out, &mut err);
-        if status == 0 {
-            assert_eq!(rt; out.bytes, bytes);
-            assert!(rt; step > 0, "nothing was refused");
-            return Ok(());
-        }
-        assert_eq!(rt; status, 7, "with {step} times 16 bytes");
-        assert!(rt; err.bytes.as_slice() == b"isp: memory\n".as_slice());
-        assert_eq!(rt; out.bytes, 0);
-    }
-    Err(Fail::from("always refused"))
-}
-
-#[test]
-fn memory_refused_to_run(rt: HostRuntime) -> Result<(), Fail> {
-    refuse_memory(
-        &rt,
-        rt.alloc(),
-        "isp run double.ispc f four.json",
-        ANSWER.len() as u64,
-    )
-}
-
-#[test]
-fn memory_refused_to_exec(rt: HostRuntime) -> Result<(), Fail> {
-    refuse_memory(
-        &rt,
-        rt.alloc(),
-        "isp exec scatter.isp f nines.json",
-        SCATTERED.len() as u64,
-    )
-}
-
-// As many bytes as with ample memory, of which the text is tried above.
-#[test]
-fn memory_refused_to_asm(rt: HostRuntime) -> Result<(), Fail> {
-    let alloc = rt.alloc();
-    let line = "isp asm double.ispc";
-    let words = words(alloc, line)?;
-    let mut out = Count { bytes: 0 };
-    let mut err = page(alloc, 10_000);
-    let files = Shelf { files: &FILES };
-    let status = command(alloc, words.as_slice(), &files, &mut out, &mut err);
-    assert_eq!(rt; status, 0);
-    refuse_memory(&rt, alloc, line, out.bytes)
 }

@@ -9,7 +9,7 @@ use std::test::Fail;
 /// Gives its bytes, at most `step` a read. A signal breaks off the read of number `broken`, and the
 /// one of number `failing` fails.
 #[derive(Drop)]
-struct Wire<'a> {
+pub(crate) struct Wire<'a> {
     bytes: &'a [u8],
     step: usize,
     reads: usize,
@@ -35,7 +35,8 @@ impl Read for Wire<'_> {
 /// No read has this number.
 const NEVER: usize = 1000;
 
-fn gives(bytes: &[u8], step: usize) -> Wire<'_> {
+/// A wire that gives these bytes without a fault.
+pub(crate) fn gives(bytes: &[u8], step: usize) -> Wire<'_> {
     Wire {
         bytes,
         step,
@@ -60,7 +61,8 @@ fn expect(
     Ok(())
 }
 
-const TEXT: &str = "caf\u{e9} = 1;";
+/// What the wires give.
+pub(crate) const TEXT: &str = "caf\u{e9} = 1;";
 
 #[test]
 fn a_few_bytes_at_a_time(rt: HostRuntime) -> Result<(), Fail> {

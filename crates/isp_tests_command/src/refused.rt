@@ -1,14 +1,32 @@
-//! Memory refused to the engine's calls at each growth: of a program with a `foreach_unique`.
+//! Memory refused to each call of the engine, at each growth.
+ghost use Rattle.std.specs.Prelude.{◌≡◌, false};
+
+use crate::commands::{ANSWER, FILES, page, words};
+use crate::fakes::{Page, Shelf};
+use crate::reading::{TEXT, gives};
+use crate::writes::{SENT, SHORT, image, runs};
 use isp_asm::write;
 use isp_base::Gang;
-use isp_engine::{CodeFault, Ending, Image, Report, RunFault, compile, execute, front, load_code};
+use isp_engine::{
+    CodeFault, Ending, FileFault, Image, Report, RunFault, command, compile, execute, front,
+    load_code, read_text,
+};
 use isp_lex::SourceFault;
-use isp_tests_support::{Program, Tried, UNIQUE, sweep_call};
+use isp_tests_support::{INC, LOCAL_ARRAY, Program, Tried, UNIQUE, sweep_call};
 use std::alloc::Global;
 use std::test::Fail;
 
-/// More instructions than the program makes.
+/// More instructions than any of the programs makes.
 const BUDGET: u64 = 10_000;
+
+/// Code that was written by hand, in place of a source.
+const SCATTER: Program<'static> = Program {
+    source: "isp 1 gang 4\nplace 0 4\nfunc f export void\npar a i32 a\nv i32 i64\nm 1\nindex v0 m0\nconv v1 v0 m0\nscatter a0 v1 v0 m0 p0\nret -\nend\n",
+    entry: "f",
+    arguments: "{\"a\":[9,9,9,9]}",
+    answer: "{\"arrays\":{\"a\":[0,1,2,3]},\"result\":null}",
+    output: "",
+};
 
 fn is_right(report: &Report, program: &Program<'_>) -> bool {
     match (&report.ending, &report.answer) {
@@ -57,6 +75,152 @@ fn swept(alloc: Global, program: &Program<'_>) -> Result<(), Fail> {
 }
 
 #[test]
+fn memory_refused_to_inc(rt: HostRuntime) -> Result<(), Fail> {
+    swept(rt.alloc(), &INC)
+}
+
+#[test]
+fn memory_refused_to_a_local_array(rt: HostRuntime) -> Result<(), Fail> {
+    swept(rt.alloc(), &LOCAL_ARRAY)
+}
+
+#[test]
 fn memory_refused_to_unique(rt: HostRuntime) -> Result<(), Fail> {
     swept(rt.alloc(), &UNIQUE)
+}
+
+#[test]
+fn memory_refused_to_code_by_hand(rt: HostRuntime) -> Result<(), Fail> {
+    let alloc = rt.alloc();
+    sweep_call(
+        alloc,
+        "load_code",
+        || loaded(alloc, SCATTER.source, &SCATTER),
+    )
+}
+
+// Takes what a page has away, and gives it room.
+fn empty(page: &mut Page)
+    ensures { page.new.has_failed ≡ false }
+{
+    page.bytes.clear();
+    page.room = 1000;
+    page.has_failed = false;
+}
+
+// What goes out of a run that is refused is the beginning of what is sent.
+fn sent(alloc: Global, image: &Image, out: &mut Page) -> Tried {
+    empty(out);
+    match runs(alloc, image, 1000, out) {
+        Ok(report) => Tried::answered(
+            report.ending == Ending::Ended && out.bytes.as_slice() == SENT.as_bytes(),
+        ),
+        Err(fault) => Tried::failed(
+            fault == RunFault::Memory
+                && SENT.as_bytes().starts_with(out.bytes.as_slice())
+                && out.bytes.len() < SENT.len(),
+        ),
+    }
+}
+
+#[test]
+fn memory_refused_to_run_to(rt: HostRuntime) -> Result<(), Fail> {
+    let alloc = rt.alloc();
+    let image = image(alloc, SHORT)?;
+    let mut out = page(alloc, 1000);
+    out.bytes.reserve(1000)?;
+    sweep_call(alloc, "run_to", || sent(alloc, &image, &mut out))
+}
+
+fn text_read(alloc: Global) -> Tried {
+    match read_text(alloc, &mut gives(TEXT.as_bytes(), 3), 100) {
+        Ok(text) => Tried::answered(text.as_str() == TEXT),
+        Err(fault) => Tried::failed(fault == FileFault::Memory),
+    }
+}
+
+// What is read goes through 65,536 bytes, which are the first growth; what is kept of it is the second.
+#[test]
+fn memory_refused_to_read_text(rt: HostRuntime) -> Result<(), Fail> {
+    let alloc = rt.alloc();
+    sweep_call(alloc, "read_text", || text_read(alloc))
+}
+
+// What comes of a request: all that is to be sent, or a line that says that memory was refused, and nothing else.
+fn asked(alloc: Global, words: &[String], wanted: &str, out: &mut Page, err: &mut Page) -> Tried {
+    empty(out);
+    empty(err);
+    let files = Shelf { files: &FILES };
+    match command(alloc, words, &files, out, err) {
+        0 => Tried::answered(out.bytes.as_slice() == wanted.as_bytes() && err.bytes.is_empty()),
+        7 => Tried::failed(
+            out.bytes.is_empty() && err.bytes.as_slice() == b"isp: memory\n".as_slice(),
+        ),
+        _ => Tried::Wrong,
+    }
+}
+
+fn refuse_memory(alloc: Global, line: &str, wanted: &str) -> Result<(), Fail> {
+    let words = words(alloc, line)?;
+    let mut out = page(alloc, 1000);
+    let mut err = page(alloc, 1000);
+    out.bytes.reserve(1000)?;
+    err.bytes.reserve(1000)?;
+    sweep_call(
+        alloc,
+        line,
+        || asked(alloc, words.as_slice(), wanted, &mut out, &mut err),
+    )
+}
+
+#[test]
+fn memory_refused_to_run(rt: HostRuntime) -> Result<(), Fail> {
+    refuse_memory(rt.alloc(), "isp run double.ispc f four.json", ANSWER)
+}
+
+#[test]
+fn memory_refused_to_solo(rt: HostRuntime) -> Result<(), Fail> {
+    refuse_memory(rt.alloc(), "isp solo double.ispc f four.json", ANSWER)
+}
+
+#[test]
+fn memory_refused_to_exec(rt: HostRuntime) -> Result<(), Fail> {
+    refuse_memory(
+        rt.alloc(),
+        "isp exec scatter.isp f nines.json",
+        "{\"arrays\":{\"a\":[0,1,2,3]},\"result\":null}\n",
+    )
+}
+
+#[test]
+fn memory_refused_to_check(rt: HostRuntime) -> Result<(), Fail> {
+    refuse_memory(rt.alloc(), "isp check double.ispc", "ok\nf independent\n")
+}
+
+/// The code of double.ispc, as docs/MACHINE.md shows it.
+const DOUBLE_CODE: &str = "isp 1 gang 4
+place 51 66
+place 33 48
+func f export void
+par a i32 a
+s i64 i64 i32
+v i64 i32 i32 i64 i32
+m 3
+const s0 0
+const s1 0
+vload v2 a0 s1 m0 p0
+const s2 2
+splat v4 s2 m0
+mul v2 v2 v4 m0
+const s2 1
+splat v4 s2 m0
+add v2 v2 v4 m0
+vstore a0 s0 v2 m0 p1
+ret -
+end
+";
+
+#[test]
+fn memory_refused_to_asm(rt: HostRuntime) -> Result<(), Fail> {
+    refuse_memory(rt.alloc(), "isp asm double.ispc", DOUBLE_CODE)
 }

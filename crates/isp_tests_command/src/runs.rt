@@ -1,8 +1,6 @@
 //! Programs that are compiled and run.
 use isp_base::Gang;
-use isp_engine::{Ending, RunFault, compile, execute};
-use isp_lex::SourceFault;
-use isp_tests_support::Hoard;
+use isp_engine::{Ending, compile, execute};
 use std::test::Fail;
 
 const DOUBLE: &str =
@@ -51,42 +49,4 @@ fn least_budget(rt: HostRuntime) -> Result<(), Fail> {
         assert!(rt; report.answer.is_none());
     }
     Err(Fail::from("no budget is enough"))
-}
-
-// Memory is refused to `compile` at each place in turn, and at last comes the image.
-#[test]
-fn memory_refused_to_compile(rt: HostRuntime) -> Result<(), Fail> {
-    let alloc = rt.alloc();
-    let mut hoard = Hoard::new(alloc)?;
-    for step in 0..128_000usize {
-        assert!(rt; hoard.beside(16 * step).is_ok(), "the pool is too small");
-        match compile(alloc, DOUBLE, Gang::W4) {
-            Ok(_) => {
-                assert!(rt; step > 0, "nothing was refused");
-                return Ok(());
-            }
-            Err(fault) => assert_eq!(rt; fault, SourceFault::Memory),
-        }
-    }
-    Err(Fail::from("always refused"))
-}
-
-// Memory is refused to `execute` at each place in turn, and at last comes the answer.
-#[test]
-fn memory_refused_to_execute(rt: HostRuntime) -> Result<(), Fail> {
-    let alloc = rt.alloc();
-    let image = compile(alloc, DOUBLE, Gang::W4)?;
-    let mut hoard = Hoard::new(alloc)?;
-    for step in 0..128_000usize {
-        assert!(rt; hoard.beside(16 * step).is_ok(), "the pool is too small");
-        match execute(alloc, &image, "f", "{\"a\":[5,6,7,8]}", 100) {
-            Ok(report) => {
-                assert_eq!(rt; report.ending, Ending::Ended);
-                assert!(rt; step > 0, "nothing was refused");
-                return Ok(());
-            }
-            Err(fault) => assert_eq!(rt; fault, RunFault::Memory),
-        }
-    }
-    Err(Fail::from("always refused"))
 }

@@ -2,7 +2,6 @@
 use crate::fakes::Page;
 use isp_base::{Gang, Span, Trap, TrapKind};
 use isp_engine::{Ending, Image, Report, RunFault, Sink, compile, load_code, run_to};
-use isp_tests_support::Hoard;
 use std::alloc::Global;
 use std::process::Abort;
 use std::test::Fail;
@@ -10,11 +9,11 @@ use std::test::Fail;
 // Each turn says `x` by one instruction and jumps back by another, for ever.
 const ENDLESS: &str = "isp 1 gang 4\ntext 78\nfunc f export void\nm 1\nsay t0\njmp L0\nend\n";
 
-// Says `0,2,3,` and ends.
-const SHORT: &str =
+/// Says `0,2,3,` and ends.
+pub(crate) const SHORT: &str =
     "isp 1 gang 4\ntext 302c\ntext 322c\ntext 332c\nfunc f export void\nm 1\nsay t0\nsay t1\nsay t2\nret -\nend\n";
 
-const SENT: &str = "0,2,3,{\"arrays\":{},\"result\":null}\n";
+pub(crate) const SENT: &str = "0,2,3,{\"arrays\":{},\"result\":null}\n";
 
 // Says `ab`, and traps where the place is 0..4.
 const TRAPPED: &str =
@@ -35,7 +34,8 @@ fn page(alloc: Global, room: usize, step: usize) -> Page {
     }
 }
 
-fn image(alloc: Global, text: &str) -> Result<Image, Fail> {
+/// Code of a text that is not refused.
+pub(crate) fn image(alloc: Global, text: &str) -> Result<Image, Fail> {
     load_code(alloc, text).map_err(|_| Fail::from("the code is refused"))
 }
 
@@ -55,7 +55,13 @@ fn runs_entry(
     run_to(alloc, image, entry, json, budget, out)
 }
 
-fn runs(alloc: Global, image: &Image, budget: u64, out: &mut Page) -> Result<Report, RunFault> {
+/// Runs `f` without arguments.
+pub(crate) fn runs(
+    alloc: Global,
+    image: &Image,
+    budget: u64,
+    out: &mut Page,
+) -> Result<Report, RunFault> {
     runs_entry(alloc, image, "f", "{}", budget, out)
 }
 
@@ -211,30 +217,4 @@ fn refusals(rt: HostRuntime) -> Result<(), Fail> {
         assert!(&rt; !out.failed());
     }
     Ok(())
-}
-
-// Memory is refused at each place in turn: what went out is the beginning of what is sent, and at last comes all of it.
-#[test]
-fn memory_refused(rt: HostRuntime) -> Result<(), Fail> {
-    let alloc = rt.alloc();
-    let image = image(alloc, SHORT)?;
-    let mut out = page(alloc, 1000, 100);
-    out.bytes.reserve(1000)?;
-    let mut hoard = Hoard::new(alloc)?;
-    for step in 0..128_000usize {
-        assert!(&rt; hoard.beside(16 * step).is_ok(), "the pool is too small");
-        out.bytes.clear();
-        match runs(alloc, &image, 1000, &mut out) {
-            Ok(report) => {
-                assert_eq!(&rt; report.ending, Ending::Ended);
-                assert!(&rt; out.bytes.as_slice() == SENT.as_bytes());
-                assert!(&rt; step > 0, "nothing was refused");
-                return Ok(());
-            }
-            Err(fault) => assert_eq!(&rt; fault, RunFault::Memory),
-        }
-        assert!(&rt; SENT.as_bytes().starts_with(out.bytes.as_slice()));
-        assert!(&rt; out.bytes.len() < SENT.len());
-    }
-    Err(Fail::from("always refused"))
 }
