@@ -2,8 +2,7 @@
 use Rattle.std.proofs.Common.{◌≡◌, ℕ, ◌+◌, ◌*◌, ◌<◌, ◌≤◌, List, [], ◌∷◌, length, Option, Some, None, Bool, true, false, refl, sym, ap, ◌∙◌, subst, arith}
 use Rattle.std.specs.Prelude.{slice_get}
 use Rattle.isp_base.specs.Sets.{Mask, any}
-use Rattle.isp_base.specs.Values.{number}
-use Rattle.isp_base.specs.declared.types.Elem.TheVariants.{I32, I64}
+use Rattle.isp_base.specs.declared.types.Elem.TheVariants.{I32}
 use Rattle.isp_base.specs.declared.types.Rate.{Rate}
 use Rattle.isp_base.specs.declared.types.Rate.TheVariants.{Uniform, Varying}
 use Rattle.isp_code.specs.Conf.{Conf}
@@ -14,9 +13,9 @@ use Rattle.isp_typed.specs.declared.variable.ArrayVariable.{ArrayVariable}
 use Rattle.isp_meaning.specs.Outcomes.{Res, Went, Trapped, Cut}
 use Rattle.isp_meaning.specs.State.{State}
 use Rattle.isp_meaning.specs.Statements.{run}
-use Rattle.isp_lower.specs.Consecutive.{CountsFrom, RunHolds}
+use Rattle.isp_lower.specs.Consecutive.{RunHolds}
 use Rattle.isp_lower.specs.Layout.{Layout, IsApart, outside, run_in, within}
-use Rattle.isp_lower.specs.Setting.{ArrayFitsAt, AreAt, At, IsCounter, IsSettled, Setting, Stands, calls_of, gang_of}
+use Rattle.isp_lower.specs.Setting.{ArrayFitsAt, AreAt, At, IsCounter, IsSettled, Setting, Spares, Stands, calls_of, gang_of}
 use Rattle.isp_lower.specs.Tables.{IsTyped}
 use Rattle.isp_lower.proofs.Lemmas.{none_holds}
 use Rattle.isp_masks.specs.Free.{last_index_of}
@@ -98,7 +97,11 @@ module _ (w : Setting) (o : Option ℕ) (d : Bool) (m : Mask) (b : ℕ) where
 
 -- ---- the body of a `foreach`
 
--- what is so where it begins: the members are on, and the index counts them from the place on
+-- the same call in the body of a `foreach` with index i, for a run whose members these are, and whose place has these bits
+abbrev pub in_run : Setting → ℕ → Mask → ℕ → Setting
+in_run w i m b = with_layout w (within w.layout i) m b
+
+-- what is so where it begins: the members are on, and where the index counts them, it does so from the place on
 pub record RunEnters (w : Setting) (i pc h : ℕ) (a : Mask) (s : State) (c : Conf) (q : ℕ) : Type 0 where
   pub at : At w c pc
   pub mask : c.masks h ≡ a
@@ -106,25 +109,28 @@ pub record RunEnters (w : Setting) (i pc h : ℕ) (a : Mask) (s : State) (c : Co
   pub inside : (p : ℕ) → a p ≡ true → p < gang_of w
   pub stands : Stands w s c
   pub used : q ≤ 32 * s.work
-  pub counts : CountsFrom (number I64 (c.scalars (w.layout.place Uniform))) a (s.varying i)
+  pub counts : RunHolds (within w.layout i).run (c.scalars (w.layout.place Uniform)) a (c.scalars (w.layout.place Uniform)) s.varying
 
 abbrev pub RunBodyRuns : Setting → ℕ → ℕ → (ℕ → List Instr) → (Mask → State → Res) → Type 0
 RunBodyRuns w i h code v =
-    (a : Mask) (s : State) (c : Conf) (pc q : ℕ) → AreAt w.routine.code pc (code pc) → RunEnters w i pc h a s c q → StmtRuns w w.turns c (pc + length (code pc)) (body_spot h) q (v a s)
+    (a : Mask) (s : State) (c : Conf) (pc q : ℕ) → AreAt w.routine.code pc (code pc) → RunEnters w i pc h a s c q → StmtRuns (in_run w i a (c.scalars (w.layout.place Uniform))) w.turns c (pc + length (code pc)) (body_spot h) q (v a s)
 
 last_layout : (l : Layout) (rs : List TRange) (i : ℕ) → last_index_of rs ≡ Some i → body_layout l rs ≡ within l i
 last_layout l [] i e = absurd (cc)
 last_layout l (r ∷ []) i e = let same : r.index ≡ i = cc in ap (within l) same
 last_layout l (r ∷ q ∷ rs) i e = last_layout l (q ∷ rs) i e
 
-pub body_as : (Q : Layout → Type 0) (l : Layout) (rs : List TRange) → Q l → ((o : Option ℕ) (d : Bool) → Q (run_as l o d)) → Q (body_layout l rs)
-body_as Q l [] q f = q
-body_as Q l (r ∷ []) q f = go (l.loaded r.index) l.run
+within_as : (Q : Layout → Type 0) (l : Layout) (i : ℕ) → ((o : Option ℕ) (d : Bool) → Q (run_as l o d)) → Q (within l i)
+within_as Q l i f = go (l.loaded i) l.run
   where
-    go : (d : Bool) (o : Option ℕ) → Q (run_in d o l r.index)
-    go false None = f (Some r.index) true
+    go : (d : Bool) (o : Option ℕ) → Q (run_in d o l i)
+    go false None = f (Some i) true
     go false (Some j) = f l.run false
     go true o = f l.run false
+
+pub body_as : (Q : Layout → Type 0) (l : Layout) (rs : List TRange) → Q l → ((o : Option ℕ) (d : Bool) → Q (run_as l o d)) → Q (body_layout l rs)
+body_as Q l [] q f = q
+body_as Q l (r ∷ []) q f = within_as Q l r.index f
 body_as Q l (r ∷ q ∷ rs) p f = body_as Q l (q ∷ rs) p f
 
 -- its run is none, or by the last index
@@ -147,43 +153,61 @@ module _ (w : Setting) (ready : IsSettled w) (none : w.layout.run ≡ None) wher
   forgets : (o : Option ℕ) (d : Bool) (m : Mask) (b : ℕ) (s : State) (c : Conf) → Stands (with_layout w (run_as w.layout o d) m b) s c → RunHolds w.layout.run w.start w.members (c.scalars (w.layout.place Uniform)) s.varying
   forgets o d m b s c st = none_holds w.layout.run w.start w.members (c.scalars (w.layout.place Uniform)) s.varying none
 
+  -- what the layout of a body is, by whether a packed load writes its index
+  pub within_is : (i : ℕ) (d : Bool) → w.layout.loaded i ≡ d → within w.layout i ≡ run_in d None w.layout i
+  within_is i d ed = ap (λ k. run_in k w.layout.run w.layout i) ed ∙ ap (λ o. run_in d o w.layout i) none
+
+  -- behind the body
+  pub run_stands : (i : ℕ) (m : Mask) (b : ℕ) (s : State) (c : Conf) → Stands (in_run w i m b) s c → Stands w s c
+  run_stands i m b s c = within_as (λ l. Stands (with_layout w l m b) s c → Stands w s c) w.layout i (λ o d st. stands_back w o d m b s c st (forgets o d m b s c st))
+
+  pub run_spares : (i : ℕ) (m : Mask) (b n : ℕ) (c c1 : Conf) → Spares (in_run w i m b) n c c1 → Spares w n c c1
+  run_spares i m b n c c1 =
+      within_as (λ l. Spares (with_layout w l m b) n c c1 → Spares w n c c1) w.layout i (λ o d sp. record { scalars_stay = sp.scalars_stay; vectors_stay = sp.vectors_stay })
+
   pub foreach_body : (rs : List TRange) (i : ℕ) (x : TStmt) (h : ℕ) (z : Numbers) → last_index_of rs ≡ Some i → IsTyped w Varying (w.layout.variable Varying i) I32 → slice_get w.function.variables i ≡ Some foreach_index → AreNamed w.code z (stmt_places (body_layout w.layout rs) x) (stmt_texts x)
       → ((m : Mask) (b : ℕ) → IsSettled (with_layout w (body_layout w.layout rs) m b) → InBodySpot x (with_layout w (body_layout w.layout rs) m b) h z)
       → RunBodyRuns w i h (λ pc. stmt_code (body_layout w.layout rs) w.frame.answer x pc z (body_spot h)) (run (gang_of w) w.frame (calls_of w) w.turns x)
-  foreach_body rs i x h z last typed constant named law a s c pc q has e = go (w.layout.loaded i) refl
+  foreach_body rs i x h z last typed constant named law a s c pc q has e =
+      subst (λ l. StmtRuns (with_layout w l a b) w.turns c (pc + length (stmt_code (body_layout w.layout rs) w.frame.answer x pc z (body_spot h))) (body_spot h) q (run (gang_of w) w.frame (calls_of w) w.turns x a s)) same
+      (go (w.layout.loaded i) refl)
     where
       b : ℕ
       b = c.scalars (w.layout.place Uniform)
 
+      same : body_layout w.layout rs ≡ within w.layout i
+      same = last_layout w.layout rs i last
+
       -- by the layout that the body has
       Body : Layout → Type 0
       Body l =
-          AreAt w.routine.code pc (stmt_code l w.frame.answer x pc z (body_spot h)) → AreNamed w.code z (stmt_places l x) (stmt_texts x) → ((m : Mask) (k : ℕ) → IsSettled (with_layout w l m k) → InBodySpot x (with_layout w l m k) h z)
-          → StmtRuns w w.turns c (pc + length (stmt_code l w.frame.answer x pc z (body_spot h))) (body_spot h) q (run (gang_of w) w.frame (calls_of w) w.turns x a s)
+          AreAt w.routine.code pc (stmt_code l w.frame.answer x pc z (body_spot h)) → AreNamed w.code z (stmt_places l x) (stmt_texts x) → ((m : Mask) (k : ℕ) → IsSettled (with_layout w l m k) → InBodySpot x (with_layout w l m k) h z) → RunHolds l.run b a b s.varying
+          → StmtRuns (with_layout w l a b) w.turns c (pc + length (stmt_code l w.frame.answer x pc z (body_spot h))) (body_spot h) q (run (gang_of w) w.frame (calls_of w) w.turns x a s)
 
       is : (d : Bool) → w.layout.loaded i ≡ d → body_layout w.layout rs ≡ run_in d None w.layout i
-      is d ed = last_layout w.layout rs i last ∙ ap (λ k. run_in k w.layout.run w.layout i) ed ∙ ap (λ o. run_in d o w.layout i) none
+      is d ed = same ∙ within_is i d ed
 
       counted : w.layout.loaded i ≡ false → Body (run_as w.layout (Some i) true)
-      counted unloaded at names f =
+      counted unloaded at names f holds =
           let w1 = with_layout w (run_as w.layout (Some i) true) a b in
           let counter = λ (j : ℕ) (ej : Some i ≡ Some j). let same : i ≡ j = cc in subst (IsCounter w1) same (record { typed = typed; constant = constant; unloaded = unloaded }) in
-          runs_back w (Some i) true a b w.turns c _ (body_spot h) q _ (forgets (Some i) true a b)
-          (f a b (settled_same w (Some i) true a b ready counter) a s c pc q at names
-          (record { at = e.at; mask = e.mask; some = e.some; inside = λ p k. (e.inside p k, λ _. k); stands = stands_there w (Some i) true a b s c e.stands (refl, e.counts); used = e.used; low = omega arith }))
+          f a b (settled_same w (Some i) true a b ready counter) a s c pc q at names
+          (record { at = e.at; mask = e.mask; some = e.some; inside = λ p k. (e.inside p k, λ _. k); stands = stands_there w (Some i) true a b s c e.stands holds; used = e.used; low = omega arith })
 
       plain : Body (run_as w.layout None false)
-      plain at names f =
-          runs_back w None false a b w.turns c _ (body_spot h) q _ (forgets None false a b)
-          (f a b (settled_same w None false a b ready (λ j ej. absurd (cc))) a s c pc q at names
-          (record { at = e.at; mask = e.mask; some = e.some; inside = λ p k. (e.inside p k, λ no. absurd (cc)); stands = stands_there w None false a b s c e.stands tt; used = e.used; low = omega arith }))
+      plain at names f holds =
+          f a b (settled_same w None false a b ready (λ j ej. absurd (cc))) a s c pc q at names
+          (record { at = e.at; mask = e.mask; some = e.some; inside = λ p k. (e.inside p k, λ no. absurd (cc)); stands = stands_there w None false a b s c e.stands tt; used = e.used; low = omega arith })
 
       kept : run_as w.layout None false ≡ outside w.layout
       kept = ap (λ o. run_as w.layout o false) (sym none)
 
-      go : (d : Bool) → w.layout.loaded i ≡ d → StmtRuns w w.turns c (pc + length (stmt_code (body_layout w.layout rs) w.frame.answer x pc z (body_spot h))) (body_spot h) q (run (gang_of w) w.frame (calls_of w) w.turns x a s)
-      go false ed = subst Body (sym (is false ed)) (counted ed) has named law
-      go true ed = subst Body (sym (is true ed)) (subst Body kept plain) has named law
+      holds : RunHolds (body_layout w.layout rs).run b a b s.varying
+      holds = subst (λ l. RunHolds l.run b a b s.varying) (sym same) e.counts
+
+      go : (d : Bool) → w.layout.loaded i ≡ d → StmtRuns (with_layout w (body_layout w.layout rs) a b) w.turns c (pc + length (stmt_code (body_layout w.layout rs) w.frame.answer x pc z (body_spot h))) (body_spot h) q (run (gang_of w) w.frame (calls_of w) w.turns x a s)
+      go false ed = subst Body (sym (is false ed)) (counted ed) has named law holds
+      go true ed = subst Body (sym (is true ed)) (subst Body kept plain) has named law holds
 
 -- ---- the body of an `unmasked`
 

@@ -28,14 +28,14 @@ use Rattle.isp_meaning.specs.State.{State}
 use Rattle.isp_meaning.specs.Statements.{ranges}
 use Rattle.isp_lower.specs.Code.{constant, convert, splat, found, expr_code, expr_places}
 use Rattle.isp_lower.specs.Runs.{Comes, Enters, Failed, Runs, Stopped}
-use Rattle.isp_lower.specs.Setting.{Setting, IsSettled, gang_of, calls_of, AreAt, At, Stands, Holds, at_rate, held_at}
+use Rattle.isp_lower.specs.Setting.{Setting, IsSettled, gang_of, calls_of, AreAt, At, Spares, Stands, Holds, at_rate, held_at}
 use Rattle.isp_lower.specs.Tables.{IsTyped}
 use Rattle.isp_lower.proofs.Lemmas.{are_front, are_back, put_same, put_other, comes_none, comes_on, step_go, at_to, spares_all, spares_less, spares_on, failed_less, stopped_less, masked, masked_at, set_at, set_comes, set_goes, set_spares, set_stands, bind_runs, runs_after, expr_runs, few, found_typed}
 use Rattle.isp_masks.specs.Ranges.{wide, narrow, lane, sum_lanes, lane_numbers, measures_code, bound_code, bounds_code, ranges_places}
 use Rattle.isp_masks.specs.Rounds.{fill_mask}
 use Rattle.isp_masks.proofs.Numbered.{small_number}
 use Rattle.isp_masks.proofs.Parts.{BoundParts, BoundsParts, MeasuresTyped}
-use Rattle.isp_masks.proofs.RangeRuns.{AreHeld, HasMeasures}
+use Rattle.isp_masks.proofs.RangesHeld.{AreHeld, HasMeasures}
 use Rattle.isp_masks.proofs.Sweeps.{Low, IsNotLess}
 
 -- ---- an int32 as an int64
@@ -172,15 +172,15 @@ module _ (w : Setting) (ready : IsSettled w) where
 
   pub record Measured (n pc : ℕ) (s : State) (c : Conf) : Type 0 where
     pub conf : Conf
-    pub comes : Comes w c 6 conf
-    pub at : At w conf (pc + 6)
+    pub comes : Comes w c 8 conf
+    pub at : At w conf (pc + 8)
     pub stands : Stands w s conf
     pub low : Low w n c conf
     pub has : HasMeasures w n conf
 
   pub measures_run : (n h pc : ℕ) (s : State) (c : Conf) → n ≤ h → MeasuresTyped w n → AreAt w.routine.code pc (measures_code w.layout n h) → At w c pc → Stands w s c → Measured n pc s c
   measures_run n h pc s c le typed code at st =
-      record { conf = c6; comes = comes6; at = at_to w c6 (pc + 1 + 1 + 1 + 1 + 1 + 1) (pc + 6) at6 (omega arith); stands = stands6; low = low6; has = record { lanes = lanes; one = one; numbers = numbers } }
+      record { conf = c8; comes = comes8; at = at_to w c8 (pc + 1 + 1 + 1 + 1 + 1 + 1 + 1 + 1) (pc + 8) at8 (omega arith); stands = stands8; low = low8; has = record { lanes = lanes; one = one; numbers = numbers; count = count } }
     where
       g : ℕ
       g = gang_of w
@@ -199,6 +199,12 @@ module _ (w : Setting) (ready : IsSettled w) where
 
       w2 : ℕ
       w2 = wide w.layout (n + 1)
+
+      a2 : ℕ
+      a2 = narrow w.layout (n + 1)
+
+      v2 : ℕ
+      v2 = lane w.layout (n + 1)
 
       c1 : Conf
       c1 = masked w ready c h all
@@ -227,11 +233,23 @@ module _ (w : Setting) (ready : IsSettled w) where
       c5 : Conf
       c5 = set_at Varying c4 v1 own
 
+      short : Payload
+      short = One (wrap I32 (number I64 (c5.scalars w1)))
+
+      c6 : Conf
+      c6 = set_at Uniform c5 a2 short
+
+      many : Payload
+      many = Each (on (c6.masks h) (λ p. c6.scalars a2))
+
+      c7 : Conf
+      c7 = set_at Varying c6 v2 many
+
       unit : Payload
       unit = One (wrap I64 (number I64 1))
 
-      c6 : Conf
-      c6 = set_at Uniform c5 w2 unit
+      c8 : Conf
+      c8 = set_at Uniform c7 w2 unit
 
       at1 : At w c1 (pc + 1)
       at1 = masked_at w ready c pc h all at
@@ -249,24 +267,43 @@ module _ (w : Setting) (ready : IsSettled w) where
       at5 = set_goes w ready Varying c4 v1 own (pc + 1 + 1 + 1 + 1) at4
 
       at6 : At w c6 (pc + 1 + 1 + 1 + 1 + 1 + 1)
-      at6 = set_goes w ready Uniform c5 w2 unit (pc + 1 + 1 + 1 + 1 + 1) at5
+      at6 = set_goes w ready Uniform c5 a2 short (pc + 1 + 1 + 1 + 1 + 1) at5
+
+      at7 : At w c7 (pc + 1 + 1 + 1 + 1 + 1 + 1 + 1)
+      at7 = set_goes w ready Varying c6 v2 many (pc + 1 + 1 + 1 + 1 + 1 + 1) at6
+
+      at8 : At w c8 (pc + 1 + 1 + 1 + 1 + 1 + 1 + 1 + 1)
+      at8 = set_goes w ready Uniform c7 w2 unit (pc + 1 + 1 + 1 + 1 + 1 + 1 + 1) at7
+
+      short_is : act w.code w.routine c5 (convert Uniform a2 w1 0) ≡ Go (set_at Uniform c5 a2 short)
+      short_is = ap₂ (λ t u. Go (set_at Uniform c5 a2 (One (convert_bits t (number u (c5.scalars w1)))))) typed.short typed.lanes
 
       sum_is : act w.code w.routine c3 (sum_lanes w1 v1 h) ≡ Go (set_at Uniform c3 w1 sum)
       sum_is = ap (λ t. Go (set_at Uniform c3 w1 (One (reduce_add t g (on (c3.masks h) (c3.vectors v1)))))) typed.numbers
 
-      comes6 : Comes w c 6 c6
-      comes6 =
-          comes_on w c c3 c6 3 3
+      comes5 : Comes w c 5 c5
+      comes5 =
+          comes_on w c c3 c5 3 2
           (comes_on w c c1 c3 1 2 (step_go w c pc (fill_mask h) c1 ready at code.0 refl) (comes_on w c1 c2 c3 1 1 (set_comes w ready Uniform c1 a1 ones (pc + 1) (constant a1 I32 1) at1 code.1.0 (ap (λ t. Go (set_at Uniform c1 a1 (One (wrap t (number I32 1))))) typed.first)) (set_comes w ready Varying c2 v1 each (pc + 1 + 1) (splat v1 a1 h) at2 code.1.1.0 refl)))
-          (comes_on w c3 c4 c6 1 2 (set_comes w ready Uniform c3 w1 sum (pc + 1 + 1 + 1) (sum_lanes w1 v1 h) at3 code.1.1.1.0 sum_is) (comes_on w c4 c5 c6 1 1 (set_comes w ready Varying c4 v1 own (pc + 1 + 1 + 1 + 1) (lane_numbers v1 h) at4 code.1.1.1.1.0 refl) (set_comes w ready Uniform c5 w2 unit (pc + 1 + 1 + 1 + 1 + 1) (constant w2 I64 1) at5 code.1.1.1.1.1.0 (ap (λ t. Go (set_at Uniform c5 w2 (One (wrap t (number I64 1))))) typed.one))))
+          (comes_on w c3 c4 c5 1 1 (set_comes w ready Uniform c3 w1 sum (pc + 1 + 1 + 1) (sum_lanes w1 v1 h) at3 code.1.1.1.0 sum_is) (set_comes w ready Varying c4 v1 own (pc + 1 + 1 + 1 + 1) (lane_numbers v1 h) at4 code.1.1.1.1.0 refl))
 
-      stands6 : Stands w s c6
-      stands6 =
-          set_stands w ready Uniform c5 I64 (n + 1) unit s (set_stands w ready Varying c4 I32 n own s (set_stands w ready Uniform c3 I64 n sum s (set_stands w ready Varying c2 I32 n each s (set_stands w ready Uniform c1 I32 n ones s st))))
+      comes8 : Comes w c 8 c8
+      comes8 =
+          comes_on w c c5 c8 5 3 comes5
+          (comes_on w c5 c6 c8 1 2 (set_comes w ready Uniform c5 a2 short (pc + 1 + 1 + 1 + 1 + 1) (convert Uniform a2 w1 0) at5 code.1.1.1.1.1.0 short_is)
+          (comes_on w c6 c7 c8 1 1 (set_comes w ready Varying c6 v2 many (pc + 1 + 1 + 1 + 1 + 1 + 1) (splat v2 a2 h) at6 code.1.1.1.1.1.1.0 refl) (set_comes w ready Uniform c7 w2 unit (pc + 1 + 1 + 1 + 1 + 1 + 1 + 1) (constant w2 I64 1) at7 code.1.1.1.1.1.1.1.0 (ap (λ t. Go (set_at Uniform c7 w2 (One (wrap t (number I64 1))))) typed.one))))
 
-      low6 : Low w n c c6
-      low6 = record {
-        spares = spares_on w n c c2 c6 (set_spares w ready Uniform c1 I32 n n ones (omega arith)) (spares_on w n c2 c3 c6 (set_spares w ready Varying c2 I32 n n each (omega arith)) (spares_on w n c3 c4 c6 (set_spares w ready Uniform c3 I64 n n sum (omega arith)) (spares_on w n c4 c5 c6 (set_spares w ready Varying c4 I32 n n own (omega arith)) (set_spares w ready Uniform c5 I64 n (n + 1) unit (omega arith)))));
+      stands8 : Stands w s c8
+      stands8 =
+          set_stands w ready Uniform c7 I64 (n + 1) unit s (set_stands w ready Varying c6 I32 (n + 1) many s (set_stands w ready Uniform c5 I32 (n + 1) short s (set_stands w ready Varying c4 I32 n own s (set_stands w ready Uniform c3 I64 n sum s (set_stands w ready Varying c2 I32 n each s (set_stands w ready Uniform c1 I32 n ones s st))))))
+
+      -- what is in slot n stays behind the numbers of the lanes
+      later : Spares w (n + 1) c5 c8
+      later = spares_on w (n + 1) c5 c6 c8 (set_spares w ready Uniform c5 I32 (n + 1) (n + 1) short (omega arith)) (spares_on w (n + 1) c6 c7 c8 (set_spares w ready Varying c6 I32 (n + 1) (n + 1) many (omega arith)) (set_spares w ready Uniform c7 I64 (n + 1) (n + 1) unit (omega arith)))
+
+      low8 : Low w n c c8
+      low8 = record {
+        spares = spares_on w n c c2 c8 (set_spares w ready Uniform c1 I32 n n ones (omega arith)) (spares_on w n c2 c3 c8 (set_spares w ready Varying c2 I32 n n each (omega arith)) (spares_on w n c3 c4 c8 (set_spares w ready Uniform c3 I64 n n sum (omega arith)) (spares_on w n c4 c5 c8 (set_spares w ready Varying c4 I32 n n own (omega arith)) (spares_less w n (n + 1) c5 c8 (omega arith) later))));
         masks = λ r lt. let ne : r ≢ h = omega (arith, le) in put_other c.masks h all r ne;
       }
 
@@ -283,17 +320,17 @@ module _ (w : Setting) (ready : IsSettled w) where
       one_in p lt =
           ap (λ m. on m (c3.vectors v1) p) full ∙ on_at all (c3.vectors v1) p (in_all p lt) ∙ ap Some (ap (λ v. v p) (put_same c2.vectors v1 (over (on (c2.masks h) (λ r. c2.scalars a1)) (c2.vectors v1))) ∙ ap (λ m. over (on m (λ r. c2.scalars a1)) (c2.vectors v1) p) full ∙ over_at all (λ r. c2.scalars a1) (c2.vectors v1) p (in_all p lt) ∙ first)
 
-      apart : n ≢ n + 1
-      apart = omega arith
-
-      lanes : number I64 (c6.scalars w1) ≡ pos g
-      lanes =
-          ap (number I64) (put_other c5.scalars w2 (wrap I64 (number I64 1)) w1 (ready.apart.spares Uniform I64 I64 n (n + 1) apart) ∙ put_same c3.scalars w1 (reduce_add I32 g (on (c3.masks h) (c3.vectors v1))))
+      lanes5 : number I64 (c5.scalars w1) ≡ pos g
+      lanes5 =
+          ap (number I64) (put_same c3.scalars w1 (reduce_add I32 g (on (c3.masks h) (c3.vectors v1))))
           ∙ ap (λ z. number I64 (wrap I64 z)) (sum_ones g (on (c3.masks h) (c3.vectors v1)) one_in)
           ∙ back_is I64 (pos g) (let few = few_width w.code.gang in (omega (arith, ints), omega (arith, ints, few)))
 
-      one : number I64 (c6.scalars w2) ≡ pos 1
-      one = ap (number I64) (put_same c5.scalars w2 (wrap I64 (number I64 1)) ∙ bits_are I64 1 (omega arith)) ∙ unit_is
+      lanes : number I64 (c8.scalars w1) ≡ pos g
+      lanes = ap (number I64) (later.scalars_stay I64 n (omega arith)) ∙ lanes5
+
+      one : number I64 (c8.scalars w2) ≡ pos 1
+      one = ap (number I64) (put_same c7.scalars w2 (wrap I64 (number I64 1)) ∙ bits_are I64 1 (omega arith)) ∙ unit_is
         where
           one_lt : 1 < 2 ^ 64
           one_lt = omega arith
@@ -301,6 +338,11 @@ module _ (w : Setting) (ready : IsSettled w) where
           unit_is : number I64 1 ≡ pos 1
           unit_is = ap (number_to 64 (2 ^ 63 - 1)) (mod-eq_of_lt one_lt) ∙ number_below 64 (2 ^ 63 - 1) 1 (omega arith)
 
-      numbers : (p : ℕ) → p < g → c6.vectors v1 p ≡ p
+      numbers : (p : ℕ) → p < g → c8.vectors v1 p ≡ p
       numbers p lt =
-          ap (λ v. v p) (put_same c4.vectors v1 (over (on (c4.masks h) (λ r. r)) (c4.vectors v1))) ∙ ap (λ m. over (on m (λ r. r)) (c4.vectors v1) p) full ∙ over_at all (λ r. r) (c4.vectors v1) p (in_all p lt)
+          ap (λ v. v p) (later.vectors_stay I32 n (omega arith) ∙ put_same c4.vectors v1 (over (on (c4.masks h) (λ r. r)) (c4.vectors v1))) ∙ ap (λ m. over (on m (λ r. r)) (c4.vectors v1) p) full ∙ over_at all (λ r. r) (c4.vectors v1) p (in_all p lt)
+
+      count : (p : ℕ) → p < g → c8.vectors v2 p ≡ wrap I32 (pos g)
+      count p lt =
+          ap (λ v. v p) (put_same c6.vectors v2 (over (on (c6.masks h) (λ r. c6.scalars a2)) (c6.vectors v2))) ∙ ap (λ m. over (on m (λ r. c6.scalars a2)) (c6.vectors v2) p) full ∙ over_at all (λ r. c6.scalars a2) (c6.vectors v2) p (in_all p lt)
+          ∙ put_same c5.scalars a2 (wrap I32 (number I64 (c5.scalars w1))) ∙ ap (wrap I32) lanes5

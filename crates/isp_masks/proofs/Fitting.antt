@@ -59,7 +59,7 @@ module _ (w : Setting) where
 
   places_fit : (rs : List TRange) (m : ℕ) → Named (places_asks rs m) → RangesTyped w rs m
   places_fit [] m i = tt
-  places_fit (r ∷ rs) m i = (record { place = i.0.1.0; short = i.0.1.1.1.0; index = i.0.0 }, places_fit rs (m + 1 + 1) i.1.1)
+  places_fit (r ∷ rs) m i = (record { place = i.0.1.0; short = i.0.1.1.1.0; index = i.0.0; run = i.0.1.1.1.1.1.1 }, places_fit rs (m + 1 + 1) i.1.1)
 
   ranges_constant : (rs : List TRange) → All (FineRange w.program.functions w.function.variables) rs → RangesConstant w rs
   ranges_constant [] f = tt
@@ -74,7 +74,7 @@ module _ (w : Setting) where
   foreach_fits : (rs : List TRange) (n : ℕ) → All (FineRange w.program.functions w.function.variables) rs → 1 ≤ length rs → length rs ≤ 3 → RangesTree w.program.functions rs → Named (ranges_asks rs n) → ForeachFits w rs n
   foreach_fits rs n fine some le t i = record {
     few = le;
-    measures = record { first = i.0.0; numbers = i.0.1.0; lanes = i.0.1.1.0; one = i.0.1.1.1.1.0 };
+    measures = record { first = i.0.0; numbers = i.0.1.0; lanes = i.0.1.1.0; short = i.0.1.1.1.1.0; one = i.0.1.1.1.1.1.1.0 };
     bounds = bounds_fit rs (n + 1 + 1) t i.1.0;
     places = places_fit rs (places_slot n rs) i.1.1.0;
     some = some;

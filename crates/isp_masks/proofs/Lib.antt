@@ -16,6 +16,8 @@ mod Distinct
 mod Counting
 mod Sweeps
 mod Numbered
+mod RangesHeld
+mod LastRuns
 mod RangeRuns
 mod Bounds
 mod Foreach

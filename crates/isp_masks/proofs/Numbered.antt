@@ -7,7 +7,7 @@ use Rattle.std.proofs.Math.Path.{fun_ext}
 use Rattle.std.proofs.Math.IntN.{negsuc-*ℤ-pos}
 use Rattle.std.proofs.Common.{mod-eq_of_lt}
 use Rattle.isp_base.proofs.Elems.{number_below}
-use Rattle.isp_base.proofs.Laws.{same_is}
+use Rattle.isp_base.proofs.Laws.{back_is, same_is}
 use Rattle.isp_base.proofs.Wraps.{wrap_to-same}
 use Rattle.isp_base.specs.Maps.{Lanes, on, over, map2}
 use Rattle.isp_base.specs.Sets.{Mask, any}
@@ -43,6 +43,29 @@ index_is z a old numbers few are = fun_ext (λ p. at p (a p) refl)
     at p true e = rw e (ap Some (ap (op_bits op.Add I32 (wrap I32 z)) (are p e) ∙ index_bits z p (few p e)))
     at p false e = rw e refl
 
+-- the index of a run, and so much more
+pub next_is : (z : ℤ) (g : ℕ) (a : Mask) (v counts : Lanes) → g ≤ widest → ((p : ℕ) → a p ≡ true → v p ≡ wrap I32 (z +ℤ pos p)) → ((p : ℕ) → a p ≡ true → counts p ≡ wrap I32 (pos g)) → map2 (op_bits op.Add I32) (on a v) (on a counts) ≡ on a (λ p. wrap I32 ((z +ℤ pos g) +ℤ pos p))
+next_is z g a v counts few is are = fun_ext (λ p. at p (a p) refl)
+  where
+    back : number I32 (wrap I32 (pos g)) ≡ pos g
+    back = back_is I32 (pos g) (omega (arith, ints), omega (arith, ints, few))
+
+    sum : (p : ℕ) → op_bits op.Add I32 (wrap I32 (z +ℤ pos p)) (wrap I32 (pos g)) ≡ wrap I32 ((z +ℤ pos g) +ℤ pos p)
+    sum p =
+        let e : (z +ℤ pos p) +ℤ pos g ≡ (z +ℤ pos g) +ℤ pos p = omega (arith, ints) in
+        ap (λ n. wrap I32 (number I32 (wrap I32 (z +ℤ pos p)) +ℤ n)) back ∙ wrapped_sum (z +ℤ pos p) g ∙ ap (wrap I32) e
+
+    at : (p : ℕ) (b : Bool) → a p ≡ b → map2 (op_bits op.Add I32) (on a v) (on a counts) p ≡ on a (λ q. wrap I32 ((z +ℤ pos g) +ℤ pos q)) p
+    at p true e = rw e (ap Some (ap₂ (op_bits op.Add I32) (is p e) (are p e) ∙ sum p))
+    at p false e = rw e refl
+
+-- where nobody is on, no lane gets another value
+pub over_nobody : (f : ℕ → ℕ → ℕ) (a : Mask) (v u old : Lanes) → ((p : ℕ) → a p ≡ false) → over (map2 f (on a v) (on a u)) old ≡ old
+over_nobody f a v u old none = fun_ext (λ p. at p (none p))
+  where
+    at : (p : ℕ) → a p ≡ false → over (map2 f (on a v) (on a u)) old p ≡ old p
+    at p e = rw e refl
+
 -- somebody is on in a run where its first number is below the end
 pub any_run : (gang n : ℕ) (x : Range) (z : ℤ) → 1 ≤ n → n ≤ gang → any n (last_run gang x z).members ≡ int_lt z x.end
 any_run gang zero x z some le = absurd (omega arith)
@@ -63,3 +86,20 @@ run_inside gang x z p h = go (nat_lt p gang) refl h
     go : (b : Bool) → nat_lt p gang ≡ b → (b && int_lt (z +ℤ pos p) x.end) ≡ true → p < gang
     go true e k = ltb-true p gang e
     go false e k = absurd (cc)
+
+-- nobody, where it is not below the end
+pub no_run : (gang : ℕ) (x : Range) (z : ℤ) (p : ℕ) → int_lt z x.end ≡ false → (last_run gang x z).members p ≡ false
+no_run gang x z p e = let f : int_lt (z +ℤ pos p) x.end ≡ false = grind (arith, ints, e) in ap (λ b. nat_lt p gang && b) f ∙ and_false (nat_lt p gang)
+  where
+    and_false : (b : Bool) → (b && false) ≡ false
+    and_false true = refl
+    and_false false = refl
+
+-- who is on in a run was on in the one before
+pub run_before : (gang : ℕ) (x : Range) (z : ℤ) (p : ℕ) → (last_run gang x (z +ℤ pos gang)).members p ≡ true → (last_run gang x z).members p ≡ true
+run_before gang x z p h = go (nat_lt p gang) (int_lt ((z +ℤ pos gang) +ℤ pos p) x.end) refl h
+  where
+    go : (b d : Bool) → int_lt ((z +ℤ pos gang) +ℤ pos p) x.end ≡ d → (b && d) ≡ true → (b && int_lt (z +ℤ pos p) x.end) ≡ true
+    go true true e k = grind (arith, ints, e)
+    go true false e k = absurd (cc)
+    go false d e k = absurd (cc)

@@ -79,7 +79,7 @@ module _ (fs : List TFunction) (vars : List Variable) (answer : Option Ty) where
       ((index_own r.index g.index, (tt, (tt, (tt, (tt, (tt, tt)))))), (tt, places_own rs (m + 1 + 1) (λ k d lt. f (suc k) d (omega (arith, lt)))))
 
   ranges_own : (rs : List TRange) (n : ℕ) → All (FineRange fs vars) rs → IsOwn vars answer (ranges_asks rs n)
-  ranges_own rs n f = ((tt, (tt, (tt, (tt, (tt, tt))))), (bounds_own rs (n + 1 + 1) f, (places_own rs (places_slot n rs) f, loop_own (runs_slot n rs))))
+  ranges_own rs n f = ((tt, (tt, (tt, (tt, (tt, (tt, (tt, tt))))))), (bounds_own rs (n + 1 + 1) f, (places_own rs (places_slot n rs) f, loop_own (runs_slot n rs))))
 
   first_own : (o : Option TFirst) (n : ℕ) → IfAny (FineFirst fs vars) o → IsOwn vars answer (first_asks o n)
   first_own None n f = tt

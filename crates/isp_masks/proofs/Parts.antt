@@ -53,12 +53,14 @@ module _ (w : Setting) where
     pub first : IsTyped w Uniform (narrow w.layout n) I32
     pub numbers : IsTyped w Varying (lane w.layout n) I32
     pub lanes : IsTyped w Uniform (wide w.layout n) I64
+    pub short : IsTyped w Uniform (narrow w.layout (n + 1)) I32
     pub one : IsTyped w Uniform (wide w.layout (n + 1)) I64
 
   pub record RangeTyped (m i : ℕ) : Type 0 where
     pub place : IsTyped w Uniform (wide w.layout m) I64
     pub short : IsTyped w Uniform (narrow w.layout (m + 1)) I32
     pub index : IsTyped w Varying (w.layout.variable Varying i) I32
+    pub run : IsTyped w Uniform (w.layout.place Uniform) I64
 
   abbrev pub RangesTyped : List TRange → ℕ → Type 0
   RangesTyped [] m = Unit {0}

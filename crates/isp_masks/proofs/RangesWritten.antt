@@ -1,6 +1,7 @@
 -- What the ranges of a `foreach` are written in: a range with the jumps out of it and back to its test, and what is there for it.
-use Rattle.std.proofs.Common.{◌≡◌, ℕ, ◌+◌, ◌<◌, ◌≤◌, List, [], ◌∷◌, ◌++◌, length, drop, get_or, refl, sym, ap, ◌∙◌, subst, suc, arith, length-append}
-use Rattle.std.specs.Prelude.{slice_set}
+use Rattle.std.proofs.Common.{◌≡◌, ℕ, ◌+◌, ◌<◌, ◌≤◌, List, [], ◌∷◌, ◌++◌, length, drop, get_or, Bool, true, false, refl, sym, ap, ap₂, ◌∙◌, subst, suc, arith, length-append}
+use Rattle.std.specs.Prelude.{slice_set, not, ◌≢◌, ◌&&◌, ◌==◌}
+use Rattle.std.proofs.lemmas.Bool.{ne_eqb}
 use Rattle.std.proofs.lemmas.List.{drop_more, map-append}
 use Rattle.isp_base.specs.declared.operators.Compare.TheVariants.{Less}
 use Rattle.isp_base.specs.declared.types.Rate.TheVariants.{Uniform, Varying}
@@ -19,7 +20,7 @@ use Rattle.isp_lower.specs.Layout.{Layout}
 use Rattle.isp_lower.specs.declared.types.Body.{Body}
 use Rattle.isp_lower.specs.declared.types.Scope.{Scope}
 use Rattle.isp_lower.proofs.Lemmas.{appends_then}
-use Rattle.isp_masks.specs.Ranges.{bounds_code, foreach_code, measures_code, narrow, outer_index, places_slot, ranges_code, ranges_places, runs_slot, sweep_code, test, wide}
+use Rattle.isp_masks.specs.Ranges.{bounds_code, foreach_code, goes_on, measures_code, narrow, outer_index, places_slot, ranges_code, ranges_places, runs_slot, sweep_code, test, wide}
 use Rattle.isp_masks.specs.Spots.{Numbers, next_of, past}
 use Rattle.isp_masks.specs.Statements.{body_code, body_layout, stmt_places, stmt_texts}
 use Rattle.isp_masks.specs.Written.{Piece, Writes, index_codes, inner_sweep, last_asks, outer_turn_at, outer_turn_code, ranges_at, sweep_asks, sweeps_asks}
@@ -51,6 +52,59 @@ sweep_written a s b c d f e first tested x add go y top at start top_at test is 
           whole.code
           ∙ ap (λ z. a.code.items ++ first ∷ tested ∷ guard go (pc + 1 + 1) (λ pc1. y.code pc1 z ++ add ∷ instr.Jump top ∷ [])) same
           ∙ ap (λ t. a.code.items ++ first ∷ tested ∷ guard go (pc + 1 + 1) (λ pc1. y.code pc1 named ++ add ∷ instr.Jump t ∷ [])) there;
+      places = whole.places;
+      texts = whole.texts;
+    }
+
+-- whether an index goes on, as it is asked, and by the instructions that set others
+pub goes_on_is : {A : Type 0} (d : Bool) (set : List A) → goes_on d set ≡ (not d && (length set == 0))
+goes_on_is false [] = refl
+goes_on_is false (x ∷ set) = let some : suc (length set) ≢ 0 = omega arith in sym (ne_eqb (suc (length set)) 0 some)
+goes_on_is true set = refl
+
+pub goes_on_codes : (d : Bool) (h : ℕ) (set : List OuterIndex) → goes_on d (index_codes h set) ≡ goes_on d set
+goes_on_codes false h [] = refl
+goes_on_codes false h (x ∷ set) = refl
+goes_on_codes true h set = refl
+
+-- the indices of a run, its body, and the next run, told where the first two begin
+pub runs_written : (a b c d e : Body) (set own : List Instr) (next : ℕ → ℕ → List Instr) (y : Piece) (first top : ℕ)
+    → first ≡ length a.code.items → Appends a b (λ pc n. set) [] → Appends b c (λ pc n. own) [] → top ≡ length c.code.items → Writes c d y → Appends d e (λ pc n. next first top) []
+    → Writes a e (record { code = λ pc z. two pc (set ++ own) (λ pc1. y.code pc1 z ++ next pc pc1); places = y.places; texts = y.texts })
+runs_written a b c d e set own next y first top first_at outer last top_at part on =
+    let named = next_of a in
+    let pc = length a.code.items in
+    let indices = appends_then a b c (λ pc1 n. set) (λ pc1 n. own) [] [] outer last in
+    let turn : Piece = record { code = λ pc1 z. y.code pc1 z ++ next first top; places = y.places; texts = y.texts } in
+    let whole = writes_past a c e (λ pc1 n. set ++ own) [] turn indices (writes_back c d e y (λ pc1 n. next first top) part on) in
+    let behind : top ≡ pc + length (set ++ own) = top_at ∙ ap length indices.code ∙ length-append a.code.items (set ++ own) in
+    let same : past [] named ≡ named = same_numbers (past [] named) named (omega arith) refl in
+    record {
+      code =
+          whole.code
+          ∙ ap (λ z. a.code.items ++ two pc (set ++ own) (λ pc1. y.code pc1 z ++ next first top)) same
+          ∙ ap₂ (λ f t. a.code.items ++ two pc (set ++ own) (λ pc1. y.code pc1 named ++ next f t)) first_at behind;
+      places = whole.places;
+      texts = whole.texts;
+    }
+
+-- two instructions, a jump past the runs of the last range, and these
+pub last_written : (a b c d e : Body) (f g x : Instr) (go : ℕ → Instr) (y : Piece) (at : ℕ)
+    → Appends a b (λ pc p. f ∷ g ∷ []) [] → at ≡ length b.code.items → Appends b c (λ pc p. x ∷ []) [] → Writes c d y
+    → e.code.items ≡ slice_set d.code.items at (go (length d.code.items)) → e.places ≡ d.places → e.texts ≡ d.texts
+    → Writes a e (record { code = λ pc z. f ∷ g ∷ guard go (pc + 1 + 1) (λ pc1. y.code pc1 z); places = y.places; texts = y.texts })
+last_written a b c d e f g x go y at start is skip part set kept held =
+    let named = next_of a in
+    let pc = length a.code.items in
+    let jumped : Piece = record { code = λ pc1 z. guard go pc1 (λ pc2. y.code pc2 z); places = y.places; texts = y.texts } in
+    let whole = writes_past a b e (λ pc1 p. f ∷ g ∷ []) [] jumped start (landed_over b c d e at x go y is skip part set kept held) in
+    let same : past [] named ≡ named = same_numbers (past [] named) named (omega arith) refl in
+    let there : pc + length (f ∷ g ∷ []) ≡ pc + 1 + 1 = omega arith in
+    record {
+      code =
+          whole.code
+          ∙ ap (λ z. a.code.items ++ f ∷ g ∷ guard go (pc + length (f ∷ g ∷ [])) (λ pc1. y.code pc1 z)) same
+          ∙ ap (λ k. a.code.items ++ f ∷ g ∷ guard go k (λ pc1. y.code pc1 named)) there;
       places = whole.places;
       texts = whole.texts;
     }
@@ -117,10 +171,10 @@ indices_more h a b c all i d lt one left =
 pub sweep_there : (on : Scope) (it : Sweep) (rs : List TRange) → 0 < length rs → Present on (sweeps_asks rs it) → Present on (sweep_asks it)
 sweep_there on it [] some p = absurd (omega (arith, some))
 sweep_there on it (r ∷ rs) some p =
-    ((p.1.0.0.0, (p.1.0.1.0, p.1.0.1.1.0.0)), ((p.1.1.0.0.1.0, (p.1.1.0.0.1.1.0, (p.1.1.0.0.1.1.1.0, p.1.1.0.0.1.1.1.1.1.0))), (p.0.1.1.0, (p.0.1.1.1.0, p.0.1.1.1.1.0))))
+    ((p.1.0.0.0, (p.1.0.1.0, p.1.0.1.1.0.0)), ((p.1.1.0.0.1.0, (p.1.1.0.0.1.1.0, (p.1.1.0.0.1.1.1.0, p.1.1.0.0.1.1.1.1.1.0))), (p.0.1.1.0, (p.0.1.1.1.0, p.0.1.1.1.1.1.1.0))))
 
 pub last_there : (on : Scope) (it : Sweep) (r : TRange) (rs : List TRange) → Present on (sweeps_asks (r ∷ rs) it) → Present on (last_asks r.index it)
-last_there on it r rs p = (p.1.1.0.0.0, (p.1.1.0.0.1.1.1.1.0, (p.0.1.0, (p.1.1.0.0.1.1.1.1.1.1, p.1.1.1.0))))
+last_there on it r rs p = (p.1.1.0.0.0, (p.1.1.0.0.1.1.1.1.0, (p.0.1.0, (p.0.1.1.1.1.1.0, (p.1.1.0.0.1.1.1.1.1.1, p.1.1.1.0)))))
 
 -- ---- numbers
 

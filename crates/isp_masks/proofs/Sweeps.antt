@@ -1,4 +1,4 @@
--- Code that passes: all of a set go on, and what is in lower slots stays. A range, whose place goes from its start on: by induction
+-- Code that passes: all of a set go on, and what is in lower slots stays. A range before the last, whose place goes from its start on: by induction
 -- on the numbers that are left.
 use Rattle.std.proofs.Common.{◌≡◌, ℕ, zero, suc, ◌+◌, ◌*◌, ◌<◌, ◌≤◌, List, [], ◌∷◌, ◌++◌, length, map, true, refl, ap, ap₂, ◌∙◌, subst, arith}
 use Rattle.std.specs.Prelude.{ℤ, pos, ◌+ℤ◌, ◌≤ℤ◌, ◌^◌, int_lt, if◌then◌else◌}
@@ -100,10 +100,10 @@ abbrev pub IsNotLess : ℤ → Type 0
 IsNotLess z = neg_ℤ (pos (2 ^ 31)) ≤ℤ z
 
 -- no place is past an int64
-next_place : (k : ℕ) (z end : ℤ) → k ≤ widest → IsNotLess z → end ≤ℤ pos (2 ^ 31) → int_lt z end ≡ true → IsValue I64 (z +ℤ pos k)
+pub next_place : (k : ℕ) (z end : ℤ) → k ≤ widest → IsNotLess z → end ≤ℤ pos (2 ^ 31) → int_lt z end ≡ true → IsValue I64 (z +ℤ pos k)
 next_place k z end few low high lt = (grind (arith, ints, low), grind (arith, ints, high, lt))
 
-next_low : (k : ℕ) (z : ℤ) → IsNotLess z → IsNotLess (z +ℤ pos k)
+pub next_low : (k : ℕ) (z : ℤ) → IsNotLess z → IsNotLess (z +ℤ pos k)
 next_low k z low = omega (arith, ints, low)
 
 -- What is asked of a range, from the test of its place on: where a number is below the end, the code inside does its rounds.

@@ -62,7 +62,7 @@ unique_asks i t e n =
 
 abbrev pub measures_asks : ℕ → Ask
 measures_asks n =
-    Both (spare_ask Uniform I32 n) (Both (spare_ask Varying I32 n) (Both (spare_ask Uniform I64 n) (Both (Number (n + 1)) (Both (spare_ask Uniform I64 (n + 1)) (Number (n + 1 + 1))))))
+    Both (spare_ask Uniform I32 n) (Both (spare_ask Varying I32 n) (Both (spare_ask Uniform I64 n) (Both (Number (n + 1)) (Both (spare_ask Uniform I32 (n + 1)) (Both (spare_ask Varying I32 (n + 1)) (Both (spare_ask Uniform I64 (n + 1)) (Number (n + 1 + 1))))))))
 
 abbrev pub bound_asks : TExpr → ℕ → Ask
 bound_asks x n = Both (spare_ask Uniform I64 n) (expr_asks x n)

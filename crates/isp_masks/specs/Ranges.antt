@@ -1,6 +1,6 @@
 -- The code of `foreach`, told the code of its body. Slots n and n + 1 have what all runs use; then each range has two slots, for
 -- its start and its end, and behind these two for its place and its index; slot h, behind all, is the first of the body's masks.
-use Rattle.std.specs.Prelude.{ℕ, ◌+◌, List, [], ◌∷◌, ◌++◌, length}
+use Rattle.std.specs.Prelude.{ℕ, ◌+◌, List, [], ◌∷◌, ◌++◌, length, Bool, true, false}
 use Rattle.isp_base.specs.declared.operators.Compare.TheVariants.{Less}
 use Rattle.isp_base.specs.declared.types.Elem.TheVariants.{Bool as Truth, I32, I64}
 use Rattle.isp_base.specs.declared.types.Rate.TheVariants.{Uniform, Varying}
@@ -36,6 +36,12 @@ sum_lanes d x k = instr.Scalar (register Uniform d) (scalar.Reduce reduction.Add
 abbrev pub lane_numbers : ℕ → ℕ → Instr
 lane_numbers d k = instr.Vector (register Varying d) (vector.Index (mask_register k))
 
+-- The index of the last range goes on from run to run where no other is set with it, and no packed load writes it.
+abbrev pub goes_on : {A : Type 0} → Bool → List A → Bool
+goes_on false [] = true
+goes_on false (x ∷ set) = false
+goes_on true set = false
+
 module _ (l : Layout) where
   abbrev pub wide : ℕ → ℕ
   wide i = l.spare Uniform I64 i
@@ -49,11 +55,11 @@ module _ (l : Layout) where
   abbrev pub lane : ℕ → ℕ
   lane i = l.spare Varying I32 i
 
-  -- ---- what all runs use: how many lanes there are, and 1; and the lanes' numbers
+  -- ---- what all runs use: how many lanes there are, the lanes' numbers, how many there are in each lane, and 1
 
   abbrev pub measures_code : ℕ → ℕ → List Instr
   measures_code n h =
-      fill_mask h ∷ constant (narrow n) I32 1 ∷ splat (lane n) (narrow n) h ∷ sum_lanes (wide n) (lane n) h ∷ lane_numbers (lane n) h ∷ constant (wide (n + 1)) I64 1 ∷ []
+      fill_mask h ∷ constant (narrow n) I32 1 ∷ splat (lane n) (narrow n) h ∷ sum_lanes (wide n) (lane n) h ∷ lane_numbers (lane n) h ∷ convert Uniform (narrow (n + 1)) (wide n) 0 ∷ splat (lane (n + 1)) (narrow (n + 1)) h ∷ constant (wide (n + 1)) I64 1 ∷ []
 
   -- ---- the bounds, from left to right, each as int64 in a slot
 
@@ -70,26 +76,52 @@ module _ (l : Layout) where
   ranges_places [] = []
   ranges_places (r ∷ rs) = expr_places l r.start ++ (expr_places l r.end ++ ranges_places rs)
 
-  -- ---- one range: its place goes from its start on, while a test holds, by what slot u has
+  -- ---- a range before the last: its place goes from its start on, while a test holds, by what slot u has
 
   abbrev pub sweep_code : ℕ → ℕ → ℕ → Instr → (ℕ → Instr) → ℕ → (ℕ → List Instr) → List Instr
   sweep_code e m u tested past pc inside =
       copy Uniform (wide m) (wide e) 0 ∷ tested ∷ guard past (pc + 1 + 1) (λ pc1. inside pc1 ++ compute Uniform plain.Add (wide m) (wide m) (wide u) 0 ∷ instr.Jump (pc + 1) ∷ [])
 
-  -- the index of a range outside, as it is in slot m; that of the last range, whose place is in slot m, and the place as that of its run
+  -- its index, as it is in slot m
   abbrev pub outer_index : ℕ → ℕ → ℕ → Instr
   outer_index i m h = splat (l.variable Varying i) (narrow m) h
 
-  abbrev pub last_index : ℕ → ℕ → ℕ → ℕ → List Instr
-  last_index i m n h =
-      convert Uniform (narrow (m + 1)) (wide m) 0 ∷ splat (lane (m + 1)) (narrow (m + 1)) h ∷ compute Varying plain.Add (l.variable Varying i) (lane (m + 1)) (lane n) h ∷ copy Uniform (l.place Uniform) (wide m) 0 ∷ []
+  -- ---- the last range, in runs of as many numbers as there are lanes
+
+  -- the register of its place: that of a run. Where a packed load writes its index the body counts no lanes, and it is in slot m.
+  abbrev pub run_place : Bool → ℕ → ℕ
+  run_place false m = l.place Uniform
+  run_place true m = wide m
+
+  -- its index, from the place in register x; and that of the next run, from the one before
+  abbrev pub last_index : ℕ → ℕ → ℕ → ℕ → ℕ → List Instr
+  last_index i x m n h =
+      convert Uniform (narrow (m + 1)) x 0 ∷ splat (lane (m + 1)) (narrow (m + 1)) h ∷ compute Varying plain.Add (l.variable Varying i) (lane (m + 1)) (lane n) h ∷ []
+
+  abbrev pub next_index : ℕ → ℕ → ℕ → Instr
+  next_index i n h = compute Varying plain.Add (l.variable Varying i) (l.variable Varying i) (lane (n + 1)) h
+
+  -- the next run: its place and its lanes
+  abbrev pub run_step : ℕ → ℕ → ℕ → ℕ → List Instr
+  run_step x e n h = compute Uniform plain.Add x x (wide n) 0 ∷ range_mask h x (wide (e + 1)) ∷ []
+
+  -- where somebody is in it, back to the body behind its index, or to all indices
+  abbrev pub run_back : Bool → ℕ → ℕ → ℕ → ℕ → ℕ → List Instr
+  run_back true i n h first top = next_index i n h ∷ instr.JumpIf jump.On (mask_register h) top ∷ []
+  run_back false i n h first top = instr.JumpIf jump.On (mask_register h) first ∷ []
+
+  -- all runs; `set` are the indices of the ranges outside
+  abbrev pub runs_code : Bool → List Instr → ℕ → ℕ → ℕ → ℕ → ℕ → (ℕ → List Instr) → ℕ → List Instr
+  runs_code loaded set i e m n h body pc =
+      let x = run_place loaded m in
+      let back = λ (first top : ℕ). run_step x e n h ++ run_back (goes_on loaded set) i n h first top in
+      copy Uniform x (wide e) 0 ∷ range_mask h x (wide (e + 1)) ∷ guard (jump_off h) (pc + 1 + 1) (λ first. two first (set ++ last_index i x m n h) (λ top. body top ++ back first top))
 
   -- The ranges from one on, whose bounds begin at slot e and whose places begin at slot m; `set` are the indices of those outside.
-  -- The last one is taken in runs, of as many numbers as there are lanes. Without a range the body is all.
+  -- Without a range the body is all.
   abbrev pub ranges_code : ℕ → ℕ → (ℕ → List Instr) → List TRange → List Instr → ℕ → ℕ → ℕ → List Instr
   ranges_code n h body [] set e m pc = body pc
-  ranges_code n h body (r ∷ []) set e m pc =
-      sweep_code e m n (range_mask h (wide m) (wide (e + 1))) (jump_off h) pc (λ pc1. two pc1 (set ++ last_index r.index m n h) body)
+  ranges_code n h body (r ∷ []) set e m pc = runs_code (l.loaded r.index) set r.index e m n h body pc
   ranges_code n h body (r ∷ q ∷ rs) set e m pc =
       sweep_code e m (n + 1) (compare Uniform Less (test (m + 1)) (wide m) (wide (e + 1)) 0) (jump_on jump.False (test (m + 1))) pc
       (λ pc1. convert Uniform (narrow (m + 1)) (wide m) 0 ∷ ranges_code n h body (q ∷ rs) (set ++ outer_index r.index (m + 1) h ∷ []) (e + 1 + 1) (m + 1 + 1) (pc1 + 1))

@@ -24,7 +24,7 @@ use Rattle.isp_masks.specs.Asserts.{assert_code, assert_places}
 use Rattle.isp_masks.specs.Exits.{exits_of, nobody_leaves, both_go_on, leaving_of}
 use Rattle.isp_masks.specs.Fors.{first_code, first_places, step_code, step_places, test_places}
 use Rattle.isp_masks.specs.Loops.{again_code, back_code, copy_mask, do_code, is_wide, jump_all, live_code, sift_code, step_back_code, turn_code, while_code}
-use Rattle.isp_masks.specs.Ranges.{foreach_code, last_index, narrow, outer_index, places_slot, range_mask, ranges_code, ranges_places, runs_slot, sweep_code, test, wide}
+use Rattle.isp_masks.specs.Ranges.{foreach_code, goes_on, last_index, narrow, outer_index, places_slot, range_mask, ranges_code, ranges_places, run_back, run_place, run_step, runs_code, runs_slot, test, wide}
 use Rattle.isp_masks.specs.Rounds.{active_code, unique_code, unmasked_code, values_of}
 use Rattle.isp_masks.specs.Sets.{unite}
 use Rattle.isp_masks.specs.Spots.{Numbers, Spot as Where, body_spot, next_of, past, spot_of, widely}
@@ -234,7 +234,7 @@ sweep_asks it =
 
 abbrev pub last_asks : ℕ → Sweep → Ask
 last_asks i it =
-    Both (Register Varying (Variable i) I32) (Both (spare_ask Varying I32 (it.place.number + 1)) (Both (spare_ask Varying I32 it.measures.number) (Both (Register Uniform Place I64) (Number (it.masks.number + 3)))))
+    Both (Register Varying (Variable i) I32) (Both (spare_ask Varying I32 (it.place.number + 1)) (Both (spare_ask Varying I32 it.measures.number) (Both (spare_ask Varying I32 (it.measures.number + 1)) (Both (Register Uniform Place I64) (Number (it.masks.number + 3))))))
 
 abbrev pub sweeps_asks : List TRange → Sweep → Ask
 sweeps_asks rs it =
@@ -249,12 +249,9 @@ abbrev pub inner_sweep : Sweep → Sweep
 inner_sweep it =
     record { measures = it.measures; masks = it.masks; bounds = record { number = it.bounds.number + 1 + 1 }; place = record { number = it.place.number + 1 + 1 } }
 
--- its instructions: its beginning, the test of the last one and of another, and its step, by what a slot has
+-- the instructions of a range before the last: its beginning, its test, and its step, by what a slot has
 abbrev pub range_begin : Layout → Sweep → Instr
 range_begin l it = copy Uniform (wide l it.place.number) (wide l it.bounds.number) 0
-
-abbrev pub run_test : Layout → Sweep → Instr
-run_test l it = range_mask it.masks.number (wide l it.place.number) (wide l (it.bounds.number + 1))
 
 abbrev pub place_test : Layout → Sweep → Instr
 place_test l it = compare Uniform Less (test l (it.place.number + 1)) (wide l it.place.number) (wide l (it.bounds.number + 1)) 0
@@ -266,21 +263,28 @@ range_step l it by = compute Uniform plain.Add (wide l it.place.number) (wide l 
 abbrev pub index_codes : ℕ → List OuterIndex → List Instr
 index_codes h = map (λ x. splat x.index.number x.value.number h)
 
--- a run of the last range, and all of its runs
-abbrev pub last_run_at : Scope → ℕ → TStmt → List OuterIndex → Sweep → Piece
-last_run_at on i x set it =
+-- the last range: its beginning, with its place in a register; the next run; its runs behind the test of the first; and all of it
+abbrev pub runs_begin : Layout → Sweep → ℕ → List Instr
+runs_begin l it x = copy Uniform x (wide l it.bounds.number) 0 ∷ range_mask it.masks.number x (wide l (it.bounds.number + 1)) ∷ []
+
+abbrev pub runs_next : Layout → ℕ → Bool → Sweep → ℕ → ℕ → List Instr
+runs_next l i alone it first top =
+    let n = it.measures.number in
+    let h = it.masks.number in
+    run_step l (run_place l (l.loaded i) it.place.number) it.bounds.number n h ++ run_back l alone i n h first top
+
+abbrev pub runs_at : Scope → ℕ → TStmt → List OuterIndex → Sweep → Piece
+runs_at on i x set it =
     let l = layout on in
     let h = it.masks.number in
-    record { code = λ pc z. two pc (index_codes h set ++ last_index l i it.place.number it.measures.number h) (body_code (within l i) on.answer x h z); places = stmt_places (within l i) x; texts = stmt_texts x }
+    let own = last_index l i (run_place l (l.loaded i) it.place.number) it.place.number it.measures.number h in
+    record { code = λ pc z. two pc (index_codes h set ++ own) (λ top. body_code (within l i) on.answer x h z top ++ runs_next l i (goes_on (l.loaded i) set) it pc top); places = stmt_places (within l i) x; texts = stmt_texts x }
 
 abbrev pub last_range_at : Scope → ℕ → TStmt → List OuterIndex → Sweep → Piece
 last_range_at on i x set it =
     let l = layout on in
     let h = it.masks.number in
-    let e = it.bounds.number in
-    let m = it.place.number in
-    let run = last_run_at on i x set it in
-    record { code = λ pc z. sweep_code l e m it.measures.number (run_test l it) (jump_off h) pc (λ pc1. run.code pc1 z); places = run.places; texts = stmt_texts x }
+    record { code = λ pc z. runs_code l (l.loaded i) (index_codes h set) i it.bounds.number it.place.number it.measures.number h (body_code (within l i) on.answer x h z) pc; places = stmt_places (within l i) x; texts = stmt_texts x }
 
 -- the ranges from one on; behind the beginning of a turn of the first of them; and the whole
 abbrev pub ranges_at : Scope → List TRange → TStmt → List OuterIndex → Sweep → Piece

@@ -4,19 +4,21 @@ ghost use Rattle.isp_base.specs.declared.operators.Compare.TheVariants.{Less};
 ghost use Rattle.isp_base.specs.declared.types.Elem.TheVariants.{Bool as Truth, I32, I64};
 ghost use Rattle.isp_base.specs.declared.types.Rate.TheVariants.{Uniform, Varying};
 ghost use Rattle.isp_code.specs.declared.instr.Instr.TheVariants as instr;
+ghost use Rattle.isp_code.specs.declared.instr.JumpTest.TheVariants as jump;
 ghost use Rattle.isp_code.specs.declared.instr.Plain.TheVariants as plain;
 ghost use Rattle.isp_typed.specs.Views.{expr_of, ranges_of};
 ghost use Rattle.isp_lower.specs.Asks.{Register as Ask, spare_ask};
 ghost use Rattle.isp_lower.specs.Code.{compare, compute, constant, convert, copy, expr_places, splat};
 ghost use Rattle.isp_lower.specs.Emitted.{Appends, Present, layout};
+ghost use Rattle.isp_lower.specs.Layout.{mask_register};
 ghost use Rattle.isp_lower.specs.Rows.{Variable};
 ghost use Rattle.isp_masks.specs.Asks.{bound_asks, bounds_asks, measures_asks};
-ghost use Rattle.isp_masks.specs.Ranges.{bound_code, bounds_code, lane, lane_numbers, last_index, measures_code, narrow, range_mask, ranges_places, runs_slot, sum_lanes, test, wide};
-ghost use Rattle.isp_masks.specs.Written.{first_sweep, index_codes, inner_sweep, last_asks, place_test, range_begin, range_step, run_test, sweep_asks};
+ghost use Rattle.isp_masks.specs.Ranges.{bound_code, bounds_code, goes_on, lane, lane_numbers, last_index, measures_code, narrow, range_mask, ranges_places, run_back, run_place, run_step, runs_slot, sum_lanes, test, wide};
+ghost use Rattle.isp_masks.specs.Written.{first_sweep, index_codes, inner_sweep, last_asks, place_test, range_begin, range_step, runs_begin, runs_next, sweep_asks};
 
 use crate::rounds::fill_mask;
 use isp_base::{Compare, Elem, Rate, Ty, number};
-use isp_code::{Instr, MaskInstr, Plain, Reduction, ScalarInstr, VectorInstr};
+use isp_code::{Instr, JumpTest, MaskInstr, Plain, Reduction, ScalarInstr, VectorInstr};
 use isp_lower::{Body, MaskNumber, RegisterNumber, Scope, Site, Slot, expr, mask, scalar, vector};
 use isp_typed::{TypedExpr, TypedRange};
 use std::alloc::AllocError;
@@ -248,7 +250,7 @@ fn range_mask(to: MaskNumber, place: RegisterNumber, end: RegisterNumber) -> Ins
 
 // ---- what all runs use, and the bounds
 
-/// How many lanes there are, and 1; and the lanes' numbers.
+/// How many lanes there are, the lanes' numbers, how many there are in each lane, and 1.
 pub(crate) fn measures(
     b: &mut Body,
     on: &Scope,
@@ -258,16 +260,19 @@ pub(crate) fn measures(
     requires { Present on.now (measures_asks slot.number) }
     ensures { OnOk result (Appends b.old b.new (λ pc p. measures_code (layout on.now) slot.number k.number) []) }
 {
+    let second = slot.next();
     let single = narrow(on, slot);
     let each = lane(on, slot);
     let count = wide(on, slot);
-    let step = wide(on, slot.next());
+    let short = narrow(on, second);
     b.push(fill_mask(k))?;
     b.push(one(single, Elem::I32))?;
     b.push(spread(each, single, k))?;
     b.push(sum_lanes(count, each, k))?;
     b.push(lane_numbers(each, k))?;
-    b.push(one(step, Elem::I64))?;
+    b.push(converted(short, count))?;
+    b.push(spread(lane(on, second), short, k))?;
+    b.push(one(wide(on, second), Elem::I64))?;
     Ok(())
 }
 
@@ -303,7 +308,7 @@ pub(crate) fn bounds(
     Ok(())
 }
 
-// ---- a range
+// ---- a range before the last
 
 /// Its place is at its start.
 pub(crate) fn begin(b: &mut Body, on: &Scope, it: Sweep) -> Result<(), AllocError>
@@ -313,17 +318,6 @@ pub(crate) fn begin(b: &mut Body, on: &Scope, it: Sweep) -> Result<(), AllocErro
     let to = wide(on, it.place);
     let from = wide(on, it.bounds);
     b.push(moved(to, from))?;
-    Ok(())
-}
-
-/// The lanes of a run that are before its end.
-pub(crate) fn test_run(b: &mut Body, on: &Scope, it: Sweep) -> Result<(), AllocError>
-    requires { Present on.now (sweep_asks it) }
-    ensures { OnOk result (Appends b.old b.new (λ pc p. run_test (layout on.now) it ∷ []) []) }
-{
-    let place = wide(on, it.place);
-    let end = wide(on, it.bounds.next());
-    b.push(range_mask(it.masks.mask(), place, end))?;
     Ok(())
 }
 
@@ -385,24 +379,141 @@ pub(crate) fn outer_value(b: &mut Body, on: &Scope, it: Sweep) -> Result<Registe
     Ok(value)
 }
 
-/// The index of the last range: its place and the lanes' numbers; and the place as that of the run.
+// ---- the last range, in runs
+
+/// Where the code of a run begins: its indices, and behind them its body.
+#[derive(Clone, Copy)]
+pub(crate) struct RunStart {
+    pub first: u32,
+    pub top: u32,
+}
+
+/// The register of its place: that of a run, if its body counts the lanes of one.
+pub(crate) fn run_place(on: &Scope, variable: usize, it: Sweep) -> RegisterNumber
+    requires range { Present on.now (sweep_asks it) }
+    requires index { Present on.now (last_asks variable it) }
+    ensures { result.number ≡ run_place (layout on.now) ((layout on.now).loaded variable) it.place.number }
+{
+    if on.copies(Rate::Varying, variable) {
+        wide(on, it.place)
+    } else {
+        on.place()
+    }
+}
+
+/// Its place is at its start, and a mask has the lanes that are before its end.
+pub(crate) fn begin_runs(
+    b: &mut Body,
+    on: &Scope,
+    it: Sweep,
+    place: RegisterNumber,
+) -> Result<(), AllocError>
+    requires { Present on.now (sweep_asks it) }
+    ensures { OnOk result (Appends b.old b.new (λ pc p. runs_begin (layout on.now) it place.number) []) }
+{
+    let end = wide(on, it.bounds.next());
+    b.push(moved(place, wide(on, it.bounds)))?;
+    b.push(range_mask(it.masks.mask(), place, end))?;
+    Ok(())
+}
+
+/// Its index: its place and the lanes' numbers.
 pub(crate) fn last_index(
     b: &mut Body,
     on: &Scope,
     variable: usize,
     it: Sweep,
+    place: RegisterNumber,
 ) -> Result<(), AllocError>
     requires range { Present on.now (sweep_asks it) }
     requires index { Present on.now (last_asks variable it) }
-    ensures { OnOk result (Appends b.old b.new (λ pc p. last_index (layout on.now) variable it.place.number it.measures.number it.masks.number) []) }
+    ensures { OnOk result (Appends b.old b.new (λ pc p. last_index (layout on.now) variable place.number it.place.number it.measures.number it.masks.number) []) }
 {
     let k = it.masks.mask();
     let second = it.place.next();
     let single = narrow(on, second);
     let each = lane(on, second);
-    b.push(converted(single, wide(on, it.place)))?;
+    b.push(converted(single, place))?;
     b.push(spread(each, single, k))?;
     b.push(added_lanes(index(on, variable), each, lane(on, it.measures), k))?;
-    b.push(moved(on.place(), wide(on, it.place)))?;
+    Ok(())
+}
+
+/// The place of the next run, and its lanes.
+fn step_run(
+    b: &mut Body,
+    on: &Scope,
+    it: Sweep,
+    place: RegisterNumber,
+) -> Result<(), AllocError>
+    requires { Present on.now (sweep_asks it) }
+    ensures { OnOk result (Appends b.old b.new (λ pc p. run_step (layout on.now) place.number it.bounds.number it.measures.number it.masks.number) []) }
+{
+    let end = wide(on, it.bounds.next());
+    let lanes = it.masks.mask();
+    b.push(added(place, place, wide(on, it.measures)))?;
+    b.push(range_mask(lanes, place, end))?;
+    Ok(())
+}
+
+/// Where a mask has somebody, on to another instruction.
+fn where_some(k: MaskNumber, target: u32) -> Instr
+    ensures { result ≡ instr.JumpIf jump.On (mask_register k.number) target }
+{
+    Instr::JumpIf {
+        test: JumpTest::On,
+        register: mask(k),
+        target,
+    }
+}
+
+/// Whether its index goes on from run to run: no other is set with it, and no packed load writes it.
+#[tactic(auto, using(crate::proofs::RangesWritten::goes_on_is))]
+pub(crate) fn goes_on(on: &Scope, variable: usize, set: &[OuterIndex]) -> bool
+    ensures { result ≡ goes_on ((layout on.now).loaded variable) set.now }
+{
+    !on.copies(Rate::Varying, variable) && set.is_empty()
+}
+
+/// Back where somebody is in the next run: to the body behind its index, or to all indices.
+fn back_to_run(
+    b: &mut Body,
+    on: &Scope,
+    variable: usize,
+    alone: bool,
+    it: Sweep,
+    start: RunStart,
+) -> Result<(), AllocError>
+    requires range { Present on.now (sweep_asks it) }
+    requires index { Present on.now (last_asks variable it) }
+    ensures { OnOk result (Appends b.old b.new (λ pc p. run_back (layout on.now) alone variable it.measures.number it.masks.number start.first start.top) []) }
+{
+    let k = it.masks.mask();
+    if alone {
+        let own = index(on, variable);
+        b.push(added_lanes(own, own, lane(on, it.measures.next()), k))?;
+        b.push(where_some(k, start.top))?;
+    } else {
+        b.push(where_some(k, start.first))?;
+    }
+    Ok(())
+}
+
+/// The next run.
+pub(crate) fn next_run(
+    b: &mut Body,
+    on: &Scope,
+    variable: usize,
+    alone: bool,
+    it: Sweep,
+    start: RunStart,
+) -> Result<(), AllocError>
+    requires range { Present on.now (sweep_asks it) }
+    requires index { Present on.now (last_asks variable it) }
+    ensures { OnOk result (Appends b.old b.new (λ pc p. runs_next (layout on.now) variable alone it start.first start.top) []) }
+{
+    let place = run_place(on, variable, it);
+    step_run(b, on, it, place)?;
+    back_to_run(b, on, variable, alone, it, start)?;
     Ok(())
 }

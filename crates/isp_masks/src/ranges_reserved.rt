@@ -18,6 +18,8 @@ pub(crate) fn measures(r: &mut Reserve, slot: Slot) -> Result<Slot, AllocError>
     r.spare(Rate::Varying, Elem::I32, slot)?;
     r.spare(Rate::Uniform, Elem::I64, slot)?;
     let second = r.next(slot)?;
+    r.spare(Rate::Uniform, Elem::I32, second)?;
+    r.spare(Rate::Varying, Elem::I32, second)?;
     r.spare(Rate::Uniform, Elem::I64, second)?;
     let behind = r.next(second)?;
     Ok(behind)

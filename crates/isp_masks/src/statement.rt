@@ -10,7 +10,7 @@ ghost use Rattle.isp_lower.specs.Rows.{Variable};
 ghost use Rattle.isp_masks.specs.Asks.{block_asks, ranges_asks, step_asks, stmt_asks, test_part_asks, unique_asks};
 ghost use Rattle.isp_masks.specs.Ranges.{runs_slot};
 ghost use Rattle.isp_masks.specs.reader.Seen.{block_seen};
-ghost use Rattle.isp_masks.specs.Written.{Writes, active_at, block_at, do_at, for_turn_at, foreach_at, last_asks, last_range_at, last_run_at, outer_turn_at, passed_at, ranges_at, stepped_at, stmt_at, sweep_asks, sweeps_asks, turn_at, turns_at, unique_at, unmasked_at, while_at, while_turn_at};
+ghost use Rattle.isp_masks.specs.Written.{Writes, active_at, block_at, do_at, for_turn_at, foreach_at, last_asks, last_range_at, outer_turn_at, passed_at, ranges_at, runs_at, stepped_at, stmt_at, sweep_asks, sweeps_asks, turn_at, turns_at, unique_at, unmasked_at, while_at, while_turn_at};
 
 use crate::asserting::asserts;
 use crate::awaited::{land_all, leave_room};
@@ -23,8 +23,8 @@ use crate::masks::{Masks, Spot};
 use crate::part::{Part, split};
 use crate::printing::prints;
 use crate::ranges::{
-    OuterIndex, Sweep, begin, bounds, go_on, index, last_index, measures, outer_indices,
-    outer_value, test_place, test_run, tested,
+    OuterIndex, RunStart, Sweep, begin, begin_runs, bounds, go_on, goes_on, index, last_index,
+    measures, next_run, outer_indices, outer_value, run_place, test_place, tested,
 };
 use crate::returned::returns;
 use crate::rounds::{fill_mask, take_lane};
@@ -506,20 +506,18 @@ fn last_range(
     requires body { Present on.now (stmt_asks on.now.answer (stmt_of body.stmt.now) (it.masks.number + 3)) }
     ensures { OnOk result (Writes b.old b.new (last_range_at on.now variable (stmt_of body.entry.stmt.now) set.items it)) }
 {
-    begin(b, on, it)?;
-    let top = next(b);
-    test_run(b, on, it)?;
+    let place = run_place(on, variable, it);
+    begin_runs(b, on, it, place)?;
     let at = b.code.len();
     b.push(Instr::Jump { target: 0 })?;
-    last_run(b, on, variable, body, set, it)?;
-    go_on(b, on, it, it.measures, top)?;
+    runs(b, on, variable, body, set, it)?;
     b.land(at, JumpTest::Off, mask(it.masks.mask()));
     Ok(())
 }
 
-/// A run of the last range: the indices, and the body.
+/// Its runs, behind the test of the first: the indices, the body, and the next one.
 #[cycle(stmt)]
-fn last_run(
+fn runs(
     b: &mut Body,
     on: &Scope,
     variable: usize,
@@ -530,12 +528,17 @@ fn last_run(
     requires range { Present on.now (sweep_asks it) }
     requires index { Present on.now (last_asks variable it) }
     requires body { Present on.now (stmt_asks on.now.answer (stmt_of body.stmt.now) (it.masks.number + 3)) }
-    ensures { OnOk result (Writes b.old b.new (last_run_at on.now variable (stmt_of body.entry.stmt.now) set.items it)) }
+    ensures { OnOk result (Writes b.old b.new (runs_at on.now variable (stmt_of body.entry.stmt.now) set.items it)) }
 {
+    let alone = goes_on(on, variable, &set);
+    let place = run_place(on, variable, it);
+    let first = next(b);
     outer_indices(b, &set, it.masks.mask())?;
-    last_index(b, on, variable, it)?;
+    last_index(b, on, variable, it, place)?;
+    let top = next(b);
     let inner = on.within(variable);
     stmt(b, &inner, body, Spot::own(it.masks))?;
+    next_run(b, on, variable, alone, it, RunStart { first, top })?;
     Ok(())
 }
 

@@ -2,7 +2,7 @@ use Rattle.std.proofs.Common.{◌≡◌, ◌≤◌, List, [], ◌∷◌, ◌++�
 use Rattle.std.specs.Prelude.{option_map, slice_set}
 use Rattle.isp_code.specs.declared.instr.Instr.{Instr}
 use Rattle.isp_code.specs.declared.instr.JumpTest.TheVariants as jump
-use Rattle.isp_lower.specs.Code.{guard, jump_off, jump_on, the_others, two, where_so}
+use Rattle.isp_lower.specs.Code.{copy, guard, jump_off, jump_on, the_others, two, where_so}
 use Rattle.isp_lower.specs.Emitted.{Appends, Present, layout}
 use Rattle.isp_lower.specs.declared.sites.Site.{Site}
 use Rattle.isp_typed.specs.Nodes.{block_nodes, stmts_nodes, range_nodes, stmt_nodes, typed_nodes}
@@ -21,7 +21,7 @@ use Rattle.isp_masks.specs.Sets.{unite}
 use Rattle.isp_masks.specs.Rounds.{value_code, values_of}
 use Rattle.isp_masks.specs.Spots.{Numbers, next_of, own_spot, spot_of, widely}
 use Rattle.isp_masks.specs.Statements.{left_code, stmt_code, stmt_places, stmt_texts, stmts_code, stmts_places, stmts_texts, body_code, body_layout}
-use Rattle.isp_masks.specs.Written.{Piece, Writes, block_at, guarded_at, kept_at, stepped_at, stmt_at, turn_at, turns_at, first_sweep, index_codes, last_run_at, outer_turn_at, place_test, range_begin, range_step, ranges_at, run_test, step_back_at}
+use Rattle.isp_masks.specs.Written.{Piece, Writes, block_at, guarded_at, kept_at, stepped_at, stmt_at, turn_at, turns_at, first_sweep, index_codes, outer_turn_at, place_test, range_begin, range_step, ranges_at, runs_at, runs_begin, runs_next, step_back_at}
 use Rattle.isp_masks.proofs.Awaiting.{awaits_end}
 use Rattle.isp_masks.proofs.Forms.{list_step, nodes_low, stmts_more}
 use Rattle.isp_masks.proofs.JumpsWritten.{left_written}
@@ -33,10 +33,10 @@ use Rattle.isp_masks.proofs.Views.{block_view}
 use Rattle.isp_masks.proofs.Writing.{chosen_of, landed_over, rounds_written, writes_adding, writes_back, writes_past}
 use Rattle.isp_base.specs.declared.types.Rate.TheVariants.{Uniform}
 use Rattle.isp_code.specs.declared.instr.Instr.TheVariants as instr
-use Rattle.isp_masks.specs.Ranges.{bounds_code, measures_code, ranges_places, runs_slot, test}
-use Rattle.isp_masks.proofs.RangesWritten.{foreach_written, outer_written, ranges_count, ranges_low, ranges_outer, sweep_there, sweep_written}
+use Rattle.isp_masks.specs.Ranges.{bounds_code, last_index, measures_code, range_mask, ranges_places, run_place, runs_slot, test, wide}
+use Rattle.isp_masks.proofs.RangesWritten.{foreach_written, goes_on_codes, last_written, outer_written, ranges_count, ranges_low, ranges_outer, sweep_there, sweep_written}
 use Rattle.isp_masks.specs.Asks.{stmt_asks}
-use Rattle.isp_lower.specs.Layout.{mask_register, register}
+use Rattle.isp_lower.specs.Layout.{mask_register, register, within}
 use Rattle.isp_lower.specs.declared.numbered.MaskNumber.{MaskNumber}
 use Rattle.isp_lower.specs.declared.numbered.Slot.{Slot}
 use Rattle.isp_masks.specs.declared.ranges.OuterIndex.{OuterIndex}
@@ -289,13 +289,19 @@ statement::last_range-returns t c =
     let l = layout a.on.now in
     let h = a.it.masks.number in
     let n = a.it.measures.number in
+    let m = a.it.place.number in
+    let e = a.it.bounds.number in
+    let i = a.variable in
     let x = stmt_of a.body.stmt.now in
-    let after = c.go_on.new.b.code.items in
+    let set = a.set.items in
+    let place = run_place l (l.loaded i) m in
+    let lanes = range_mask h place (wide l (e + 1)) in
+    let begun = subst (λ y. Appends a.b.now c.begin_runs.new.b (λ pc p. runs_begin l a.it y) []) c.run_place-place.ensures c.in_ok-begin_runs.ensures in
+    let after = c.runs.new.b.code.items in
     let code = ap (λ r. slice_set after c.len-at.result (instr.JumpIf jump.Off r (length after))) (c.mask-2.ensures ∙ ap (λ (k : MaskNumber). mask_register k.number) c.mask.ensures) in
-    sweep_written a.b.now c.begin.new.b c.test_run.new.b c.push.new.self c.last_run.new.b c.go_on.new.b c.land.new.self
-    (range_begin l a.it) (run_test l a.it) (instr.Jump 0) (range_step l a.it n) (jump_off h)
-    (last_run_at a.on.now a.variable x a.set.items a.it) c.next-top.result c.len-at.result
-    c.in_ok-begin.ensures c.next-top.ensures c.in_ok-test_run.ensures (c.len-at.ensures ∙ c.test_run.new.b.code.ok.0) c.in_ok-push.ensures c.in_ok-last_run.ensures c.in_ok-go_on.ensures (c.land.ensures.code ∙ code) c.land.ensures.places c.land.ensures.texts
+    subst (λ (g : Bool). Writes a.b.now c.land.new.self (record { code = λ pc z. copy Uniform place (wide l e) 0 ∷ lanes ∷ guard (jump_off h) (pc + 1 + 1) (λ first. two first (index_codes h set ++ last_index l i place m n h) (λ top. body_code (within l i) a.on.now.answer x h z top ++ runs_next l i g a.it first top)); places = stmt_places (within l i) x; texts = stmt_texts x })) (sym (goes_on_codes (l.loaded i) h set))
+    (last_written a.b.now c.begin_runs.new.b c.push.new.self c.runs.new.b c.land.new.self (copy Uniform place (wide l e) 0) lanes (instr.Jump 0) (jump_off h) (runs_at a.on.now i x set a.it) c.len-at.result
+    begun (c.len-at.ensures ∙ c.begin_runs.new.b.code.ok.0) c.in_ok-push.ensures c.in_ok-runs.ensures (c.land.ensures.code ∙ code) c.land.ensures.places c.land.ensures.texts)
 
 pub statement::outer_range-returns : goal.statement::outer_range-returns
 statement::outer_range-returns t c =

@@ -8,4 +8,6 @@ returns-clause-gives c =
     (both_given _ _ _ _ _ c.in_ok-spare-2.ensures
     (both_given _ _ _ _ _ c.in_ok-spare-3.ensures
     (both_given _ _ _ _ _ (rw second at c.in_ok-second.ensures.gives)
-    (both_given _ _ _ _ _ (rw second at c.in_ok-spare-4.ensures) (rw (c.in_ok-behind.ensures.number, second) at c.in_ok-behind.ensures.gives)))))
+    (both_given _ _ _ _ _ (rw second at c.in_ok-spare-4.ensures)
+    (both_given _ _ _ _ _ (rw second at c.in_ok-spare-5.ensures)
+    (both_given _ _ _ _ _ (rw second at c.in_ok-spare-6.ensures) (rw (c.in_ok-behind.ensures.number, second) at c.in_ok-behind.ensures.gives)))))))
