@@ -440,12 +440,7 @@ pub(crate) fn last_index(
 }
 
 /// The place of the next run, and its lanes.
-fn step_run(
-    b: &mut Body,
-    on: &Scope,
-    it: Sweep,
-    place: RegisterNumber,
-) -> Result<(), AllocError>
+fn step_run(b: &mut Body, on: &Scope, it: Sweep, place: RegisterNumber) -> Result<(), AllocError>
     requires { Present on.now (sweep_asks it) }
     ensures { OnOk result (Appends b.old b.new (λ pc p. run_step (layout on.now) place.number it.bounds.number it.measures.number it.masks.number) []) }
 {
