@@ -109,22 +109,25 @@ jumps h p d n ps vs e =
     let works : WorksOn h d = record { named = n; params = ps; variables = vs; texts = ap (λ (d : Draft). d.texts) e; routines = ap (λ (d : Draft). d.routines) e; heading = ap (λ (d : Draft). d.heading) e; masks = omega (arith, ap (λ (d : Draft). d.masks) e) } in
     record { works = works; places = ap (λ (d : Draft). d.places) e; rows = ap (λ (d : Draft). d.rows) e; code = ap (λ (d : Draft). d.code) e }
 
-pub first_here : (h : TFunction) (p : Program) (d : Draft) → h.variables ≡ variables → d ≡ begun h (first_draft p) → HasFirstRows h d
+pub first_here : (h : TFunction) (p : Program) (d : Draft) → h.variables ≡ variables → d ≡ begun h (first_draft p) → HasFirstRows d
 first_here h p d vs e =
-    record { variables = vs; rows = ap (λ (d : Draft). d.rows) e; begun = ap (λ (d : Draft). is_some d.heading) e; masks = omega (arith, ap (λ (d : Draft). d.masks) e) }
+    record { answer = h.answer; rows = ap (λ (d : Draft). d.rows) e ∙ ap (λ vs. first_rows vs h.answer) vs; begun = ap (λ (d : Draft). is_some d.heading) e; masks = omega (arith, ap (λ (d : Draft). d.masks) e) }
+
+pub has_begun : (d : Draft) → HasFirstRows d → IsBegun d
+has_begun d f = f.begun
 
 -- so it is where a call was refused
-pub first_again : (h : TFunction) (old new : Draft) → HasFirstRows h old → new ≡ old → HasFirstRows h new
-first_again h old new f e = subst (HasFirstRows h) (sym e) f
+pub first_again : (old new : Draft) → HasFirstRows old → new ≡ old → HasFirstRows new
+first_again old new f e = subst HasFirstRows (sym e) f
 
-pub first_sum_own : (h : TFunction) (d : Draft) (x : TExpr) → HasFirstRows h d → x ≡ sum → HasOwn d.rows (expr_asks x 3)
-first_sum_own h d x f e = sum_own d.rows h.variables h.answer x f.rows f.variables e
+pub first_sum_own : (d : Draft) (x : TExpr) → HasFirstRows d → x ≡ sum → HasOwn d.rows (expr_asks x 3)
+first_sum_own d x f e = sum_own d.rows variables f.answer x f.rows refl e
 
-pub first_assignment_own : (h : TFunction) (d : Draft) (x : TSimple) → HasFirstRows h d → x ≡ assignment → HasOwn d.rows (simple_asks x 3)
-first_assignment_own h d x f e =
-    let arrays : d.rows.arrays ≡ array_rows 0 h.variables = ap (λ (r : Rows). r.arrays) f.rows in
+pub first_assignment_own : (d : Draft) (x : TSimple) → HasFirstRows d → x ≡ assignment → HasOwn d.rows (simple_asks x 3)
+first_assignment_own d x f e =
+    let arrays : d.rows.arrays ≡ array_rows 0 variables = ap (λ (r : Rows). r.arrays) f.rows in
     let same : Begins d.rows.arrays d.rows.arrays = record { more = []; is = sym (append-nil d.rows.arrays) } in
-    assignment_own d.rows d.rows.arrays h.variables x same arrays f.variables e
+    assignment_own d.rows d.rows.arrays variables x same arrays refl e
 
 -- the function is still at work
 pub kept_begun : (old new : Draft) → IsBegun old → new ≡ record old { places = new.places; rows = new.rows; masks = new.masks; code = new.code } → IsBegun new

@@ -1,6 +1,7 @@
 -- What an emitter has while the function of Trees is written: a jump, then the code of `x + 1` and of the assignment behind it.
-use Rattle.std.specs.Prelude.{◌≡◌, ◌≤◌, ℕ, List, [], ◌∷◌, ◌++◌, Some, true}
+use Rattle.std.specs.Prelude.{◌≡◌, ◌≤◌, ℕ, List, [], ◌∷◌, ◌++◌, Option, Some, true}
 use Rattle.std.specs.List.{list_all}
+use Rattle.isp_base.specs.declared.types.Ty.{Ty}
 use Rattle.isp_code.specs.Writable.{name_fits, place_fits}
 use Rattle.isp_code.specs.declared.instr.Instr.{Instr}
 use Rattle.isp_code.specs.declared.instr.Instr.TheVariants as instr
@@ -24,9 +25,9 @@ pub record WorksOn (h : TFunction) (d : Draft) : Type 0 where
   pub masks : 3 ≤ d.masks
 
 -- a function with the variables of Trees is at work, and has the registers with which it began
-pub record HasFirstRows (h : TFunction) (d : Draft) : Type 0 where
-  pub variables : h.variables ≡ variables
-  pub rows : d.rows ≡ first_rows h.variables h.answer
+pub record HasFirstRows (d : Draft) : Type 0 where
+  pub answer : Option Ty
+  pub rows : d.rows ≡ first_rows variables answer
   pub begun : IsBegun d
   pub masks : 3 ≤ d.masks
 
