@@ -18,16 +18,9 @@ fn compared(op: Compare) -> Line<'static> {
     )
 }
 
-// Whether each comparison of x and y, in the order of the operators, has the answer that is written here.
-fn answers(
-    alloc: Global,
-    gang: Gang,
-    elem: Elem,
-    x: u64,
-    y: u64,
-    output: &str,
-) -> Result<bool, Fail> {
-    let code = [
+// Each comparison, in the order of the operators, and its answer.
+fn all_compared() -> [Line<'static>; 13] {
+    [
         compared(Compare::Equal),
         Line::PrintScalar(S2),
         compared(Compare::NotEqual),
@@ -41,7 +34,19 @@ fn answers(
         compared(Compare::GreaterOrEqual),
         Line::PrintScalar(S2),
         Line::Return(None),
-    ];
+    ]
+}
+
+// Whether the comparisons of x and y have the answers that are written here.
+fn answers(
+    alloc: Global,
+    gang: Gang,
+    elem: Elem,
+    x: u64,
+    y: u64,
+    output: &str,
+) -> Result<bool, Fail> {
+    let code = all_compared();
     let params = [
         ("x", ParamKind::Scalar, elem),
         ("y", ParamKind::Scalar, elem),
