@@ -10,5 +10,5 @@ returns-clause-ok c =
       traced = c.in_ok-run.run';
       runs = rw (← c.window-window.ensures) c.in_ok-run.ensures;
       page_is = refl;
-      ends = rw (← c.window-window.ensures) c.end_of_trace.ensures
+      ends = rw (← c.window-window.ensures) c.end_of_trace.ensures;
     }
