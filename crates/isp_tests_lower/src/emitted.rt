@@ -13,7 +13,7 @@ use isp_typed::{Holds, Program, Typed, TypedBlock, TypedFunction, Variable};
 use std::alloc::{AllocError, Global};
 use std::test::Fail;
 
-pub(crate) const PLACE: Span = Span { start: 3, end: 5 };
+const PLACE: Span = Span { start: 3, end: 5 };
 
 // `export void f() { uniform int32 x; }`, whose variable has the first scalar register.
 fn function(alloc: Global) -> Result<TypedFunction, AllocError>

@@ -3,7 +3,3 @@
 
 #[cfg(test)]
 mod emitted;
-#[cfg(test)]
-mod refused;
-#[cfg(test)]
-mod written;
