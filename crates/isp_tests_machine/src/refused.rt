@@ -84,15 +84,29 @@ fn sweep_run(alloc: Global, name: &str, routines: &[Routine], run: &Run) -> Resu
     })
 }
 
-// Sweeps a line that writes a text, or one of two registers that are set before.
-fn sweep_writing(alloc: Global, name: &str, line: Line<'_>, output: &str) -> Result<(), Fail> {
-    let code = [
-        Line::Scalar(S0, ScalarInstr::Constant(7)),
-        Line::Vector(V0, VectorInstr::Index(M0)),
-        line,
-        Line::Return(None),
-    ];
-    let run = Run {
+const SET_SCALAR: Line<'static> = Line::Scalar(S0, ScalarInstr::Constant(7));
+
+const SET_VECTOR: Line<'static> = Line::Vector(V0, VectorInstr::Index(M0));
+
+const SAY: [Line<'static>; 4] = [SET_SCALAR, SET_VECTOR, Line::Say(1), Line::Return(None)];
+
+const PRINT_SCALAR: [Line<'static>; 4] = [
+    SET_SCALAR,
+    SET_VECTOR,
+    Line::PrintScalar(S0),
+    Line::Return(None),
+];
+
+const PRINT_VECTOR: [Line<'static>; 4] = [
+    SET_SCALAR,
+    SET_VECTOR,
+    Line::PrintVector(V0, M0),
+    Line::Return(None),
+];
+
+// Of two registers that are set, and a text or one of them that is written.
+fn writes(output: &'static str) -> Run<'static> {
+    Run {
         given: &[],
         before: 2,
         seen: Seen {
@@ -101,16 +115,18 @@ fn sweep_writing(alloc: Global, name: &str, line: Line<'_>, output: &str) -> Res
             arrays: &[],
             result: None,
         },
-    };
-    sweep_run(alloc, name, &[writer(&code)], &run)
+    }
 }
 
 #[test]
 fn memory_refused_to_writing(rt: HostRuntime) -> Result<(), Fail> {
     let alloc = rt.alloc();
-    sweep_writing(alloc, "say", Line::Say(1), "one two")?;
-    sweep_writing(alloc, "prs", Line::PrintScalar(S0), "7")?;
-    sweep_writing(alloc, "prv", Line::PrintVector(V0, M0), "[0,1,2,3]")
+    let say = [writer(&SAY)];
+    let scalar = [writer(&PRINT_SCALAR)];
+    let vector = [writer(&PRINT_VECTOR)];
+    sweep_run(alloc, "say", &say, &writes("one two"))?;
+    sweep_run(alloc, "prs", &scalar, &writes("7"))?;
+    sweep_run(alloc, "prv", &vector, &writes("[0,1,2,3]"))
 }
 
 // Of a number whose sum is made by calls of f itself.
