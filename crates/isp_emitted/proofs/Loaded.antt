@@ -47,17 +47,18 @@ module _ (w : Setting) (k : ℕ → Bool) where
         arrays = λ b held. array_fits b (f.arrays b held);
         calls = λ i g pc q sp a ps s c calls. f.calls i g pc q sp a ps s c (calling i g pc q sp a ps s c calls);
         counter = λ i is. let no : None ≡ Some i = sym none ∙ is in absurd (cc);
+        constants = f.constants;
       }
 
   -- ---- code runs
 
   stands_with : (s : State) (c : Conf) → Stands w s c → Stands (with_loaded w k) s c
   stands_with s c f =
-      record { uniforms = f.uniforms; varying = f.varying; result = f.result; results = f.results; own_arrays = f.own_arrays; arrays_are = f.arrays_are; out_is = f.out_is; run = f.run }
+      record { uniforms = f.uniforms; varying = f.varying; result = f.result; results = f.results; own_arrays = f.own_arrays; arrays_are = f.arrays_are; out_is = f.out_is; run = f.run; constants = f.constants }
 
   stands_back : (s : State) (c : Conf) → Stands (with_loaded w k) s c → Stands w s c
   stands_back s c f =
-      record { uniforms = f.uniforms; varying = f.varying; result = f.result; results = f.results; own_arrays = f.own_arrays; arrays_are = f.arrays_are; out_is = f.out_is; run = f.run }
+      record { uniforms = f.uniforms; varying = f.varying; result = f.result; results = f.results; own_arrays = f.own_arrays; arrays_are = f.arrays_are; out_is = f.out_is; run = f.run; constants = f.constants }
 
   spares_back : (n : ℕ) (c d : Conf) → Spares (with_loaded w k) n c d → Spares w n c d
   spares_back n c d f = record { scalars_stay = f.scalars_stay; vectors_stay = f.vectors_stay }

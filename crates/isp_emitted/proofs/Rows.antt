@@ -1,6 +1,7 @@
 -- The register of a name that has a row has the type of the row, and rows that are added change neither.
-use Rattle.std.proofs.Common.{◌≡◌, ℕ, zero, suc, ◌+◌, List, [], ◌∷◌, ◌++◌, Option, Some, None, Bool, true, false, refl, sym, ap, ◌∙◌, subst, arith}
+use Rattle.std.proofs.Common.{◌≡◌, ◌≢◌, ℕ, zero, suc, ◌+◌, List, [], ◌∷◌, ◌++◌, Option, Some, None, Bool, true, false, refl, sym, ap, ◌∙◌, subst, arith}
 use Rattle.std.specs.Prelude.{◌==◌, if◌then◌else◌, is_some, slice_get}
+use Rattle.std.proofs.lemmas.Bool.{ne_eqb}
 use Rattle.std.proofs.lemmas.Option.{get_or_from_slice_get}
 use Rattle.isp_base.specs.declared.types.Elem.{Elem}
 use Rattle.isp_base.specs.declared.types.Elem.TheVariants.{Bool as Truth}
@@ -11,7 +12,7 @@ use Rattle.isp_code.specs.Registers.{elem_of, scalars_of, vectors_of}
 use Rattle.isp_lower.specs.Emitted.{Begins}
 use Rattle.isp_lower.specs.Header.{types_of}
 use Rattle.isp_lower.specs.Layout.{register}
-use Rattle.isp_lower.specs.Rows.{Name, Variable, Result, Spare, Place, Fresh, Row, Rows, name_number, number_in, elem_in, rows_at, layout_of, numbered, HasRow}
+use Rattle.isp_lower.specs.Rows.{Name, Variable, Result, Spare, Place, Fresh, Kept, Row, has_type, keeps, Rows, name_number, number_in, elem_in, rows_at, layout_of, numbered, HasRow}
 use Rattle.isp_lower.specs.Tables.{IsNamedIn}
 use Rattle.isp_emitted.specs.OfRows.{StartsWith}
 
@@ -44,6 +45,7 @@ numbered_in rates rows r Result = refl
 numbered_in rates rows r (Spare t j) = refl
 numbered_in rates rows r Place = refl
 numbered_in rates rows r (Fresh j) = refl
+numbered_in rates rows r (Kept t b) = refl
 
 module _ (h : Routine) (rates : ℕ → List Rate) (rows : Rows) (scalars : StartsWith (types_of rows.scalars) (scalars_of h)) (vectors : StartsWith (types_of rows.vectors) (vectors_of h)) where
   pub named_in : (r : Rate) (x : Name) (t : Elem) → HasRow rows r x t → IsNamedIn h (layout_of rates rows) r x t
@@ -83,3 +85,24 @@ number_stays (z ∷ rows) more x t e = go (name_number z.name == name_number x) 
 
 pub same_number : (old new : List Row) (x : Name) (t : Elem) → Begins old new → elem_in old x ≡ Some t → number_in new x ≡ number_in old x
 same_number old new x t begins e = ap (λ rows. number_in rows x) begins.is ∙ number_stays old begins.more x t e
+
+-- ---- constants that are kept
+
+kept_row : (rows : List Row) (t : Elem) (b : ℕ) → keeps rows t b ≡ true → elem_in rows (Kept t b) ≢ None
+kept_row rows t b e none = let is : true ≡ false = sym e ∙ ap (has_type t) none in absurd (cc)
+
+-- a fresh register keeps none
+pub fresh_keeps : (n : ℕ) (u : Elem) (rows : List Row) (t : Elem) (b : ℕ) → keeps (rows ++ record { name = Fresh n; elem = u } ∷ []) t b ≡ keeps rows t b
+fresh_keeps n u rows t b = ap (has_type t) (go rows)
+  where
+    go : (xs : List Row) → elem_in (xs ++ record { name = Fresh n; elem = u } ∷ []) (Kept t b) ≡ elem_in xs (Kept t b)
+    go [] = ap (λ d. if d then Some u else None) (ne_eqb (name_number (Fresh n)) (name_number (Kept t b)) (λ e. omega (arith, e)))
+    go (y ∷ ys) = ap (λ o. if name_number y.name == name_number (Kept t b) then Some y.elem else o) (go ys)
+
+-- one that is kept has its register where it was
+pub kept_number : (old new : List Row) (t : Elem) (b : ℕ) → Begins old new → keeps old t b ≡ true → number_in new (Kept t b) ≡ number_in old (Kept t b)
+kept_number old new t b begins e = go (elem_in old (Kept t b)) refl
+  where
+    go : (o : Option Elem) → elem_in old (Kept t b) ≡ o → number_in new (Kept t b) ≡ number_in old (Kept t b)
+    go None none = absurd (kept_row old t b e none)
+    go (Some u) at = same_number old new (Kept t b) u begins at

@@ -13,7 +13,13 @@ use Rattle.isp_meaning.specs.Calls.{same_rate}
 use Rattle.isp_meaning.specs.Payloads.{converted}
 use Rattle.isp_typed.specs.Typed.{TExpr, t_constant, t_program_index, t_place, t_convert, t_cast, t_unary, t_binary, t_compare, t_logic, t_choose, t_call, t_library, t_packed_store, t_packed_load, TPlace, t_variable, t_element, type_of}
 use Rattle.isp_lower.specs.Asks.{Ask, Nothing, Both, Register, ArrayOf, LocalOf, MaskOf, Number, Loads, lift_asks, taken, whole_asks, index_asks, is_lane, start_asks, element_asks, copy_asks, value_asks, expr_asks, target_asks}
-use Rattle.isp_lower.specs.Code.{two, guard, choice, pair_code, constant_of, convert, constant, copy, splat, read_by, lifted, lift_code, part_to, lift_to, convert_to, is_copied, variable_found, place_found, found, operand, operand_of, whole, whole_of, index, index_of, is_whole, names, is_counter, counts, is_run, start_in, start_code, index_by, index_by_of, variable_read, read_code, stays, stays_at, is_short}
+use Rattle.isp_lower.specs.Code.{variable_read, read_code}
+use Rattle.isp_lower.specs.Elements.{names, is_counter, counts, is_run, start_in, start_code, index_by, index_by_of}
+use Rattle.isp_lower.specs.Found.{in_vector, is_kept, kept_found, operand_by, vector_of, lifted, lift_code, part_to, lift_to, convert_to, is_copied, variable_found, place_found, found, operand, operand_of, whole, whole_of, index, index_of, is_whole}
+use Rattle.isp_lower.specs.Instructions.{convert, constant, copy, splat, read_by}
+use Rattle.isp_lower.specs.Known.{bits_as, known, unless_kept, constant_of}
+use Rattle.isp_lower.specs.Pieces.{two, guard, choice, pair_code}
+use Rattle.isp_lower.specs.Stays.{stays, stays_at, is_short}
 use Rattle.isp_lower.specs.Layout.{Layout}
 use Rattle.isp_lower.specs.Rows.{numbered}
 
@@ -38,12 +44,14 @@ pair_same pc a a' b b' i i' ea eb ei =
 
 -- ---- two layouts
 
--- code calls the same functions, reads the same variables by a copy, and is in no run
+-- code calls the same functions, reads the same variables by a copy, is in no run, and finds the same constants in the same registers
 pub record Alike (l m : Layout) : Type 0 where
   pub rates : l.rates ≡ m.rates
   pub loaded : l.loaded ≡ m.loaded
   pub first : l.in_run ≡ false
   pub second : m.in_run ≡ false
+  pub kept : (r : Rate) (t : Elem) (b : ℕ) → l.kept r t b ≡ m.kept r t b
+  pub constants : (r : Rate) (t : Elem) (b : ℕ) → m.kept r t b ≡ true → l.constant r t b ≡ m.constant r t b
 
 abbrev pub SameIn : Layout → Layout → Ask → Type 0
 SameIn l m Nothing = Unit {0}
@@ -122,15 +130,40 @@ module _ (l m : Layout) (alike : Alike l m) where
       go true is = copy_same t.rate t.elem v n is f
       go false is = e
 
+  kept_same : (r : Rate) (t : Elem) (b n : ℕ) → l.spare r t n ≡ m.spare r t n → kept_found l (l.kept r t b) r t b n ≡ kept_found m (m.kept r t b) r t b n
+  kept_same r t b n e = ap (λ z. kept_found l z r t b n) (alike.kept r t b) ∙ go (m.kept r t b) refl
+    where
+      go : (z : Bool) → m.kept r t b ≡ z → kept_found l z r t b n ≡ kept_found m z r t b n
+      go true is = alike.constants r t b is
+      go false is = e
+
+  pub is_kept_same : (o : Option Value) (r : Rate) (t : Elem) → is_kept l o r t ≡ is_kept m o r t
+  is_kept_same None r t = refl
+  is_kept_same (Some v) r t = alike.kept r t (converted v.elem t v.bits)
+
+  converted_same : (o : Option Value) (r : Rate) (t : Elem) (n : ℕ) → l.spare r t n ≡ m.spare r t n → kept_found l (is_kept l o r t) r t (bits_as o t) n ≡ kept_found m (is_kept m o r t) r t (bits_as o t) n
+  converted_same None r t n e = e
+  converted_same (Some v) r t n e = kept_same r t (converted v.elem t v.bits) n e
+
+  in_vector_same : (r : Rate) (o : Option Value) → in_vector l r o ≡ in_vector m r o
+  in_vector_same Uniform o = refl
+  in_vector_same Varying None = refl
+  in_vector_same Varying (Some v) = alike.kept Varying v.elem v.bits
+
+  vector_same : (r : Rate) (o : Option Value) → in_vector m r o ≡ true → vector_of l o ≡ vector_of m o
+  vector_same Uniform o e = absurd (cc)
+  vector_same Varying None e = absurd (cc)
+  vector_same Varying (Some v) e = alike.constants Varying v.elem v.bits e
+
   place_same : (z : TPlace) (n : ℕ) → SameIn l m (target_asks z n) → SameIn l m (value_asks z n) → place_found l z n ≡ place_found m z n
   place_same (t_variable v t sp) n f g = variable_same t v n f g
   place_same (t_element b i t sp) n f g = g
 
   pub found_same : (x : TExpr) (n : ℕ) → SameIn l m (expr_asks x n) → found l x n ≡ found m x n
-  found_same (t_constant v sp) n f = f
+  found_same (t_constant v sp) n f = kept_same Uniform v.elem v.bits n f
   found_same (t_program_index sp) n f = f
   found_same (t_place q) n f = place_same q n f.0 f.1
-  found_same (t_convert e x) n f = f.0
+  found_same (t_convert e x) n f = converted_same (constant_of x) (type_of x).rate e n f.0
   found_same (t_cast x t sp) n f =
       lifted_same t.rate (type_of x).rate (type_of x).elem (found l x n) (found m x n) n (found_same x n f.1) f.0
   found_same (t_unary o x t sp) n f = f.0
@@ -144,12 +177,16 @@ module _ (l m : Layout) (alike : Alike l m) where
   found_same (t_packed_load b v sp) n f = f.0
 
   pub operand_same : (r : Rate) (x : TExpr) (n : ℕ) → SameIn l m (taken r x n (expr_asks x n)) → operand l r x n ≡ operand m r x n
-  operand_same r x n f =
-      lifted_same r (type_of x).rate (type_of x).elem (found l x n) (found m x n) n (found_same x n f.1) f.0
+  operand_same r x n f = ap (λ z. operand_by l z r x n) (in_vector_same r (known x)) ∙ go (in_vector m r (known x)) refl
+    where
+      go : (z : Bool) → in_vector m r (known x) ≡ z → operand_by l z r x n ≡ operand_by m z r x n
+      go true is = vector_same r (known x) is
+      go false is = lifted_same r (type_of x).rate (type_of x).elem (found l x n) (found m x n) n (found_same x n f.1) f.0
 
   pub operand_of_same : (r : Rate) (x : TExpr) (k n : ℕ) (c c' : List Instr) → SameIn l m (taken r x n (expr_asks x n)) → c ≡ c' → operand_of l r x k n c ≡ operand_of m r x k n c'
   operand_of_same r x k n c c' f e =
-      joined_same c c' (lift_code l r (type_of x).rate (type_of x).elem (found l x n) k n) (lift_code m r (type_of x).rate (type_of x).elem (found m x n) k n) e (lift_same r (type_of x).rate (type_of x).elem (found l x n) (found m x n) k n (found_same x n f.1) f.0)
+      ap (λ z. unless_kept z (c ++ lift_code l r (type_of x).rate (type_of x).elem (found l x n) k n)) (in_vector_same r (known x))
+      ∙ ap (unless_kept (in_vector m r (known x))) (joined_same c c' (lift_code l r (type_of x).rate (type_of x).elem (found l x n) k n) (lift_code m r (type_of x).rate (type_of x).elem (found m x n) k n) e (lift_same r (type_of x).rate (type_of x).elem (found l x n) (found m x n) k n (found_same x n f.1) f.0))
 
   -- an argument is asked for at a varying rate, whatever rate its parameter has
   pub argument_found : (r : Rate) (x : TExpr) (n : ℕ) → SameIn l m (taken Varying x n (expr_asks x n)) → operand l r x n ≡ operand m r x n
@@ -238,11 +275,11 @@ module _ (l m : Layout) (alike : Alike l m) where
   -- ---- what stays in place
 
   pub stays_same : (x : TExpr) → stays l x ≡ stays m x
-  stays_same (t_constant v sp) = refl
+  stays_same (t_constant v sp) = alike.kept Uniform v.elem v.bits
   stays_same (t_program_index sp) = refl
   stays_same (t_place (t_variable v t sp)) = ap not (copied_same t.rate v)
   stays_same (t_place (t_element b i t sp)) = refl
-  stays_same (t_convert e x) = refl
+  stays_same (t_convert e x) = is_kept_same (constant_of x) (type_of x).rate e
   stays_same (t_cast x t sp) = ap (λ b. same_rate t.rate (type_of x).rate && b) (stays_same x)
   stays_same (t_unary o x t sp) = refl
   stays_same (t_binary o x y t sp) = refl
@@ -267,9 +304,17 @@ module _ (l m : Layout) (alike : Alike l m) where
   lifted_stays Varying Uniform t x y n e is = absurd (cc)
   lifted_stays Varying Varying t x y n e is = is
 
+  -- a constant that is kept
+  kept_stays : (r : Rate) (t : Elem) (b n : ℕ) → m.kept r t b ≡ true → kept_found l (l.kept r t b) r t b n ≡ kept_found m (m.kept r t b) r t b n
+  kept_stays r t b n e = ap (λ z. kept_found l z r t b n) (alike.kept r t b ∙ e) ∙ alike.constants r t b e ∙ sym (ap (λ z. kept_found m z r t b n) e)
+
+  converted_stays : (o : Option Value) (r : Rate) (t : Elem) (n : ℕ) → is_kept m o r t ≡ true → kept_found l (is_kept l o r t) r t (bits_as o t) n ≡ kept_found m (is_kept m o r t) r t (bits_as o t) n
+  converted_stays None r t n e = absurd (cc)
+  converted_stays (Some v) r t n e = kept_stays r t (converted v.elem t v.bits) n e
+
   -- it is found where it is, whatever slot was reserved
   stayed_same : (x : TExpr) (i n : ℕ) → stays m x ≡ true → SameIn l m (expr_asks x i) → found l x n ≡ found m x n
-  stayed_same (t_constant v sp) i n e f = absurd (cc)
+  stayed_same (t_constant v sp) i n e f = kept_stays Uniform v.elem v.bits n e
   stayed_same (t_program_index sp) i n e f = absurd (cc)
   stayed_same (t_place (t_variable v t sp)) i n e f =
       ap (λ b. variable_found l b t v n) (copied_same t.rate v) ∙ go (is_copied m t.rate v) e
@@ -278,7 +323,7 @@ module _ (l m : Layout) (alike : Alike l m) where
       go true h = absurd (cc)
       go false h = f.0
   stayed_same (t_place (t_element b j t sp)) i n e f = absurd (cc)
-  stayed_same (t_convert u x) i n e f = absurd (cc)
+  stayed_same (t_convert u x) i n e f = converted_stays (constant_of x) (type_of x).rate u n e
   stayed_same (t_cast x t sp) i n e f =
       let both = both_true (same_rate t.rate (type_of x).rate) (stays m x) e in
       lifted_stays t.rate (type_of x).rate (type_of x).elem (found l x n) (found m x n) n both.0 (stayed_same x i n both.1 f.1)

@@ -13,11 +13,17 @@ use Rattle.isp_typed.specs.Typed.{TExpr, t_constant, t_program_index, t_place, t
 use Rattle.isp_typed.specs.declared.variable.Logic.{Logic}
 use Rattle.isp_lower.specs.Asks.{taken, first_slot, second_slot, expr_asks, target_asks, first_asks, values_asks, call_asks, arguments_asks, argument_asks}
 use Rattle.isp_lower.specs.Callees.{next_rate, later}
-use Rattle.isp_lower.specs.Code.{guard, choice, needing, decided, logic_code, choose_rest, constant_of, constant, unary, compare, operate, operate_places, packed_store, packed_load, copy, select, where_so, the_others, jump_off, jump_on, move_code, part_to, lift_to, found, operand, operand_of, is_short, expr_places, index_places, read_places, base_places, values_places, call_places, arguments_places, argument_places, read_code, choose_code, choose_to, value_registers, argument_register, argument_registers, calling, base_register, expr_to, index_code, base_code, values_code, call_code, arguments_code, argument_code, expr_code}
+use Rattle.isp_lower.specs.Code.{read_code, choose_code, choose_to, value_registers, argument_register, argument_registers, calling, base_register, expr_to, index_code, base_code, values_code, call_code, arguments_code, argument_code, expr_code}
+use Rattle.isp_lower.specs.Found.{part_to, lift_to, found, operand, operand_of, is_kept, convert_to}
+use Rattle.isp_lower.specs.Instructions.{constant, unary, compare, operate, operate_places, packed_store, packed_load, copy, select, where_so, the_others, jump_off, jump_on}
+use Rattle.isp_lower.specs.Known.{constant_of, unless_kept}
+use Rattle.isp_lower.specs.Pieces.{guard, choice, needing, decided, logic_code, choose_rest, move_code}
+use Rattle.isp_lower.specs.Spans.{expr_places, index_places, read_places, base_places, values_places, call_places, arguments_places, argument_places}
+use Rattle.isp_lower.specs.Stays.{is_short}
 use Rattle.isp_lower.specs.Layout.{Layout, register, array_register, mask_register}
 use Rattle.isp_lower.specs.Library.{library_code, library_rates}
 use Rattle.isp_lower.specs.Reserved.{choice_asks}
-use Rattle.isp_emitted.proofs.Same.{Alike, SameIn, two_same, guard_same, choice_same, joined_same, pair_same, part_same, lift_to_same, convert_same, found_same, operand_same, operand_of_same, argument_found, argument_of_same, index_same, index_of_same, by_of_same, read_same, short_same, sides_found}
+use Rattle.isp_emitted.proofs.Same.{is_kept_same, Alike, SameIn, two_same, guard_same, choice_same, joined_same, pair_same, part_same, lift_to_same, convert_same, found_same, operand_same, operand_of_same, argument_found, argument_of_same, index_same, index_of_same, by_of_same, read_same, short_same, sides_found}
 
 -- ---- the places that code names are the same in all layouts
 
@@ -150,13 +156,14 @@ module _ (l m : Layout) (alike : Alike l m) where
 
   mutual
     pub to_same : (d d' : ℕ) (x : TExpr) (pc p p' k n : ℕ) → d ≡ d' → p ≡ p' → SameIn l m (expr_asks x n) → expr_to l d x pc p k n ≡ expr_to m d' x pc p' k n
-    to_same d d' (t_constant v sp) pc p p' k n e ep f = ap (λ c. constant c v.elem v.bits ∷ []) e
+    to_same d d' (t_constant v sp) pc p p' k n e ep f = ap₂ (λ z c. unless_kept z (constant c v.elem v.bits ∷ [])) (alike.kept Uniform v.elem v.bits) e
     to_same d d' (t_program_index sp) pc p p' k n e ep f = ap (λ c. expr_to m c (t_program_index sp) pc p k n) e
     to_same d d' (t_place q) pc p p' k n e ep f =
         joined_same (index_code l q pc p k n) (index_code m q pc p' k n) (read_code l d q (p + length (index_places l q)) k n) (read_code m d' q (p' + length (index_places m q)) k n) (target_same q pc p p' k n ep f.0)
         (ap (λ z. read_code l d q z k n) (ap₂ (λ z s. z + length s) ep (index_places_same l m q)) ∙ read_same l m alike d d' q (p' + length (index_places m q)) k n e f.0)
     to_same d d' (t_convert t x) pc p p' k n e ep f =
-        convert_same l m alike (constant_of x) t (type_of x).rate d d' (found l x n) (found m x n) k (expr_code l x pc p k n) (expr_code m x pc p' k n) e (found_same l m alike x n f.1) (to_same _ _ x pc p p' k n (found_same l m alike x n f.1) ep f.1)
+        ap (λ z. unless_kept z (convert_to l (constant_of x) t (type_of x).rate d (found l x n) k (expr_code l x pc p k n))) (is_kept_same l m alike (constant_of x) (type_of x).rate t)
+        ∙ ap (unless_kept (is_kept m (constant_of x) (type_of x).rate t)) (convert_same l m alike (constant_of x) t (type_of x).rate d d' (found l x n) (found m x n) k (expr_code l x pc p k n) (expr_code m x pc p' k n) e (found_same l m alike x n f.1) (to_same _ _ x pc p p' k n (found_same l m alike x n f.1) ep f.1))
     to_same d d' (t_cast x t sp) pc p p' k n e ep f =
         let there = found_same l m alike x n f.1 in
         joined_same (expr_to l (part_to l t.rate (type_of x).rate d (found l x n)) x pc p k n) (expr_to m (part_to m t.rate (type_of x).rate d' (found m x n)) x pc p' k n) (lift_to l t.rate (type_of x).rate d (found l x n) k) (lift_to m t.rate (type_of x).rate d' (found m x n) k)

@@ -1,5 +1,5 @@
 -- Two layouts in which what code asks for lies in the same registers: the code of what stands before a semicolon is the same.
-use Rattle.std.proofs.Common.{◌≡◌, ℕ, ◌+◌, [], ◌∷◌, ◌++◌, length, None, Bool, true, false, refl, ap, ap₂, ◌∙◌}
+use Rattle.std.proofs.Common.{◌≡◌, ℕ, ◌+◌, [], ◌∷◌, ◌++◌, length, None, Bool, true, false, not, refl, ap, ap₂, ◌∙◌}
 use Rattle.isp_base.specs.Ranks.{same_elem}
 use Rattle.isp_base.specs.declared.operators.BinOp.{BinOp}
 use Rattle.isp_base.specs.declared.types.Elem.{Elem}
@@ -7,10 +7,16 @@ use Rattle.isp_base.specs.declared.types.Rate.{Rate}
 use Rattle.isp_base.specs.declared.types.Rate.TheVariants.{Uniform, Varying}
 use Rattle.isp_typed.specs.Typed.{TExpr, t_constant, t_program_index, t_place, t_convert, t_cast, t_unary, t_binary, t_compare, t_logic, t_choose, t_call, t_library, t_packed_store, t_packed_load, TPlace, t_variable, t_element, TSimple, t_value, t_run, t_assign, t_update, t_step, place_type, type_of}
 use Rattle.isp_lower.specs.Asks.{beyond, taken, work_asks, change_asks, one_asks, assign_asks, update_asks, step_asks, expr_asks, target_asks, simple_asks}
-use Rattle.isp_lower.specs.Code.{convert, operate, operate_places, constant, copy, read_by, write_by, part_to, lift_to, found, operand, operand_of, index_by, is_run, expr_places, index_places, expr_to, expr_code, index_code, writes_part, writes_last, variable_from, variable_code}
+use Rattle.isp_lower.specs.Code.{expr_to, expr_code, index_code, variable_from, variable_code}
+use Rattle.isp_lower.specs.Elements.{index_by, is_run}
+use Rattle.isp_lower.specs.Found.{part_to, lift_to, found, operand, operand_of}
+use Rattle.isp_lower.specs.Instructions.{convert, operate, operate_places, constant, copy, read_by, write_by}
+use Rattle.isp_lower.specs.Known.{constant_of}
+use Rattle.isp_lower.specs.Spans.{expr_places, index_places}
+use Rattle.isp_lower.specs.Stays.{writes_part, writes_last}
 use Rattle.isp_lower.specs.Layout.{Layout}
-use Rattle.isp_lower.specs.Simple.{assign_code, update_to, change_code, change_by_code, one_in, one_code, step_code, simple_code, simple_places}
-use Rattle.isp_emitted.proofs.Same.{Alike, SameIn, two_same, joined_same, lifted_same, lift_same, part_same, lift_to_same, copied_same, found_same, operand_same, run_same, by_same, short_same}
+use Rattle.isp_lower.specs.Simple.{one_of, assign_code, update_to, change_code, change_by_code, one_in, one_code, step_code, simple_code, simple_places}
+use Rattle.isp_emitted.proofs.Same.{is_kept_same, Alike, SameIn, two_same, joined_same, lifted_same, lift_same, part_same, lift_to_same, copied_same, found_same, operand_same, run_same, by_same, short_same}
 use Rattle.isp_emitted.proofs.SameCode.{places_same, index_places_same, read_places_same, call_places_same, to_same, code_same, taken_same, target_same, call_same}
 
 pub simple_places_same : (l m : Layout) (x : TSimple) → simple_places l x ≡ simple_places m x
@@ -42,11 +48,11 @@ module _ (l m : Layout) (alike : Alike l m) where
   part_same_writes Varying Varying a b e = e
 
   writes_same : (x : TExpr) → writes_last l x ≡ writes_last m x
-  writes_same (t_constant v sp) = refl
+  writes_same (t_constant v sp) = ap not (alike.kept Uniform v.elem v.bits)
   writes_same (t_program_index sp) = refl
   writes_same (t_place (t_variable v t sp)) = copied_same l m alike t.rate v
   writes_same (t_place (t_element b i t sp)) = refl
-  writes_same (t_convert e x) = refl
+  writes_same (t_convert e x) = ap not (is_kept_same l m alike (constant_of x) (type_of x).rate e)
   writes_same (t_cast x t sp) =
       part_same_writes t.rate (type_of x).rate (writes_last l x) (writes_last m x) (writes_same x)
   writes_same (t_unary o x t sp) = refl
@@ -133,11 +139,10 @@ module _ (l m : Layout) (alike : Alike l m) where
 
   -- the number 1 at a rate
   one_in_same : (r : Rate) (t : Elem) (i : ℕ) → SameIn l m (one_asks r t i) → one_in l r t i ≡ one_in m r t i
-  one_in_same r t i f = lifted_same l m alike r Uniform t (l.spare Uniform t i) (m.spare Uniform t i) i f.0 f.1
+  one_in_same r t i f = operand_same l m alike r (one_of t) i (f.1, f.0)
 
   one_code_same : (r : Rate) (t : Elem) (k i : ℕ) → SameIn l m (one_asks r t i) → one_code l r t k i ≡ one_code m r t k i
-  one_code_same r t k i f =
-      ap₂ (λ a s. constant a t 1 ∷ s) f.0 (lift_same l m alike r Uniform t (l.spare Uniform t i) (m.spare Uniform t i) k i f.0 f.1)
+  one_code_same r t k i f = taken_same l m alike r (one_of t) 0 0 0 k i refl (f.1, f.0)
 
   step_same : (o : BinOp) (t : Elem) (z : TPlace) (pc p k n : ℕ) → SameIn l m (step_asks t z n) → step_code l o t z pc p k n ≡ step_code m o t z pc p k n
   step_same o t z pc p k n f =

@@ -1,5 +1,5 @@
 -- Where rows are added, code lies as it did.
-use Rattle.std.proofs.Common.{◌≡◌, ℕ, List, [], ◌∷◌, ◌++◌, length, Bool, refl, sym, ap, ◌∙◌, append_assoc, append-nil}
+use Rattle.std.proofs.Common.{◌≡◌, ℕ, List, [], ◌∷◌, ◌++◌, length, Bool, true, refl, sym, ap, ◌∙◌, append_assoc, append-nil}
 use Rattle.std.specs.Prelude.{is_some}
 use Rattle.isp_base.specs.declared.types.Elem.{Elem}
 use Rattle.isp_base.specs.declared.types.Rate.{Rate}
@@ -8,11 +8,11 @@ use Rattle.isp_lower.specs.Asks.{Ask, Nothing, Both, Register, ArrayOf, LocalOf,
 use Rattle.isp_lower.specs.Emitted.{Begins, Grows, HasRow, rows_of}
 use Rattle.isp_lower.specs.Layout.{Layout}
 use Rattle.isp_lower.specs.Reserved.{Has}
-use Rattle.isp_lower.specs.Rows.{Name, Variable, Fresh, Row, Rows, elem_in, number_in, rows_at, layout_of, with_fresh, with_fresh_at}
+use Rattle.isp_lower.specs.Rows.{keeps as keeps_constant, Name, Variable, Fresh, Row, Rows, elem_in, number_in, rows_at, layout_of, with_fresh, with_fresh_at}
 use Rattle.isp_lower.specs.declared.registers.Registers.{Registers}
 use Rattle.isp_lower.specs.declared.reserve.Reserve.{Reserve}
 use Rattle.isp_emitted.specs.Staying.{KeepsPlaces, RegistersGrow, CodeStays}
-use Rattle.isp_emitted.proofs.Rows.{numbered_in, same_number}
+use Rattle.isp_emitted.proofs.Rows.{fresh_keeps, kept_number, numbered_in, same_number}
 use Rattle.isp_emitted.proofs.Same.{Alike, SameIn, found_same}
 use Rattle.isp_emitted.proofs.SameCode.{code_same}
 use Rattle.isp_emitted.proofs.SameSimple.{simple_same}
@@ -36,6 +36,8 @@ same_grows old new e =
       vectors = begins_same (rows_of old).vectors (rows_of new).vectors (ap (λ (r : Rows). r.vectors) e);
       arrays = begins_same (rows_of old).arrays (rows_of new).arrays (ap (λ (r : Rows). r.arrays) e);
       loaded = begins_same (rows_of old).loaded (rows_of new).loaded (ap (λ (r : Rows). r.loaded) e);
+      kept_scalars = λ u b. ap (λ (r : Rows). keeps_constant r.scalars u b) e;
+      kept_vectors = λ u b. ap (λ (r : Rows). keeps_constant r.vectors u b) e;
     }
 
 fresh_grows : (old new : Registers) (r : Rate) (t : Elem) → rows_of new ≡ with_fresh_at r t (rows_of old) → Grows old new
@@ -45,6 +47,8 @@ fresh_grows old new Uniform t e =
       vectors = begins_same (rows_of old).vectors (rows_of new).vectors (ap (λ (r : Rows). r.vectors) e);
       arrays = begins_same (rows_of old).arrays (rows_of new).arrays (ap (λ (r : Rows). r.arrays) e);
       loaded = begins_same (rows_of old).loaded (rows_of new).loaded (ap (λ (r : Rows). r.loaded) e);
+      kept_scalars = λ u b. ap (λ (r : Rows). keeps_constant r.scalars u b) e ∙ fresh_keeps (length (rows_of old).scalars) t (rows_of old).scalars u b;
+      kept_vectors = λ u b. ap (λ (r : Rows). keeps_constant r.vectors u b) e;
     }
 fresh_grows old new Varying t e =
     record {
@@ -52,6 +56,8 @@ fresh_grows old new Varying t e =
       vectors = begins_fresh t (rows_of old).vectors (rows_of new).vectors (ap (λ (r : Rows). r.vectors) e);
       arrays = begins_same (rows_of old).arrays (rows_of new).arrays (ap (λ (r : Rows). r.arrays) e);
       loaded = begins_same (rows_of old).loaded (rows_of new).loaded (ap (λ (r : Rows). r.loaded) e);
+      kept_scalars = λ u b. ap (λ (r : Rows). keeps_constant r.scalars u b) e;
+      kept_vectors = λ u b. ap (λ (r : Rows). keeps_constant r.vectors u b) e ∙ fresh_keeps (length (rows_of old).vectors) t (rows_of old).vectors u b;
     }
 
 on_grows : (old mid new : Registers) → Grows old mid → Grows mid new → Grows old new
@@ -61,6 +67,8 @@ on_grows old mid new a b =
       vectors = begins_on (rows_of old).vectors (rows_of mid).vectors (rows_of new).vectors a.vectors b.vectors;
       arrays = begins_on (rows_of old).arrays (rows_of mid).arrays (rows_of new).arrays a.arrays b.arrays;
       loaded = begins_on (rows_of old).loaded (rows_of mid).loaded (rows_of new).loaded a.loaded b.loaded;
+      kept_scalars = λ u z. b.kept_scalars u z ∙ a.kept_scalars u z;
+      kept_vectors = λ u z. b.kept_vectors u z ∙ a.kept_vectors u z;
     }
 
 pub registers_grow : RegistersGrow
@@ -73,7 +81,7 @@ loaded_before old new = record new { loaded = old.loaded }
 pub keeps_places : (old new : Registers) → Grows old new → KeepsPlaces old (loaded_before old new)
 keeps_places old new g =
     record {
-      grows = record { scalars = g.scalars; vectors = g.vectors; arrays = g.arrays; loaded = begins_same (rows_of old).loaded (rows_of old).loaded refl };
+      grows = record { scalars = g.scalars; vectors = g.vectors; arrays = g.arrays; loaded = begins_same (rows_of old).loaded (rows_of old).loaded refl; kept_scalars = g.kept_scalars; kept_vectors = g.kept_vectors };
       loaded = refl;
     }
 
@@ -86,10 +94,18 @@ module _ (rates : ℕ → List Rate) (old new : Reserve) (keeps : KeepsPlaces ol
   abbrev now : Layout
   now = layout_of rates (rows_of new.registers)
 
+  same_kept : (q : Rate) (t : Elem) (b : ℕ) → now.kept q t b ≡ then.kept q t b
+  same_kept Uniform t b = keeps.grows.kept_scalars t b
+  same_kept Varying t b = keeps.grows.kept_vectors t b
+
+  same_constant : (q : Rate) (t : Elem) (b : ℕ) → then.kept q t b ≡ true → now.constant q t b ≡ then.constant q t b
+  same_constant Uniform t b e = kept_number (rows_of old.registers).scalars (rows_of new.registers).scalars t b keeps.grows.scalars e
+  same_constant Varying t b e = kept_number (rows_of old.registers).vectors (rows_of new.registers).vectors t b keeps.grows.vectors e
+
   alike : Alike now then
   alike =
       let loaded : (List Row → ℕ → Bool) = λ rows v. is_some (elem_in rows (Variable v)) in
-      record { rates = refl; loaded = ap loaded keeps.loaded; first = refl; second = refl }
+      record { rates = refl; loaded = ap loaded keeps.loaded; first = refl; second = refl; kept = same_kept; constants = same_constant }
 
   row_number : (q : Rate) (x : Name) (t : Elem) → HasRow old.registers q x t → number_in (rows_at (rows_of new.registers) q) x ≡ number_in (rows_at (rows_of old.registers) q) x
   row_number Uniform x t f = same_number (rows_of old.registers).scalars (rows_of new.registers).scalars x t keeps.grows.scalars f

@@ -13,7 +13,9 @@ use Rattle.isp_lower.specs.Steps.{GoesOn}
 use Rattle.isp_lower.specs.Adding.{Adds, expr_in, layout_in, simple_in}
 use Rattle.isp_lower.specs.Asks.{Ask, expr_asks, simple_asks}
 use Rattle.isp_lower.specs.Callees.{rates_in}
-use Rattle.isp_lower.specs.Code.{expr_code, expr_places, found}
+use Rattle.isp_lower.specs.Code.{expr_code}
+use Rattle.isp_lower.specs.Found.{found}
+use Rattle.isp_lower.specs.Spans.{expr_places}
 use Rattle.isp_lower.specs.Drafts.{draft_of}
 use Rattle.isp_lower.specs.Emitted.{rows_of}
 use Rattle.isp_lower.specs.Fits.{ExprFits, SimpleFits}

@@ -4,7 +4,8 @@ use Rattle.isp_base.specs.declared.types.Elem.{Elem}
 use Rattle.isp_base.specs.declared.types.Rate.{Rate}
 use Rattle.isp_typed.specs.Typed.{TExpr, TSimple}
 use Rattle.isp_lower.specs.Asks.{Ask, expr_asks, simple_asks}
-use Rattle.isp_lower.specs.Code.{expr_code, found}
+use Rattle.isp_lower.specs.Code.{expr_code}
+use Rattle.isp_lower.specs.Found.{found}
 use Rattle.isp_lower.specs.Emitted.{Grows, rows_of}
 use Rattle.isp_lower.specs.Reserved.{Has}
 use Rattle.isp_lower.specs.Rows.{layout_of, with_fresh_at}

@@ -10,7 +10,7 @@ use Rattle.isp_typed.specs.Fine.{FineExpr, FineSimple}
 use Rattle.isp_typed.specs.Typed.{TExpr, TSimple, type_of}
 use Rattle.isp_lower.specs.Adding.{Adds, expr_in, layout_in, simple_in}
 use Rattle.isp_lower.specs.Asks.{Ask, expr_asks, simple_asks}
-use Rattle.isp_lower.specs.Code.{found}
+use Rattle.isp_lower.specs.Found.{found}
 use Rattle.isp_lower.specs.Drafts.{draft_of}
 use Rattle.isp_lower.specs.Emitted.{Grows}
 use Rattle.isp_lower.specs.Rated.{IsRated, SimpleRated}

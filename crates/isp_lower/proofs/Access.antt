@@ -24,7 +24,8 @@ use Rattle.isp_meaning.specs.Places.{elements}
 use Rattle.isp_lower.specs.Layout.{register, mask_register, array_register}
 use Rattle.isp_lower.specs.Setting.{ArrayFitsAt, Setting, gang_of, At, Stands, at_rate, held_at}
 use Rattle.isp_base.specs.Values.{number}
-use Rattle.isp_lower.specs.Code.{read, read_by, is_whole}
+use Rattle.isp_lower.specs.Found.{is_whole}
+use Rattle.isp_lower.specs.Instructions.{read, read_by}
 use Rattle.isp_lower.proofs.Base.{moved_by}
 use Rattle.isp_lower.proofs.Rates.{Filled, filled_on, at_mapped, at_offender, offender_mapped, lowest_below, some_lowest}
 use Rattle.isp_lower.proofs.Values.{whole_outside, whole_element}

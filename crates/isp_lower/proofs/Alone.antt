@@ -16,7 +16,8 @@ use Rattle.isp_meaning.specs.Simple.{simple}
 use Rattle.isp_meaning.specs.State.{State, tick}
 use Rattle.isp_lower.specs.Callees.{rates_held}
 use Rattle.isp_lower.specs.Calls.{AreHanded, given_back, CallRuns}
-use Rattle.isp_lower.specs.Code.{arguments_places, argument_registers, arguments_code, call_code, call_places, calling}
+use Rattle.isp_lower.specs.Code.{argument_registers, arguments_code, call_code, calling}
+use Rattle.isp_lower.specs.Spans.{arguments_places, call_places}
 use Rattle.isp_lower.specs.Layout.{mask_register}
 use Rattle.isp_lower.specs.Runs.{Enters, DoneRuns}
 use Rattle.isp_lower.specs.Setting.{Setting, IsSettled, gang_of, calls_of, AreAt, At, Stands}
@@ -48,6 +49,7 @@ module _ (w : Setting) (ready : IsSettled w) where
           arrays_are = refl;
           out_is = refl;
           run = run_each w.layout.run w.start w.members (c.scalars (w.layout.place Uniform)) s.varying s1.varying (λ i ei. ap (λ z. z.varying i) (sym gives.state)) st.run;
+          constants = st.constants;
         };
         spares = record { scalars_stay = λ e j lt. refl; vectors_stay = λ e j lt. refl };
         masks = λ r lt. refl;

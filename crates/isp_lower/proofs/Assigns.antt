@@ -13,7 +13,11 @@ use Rattle.isp_meaning.specs.Expressions.{place}
 use Rattle.isp_meaning.specs.Simple.{simple}
 use Rattle.isp_lower.specs.Setting.{Setting, IsSettled, gang_of, calls_of, AreAt, Holds}
 use Rattle.isp_lower.specs.Runs.{Enters, DoneRuns}
-use Rattle.isp_lower.specs.Code.{index_code, operand, operand_of, found, expr_places, expr_code, index_by, write_by, is_run}
+use Rattle.isp_lower.specs.Code.{index_code, expr_code}
+use Rattle.isp_lower.specs.Elements.{index_by, is_run}
+use Rattle.isp_lower.specs.Found.{operand, operand_of, found}
+use Rattle.isp_lower.specs.Instructions.{write_by}
+use Rattle.isp_lower.specs.Spans.{expr_places}
 use Rattle.isp_lower.specs.Simple.{assign_code, assign_places}
 use Rattle.isp_lower.proofs.Base.{are_front, are_back, spares_less}
 use Rattle.isp_lower.proofs.Found.{few}
@@ -64,8 +68,8 @@ module _ (w : Setting) (ready : IsSettled w) where
       let c1 = ok.conf in
       done_after w ready c c1 ok.steps end n q _ ok.comes ok.spares ok.masks
       (bind_done w ready c1 (pc1 + length ca) m 1 (ok.steps + q) (λ d c'. Holds r a u d c' × Keeps w m c1 c') (means w ready x a s1) _ end n
-      (runs_kept w c1 (pc1 + length ca) m (1 + (ok.steps + q)) (Holds r a u) (means w ready x a s1) s1 ok.stands (value_still w ready x m a s1 fit.2) (operand_runs w ready c1 pc1 k m (1 + (ok.steps + q)) a (means w ready x a s1) r t.elem x cx fit.1 (ok.masks k lk ∙ b.mask) (omega arith) ha
-      (expr_runs w ready x pc1 p1 k m (ok.steps + q) (1 + (1 + (ok.steps + q))) a s1 c1 fit.2 (are_front w.routine.code pc1 cx _ ha) (are_front w.code.places p1 (expr_places w.layout x) _ pl) (omega arith) (enters_later w ready pc pc1 k n m (ok.steps + q) q (1 + q) a s s1 c (omega arith) b ok (omega arith)))))
+      (runs_kept w c1 (pc1 + length ca) m (1 + (ok.steps + q)) (Holds r a u) (means w ready x a s1) s1 ok.stands (value_still w ready x m a s1 fit.2) (operand_runs w ready c1 pc1 k m (ok.steps + q) (1 + (ok.steps + q)) a s1 r t.elem x cx fit.1 (omega arith) (enters_later w ready pc pc1 k n m (ok.steps + q) q (1 + q) a s s1 c (omega arith) b ok (omega arith)) ha
+      (λ at. expr_runs w ready x pc1 p1 k m (ok.steps + q) (1 + (1 + (ok.steps + q))) a s1 c1 fit.2 at (are_front w.code.places p1 (expr_places w.layout x) _ pl) (omega arith) (enters_later w ready pc pc1 k n m (ok.steps + q) q (1 + q) a s s1 c (omega arith) b ok (omega arith)))))
       (λ d s2 ok2.
       let h = place_kept w ready z n a at c1 ok2.conf fit.0 ok2.holds.1 ok.holds in
       subst (λ g. DoneRuns w c1 end n (ok.steps + q) (bind (checked (outside (gang_of w) w.frame g a) Index sv s2 d) (λ b s3. Gives tt (kept (gang_of w) w.frame g a b s3)))) (sym h.1)

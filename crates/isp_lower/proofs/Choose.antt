@@ -21,7 +21,10 @@ use Rattle.isp_lower.specs.Layout.{register, mask_register}
 use Rattle.isp_lower.specs.Setting.{Setting, IsSettled, gang_of, AreAt, At, Stands, at_rate, Holds, Allowed}
 use Rattle.isp_typed.specs.Typed.{TExpr}
 use Rattle.isp_lower.specs.Runs.{Enters, Ok, Runs}
-use Rattle.isp_lower.specs.Code.{move_code, where_so, the_others, jump_on, jump_off, guard, choice, two, select, choose_rest, operand, choose_code}
+use Rattle.isp_lower.specs.Code.{choose_code}
+use Rattle.isp_lower.specs.Found.{operand}
+use Rattle.isp_lower.specs.Instructions.{where_so, the_others, jump_on, jump_off, select}
+use Rattle.isp_lower.specs.Pieces.{move_code, guard, choice, two, choose_rest}
 use Rattle.isp_lower.proofs.Base.{are_front, are_back, put_same, put_other, comes_none, comes_on, at_to, step_go, spares_all, spares_less}
 use Rattle.isp_lower.proofs.Rates.{at_kept, one_holds, filled_on}
 use Rattle.isp_lower.proofs.Lines.{set_at}

@@ -21,10 +21,11 @@ use Rattle.isp_meaning.specs.State.{State}
 use Rattle.isp_meaning.specs.Payloads.{Payload, One, Each, sole, spread}
 use Rattle.isp_meaning.specs.Outcomes.{Val, Gives, Fails, Stops, bind, checked}
 use Rattle.isp_lower.specs.Layout.{register, mask_register}
-use Rattle.isp_lower.specs.Setting.{Setting, IsSettled, AreAt, At, Stands, at_rate, held_at, Holds, Spares}
+use Rattle.isp_lower.specs.Setting.{Setting, IsSettled, AreAt, At, Stands, at_rate, held_at, Holds, Spares, gang_of}
 use Rattle.isp_lower.specs.Runs.{Comes, Ok, Failed, Stopped, Runs}
-use Rattle.isp_lower.specs.Code.{lifted, lift_code}
+use Rattle.isp_lower.specs.Found.{lifted, lift_code}
 use Rattle.isp_lower.proofs.Base.{put_same, put_other, comes_on, fails_on, step_go, step_fail, next_at, at_to, moved_by, spares_less, spares_on}
+use Rattle.isp_lower.proofs.Constants.{scalar_put, vector_put}
 use Rattle.isp_lower.proofs.Rates.{Filled, filled_on}
 use Rattle.isp_lower.proofs.Lines.{set_at}
 use Rattle.isp_lower.specs.Rated.{Reaches}
@@ -117,6 +118,7 @@ module _ (w : Setting) (ready : IsSettled w) where
     arrays_are = st.arrays_are;
     out_is = st.out_is;
     run = run_place w.layout.run w.start w.members (c.scalars (w.layout.place Uniform)) (put c.scalars (w.layout.spare Uniform t j) (sole x) (w.layout.place Uniform)) s.varying (sym (put_other c.scalars (w.layout.spare Uniform t j) (sole x) (w.layout.place Uniform) (ready.apart.place_spare Uniform t j))) st.run;
+    constants = scalar_put w.layout (gang_of w) c.scalars c.vectors (w.layout.spare Uniform t j) (sole x) (λ u b k. ready.apart.kept_spare Uniform u b t j k) st.constants;
   }
   set_stands Varying c t j x s st =
       let y = over (spread nobody x) (c.vectors (w.layout.spare Varying t j)) in
@@ -129,6 +131,7 @@ module _ (w : Setting) (ready : IsSettled w) where
         arrays_are = st.arrays_are;
         out_is = st.out_is;
         run = st.run;
+        constants = vector_put w.layout (gang_of w) c.scalars c.vectors (w.layout.spare Varying t j) y (λ u b k. ready.apart.kept_spare Varying u b t j k) st.constants;
       }
 
   pub set_holds : (r : Rate) (c : Conf) (d : ℕ) (a : Mask) (x : Payload) → Filled r a x → x ≡ held_at r (set_at r c d x).scalars (set_at r c d x).vectors a d

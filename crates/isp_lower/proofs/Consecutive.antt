@@ -21,7 +21,8 @@ use Rattle.isp_base.proofs.Wraps.{wrap_to-pos}
 use Rattle.isp_base.specs.declared.types.Span.{Span}
 use Rattle.isp_meaning.specs.Payloads.{Payload, converted}
 use Rattle.isp_typed.specs.Typed.{TExpr, t_constant, t_program_index, t_place, t_convert, t_cast, t_unary, t_binary, t_compare, t_logic, t_choose, t_call, t_library, t_packed_store, t_packed_load, t_variable, t_element}
-use Rattle.isp_lower.specs.Code.{expr_places, counts, is_counter, is_run, names}
+use Rattle.isp_lower.specs.Elements.{counts, is_counter, is_run, names}
+use Rattle.isp_lower.specs.Spans.{expr_places}
 use Rattle.isp_lower.specs.Held.{at_rate, held_at}
 use Rattle.isp_lower.specs.Layout.{Layout}
 use Rattle.isp_lower.specs.Rated.{Reaches}

@@ -17,10 +17,10 @@ use Rattle.isp_lower.specs.Simple.{simple_code}
 use Rattle.isp_lower.specs.Items.{items_code}
 
 -- variables v, y, z of each type, an array a and an index i of type int64, in a function with any registers and without packed loads,
--- outside the body of a `foreach`
+-- outside the body of a `foreach`, where no constant is kept
 module _ (any : Layout) (a : ArrayVariable) (v y z i : ℕ) (sp : Span) where
   abbrev l : Layout
-  l = record any { loaded = λ x. false; in_run = false }
+  l = record any { loaded = λ x. false; in_run = false; kept = λ r t b. false }
 
   abbrev at : Rate → Elem → ℕ → TPlace
   at r t x = t_variable x (ty_of r t) sp

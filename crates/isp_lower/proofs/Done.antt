@@ -16,7 +16,7 @@ use Rattle.isp_meaning.specs.Outcomes.{Val, Gives, Fails, Stops, Done, bind, che
 use Rattle.isp_meaning.specs.Places.{written}
 use Rattle.isp_lower.specs.Setting.{Setting, IsSettled, At, Stands, Spares, held_at, Holds, OtherAt, IsOther}
 use Rattle.isp_lower.specs.Runs.{Comes, Ok, Runs, DoneOk, DoneRuns}
-use Rattle.isp_lower.specs.Code.{copy, splat}
+use Rattle.isp_lower.specs.Instructions.{copy, splat}
 use Rattle.isp_lower.proofs.Base.{put_other, comes_on, spares_on}
 use Rattle.isp_lower.proofs.Lines.{set_at}
 use Rattle.isp_lower.proofs.Combine.{failed_after, stopped_after, failed_less, stopped_less, set_goes}

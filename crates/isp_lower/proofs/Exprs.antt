@@ -50,7 +50,13 @@ use Rattle.isp_lower.specs.Calls.{IsHanded, AreHanded, Takes, given_back, CallRu
 use Rattle.isp_lower.specs.Layout.{class_at, register, mask_register, array_register}
 use Rattle.isp_lower.specs.Setting.{ArrayFitsAt, ArrayFits, Setting, IsSettled, gang_of, calls_of, AreAt, At, Stands, at_rate, held_at, Holds, Spares, Allowed, IsOther}
 use Rattle.isp_lower.specs.Runs.{Comes, Enters, Runs}
-use Rattle.isp_lower.specs.Code.{is_copied, variable_found, variable_read, copy, convert, constant, constant_of, convert_to, part_to, lift_to, lifted, found, operand, operand_of, lift_code, is_whole, whole, whole_of, index, index_of, packed_store, packed_load, base_register, base_places, base_code, expr_places, expr_code, expr_to, values_code, values_places, value_registers, argument_places, arguments_places, argument_register, argument_registers, argument_code, arguments_code, calling, select, stays, stays_at, is_short, choose_code, choose_to, index_by, index_by_of, read_by, is_run, start_code}
+use Rattle.isp_lower.specs.Code.{variable_read, base_register, base_code, expr_code, expr_to, values_code, value_registers, argument_register, argument_registers, argument_code, arguments_code, calling, choose_code, choose_to}
+use Rattle.isp_lower.specs.Elements.{index_by, index_by_of, is_run, start_code}
+use Rattle.isp_lower.specs.Found.{is_copied, is_kept, kept_found, variable_found, convert_to, part_to, lift_to, lifted, found, operand, operand_of, lift_code, is_whole, whole, whole_of, index, index_of}
+use Rattle.isp_lower.specs.Instructions.{copy, convert, constant, packed_store, packed_load, select, read_by}
+use Rattle.isp_lower.specs.Known.{bits_as, unless_kept, constant_of}
+use Rattle.isp_lower.specs.Spans.{base_places, expr_places, values_places, argument_places, arguments_places}
+use Rattle.isp_lower.specs.Stays.{stays, stays_at, is_short}
 use Rattle.isp_lower.proofs.Base.{are_front, are_back, comes_none, comes_on, at_to, moved_by, spares_all, spares_less, spares_on}
 use Rattle.isp_lower.proofs.Rates.{Filled, held_same, at_mapped, at_offender, filled_on, filled_held}
 use Rattle.isp_lower.proofs.Lines.{set_at, value_at, copy_line, convert_line, unary_line, compare_line, operate_at, place_named}
@@ -89,7 +95,7 @@ module _ (w : Setting) (ready : IsSettled w) where
   variable_held Uniform v a s c st = ap One (sym (st.uniforms v))
   variable_held Varying v a s c st = ap (λ z. Each (on a z)) (sym (st.varying v))
 
-  constant_runs : (g : Target) (pc k n q rest : ℕ) (a : Mask) (s : State) (c : Conf) (t : Elem) (bits b : ℕ) → rest ≤ 31 + q → Enters w pc k n a s c q → IsTyped w Uniform (target w.layout g Uniform t n) t → slice_get w.routine.code pc ≡ Some (constant (target w.layout g Uniform t n) t bits) → wrap t (number t bits) ≡ b → Leaves w g (target w.layout g Uniform t n) c (pc + 1) n rest Uniform a (Gives (One b) (tick s))
+  pub constant_runs : (g : Target) (pc k n q rest : ℕ) (a : Mask) (s : State) (c : Conf) (t : Elem) (bits b : ℕ) → rest ≤ 31 + q → Enters w pc k n a s c q → IsTyped w Uniform (target w.layout g Uniform t n) t → slice_get w.routine.code pc ≡ Some (constant (target w.layout g Uniform t n) t bits) → wrap t (number t bits) ≡ b → Leaves w g (target w.layout g Uniform t n) c (pc + 1) n rest Uniform a (Gives (One b) (tick s))
   constant_runs g pc k n q rest a s c t bits b le e ty has is =
       let d = target w.layout g Uniform t n in
       leaf_runs w ready g pc k n q rest a s c (constant d t bits) Uniform t (One b) (One b) le e has refl refl
@@ -136,7 +142,7 @@ module _ (w : Setting) (ready : IsSettled w) where
       runs_same (Gives x s1) r = record { conf = r.conf; steps = r.steps; comes = r.comes; at = r.at; stands = r.stands; spares = r.spares; masks = r.masks; holds = at_mapped (type_of i).rate a (λ x. x) x ∙ ap (mapped (λ x. x)) r.holds ∙ held_same (type_of i).rate a r.conf.scalars r.conf.vectors (found w.layout i n); bound = r.bound }
       runs_same (Fails p s1) r = r
       runs_same (Stops s1) r = r
-  whole_runs i false pc k n q rest a s c code ez le b fit ty has run = convert_runs InSlot i I64 pc k n q rest a s c code le b (found_typed w i n fit) ty has run
+  whole_runs i false pc k n q rest a s c code ez le b fit ty has run = convert_runs InSlot i I64 pc k n q rest a s c code le b (found_typed w ready i n fit) ty has run
 
   index_runs : (y : ArrayVariable) (i : TExpr) (t : Ty) (pc k n q rest : ℕ) (a : Mask) (s : State) (c : Conf) (code : List Instr) → rest ≤ 30 + q → Enters w pc k n a s c q → ExprParts w i n → Reaches (type_of i).rate t.rate → SpareFits w (type_of i).rate I64 n → AreAt w.routine.code pc (index_of w.layout t.rate i k n code) → (AreAt w.routine.code pc code → Runs w c (pc + length code) n (1 + (1 + rest)) (Holds (type_of i).rate a (found w.layout i n)) (means i a s)) → Runs w c (pc + length (index_of w.layout t.rate i k n code)) n rest (ElementHolds false y i t n a) (bind (means i a s) (λ m s1. Gives (Element y (type_of i).elem m) s1))
   index_runs y i t pc k n q rest a s c code le b fit re ty has run =
@@ -218,9 +224,26 @@ module _ (w : Setting) (ready : IsSettled w) where
   NodeRuns u z =
       (pc p k n q rest : ℕ) (a : Mask) (s : State) (c : Conf) → ExprParts w z n → IsTyped w (type_of z).rate (target w.layout u (type_of z).rate (type_of z).elem n) (type_of z).elem → AreAt w.routine.code pc (expr_to w.layout (target w.layout u (type_of z).rate (type_of z).elem n) z pc p k n) → AreAt w.code.places p (expr_places w.layout z) → heads z + rest ≤ 5 + q → Enters w pc k n a s c q → Leaves w u (target w.layout u (type_of z).rate (type_of z).elem n) c (pc + length (expr_to w.layout (target w.layout u (type_of z).rate (type_of z).elem n) z pc p k n)) n rest (type_of z).rate a (means z a s)
 
-  pub number_node : (u : Target) (v : Value) (sp : Span) → NodeRuns u (t_constant v sp)
-  number_node u v sp pc p k n q rest a s c fit ty has places le b =
-      constant_runs u pc k n q rest a s c v.elem v.bits (v.bits % 2 ^ width v.elem) (omega arith) b ty has.0 (wrap_bits v.elem v.bits)
+  -- a constant that is kept is there, and needs no code
+  kept_runs : (pc k n q rest : ℕ) (a : Mask) (s : State) (c : Conf) (t : Elem) (bits b : ℕ) → rest ≤ 31 + q → Enters w pc k n a s c q → w.layout.kept Uniform t bits ≡ true → wrap t (number t bits) ≡ b → Runs w c (pc + 0) n rest (Holds Uniform a (w.layout.constant Uniform t bits)) (Gives (One b) (tick s))
+  kept_runs pc k n q rest a s c t bits b le e kept is = record {
+    conf = c;
+    steps = 0;
+    comes = comes_none w c;
+    at = at_to w c pc _ e.at (omega arith);
+    stands = e.stands;
+    spares = spares_all w n c;
+    masks = λ j h. refl;
+    holds = ap One (sym is ∙ wrap_bits t bits ∙ sym (e.stands.constants Uniform t bits kept));
+    bound = omega (arith, le, e.used);
+  }
+
+  number_runs : (v : Value) (sp : Span) → RunsHere (t_constant v sp)
+  number_runs v sp pc p k n q rest a s c fit has places le b = go (w.layout.kept Uniform v.elem v.bits) refl has
+    where
+      go : (z : Bool) → w.layout.kept Uniform v.elem v.bits ≡ z → AreAt w.routine.code pc (unless_kept z (constant (kept_found w.layout z Uniform v.elem v.bits n) v.elem v.bits ∷ [])) → Runs w c (pc + length (unless_kept z (constant (kept_found w.layout z Uniform v.elem v.bits n) v.elem v.bits ∷ []))) n rest (Holds Uniform a (kept_found w.layout z Uniform v.elem v.bits n)) (Gives (One (v.bits % 2 ^ width v.elem)) (tick s))
+      go true e at = kept_runs pc k n q rest a s c v.elem v.bits (v.bits % 2 ^ width v.elem) (omega arith) b e (wrap_bits v.elem v.bits)
+      go false e at = constant_runs InSlot pc k n q rest a s c v.elem v.bits (v.bits % 2 ^ width v.elem) (omega arith) b fit at.0 (wrap_bits v.elem v.bits)
 
   pub index_node : (u : Target) (sp : Span) → NodeRuns u (t_program_index sp)
   index_node u sp pc p k n q rest a s c fit ty has places le b =
@@ -269,10 +292,35 @@ module _ (w : Setting) (ready : IsSettled w) where
       subst (λ g. Leaves w u d c (pc + length (cj ++ rd ∷ [])) n rest t.rate a (checked (outside (gang_of w) w.frame g a) Index sp s1 (held (gang_of w) w.frame g a s1))) (sym h.1)
       (element_runs u z (index_by w.layout z t.rate i n) y i t sp c ok.conf ok.steps (pc + length cj) _ k n (p + length (expr_places w.layout i)) rest a s1 h.0 (ready.arrays y fit.0.0) fit.0.1 ok.comes ok.at to (are_back w.routine.code pc cj (rd ∷ []) has).0 (are_back w.code.places p (expr_places w.layout i) _ places).0 ok.stands ok.spares ok.masks (ok.masks k b.low ∙ b.mask) b.some b.inside (omega (arith, ok.bound)) h.2))
 
-  pub convert_node : (u : Target) (e : Elem) (x : TExpr) → RunsHere x → NodeRuns u (t_convert e x)
+  -- a conversion, but of a constant that is kept
+  pub convert_node : (u : Target) (e : Elem) (x : TExpr) → RunsHere x → (pc p k n q rest : ℕ) (a : Mask) (s : State) (c : Conf) → ExprParts w (t_convert e x) n → IsTyped w (type_of x).rate (target w.layout u (type_of x).rate e n) e → AreAt w.routine.code pc (convert_to w.layout (constant_of x) e (type_of x).rate (target w.layout u (type_of x).rate e n) (found w.layout x n) k (expr_code w.layout x pc p k n)) → AreAt w.code.places p (expr_places w.layout x) → heads (t_convert e x) + rest ≤ 5 + q → Enters w pc k n a s c q → Leaves w u (target w.layout u (type_of x).rate e n) c (pc + length (convert_to w.layout (constant_of x) e (type_of x).rate (target w.layout u (type_of x).rate e n) (found w.layout x n) k (expr_code w.layout x pc p k n))) n rest (type_of x).rate a (means (t_convert e x) a s)
   convert_node u e x ih pc p k n q rest a s c fit ty has places le b =
-      convert_runs u x e pc k n q rest a s c (expr_code w.layout x pc p k n) (omega arith) b (found_typed w x n fit.2) ty has
+      convert_runs u x e pc k n q rest a s c (expr_code w.layout x pc p k n) (omega arith) b (found_typed w ready x n fit.2) ty has
       (λ at. ih pc p k n q (1 + rest) a s c fit.2 at places (omega (arith, le)) b)
+
+  converted_runs : (e : Elem) (x : TExpr) → RunsHere x → RunsHere (t_convert e x)
+  converted_runs e x ih pc p k n q rest a s c fit has places le b = go (is_kept w.layout (constant_of x) (type_of x).rate e) refl has
+    where
+      r : Rate
+      r = (type_of x).rate
+
+      place : Bool → ℕ
+      place z = kept_found w.layout z r e (bits_as (constant_of x) e) n
+
+      code : Bool → List Instr
+      code z = unless_kept z (convert_to w.layout (constant_of x) e r (place z) (found w.layout x n) k (expr_code w.layout x pc p k n))
+
+      there : (o : Option Value) → constant_of x ≡ o → is_kept w.layout o r e ≡ true → Runs w c (pc + 0) n rest (Holds r a (w.layout.constant r e (bits_as o e))) (means (t_convert e x) a s)
+      there None eo h = absurd (cc)
+      there (Some v) eo h =
+          let one = constant_is_one x v eo in
+          let m = converted v.elem e v.bits in
+          subst (λ y. w.layout.kept (type_of y).rate e m ≡ true → Runs w c (pc + 0) n rest (Holds (type_of y).rate a (w.layout.constant (type_of y).rate e m)) (bind (means y a s) (λ m s1. Gives (mapped (converted (type_of y).elem e) m) s1))) (sym one.1)
+          (λ kept. kept_runs pc k n q rest a s c e m (converted v.elem e (v.bits % 2 ^ width v.elem)) (omega (arith, le)) b kept (constant_is v.elem e v.bits)) h
+
+      go : (z : Bool) → is_kept w.layout (constant_of x) r e ≡ z → AreAt w.routine.code pc (code z) → Runs w c (pc + length (code z)) n rest (Holds r a (place z)) (means (t_convert e x) a s)
+      go true ez at = there (constant_of x) refl ez
+      go false ez at = convert_node InSlot e x ih pc p k n q rest a s c fit fit.1 at places le b
 
   pub unary_node : (u : Target) (o : UnaryOp) (x : TExpr) (t : Ty) (sp : Span) → RunsHere x → NodeRuns u (t_unary o x t sp)
   unary_node u o x t sp ih pc p k n q rest a s c fit ty has places le b =
@@ -282,8 +330,8 @@ module _ (w : Setting) (ready : IsSettled w) where
       let ha : AreAt w.routine.code pc ca = are_front w.routine.code pc ca _ has in
       one_runs w ready u c pc k n rest a (means x a (tick s)) t.rate t.elem (operand w.layout t.rate x n) ca _ (unary_bits o t.elem) b.mask b.low has
       (λ c2. unary_line w.code w.routine c2 t.rate o (target w.layout u t.rate t.elem n) (operand w.layout t.rate x n) k ∙ ap (λ g. Go (set_at t.rate c2 (target w.layout u t.rate t.elem n) (mapped (unary_bits o g) (value_at t.rate c2 k (operand w.layout t.rate x n))))) ty)
-      (operand_runs w ready c pc k n (1 + rest) a (means x a (tick s)) t.rate t.elem x cx fit.0 b.mask b.low ha
-      (ih pc p k n (32 + q) (1 + (1 + rest)) a (tick s) c fit.2 (are_front w.routine.code pc cx _ ha) places (omega arith) (enters_part w ready pc k n (32 + q) q a s c (omega arith) b)))
+      (operand_runs w ready c pc k n (32 + q) (1 + rest) a (tick s) t.rate t.elem x cx fit.0 (omega arith) (enters_part w ready pc k n (32 + q) q a s c (omega arith) b) ha
+      (λ at. ih pc p k n (32 + q) (1 + (1 + rest)) a (tick s) c fit.2 at places (omega arith) (enters_part w ready pc k n (32 + q) q a s c (omega arith) b)))
 
   pub binary_node : (u : Target) (o : BinOp) (x y : TExpr) (t : Ty) (sp : Span) → RunsHere x → RunsHere y → NodeRuns u (t_binary o x y t sp)
   binary_node u o x y t sp ihx ihy pc p k n q rest a s c fit ty has places le b =
@@ -299,11 +347,11 @@ module _ (w : Setting) (ready : IsSettled w) where
       let hb : AreAt w.routine.code (pc + length ca) (operand_of w.layout t.rate y k (n + 1) (cy (pc + length ca))) = are_front w.routine.code (pc + length ca) (operand_of w.layout t.rate y k (n + 1) (cy (pc + length ca))) _ (are_back w.routine.code pc ca _ has) in
       pair_runs w ready u c pc k n rest a (means x a (tick s)) (λ m s1. means y a s1) t.rate t.elem (operand w.layout t.rate x n) (operand w.layout t.rate y (n + 1)) ca (λ pc1. operand_of w.layout t.rate y k (n + 1) (cy pc1)) _ (op_bits o t.elem) (offender (gang_of w) (is_zero o t.elem) a) Divide sp b.mask lk (operand_low w ready t.rate t.elem x n fit.0 fit.3) has (at_offender t.rate (gang_of w) a (is_zero o t.elem))
       (λ c2 em. operate_at w.code w.routine c2 t.rate o t.elem (target w.layout u t.rate t.elem n) (operand w.layout t.rate x n) (operand w.layout t.rate y (n + 1)) k _ a sp b.some em ty (are_back w.code.places p1 (expr_places w.layout y) _ pl))
-      (operand_runs w ready c pc k n (1 + rest) a (means x a (tick s)) t.rate t.elem x cx fit.0 b.mask lk ha
-      (ihx pc p k n (32 + q) (1 + (1 + rest)) a (tick s) c fit.3 (are_front w.routine.code pc cx _ ha) (are_front w.code.places p (expr_places w.layout x) _ places) (omega arith) (enters_part w ready pc k n (32 + q) q a s c (omega arith) b)))
+      (operand_runs w ready c pc k n (32 + q) (1 + rest) a (tick s) t.rate t.elem x cx fit.0 (omega arith) (enters_part w ready pc k n (32 + q) q a s c (omega arith) b) ha
+      (λ at. ihx pc p k n (32 + q) (1 + (1 + rest)) a (tick s) c fit.3 at (are_front w.code.places p (expr_places w.layout x) _ places) (omega arith) (enters_part w ready pc k n (32 + q) q a s c (omega arith) b)))
       (λ m s1 ok.
-      operand_runs w ready ok.conf (pc + length ca) k (n + 1) (1 + (ok.steps + rest)) a (means y a s1) t.rate t.elem y (cy (pc + length ca)) fit.1 (ok.masks k lk ∙ b.mask) (omega arith) hb
-      (ihy (pc + length ca) p1 k (n + 1) (ok.steps + rest) (1 + (1 + (ok.steps + rest))) a s1 ok.conf fit.4 (are_front w.routine.code (pc + length ca) (cy (pc + length ca)) _ hb) (are_front w.code.places p1 (expr_places w.layout y) _ pl) (omega arith) (enters_later w ready pc (pc + length ca) k n (n + 1) (ok.steps + rest) q (1 + rest) a s s1 c (omega arith) b ok (omega arith))))
+      operand_runs w ready ok.conf (pc + length ca) k (n + 1) (ok.steps + rest) (1 + (ok.steps + rest)) a s1 t.rate t.elem y (cy (pc + length ca)) fit.1 (omega arith) (enters_later w ready pc (pc + length ca) k n (n + 1) (ok.steps + rest) q (1 + rest) a s s1 c (omega arith) b ok (omega arith)) hb
+      (λ at. ihy (pc + length ca) p1 k (n + 1) (ok.steps + rest) (1 + (1 + (ok.steps + rest))) a s1 ok.conf fit.4 at (are_front w.code.places p1 (expr_places w.layout y) _ pl) (omega arith) (enters_later w ready pc (pc + length ca) k n (n + 1) (ok.steps + rest) q (1 + rest) a s s1 c (omega arith) b ok (omega arith))))
       (λ m s1. value_still w ready y (n + 1) a s1 fit.4)
 
   pub compare_node : (u : Target) (o : Compare) (x y : TExpr) (r : Rate) (sp : Span) → RunsHere x → RunsHere y → NodeRuns u (t_compare o x y r sp)
@@ -320,13 +368,13 @@ module _ (w : Setting) (ready : IsSettled w) where
       let hb : AreAt w.routine.code (pc + length ca) (operand_of w.layout r y k (n + 1) (cy (pc + length ca))) = are_front w.routine.code (pc + length ca) (operand_of w.layout r y k (n + 1) (cy (pc + length ca))) _ (are_back w.routine.code pc ca _ has) in
       pair_runs w ready u c pc k n rest a (means x a (tick s)) (λ m s1. means y a s1) r Truth (operand w.layout r x n) (operand w.layout r y (n + 1)) ca (λ pc1. operand_of w.layout r y k (n + 1) (cy pc1)) _ (compare_bits o (type_of x).elem) (λ z. None) Divide sp b.mask lk (operand_low w ready r (type_of x).elem x n fit.0 fit.3) has (λ z. refl)
       (λ c2 em. compare_line w.code w.routine c2 r o (target w.layout u r Truth n) (operand w.layout r x n) (operand w.layout r y (n + 1)) k
-      ∙ ap (λ g. Go (set_at r c2 (target w.layout u r Truth n) (joined (compare_bits o g) (c2.masks k) (value_at r c2 k (operand w.layout r x n)) (value_at r c2 k (operand w.layout r y (n + 1)))))) (operand_typed w r (type_of x).elem x n fit.0 fit.3)
+      ∙ ap (λ g. Go (set_at r c2 (target w.layout u r Truth n) (joined (compare_bits o g) (c2.masks k) (value_at r c2 k (operand w.layout r x n)) (value_at r c2 k (operand w.layout r y (n + 1)))))) (operand_typed w ready r (type_of x).elem x n fit.0 fit.3)
       ∙ ap (λ m. Go (set_at r c2 (target w.layout u r Truth n) (joined (compare_bits o (type_of x).elem) m (held_at r c2.scalars c2.vectors m (operand w.layout r x n)) (held_at r c2.scalars c2.vectors m (operand w.layout r y (n + 1)))))) em)
-      (operand_runs w ready c pc k n (1 + rest) a (means x a (tick s)) r (type_of x).elem x cx fit.0 b.mask lk ha
-      (ihx pc p k n (32 + q) (1 + (1 + rest)) a (tick s) c fit.3 (are_front w.routine.code pc cx _ ha) (are_front w.code.places p (expr_places w.layout x) _ places) (omega arith) (enters_part w ready pc k n (32 + q) q a s c (omega arith) b)))
+      (operand_runs w ready c pc k n (32 + q) (1 + rest) a (tick s) r (type_of x).elem x cx fit.0 (omega arith) (enters_part w ready pc k n (32 + q) q a s c (omega arith) b) ha
+      (λ at. ihx pc p k n (32 + q) (1 + (1 + rest)) a (tick s) c fit.3 at (are_front w.code.places p (expr_places w.layout x) _ places) (omega arith) (enters_part w ready pc k n (32 + q) q a s c (omega arith) b)))
       (λ m s1 ok.
-      operand_runs w ready ok.conf (pc + length ca) k (n + 1) (1 + (ok.steps + rest)) a (means y a s1) r (type_of x).elem y (cy (pc + length ca)) fit.1 (ok.masks k lk ∙ b.mask) (omega arith) hb
-      (ihy (pc + length ca) p1 k (n + 1) (ok.steps + rest) (1 + (1 + (ok.steps + rest))) a s1 ok.conf fit.4 (are_front w.routine.code (pc + length ca) (cy (pc + length ca)) _ hb) pl (omega arith) (enters_later w ready pc (pc + length ca) k n (n + 1) (ok.steps + rest) q (1 + rest) a s s1 c (omega arith) b ok (omega arith))))
+      operand_runs w ready ok.conf (pc + length ca) k (n + 1) (ok.steps + rest) (1 + (ok.steps + rest)) a s1 r (type_of x).elem y (cy (pc + length ca)) fit.1 (omega arith) (enters_later w ready pc (pc + length ca) k n (n + 1) (ok.steps + rest) q (1 + rest) a s s1 c (omega arith) b ok (omega arith)) hb
+      (λ at. ihy (pc + length ca) p1 k (n + 1) (ok.steps + rest) (1 + (1 + (ok.steps + rest))) a s1 ok.conf fit.4 at pl (omega arith) (enters_later w ready pc (pc + length ca) k n (n + 1) (ok.steps + rest) q (1 + rest) a s s1 c (omega arith) b ok (omega arith))))
       (λ m s1. value_still w ready y (n + 1) a s1 fit.4)
 
   -- a part of one rate where another is wanted
@@ -363,8 +411,10 @@ module _ (w : Setting) (ready : IsSettled w) where
       let ply = are_back w.code.places p1 (expr_places w.layout x) _ pl in
       choose_runs w ready g t.rate t.elem x y c pc k n rest a (means e a (tick s)) (λ z s1. means x z s1) (λ z s1. means y z s1) (found w.layout e n) ce (λ pc1 m i. operand_of w.layout t.rate x m i (expr_code w.layout x pc1 p1 m i)) (λ pc1 m i. operand_of w.layout t.rate y m i (expr_code w.layout y pc1 p2 m i)) fit.1 b.mask b.low b.some b.inside (found_low w ready e n fit.5) (operand_low w ready t.rate t.elem x n1 fit.3 fit.6) has
       (ihe pc p k n (32 + q) (5 + rest) a (tick s) c fit.5 he (are_front w.code.places p (expr_places w.layout e) _ places) (omega arith) (enters_part w ready pc k n (32 + q) q a s c (omega arith) b))
-      (λ T s1 c1 pc1 z y j le1 at en. operand_runs w ready c1 pc1 j n1 y T (means x T s1) t.rate t.elem x (expr_code w.layout x pc1 p1 j n1) fit.3 en.mask en.low at (ihx pc1 p1 j n1 z (1 + y) T s1 c1 fit.6 (are_front w.routine.code pc1 (expr_code w.layout x pc1 p1 j n1) _ at) (are_front w.code.places p1 (expr_places w.layout x) _ pl) (omega arith) en))
-      (λ T s1 c1 pc1 z u j le1 at en. operand_runs w ready c1 pc1 j n2 u T (means y T s1) t.rate t.elem y (expr_code w.layout y pc1 p2 j n2) fit.4 en.mask en.low at (ihy pc1 p2 j n2 z (1 + u) T s1 c1 fit.7 (are_front w.routine.code pc1 (expr_code w.layout y pc1 p2 j n2) _ at) ply (omega arith) en))
+      (λ T s1 c1 pc1 z y j le1 at en. operand_runs w ready c1 pc1 j n1 z y T s1 t.rate t.elem x (expr_code w.layout x pc1 p1 j n1) fit.3 (omega arith) en at
+      (λ at. ihx pc1 p1 j n1 z (1 + y) T s1 c1 fit.6 at (are_front w.code.places p1 (expr_places w.layout x) _ pl) (omega arith) en))
+      (λ T s1 c1 pc1 z u j le1 at en. operand_runs w ready c1 pc1 j n2 z u T s1 t.rate t.elem y (expr_code w.layout y pc1 p2 j n2) fit.4 (omega arith) en at
+      (λ at. ihy pc1 p2 j n2 z (1 + u) T s1 c1 fit.7 at ply (omega arith) en))
       (λ T s1. value_still w ready x n1 T s1 fit.6) (λ T s1. value_still w ready y n2 T s1 fit.7)
 
   -- neither side has code
@@ -473,8 +523,8 @@ module _ (w : Setting) (ready : IsSettled w) where
       leaves_after w ready u to_d c c1 ok.steps end n rest Uniform a _ ok.comes ok.spares ok.masks
       (bind_leaves w ready u to_d c1 (pc1 + length ca) m 1 (ok.steps + rest) (λ g c'. Holds Varying a v g c' × Keeps w m c1 c') (means x a s1) _ end n Uniform a
       (runs_kept w c1 (pc1 + length ca) m (1 + (ok.steps + rest)) (Holds Varying a v) (means x a s1) s1 ok.stands (value_still w ready x m a s1 fit.3)
-      (operand_runs w ready c1 pc1 k m (1 + (ok.steps + rest)) a (means x a s1) Varying (type_of x).elem x cx fit.2 (ok.masks k lk ∙ b.mask) (omega arith) ha
-      (ih pc1 p1 k m (1 + (ok.steps + rest)) (1 + (1 + (ok.steps + rest))) a s1 c1 fit.3 (are_front w.routine.code pc1 cx _ ha) (are_front w.code.places p1 (expr_places w.layout x) _ pl) (omega (arith, fx)) (enters_later w ready pc pc1 k n m (1 + (ok.steps + rest)) q (2 + rest) a s s1 c (omega arith) b ok (omega arith)))))
+      (operand_runs w ready c1 pc1 k m (1 + (ok.steps + rest)) (1 + (ok.steps + rest)) a s1 Varying (type_of x).elem x cx fit.2 (omega (arith, fx)) (enters_later w ready pc pc1 k n m (1 + (ok.steps + rest)) q (2 + rest) a s s1 c (omega arith) b ok (omega arith)) ha
+      (λ at. ih pc1 p1 k m (1 + (ok.steps + rest)) (1 + (1 + (ok.steps + rest))) a s1 c1 fit.3 at (are_front w.code.places p1 (expr_places w.layout x) _ pl) (omega (arith, fx)) (enters_later w ready pc pc1 k n m (1 + (ok.steps + rest)) q (2 + rest) a s s1 c (omega arith) b ok (omega arith)))))
       (λ g s2 ok2.
       let c2 = ok2.conf in
       let kept : IsFirst z (c2.scalars j) = subst (IsFirst z) (sym (ok2.holds.1.scalars_stay j (base_low d n fit.1))) ok.holds in
@@ -548,7 +598,7 @@ module _ (w : Setting) (ready : IsSettled w) where
       let cl = library_code f t.rate d (w.layout.spare t.rate t.elem n) regs k in
       let to : pc + length cv + length cl ≡ pc + length (cv ++ cl) = omega (arith, length-append cv cl) in
       let most = enough f e xs t t.rate fit.0 in
-      let typed : TypedFrom w rs (part_elems e (parts f)) regs = subst (λ es. TypedFrom w rs es regs) fit.0.elems (typed_from w rs xs n most fit.2) in
+      let typed : TypedFrom w rs (part_elems e (parts f)) regs = subst (λ es. TypedFrom w rs es regs) fit.0.elems (typed_from w ready rs xs n most fit.2) in
       bind_leaves w ready u d c (pc + length cv) n 2 rest (λ ms c'. AllHold rs a regs ms c') (values (gang_of w) w.frame (calls_of w) xs a (tick s)) _ (pc + length (cv ++ cl)) n t.rate a
       (ih rs pc p k n (32 + q) (2 + rest) a (tick s) c fit.2 (are_front w.routine.code pc cv cl has) places (omega (arith, le)) (enters_part w ready pc k n (32 + q) q a s c (omega arith) b))
       (λ ms s1 ok.
@@ -632,6 +682,7 @@ module _ (w : Setting) (ready : IsSettled w) where
         arrays_are = refl;
         out_is = refl;
         run = run_each w.layout.run w.start w.members (c.scalars (w.layout.place Uniform)) s.varying s1.varying (λ i ei. ap (λ z. z.varying i) (sym gives.state)) st.run;
+        constants = st.constants;
       })
       (record { scalars_stay = λ e j lt. refl; vectors_stay = λ e j lt. refl }) (λ r lt. refl) run.bound (subst (λ z. at_rate t.rate a z ≡ z) (sym gives.value) (answer_held t.rate a gives.last)) (subst (Filled t.rate a) (sym gives.value) (answer_filled t.rate a gives.last))
   back_leaves InSlot t kc pc pc' n q a s c (Fails p s1) er at to st gives run = run
@@ -686,11 +737,11 @@ module _ (w : Setting) (ready : IsSettled w) where
 
   mutual
     pub expr_runs : (x : TExpr) (pc p k n q rest : ℕ) (a : Mask) (s : State) (c : Conf) → ExprParts w x n → AreAt w.routine.code pc (expr_code w.layout x pc p k n) → AreAt w.code.places p (expr_places w.layout x) → heads x + rest ≤ 5 + q → Enters w pc k n a s c q → Runs w c (pc + length (expr_code w.layout x pc p k n)) n rest (Holds (type_of x).rate a (found w.layout x n)) (means x a s)
-    expr_runs (t_constant v sp) pc p k n q rest a s c fit has places le b = number_node InSlot v sp pc p k n q rest a s c fit fit has places le b
+    expr_runs (t_constant v sp) pc p k n q rest a s c fit has places le b = number_runs v sp pc p k n q rest a s c fit has places le b
     expr_runs (t_program_index sp) pc p k n q rest a s c fit has places le b = index_node InSlot sp pc p k n q rest a s c fit fit has places le b
     expr_runs (t_place (t_variable v t sp)) pc p k n q rest a s c fit has places le b = variable_runs v t sp pc p k n q rest a s c fit has places le b
     expr_runs (t_place (t_element y i t sp)) pc p k n q rest a s c fit has places le b = element_node InSlot y i t sp (λ pc p k n q rest a s c f h pl le z. expr_runs i pc p k n q rest a s c f h pl le z) pc p k n q rest a s c fit fit.1 has places le b
-    expr_runs (t_convert e x) pc p k n q rest a s c fit has places le b = convert_node InSlot e x (λ pc p k n q rest a s c f h pl le z. expr_runs x pc p k n q rest a s c f h pl le z) pc p k n q rest a s c fit fit.1 has places le b
+    expr_runs (t_convert e x) pc p k n q rest a s c fit has places le b = converted_runs e x (λ pc p k n q rest a s c f h pl le z. expr_runs x pc p k n q rest a s c f h pl le z) pc p k n q rest a s c fit has places le b
     expr_runs (t_cast x t sp) pc p k n q rest a s c fit has places le b =
         let f : heads x ≤ 1 = few w x n fit.1 in
         cast_runs c pc k n rest a (means x a (tick s)) t.rate (type_of x).rate (type_of x).elem (found w.layout x n) (λ d. expr_to w.layout d x pc p k n) fit.0.reaches b.mask b.low has
@@ -708,9 +759,10 @@ module _ (w : Setting) (ready : IsSettled w) where
         let p1 = p + length (expr_places w.layout x) in
         let pl = are_back w.code.places p (expr_places w.layout x) _ places in
         logic_one w ready g c pc k n rest a (means x a (tick s)) (λ z s1. means y z s1) (operand w.layout Uniform x n) (operand w.layout Uniform y (n + 1)) ca (λ pc1 m. operand_of w.layout Uniform y m (n + 1) (expr_code w.layout y pc1 p1 m (n + 1))) b.mask lk b.some b.inside has
-        (operand_runs w ready c pc k n (1 + (1 + rest)) a (means x a (tick s)) Uniform Truth x cx fit.0 b.mask lk ha
-        (expr_runs x pc p k n (32 + q) (1 + (1 + (1 + rest))) a (tick s) c fit.3 (are_front w.routine.code pc cx _ ha) (are_front w.code.places p (expr_places w.layout x) _ places) (omega arith) (enters_part w ready pc k n (32 + q) q a s c (omega arith) b)))
-        (λ s1 c1 pc1 z at en. operand_runs w ready c1 pc1 k (n + 1) (1 + z) a (means y a s1) Uniform Truth y (expr_code w.layout y pc1 p1 k (n + 1)) fit.1 en.mask en.low at (expr_runs y pc1 p1 k (n + 1) z (1 + (1 + z)) a s1 c1 fit.4 (are_front w.routine.code pc1 (expr_code w.layout y pc1 p1 k (n + 1)) _ at) pl (omega arith) en))
+        (operand_runs w ready c pc k n (32 + q) (1 + (1 + rest)) a (tick s) Uniform Truth x cx fit.0 (omega arith) (enters_part w ready pc k n (32 + q) q a s c (omega arith) b) ha
+        (λ at. expr_runs x pc p k n (32 + q) (1 + (1 + (1 + rest))) a (tick s) c fit.3 at (are_front w.code.places p (expr_places w.layout x) _ places) (omega arith) (enters_part w ready pc k n (32 + q) q a s c (omega arith) b)))
+        (λ s1 c1 pc1 z at en. operand_runs w ready c1 pc1 k (n + 1) z (1 + z) a s1 Uniform Truth y (expr_code w.layout y pc1 p1 k (n + 1)) fit.1 (omega arith) en at
+        (λ at. expr_runs y pc1 p1 k (n + 1) z (1 + (1 + z)) a s1 c1 fit.4 at pl (omega arith) en))
     expr_runs (t_logic g x y Varying sp) pc p k n q rest a s c fit has places le b =
         let fx : heads x ≤ 1 = few w x n fit.3 in
         let fy : heads y ≤ 1 = few w y (n + 1) fit.4 in
@@ -721,9 +773,10 @@ module _ (w : Setting) (ready : IsSettled w) where
         let p1 = p + length (expr_places w.layout x) in
         let pl = are_back w.code.places p (expr_places w.layout x) _ places in
         logic_each w ready g c pc k n rest a (means x a (tick s)) (λ z s1. means y z s1) (operand w.layout Varying x n) (operand w.layout Varying y (n + 1)) ca (λ pc1 m. operand_of w.layout Varying y m (n + 1) (expr_code w.layout y pc1 p1 m (n + 1))) b.mask lk b.some b.inside has
-        (operand_runs w ready c pc k n (1 + (2 + (1 + rest))) a (means x a (tick s)) Varying Truth x cx fit.0 b.mask lk ha
-        (expr_runs x pc p k n (32 + q) (1 + (1 + (2 + (1 + rest)))) a (tick s) c fit.3 (are_front w.routine.code pc cx _ ha) (are_front w.code.places p (expr_places w.layout x) _ places) (omega arith) (enters_part w ready pc k n (32 + q) q a s c (omega arith) b)))
-        (λ T s1 c1 pc1 z at en. operand_runs w ready c1 pc1 n (n + 1) (1 + z) T (means y T s1) Varying Truth y (expr_code w.layout y pc1 p1 n (n + 1)) fit.1 en.mask en.low at (expr_runs y pc1 p1 n (n + 1) z (1 + (1 + z)) T s1 c1 fit.4 (are_front w.routine.code pc1 (expr_code w.layout y pc1 p1 n (n + 1)) _ at) pl (omega arith) en))
+        (operand_runs w ready c pc k n (32 + q) (1 + (2 + (1 + rest))) a (tick s) Varying Truth x cx fit.0 (omega arith) (enters_part w ready pc k n (32 + q) q a s c (omega arith) b) ha
+        (λ at. expr_runs x pc p k n (32 + q) (1 + (1 + (2 + (1 + rest)))) a (tick s) c fit.3 at (are_front w.code.places p (expr_places w.layout x) _ places) (omega arith) (enters_part w ready pc k n (32 + q) q a s c (omega arith) b)))
+        (λ T s1 c1 pc1 z at en. operand_runs w ready c1 pc1 n (n + 1) z (1 + z) T s1 Varying Truth y (expr_code w.layout y pc1 p1 n (n + 1)) fit.1 (omega arith) en at
+        (λ at. expr_runs y pc1 p1 n (n + 1) z (1 + (1 + z)) T s1 c1 fit.4 at pl (omega arith) en))
     expr_runs (t_choose e x y t sp) pc p k n q rest a s c fit has places le b = choose_any e x y t sp (λ pc p k n q rest a s c f h pl le z. expr_runs e pc p k n q rest a s c f h pl le z) (λ pc p k n q rest a s c f h pl le z. expr_runs x pc p k n q rest a s c f h pl le z) (λ pc p k n q rest a s c f h pl le z. expr_runs y pc p k n q rest a s c f h pl le z) pc p k n q rest a s c fit has places le b
     expr_runs (t_call (t_called g xs sp) t) pc p k n q rest a s c fit has places le b = call_node InSlot g xs sp t (λ vs pc p k n q rest a s c f h pl le z. arguments_run xs vs pc p k n q rest a s c f h pl le z) pc p k n q rest a s c fit fit.0 has places le b
     expr_runs (t_library g e xs t sp) pc p k n q rest a s c fit has places le b = library_node InSlot g e xs t sp (λ rs pc p k n q rest a s c f h pl le z. values_run xs rs pc p k n q rest a s c f h pl le z) pc p k n q rest a s c fit fit.1 has places le b
@@ -761,8 +814,8 @@ module _ (w : Setting) (ready : IsSettled w) where
         let to : pc1 + length cb ≡ pc + length (ca ++ cb) = omega (arith, length-append ca cb) in
         let ha : AreAt w.routine.code pc ca = are_front w.routine.code pc ca cb has in
         bind_runs w ready c pc1 n 0 rest (Holds r a (operand w.layout r x n)) (means x a s) _ (pc + length (ca ++ cb)) n (λ ms c'. AllHold rs a (operand w.layout r x n ∷ regs) ms c')
-        (operand_runs w ready c pc k n (0 + rest) a (means x a s) r (type_of x).elem x cx fit.0 b.mask b.low ha
-        (expr_runs x pc p k n q (1 + (0 + rest)) a s c fit.1 (are_front w.routine.code pc cx _ ha) (are_front w.code.places p px _ places) (omega (arith, le)) b))
+        (operand_runs w ready c pc k n q (0 + rest) a s r (type_of x).elem x cx fit.0 (omega (arith, le)) b ha
+        (λ at. expr_runs x pc p k n q (1 + (0 + rest)) a s c fit.1 at (are_front w.code.places p px _ places) (omega (arith, le)) b))
         (λ m s1 ok.
         runs_after w ready c ok.conf ok.steps (pc + length (ca ++ cb)) n rest _ _ ok.comes ok.spares ok.masks
         (subst (λ g. Runs w ok.conf g n (ok.steps + rest) (λ ms c'. AllHold rs a (operand w.layout r x n ∷ regs) ms c') (bind (values (gang_of w) w.frame (calls_of w) xs a s1) (λ ms s2. Gives (m ∷ ms) s2))) to
@@ -807,8 +860,8 @@ module _ (w : Setting) (ready : IsSettled w) where
         let cx = expr_code w.layout x pc p k n in
         let ca = operand_of w.layout t.rate x k n cx in
         told_as w ready c (pc + length ca) n rest (Holds t.rate a (operand w.layout t.rate x n)) _ (means x a s) Values (λ m c1 h. (refl, h))
-        (operand_runs w ready c pc k n rest a (means x a s) t.rate t.elem x cx fit.0 b.mask b.low has
-        (expr_runs x pc p k n q (1 + rest) a s c fit.1 (are_front w.routine.code pc cx _ has) places (omega arith) b))
+        (operand_runs w ready c pc k n q rest a s t.rate t.elem x cx fit.0 (omega arith) b has
+        (λ at. expr_runs x pc p k n q (1 + rest) a s c fit.1 at places (omega arith) b))
     argument_run (holds.Value t) (t_by_name y sp) pc p k n q rest a s c fit has places le b = absurd fit
     argument_run (holds.Given e) (t_by_value x) pc p k n q rest a s c fit has places le b = absurd fit
     argument_run (holds.Given e) (t_by_name y sp) pc p k n q rest a s c fit has places le b = named_run e y sp pc k n q rest a s c fit.0 fit.1 le b

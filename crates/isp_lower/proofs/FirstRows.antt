@@ -1,6 +1,6 @@
 -- The registers with which a function begins: its variables and what it gives back have their rows, with their types. So what
 -- a walk reserved is all that code asks for.
-use Rattle.std.proofs.Common.{◌≡◌, ◌≢◌, ℕ, zero, suc, ◌+◌, List, [], ◌∷◌, ◌++◌, Option, Some, Bool, true, false, refl, ap, ◌∙◌, subst, arith, eq-eqb}
+use Rattle.std.proofs.Common.{◌≡◌, ◌≢◌, ℕ, zero, suc, ◌+◌, List, [], ◌∷◌, ◌++◌, Option, Some, None, Bool, true, false, refl, ap, ◌∙◌, subst, arith, eq-eqb}
 use Rattle.std.proofs.lemmas.Option.{same_Some}
 use Rattle.std.specs.Prelude.{slice_get, if◌then◌else◌}
 use Rattle.std.proofs.lemmas.Bool.{ne_eqb}
@@ -18,7 +18,7 @@ use Rattle.isp_meaning.specs.Calls.{same_rate}
 use Rattle.isp_lower.specs.Asks.{Ask, Nothing, Both, Register, ArrayOf, LocalOf, MaskOf, Number, Loads}
 use Rattle.isp_lower.specs.Emitted.{Begins, Grows, HasArray, HasRow, row_at, row_where, rows_of, value_row, array_row, value_rows, array_rows, result_rows, first_rows}
 use Rattle.isp_lower.specs.Reserved.{Has, HasOwn, HasSpare, IsOwn, IsReserved, OwnRegister}
-use Rattle.isp_lower.specs.Rows.{Name, Variable, Result, Spare, Place, Fresh, Row, Rows, name_number, elem_in, rows_at}
+use Rattle.isp_lower.specs.Rows.{Name, Variable, Result, Spare, Place, Fresh, Kept, Row, Rows, name_number, elem_in, has_type, keeps, rows_at}
 use Rattle.isp_lower.specs.declared.registers.Registers.{Registers}
 use Rattle.isp_lower.specs.declared.reserve.Reserve.{Reserve}
 use Rattle.isp_lower.proofs.Growing.{row_grows, stays_in}
@@ -88,6 +88,25 @@ result_at r vs answer t rows e b =
     let has = past_values r 0 vs (result_rows r answer) (Some t) own in
     ap (λ z. elem_in z Result) b.is ∙ (rows_stay (value_rows r 0 vs ++ result_rows r answer) b.more Result t has).1
 
+-- ---- no constant is kept at first
+
+past_kept : (r : Rate) (k : ℕ) (vs : List Declared) (more : List Row) (t : Elem) (b : ℕ) (o : Option Elem) → elem_in more (Kept t b) ≡ o → elem_in (value_rows r k vs ++ more) (Kept t b) ≡ o
+past_kept r k [] more t b o e = e
+past_kept r k (x ∷ vs) more t b o e =
+    past_value r x.holds k (value_rows r (suc k) vs) more (Kept t b) o (λ same. omega (arith, same)) (past_kept r (suc k) vs more t b o e)
+
+result_none : (r : Rate) (answer : Option Ty) (t : Elem) (b : ℕ) → elem_in (result_rows r answer) (Kept t b) ≡ None
+result_none r None t b = refl
+result_none r (Some u) t b = go (same_rate r u.rate)
+  where
+    go : (d : Bool) → elem_in (row_where d (record { name = Result; elem = u.elem }) []) (Kept t b) ≡ None
+    go true = ap (λ z. if z then Some u.elem else None) (ne_eqb (name_number Result) (name_number (Kept t b)) (λ same. omega (arith, same)))
+    go false = refl
+
+pub none_kept : (vs : List Declared) (answer : Option Ty) (r : Rate) (t : Elem) (b : ℕ) → keeps (rows_at (first_rows vs answer) r) t b ≡ false
+none_kept vs answer Uniform t b = ap (has_type t) (past_kept Uniform 0 vs (result_rows Uniform answer) t b None (result_none Uniform answer t b))
+none_kept vs answer Varying t b = ap (has_type t) (past_kept Varying 0 vs (result_rows Varying answer) t b None (result_none Varying answer t b))
+
 -- ---- registers that begin with them
 
 module _ (vars : List Declared) (answer : Option Ty) (first : Registers) (begun : rows_of first ≡ first_rows vars answer) where
@@ -104,6 +123,7 @@ module _ (vars : List Declared) (answer : Option Ty) (first : Registers) (begun 
   row_is new g r (Spare u j) t s own = s
   row_is new g r Place t s own = s
   row_is new g r (Fresh j) t s own = s
+  row_is new g r (Kept u k) t s own = s
 
   array_is : (new : Registers) → Grows first new → (b : ArrayVariable) → HoldsArray vars b → HasArray new b
   array_is new g b own =
@@ -131,6 +151,7 @@ all_joined a b g (Register r Result t) f own = row_grows a.registers b.registers
 all_joined a b g (Register r (Spare u j) t) f own = f
 all_joined a b g (Register r Place t) f own = f
 all_joined a b g (Register r (Fresh j) t) f own = f
+all_joined a b g (Register r (Kept u k) t) f own = f
 all_joined a b g (ArrayOf v) f own = (stays_in (rows_of a.registers).arrays (rows_of b.registers).arrays (Variable v.number) v.ty.elem g.arrays own).1
 all_joined a b g (LocalOf v) f own = (stays_in (rows_of a.registers).arrays (rows_of b.registers).arrays (Variable v.number) v.ty.elem g.arrays own).1
 all_joined a b g (MaskOf k) f own = f

@@ -1,5 +1,5 @@
 -- Rows that are added change no register that is there; so what code asks for stays there.
-use Rattle.std.proofs.Common.{◌≡◌, ℕ, ◌<◌, ◌≤◌, ◌+◌, List, [], ◌++◌, length, drop, get_or, refl, sym, ap, subst, ◌∙◌, arith, append_assoc, append-nil, Some}
+use Rattle.std.proofs.Common.{◌≡◌, ◌⊎◌, inl, inr, ⊎_elim, ℕ, ◌<◌, ◌≤◌, ◌+◌, List, [], ◌++◌, length, map, drop, get_or, refl, sym, ap, subst, ◌∙◌, arith, append_assoc, append-nil, Some}
 use Rattle.std.proofs.lemmas.List.{drop_more, drop_all}
 use Rattle.isp_base.specs.declared.types.Elem.{Elem}
 use Rattle.std.specs.Prelude.{Option, None, is_some, true}
@@ -9,14 +9,16 @@ use Rattle.isp_typed.specs.Views.{item_of, items_of}
 use Rattle.isp_typed.specs.declared.stmt.TypedItem as rust
 use Rattle.isp_typed.specs.declared.variable.ArrayVariable.{ArrayVariable}
 use Rattle.isp_lower.specs.Asks.{Ask, Nothing, Both, Register, ArrayOf, LocalOf, MaskOf, Number, Loads, All, item_asks, items_asks}
-use Rattle.isp_lower.specs.Emitted.{rows_of, Begins, Grows, HasLoaded, HasRow}
+use Rattle.isp_lower.specs.Emitted.{rows_of, row_of, Begins, Grows, HasArray, HasLoaded, HasRow, Keeps, KeepsIn, Longer}
 use Rattle.isp_lower.specs.Asks.{first_slot, second_slot}
-use Rattle.isp_lower.specs.Reserved.{Gives, HasSpare, IsReserved}
-use Rattle.isp_lower.specs.Rows.{Name, Variable, Result, Spare, Place, Fresh, Row, number_in, elem_in}
+use Rattle.isp_lower.specs.Reserved.{Gives, Has, HasSpare, IsReserved}
+use Rattle.isp_lower.specs.Rows.{Name, Variable, Result, Spare, Place, Fresh, Kept, Row, number_in, elem_in, keeps, rows_at}
 use Rattle.isp_lower.specs.Tables.{AnyArray}
+use Rattle.isp_lower.specs.declared.registers.Constant.{Constant}
+use Rattle.isp_lower.specs.declared.registers.RegisterRow.{RegisterRow}
 use Rattle.isp_lower.specs.declared.registers.Registers.{Registers}
 use Rattle.isp_lower.specs.declared.reserve.Reserve.{Reserve}
-use Rattle.isp_lower.proofs.Rows.{rows_stay}
+use Rattle.isp_lower.proofs.Rows.{kept_of, kept_row, rows_stay}
 
 -- ---- rows that are added
 
@@ -34,6 +36,8 @@ grows_self r =
       vectors = begins_self (rows_of r).vectors;
       arrays = begins_self (rows_of r).arrays;
       loaded = begins_self (rows_of r).loaded;
+      kept_scalars = λ t b. refl;
+      kept_vectors = λ t b. refl;
     }
 
 pub grows_then : (r s t : Registers) → Grows r s → Grows s t → Grows r t
@@ -43,7 +47,14 @@ grows_then r s t a b =
       vectors = begins_then (rows_of r).vectors (rows_of s).vectors (rows_of t).vectors a.vectors b.vectors;
       arrays = begins_then (rows_of r).arrays (rows_of s).arrays (rows_of t).arrays a.arrays b.arrays;
       loaded = begins_then (rows_of r).loaded (rows_of s).loaded (rows_of t).loaded a.loaded b.loaded;
+      kept_scalars = λ u k. b.kept_scalars u k ∙ a.kept_scalars u k;
+      kept_vectors = λ u k. b.kept_vectors u k ∙ a.kept_vectors u k;
     }
+
+-- no more constants are kept
+pub kept_same : (a b : Registers) → Grows a b → (r : Rate) (t : Elem) (k : ℕ) → keeps (rows_at (rows_of b) r) t k ≡ keeps (rows_at (rows_of a) r) t k
+kept_same a b g Uniform t k = g.kept_scalars t k
+kept_same a b g Varying t k = g.kept_vectors t k
 
 pub stays_in : (xs ys : List Row) (x : Name) (t : Elem) → Begins xs ys → elem_in xs x ≡ Some t → (number_in ys x ≡ number_in xs x) × (elem_in ys x ≡ Some t)
 stays_in xs ys x t b e =
@@ -73,6 +84,7 @@ spare_grows a b g r Result t e = tt
 spare_grows a b g r (Spare u j) t e = row_grows a b g r (Spare u j) t e
 spare_grows a b g r Place t e = row_grows a b g r Place t e
 spare_grows a b g r (Fresh j) t e = row_grows a b g r (Fresh j) t e
+spare_grows a b g r (Kept u k) t e = row_grows a b g r (Kept u k) t e
 
 pub loaded_grows : (a b : Registers) → Grows a b → (v : ℕ) → HasLoaded a v → HasLoaded b v
 loaded_grows a b g v e = go (elem_in (rows_of a).loaded (Variable v)) refl e
@@ -84,6 +96,67 @@ loaded_grows a b g v e = go (elem_in (rows_of a).loaded (Variable v)) refl e
 pub has_grows : (a b : Reserve) → Grows a.registers b.registers → a.masks ≤ b.masks → (x : Ask) → IsReserved a x → IsReserved b x
 has_grows a b g m x f =
     all_grow (HasSpare a.registers) (HasSpare b.registers) AnyArray AnyArray AnyArray AnyArray (λ k. k < a.masks) (λ k. k < b.masks) (HasLoaded a.registers) (HasLoaded b.registers) (spare_grows a.registers b.registers g) (λ v z. z) (λ v z. z) (λ k l. omega (arith, l, m)) (loaded_grows a.registers b.registers g) x f
+
+-- ---- constants that are kept
+
+pub longer_self : (r : Registers) → Longer r r
+longer_self r = record { scalars = begins_self (rows_of r).scalars; vectors = begins_self (rows_of r).vectors; arrays = begins_self (rows_of r).arrays; loaded = begins_self (rows_of r).loaded }
+
+pub longer_then : (r s t : Registers) → Longer r s → Longer s t → Longer r t
+longer_then r s t a b =
+    record {
+      scalars = begins_then (rows_of r).scalars (rows_of s).scalars (rows_of t).scalars a.scalars b.scalars;
+      vectors = begins_then (rows_of r).vectors (rows_of s).vectors (rows_of t).vectors a.vectors b.vectors;
+      arrays = begins_then (rows_of r).arrays (rows_of s).arrays (rows_of t).arrays a.arrays b.arrays;
+      loaded = begins_then (rows_of r).loaded (rows_of s).loaded (rows_of t).loaded a.loaded b.loaded;
+    }
+
+longer_row : (a b : Registers) → Longer a b → (r : Rate) (x : Name) (t : Elem) → HasRow a r x t → HasRow b r x t
+longer_row a b g Uniform x t e = (stays_in (rows_of a).scalars (rows_of b).scalars x t g.scalars e).1
+longer_row a b g Varying x t e = (stays_in (rows_of a).vectors (rows_of b).vectors x t g.vectors e).1
+
+longer_array : (a b : Registers) → Longer a b → (v : ArrayVariable) → HasArray a v → HasArray b v
+longer_array a b g v e = (stays_in (rows_of a).arrays (rows_of b).arrays (Variable v.number) v.ty.elem g.arrays e).1
+
+longer_loaded : (a b : Registers) → Longer a b → (v : ℕ) → HasLoaded a v → HasLoaded b v
+longer_loaded a b g v e = go (elem_in (rows_of a).loaded (Variable v)) refl e
+  where
+    go : (o : Option Elem) → elem_in (rows_of a).loaded (Variable v) ≡ o → is_some o ≡ true → HasLoaded b v
+    go None at h = absurd (cc)
+    go (Some t) at h = ap is_some (stays_in (rows_of a).loaded (rows_of b).loaded (Variable v) t g.loaded at).1
+
+-- what code asks for stays there
+pub longer_has : (a b : Reserve) → Longer a.registers b.registers → a.masks ≤ b.masks → (x : Ask) → Has a x → Has b x
+longer_has a b g m x f =
+    all_grow (HasRow a.registers) (HasRow b.registers) (HasArray a.registers) (HasArray b.registers) (HasArray a.registers) (HasArray b.registers) (λ k. k < a.masks) (λ k. k < b.masks) (HasLoaded a.registers) (HasLoaded b.registers)
+    (longer_row a.registers b.registers g) (longer_array a.registers b.registers g) (longer_array a.registers b.registers g) (λ k l. omega (arith, l, m)) (longer_loaded a.registers b.registers g) x f
+
+-- and so does a constant that is kept
+pub longer_keeps : (a b : Registers) → Longer a b → (r : Rate) (t : Elem) (k : ℕ) → keeps (rows_at (rows_of a) r) t k ≡ true → keeps (rows_at (rows_of b) r) t k ≡ true
+longer_keeps a b g r t k e = kept_of (rows_at (rows_of b) r) t k (longer_row a b g r (Kept t k) t (kept_row (rows_at (rows_of a) r) t k e))
+
+-- one of a rate is kept too
+pub scalar_kept : (a : Registers) (xs : List RegisterRow) (it : Constant) → it.rate ≡ Uniform → KeepsIn (map row_of a.scalars) (map row_of xs) it.elem it.bits → Keeps a (record a { scalars = xs }) it
+scalar_kept a xs it rate k = record {
+  rows = record { scalars = k.rows; vectors = begins_self (rows_of a).vectors; arrays = begins_self (rows_of a).arrays; loaded = begins_self (rows_of a).loaded };
+  has = subst (λ r. keeps (rows_at (rows_of (record a { scalars = xs })) r) it.elem it.bits ≡ true) (sym rate) k.has;
+  only = go;
+}
+  where
+    go : (r : Rate) (t : Elem) (b : ℕ) → keeps (rows_at (rows_of (record a { scalars = xs })) r) t b ≡ true → (keeps (rows_at (rows_of a) r) t b ≡ true) ⊎ ((r ≡ it.rate) × ((t ≡ it.elem) × (b ≡ it.bits)))
+    go Uniform t b e = ⊎_elim (λ old. inl old) (λ new. inr (sym rate, new)) (k.only t b e)
+    go Varying t b e = inl e
+
+pub vector_kept : (a : Registers) (xs : List RegisterRow) (it : Constant) → it.rate ≡ Varying → KeepsIn (map row_of a.vectors) (map row_of xs) it.elem it.bits → Keeps a (record a { vectors = xs }) it
+vector_kept a xs it rate k = record {
+  rows = record { scalars = begins_self (rows_of a).scalars; vectors = k.rows; arrays = begins_self (rows_of a).arrays; loaded = begins_self (rows_of a).loaded };
+  has = subst (λ r. keeps (rows_at (rows_of (record a { vectors = xs })) r) it.elem it.bits ≡ true) (sym rate) k.has;
+  only = go;
+}
+  where
+    go : (r : Rate) (t : Elem) (b : ℕ) → keeps (rows_at (rows_of (record a { vectors = xs })) r) t b ≡ true → (keeps (rows_at (rows_of a) r) t b ≡ true) ⊎ ((r ≡ it.rate) × ((t ≡ it.elem) × (b ≡ it.bits)))
+    go Uniform t b e = inl e
+    go Varying t b e = ⊎_elim (λ old. inl old) (λ new. inr (sym rate, new)) (k.only t b e)
 
 -- ---- the walk: what one call gives and then another one is given
 

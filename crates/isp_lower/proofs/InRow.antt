@@ -1,4 +1,4 @@
--- Values in a row: each is in a register of its own slot, or in that of a variable. What is so of each is told by their numbers.
+-- Values in a row: each is in a register of its own slot, or in that of a variable or of a constant. What is so of each is told by their numbers.
 use Rattle.std.proofs.Common.{◌≡◌, ◌≢◌, ℕ, suc, ◌+◌, ◌<◌, ◌≤◌, List, [], ◌∷◌, length, refl, sym, ap, ◌∙◌, arith, inl, inr}
 use Rattle.std.specs.Prelude.{slice_index_or}
 use Rattle.isp_base.specs.Sets.{Mask}
@@ -14,7 +14,8 @@ use Rattle.isp_typed.specs.declared.library.Part.{Part}
 use Rattle.isp_meaning.specs.Library.{argument}
 use Rattle.isp_meaning.specs.Payloads.{Payload}
 use Rattle.isp_lower.specs.Callees.{next_rate, later}
-use Rattle.isp_lower.specs.Code.{operand, value_registers}
+use Rattle.isp_lower.specs.Code.{value_registers}
+use Rattle.isp_lower.specs.Found.{operand}
 use Rattle.isp_lower.specs.Library.{library_rates, rates_taken, register_at}
 use Rattle.isp_lower.specs.Setting.{Setting, IsSettled, Holds}
 use Rattle.isp_lower.specs.Tables.{IsTyped}
@@ -63,11 +64,11 @@ module _ (w : Setting) where
   abbrev pub TypedFrom : List Rate → List Elem → List ℕ → Type 0
   TypedFrom rs es xs = EachFrom (λ j r x. IsTyped w r x (elem_at es j)) rs 0 xs
 
-  pub typed_from : (rs : List Rate) (xs : TExprs) (n : ℕ) → length rs ≤ count_of xs → ValuesParts w rs xs n → TypedFrom rs (elems_of xs) (value_registers w.layout rs xs n)
-  typed_from [] xs n le f = tt
-  typed_from (r ∷ rs) t_no_exprs n le f = absurd (omega (arith, le))
-  typed_from (r ∷ rs) (t_expr_then x xs) n le f =
-      (operand_typed w r (type_of x).elem x n f.0 f.1, each_past (λ j q y. IsTyped w q y (elem_at (elems_of (t_expr_then x xs)) j)) rs 0 (operand w.layout r x n) (value_registers w.layout rs xs (n + 1)) (typed_from rs xs (n + 1) (omega (arith, le)) f.2))
+  pub typed_from : IsSettled w → (rs : List Rate) (xs : TExprs) (n : ℕ) → length rs ≤ count_of xs → ValuesParts w rs xs n → TypedFrom rs (elems_of xs) (value_registers w.layout rs xs n)
+  typed_from ready [] xs n le f = tt
+  typed_from ready (r ∷ rs) t_no_exprs n le f = absurd (omega (arith, le))
+  typed_from ready (r ∷ rs) (t_expr_then x xs) n le f =
+      (operand_typed w ready r (type_of x).elem x n f.0 f.1, each_past (λ j q y. IsTyped w q y (elem_at (elems_of (t_expr_then x xs)) j)) rs 0 (operand w.layout r x n) (value_registers w.layout rs xs (n + 1)) (typed_from ready rs xs (n + 1) (omega (arith, le)) f.2))
 
   -- not a spare register of slot n
   abbrev pub IsAway : ℕ → Rate → ℕ → Type 0
@@ -76,13 +77,14 @@ module _ (w : Setting) where
   module _ (ready : IsSettled w) where
     placed_away : (r : Rate) (n m x : ℕ) → n < m → Placed w.layout r m x → IsAway n r x
     placed_away r n m x lt (inl v) t e = ready.apart.variable_spare r t v.0 n (sym v.2 ∙ e)
-    placed_away r n m x lt (inr u) t e = let ne : m ≢ n = omega arith in ready.apart.spares r u.0 t m n ne (sym u.1 ∙ e)
+    placed_away r n m x lt (inr (inl u)) t e = let ne : m ≢ n = omega arith in ready.apart.spares r u.0 t m n ne (sym u.1 ∙ e)
+    placed_away r n m x lt (inr (inr k)) t e = ready.apart.kept_spare r k.0 k.1 t n k.2 (sym k.3 ∙ e)
 
     pub away_from : (rs : List Rate) (xs : TExprs) (n m : ℕ) → n < m → length rs ≤ count_of xs → ValuesParts w rs xs m → EachFrom (λ j r x. IsAway n r x) rs 0 (value_registers w.layout rs xs m)
     away_from [] xs n m lt le f = tt
     away_from (r ∷ rs) t_no_exprs n m lt le f = absurd (omega (arith, le))
     away_from (r ∷ rs) (t_expr_then x xs) n m lt le f =
-        (placed_away r n m (operand w.layout r x m) lt (operand_placed w r (type_of x).elem x m f.0 f.1), each_past (λ j q y. IsAway n q y) rs 0 (operand w.layout r x m) (value_registers w.layout rs xs (m + 1)) (away_from rs xs n (m + 1) (omega arith) (omega (arith, le)) f.2))
+        (placed_away r n m (operand w.layout r x m) lt (operand_placed w ready r (type_of x).elem x m f.0 f.1), each_past (λ j q y. IsAway n q y) rs 0 (operand w.layout r x m) (value_registers w.layout rs xs (m + 1)) (away_from rs xs n (m + 1) (omega arith) (omega (arith, le)) f.2))
 
     -- all but the first
     pub others_away : (rs : List Rate) (xs : TExprs) (n : ℕ) → length rs ≤ count_of xs → ValuesParts w rs xs n → EachFrom (λ j r x. IsAway n r x) (later rs) 1 (value_registers w.layout rs xs n)

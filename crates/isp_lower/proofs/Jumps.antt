@@ -19,7 +19,8 @@ use Rattle.isp_meaning.specs.Payloads.{Payload}
 use Rattle.isp_lower.specs.Layout.{mask_register}
 use Rattle.isp_lower.specs.Setting.{Setting, IsSettled, AreAt, At, held_at, Holds}
 use Rattle.isp_lower.specs.Runs.{Comes, Ok}
-use Rattle.isp_lower.specs.Code.{copy, move, move_code, where_so, the_others}
+use Rattle.isp_lower.specs.Instructions.{copy, where_so, the_others}
+use Rattle.isp_lower.specs.Pieces.{move, move_code}
 use Rattle.isp_lower.proofs.Base.{step_go, next_at}
 use Rattle.isp_lower.proofs.Rates.{filled_held}
 use Rattle.isp_lower.proofs.Lines.{set_at, copy_line}

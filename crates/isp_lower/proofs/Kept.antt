@@ -1,4 +1,4 @@
--- What later code leaves as it is: spare registers of lower slots, and variables, but for the varying ones that packed loads of the function
+-- What later code leaves as it is: spare registers of lower slots, constants that are kept, and variables, but for the varying ones that packed loads of the function
 -- write.
 use Rattle.std.proofs.Common.{◌≡◌, ℕ, ◌+◌, ◌<◌, ◌≤◌, List, [], ◌∷◌, Option, Some, None, Bool, true, false, refl, sym, ap, ◌∙◌, subst, arith, ◌⊎◌, inl, inr, eqb-true}
 use Rattle.std.specs.Prelude.{◌||◌, nat_eq}
@@ -24,7 +24,7 @@ use Rattle.isp_typed.specs.declared.variable.Holds.{Holds}
 use Rattle.isp_typed.specs.declared.variable.Holds.TheVariants as holds
 use Rattle.isp_typed.specs.declared.variable.Variable.{Variable as Declared}
 use Rattle.isp_lower.specs.Callees.{later}
-use Rattle.isp_lower.specs.Code.{is_copied}
+use Rattle.isp_lower.specs.Found.{is_copied}
 use Rattle.isp_lower.specs.Layout.{Layout}
 use Rattle.isp_lower.specs.Library.{library_rates}
 use Rattle.isp_lower.specs.Setting.{Setting, IsSettled, gang_of, calls_of, Stands, Spares, held_at}
@@ -33,24 +33,30 @@ use Rattle.isp_lower.proofs.Parts.{ExprParts, BaseParts, ValuesParts, CallParts,
 use Rattle.isp_lower.specs.Asks.{first_slot, second_slot}
 use Rattle.isp_lower.specs.Consecutive.{RunHolds}
 
--- the register of a variable that is read in place, or a spare one of a slot below n
+-- the register of a constant that is kept
+abbrev pub IsKept : Layout → Rate → ℕ → Type 0
+IsKept l r x = (t : Elem) × (b : ℕ) × (l.kept r t b ≡ true) × (x ≡ l.constant r t b)
+
+-- the register of a variable that is read in place, that of a constant that is kept, or a spare one of a slot below n
 abbrev pub Low : Layout → Rate → ℕ → ℕ → Type 0
-Low l r n x = ((v : ℕ) × (is_copied l r v ≡ false) × (x ≡ l.variable r v)) ⊎ ((t : Elem) × (j : ℕ) × (j < n) × (x ≡ l.spare r t j))
+Low l r n x = ((v : ℕ) × (is_copied l r v ≡ false) × (x ≡ l.variable r v)) ⊎ (((t : Elem) × (j : ℕ) × (j < n) × (x ≡ l.spare r t j)) ⊎ IsKept l r x)
 
 pub low_more : (l : Layout) (r : Rate) (n m x : ℕ) → n ≤ m → Low l r n x → Low l r m x
 low_more l r n m x le (inl v) = inl v
-low_more l r n m x le (inr j) = inr (j.0, j.1, omega (arith, j.2), j.3)
+low_more l r n m x le (inr (inl j)) = inr (inl (j.0, j.1, omega (arith, j.2), j.3))
+low_more l r n m x le (inr (inr k)) = inr (inr k)
 
 pub low_spare : (l : Layout) (r : Rate) (t : Elem) (n j : ℕ) → j < n → Low l r n (l.spare r t j)
-low_spare l r t n j lt = inr (t, j, lt, refl)
+low_spare l r t n j lt = inr (inl (t, j, lt, refl))
 
--- the register of a variable that is read in place, or a spare one of this slot
+-- the register of a variable that is read in place, that of a constant that is kept, or a spare one of this slot
 abbrev pub Placed : Layout → Rate → ℕ → ℕ → Type 0
-Placed l r n x = ((v : ℕ) × (is_copied l r v ≡ false) × (x ≡ l.variable r v)) ⊎ ((t : Elem) × (x ≡ l.spare r t n))
+Placed l r n x = ((v : ℕ) × (is_copied l r v ≡ false) × (x ≡ l.variable r v)) ⊎ (((t : Elem) × (x ≡ l.spare r t n)) ⊎ IsKept l r x)
 
 pub placed_low : (l : Layout) (r : Rate) (n m x : ℕ) → n < m → Placed l r n x → Low l r m x
 placed_low l r n m x lt (inl v) = inl v
-placed_low l r n m x lt (inr t) = inr (t.0, n, lt, t.1)
+placed_low l r n m x lt (inr (inl t)) = inr (inl (t.0, n, lt, t.1))
+placed_low l r n m x lt (inr (inr k)) = inr (inr k)
 
 pub record KeepsLow (l : Layout) (n : ℕ) (scalars : ℕ → ℕ) (vectors : ℕ → Lanes) (scalars' : ℕ → ℕ) (vectors' : ℕ → Lanes) : Type 0 where
   pub scalars_stay : (x : ℕ) → Low l Uniform n x → scalars' x ≡ scalars x
@@ -67,7 +73,8 @@ module _ (w : Setting) where
     where
       scalar : (x : ℕ) → Low w.layout Uniform n x → c'.scalars x ≡ c.scalars x
       scalar x (inl v) = ap c'.scalars v.2 ∙ st'.uniforms v.0 ∙ ap (λ f. f v.0) k.0 ∙ sym (st.uniforms v.0) ∙ ap c.scalars (sym v.2)
-      scalar x (inr j) = ap c'.scalars j.3 ∙ sp.scalars_stay j.0 j.1 j.2 ∙ ap c.scalars (sym j.3)
+      scalar x (inr (inl j)) = ap c'.scalars j.3 ∙ sp.scalars_stay j.0 j.1 j.2 ∙ ap c.scalars (sym j.3)
+      scalar x (inr (inr g)) = ap c'.scalars g.3 ∙ st'.constants Uniform g.0 g.1 g.2 ∙ sym (st.constants Uniform g.0 g.1 g.2) ∙ ap c.scalars (sym g.3)
 
       place : (o : Option ℕ) (i : ℕ) → o ≡ Some i → RunHolds o w.start w.members (c.scalars (w.layout.place Uniform)) s.varying → RunHolds o w.start w.members (c'.scalars (w.layout.place Uniform)) s'.varying → c'.scalars (w.layout.place Uniform) ≡ c.scalars (w.layout.place Uniform)
       place None i e h h' = absurd (cc)
@@ -75,7 +82,8 @@ module _ (w : Setting) where
 
       vector : (x : ℕ) → Low w.layout Varying n x → c'.vectors x ≡ c.vectors x
       vector x (inl v) = ap c'.vectors v.2 ∙ st'.varying v.0 ∙ k.1 v.0 v.1 ∙ sym (st.varying v.0) ∙ ap c.vectors (sym v.2)
-      vector x (inr j) = ap c'.vectors j.3 ∙ sp.vectors_stay j.0 j.1 j.2 ∙ ap c.vectors (sym j.3)
+      vector x (inr (inl j)) = ap c'.vectors j.3 ∙ sp.vectors_stay j.0 j.1 j.2 ∙ ap c.vectors (sym j.3)
+      vector x (inr (inr g)) = ap c'.vectors g.3 ∙ st'.constants Varying g.0 g.1 g.2 ∙ sym (st.constants Varying g.0 g.1 g.2) ∙ ap c.vectors (sym g.3)
 
   -- and so does its code
   pub runs_kept : {A : Type 0} (c : Conf) (pc n q : ℕ) (P : A → Conf → Type 0) (v : Val A) (s : State) → Stands w s c → KeepsBy w.layout.loaded s v → Runs w c pc n q P v → Runs w c pc n q (λ x c'. P x c' × Keeps w n c c') v

@@ -12,7 +12,9 @@ use Rattle.isp_meaning.specs.State.{State}
 use Rattle.isp_typed.specs.Fine.{heads}
 use Rattle.isp_typed.specs.Typed.{TExpr, TExprs, t_no_exprs, t_expr_then, type_of}
 use Rattle.isp_lower.specs.Callees.{next_rate, later}
-use Rattle.isp_lower.specs.Code.{operand, operand_of, expr_places, expr_code, values_code, values_places, value_registers}
+use Rattle.isp_lower.specs.Code.{expr_code, values_code, value_registers}
+use Rattle.isp_lower.specs.Found.{operand, operand_of}
+use Rattle.isp_lower.specs.Spans.{expr_places, values_places}
 use Rattle.isp_lower.specs.Runs.{Enters, Failed, Stopped, Ok, Runs}
 use Rattle.isp_lower.specs.Setting.{Setting, IsSettled, gang_of, calls_of, AreAt, Holds}
 use Rattle.isp_lower.proofs.Base.{are_front, are_back, comes_none, comes_on, at_to, spares_all, spares_less, spares_on}
@@ -90,8 +92,8 @@ module _ (w : Setting) (ready : IsSettled w) where
       subst (λ d. RunsLeaving c (pc + length (ca ++ cb)) n d q (λ ms c'. AllHold rs a (operand w.layout r x n ∷ regs) ms c') (bind all then)) size
       (subst (λ g. RunsLeaving c g n (3 + 3 * count_of xs) q (λ ms c'. AllHold rs a (operand w.layout r x n ∷ regs) ms c') (bind all then)) to
       (first_leaves c (pc1 + length cb) pc1 n (3 + 3 * count_of xs) q (Holds r a (operand w.layout r x n)) (λ ms c'. AllHold rs a (operand w.layout r x n ∷ regs) ms c') all then
-      (operand_runs w ready c pc k n (3 + q) a all r (type_of x).elem x cx fit.0 b.mask b.low ha
-      (expr_runs w ready x pc p k n q (1 + (3 + q)) a s c fit.1 (are_front w.routine.code pc cx _ ha) (are_front w.code.places p px _ places) (omega (arith, f)) b))
+      (operand_runs w ready c pc k n q (3 + q) a s r (type_of x).elem x cx fit.0 (omega (arith, f)) b ha
+      (λ at. expr_runs w ready x pc p k n q (1 + (3 + q)) a s c fit.1 at (are_front w.code.places p px _ places) (omega (arith, f)) b))
       (λ m s1 ok.
       rest_leave rs x regs n (pc1 + length cb) pc1 (3 * count_of xs) q a m s1 c ok (values (gang_of w) w.frame (calls_of w) xs a s1) fit.0 fit.1 (values_still w ready (later rs) xs (n + 1) a s1 fit.2)
       (values_leave xs (later rs) pc1 p1 k (n + 1) (ok.steps + (3 + q)) a s1 ok.conf fit.2 (are_back w.routine.code pc ca cb has) (are_back w.code.places p px _ places) (enters_later w ready pc pc1 k n (n + 1) (ok.steps + (3 + q)) q (3 + q) a s s1 c (omega arith) b ok (omega arith))))))

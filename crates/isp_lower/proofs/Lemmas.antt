@@ -8,6 +8,8 @@ pub use Rattle.isp_lower.proofs.Jumps.{jumped, jump_comes, jump_at, masked, mask
 pub use Rattle.isp_lower.proofs.Lines.{set_at, copy_line, place_named}
 pub use Rattle.isp_lower.proofs.Logic.{any_nobody, where_inside}
 pub use Rattle.isp_lower.proofs.Rates.{at_kept}
+pub use Rattle.isp_lower.proofs.Constants.{scalar_put, vector_put}
+pub use Rattle.isp_lower.proofs.Values.{wrap_bits}
 pub use Rattle.isp_lower.proofs.Writes.{written_stands}
 pub use Rattle.isp_lower.proofs.Done.{variable_spares}
 -- ---- what code of values, assignments and declarations does, and what it asks of the trees
@@ -33,10 +35,10 @@ pub use Rattle.isp_lower.proofs.SoundExprs.{value_sound, values_sound, part_soun
 pub use Rattle.isp_lower.proofs.SoundSimples.{simple_sound, items_sound}
 -- ---- registers: those of rows, those that a walk reserves, and those that are the function's own
 
-pub use Rattle.isp_lower.proofs.Rows.{layout_apart, register_there}
-pub use Rattle.isp_lower.proofs.Growing.{all_grow, both_given, gives_none}
+pub use Rattle.isp_lower.proofs.Rows.{kept_there, layout_apart, register_there}
+pub use Rattle.isp_lower.proofs.Growing.{all_grow, both_given, gives_none, kept_same, longer_has, longer_keeps, longer_self, longer_then}
 pub use Rattle.isp_lower.proofs.Own.{all_held, expr_own, operand_own, simple_own, item_own}
-pub use Rattle.isp_lower.proofs.FirstRows.{all_there, result_at}
+pub use Rattle.isp_lower.proofs.FirstRows.{all_there, none_kept, result_at}
 -- ---- what is written: one piece after the other, and jumps over a part
 
 pub use Rattle.isp_lower.proofs.Landing.{appends_self, appends_then, landed, chosen, code_chosen, code_landed}

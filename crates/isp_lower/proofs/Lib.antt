@@ -4,11 +4,13 @@ mod Growing
 mod Landing
 mod Stayed
 mod Staying
+mod Keeping
 mod Homes
 mod Splits
 mod Base
 mod Rates
 mod Lines
+mod Constants
 mod Combine
 mod Kept
 mod Values
@@ -23,6 +25,7 @@ mod PackedRuns
 mod Nodes
 mod Jumps
 mod Logic
+mod ChangedBy
 mod Choose
 mod Short
 mod Exprs

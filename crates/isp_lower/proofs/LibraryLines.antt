@@ -32,7 +32,7 @@ use Rattle.isp_typed.specs.declared.library.Library.{Library}
 use Rattle.isp_typed.specs.declared.library.Library.TheVariants as library
 use Rattle.isp_meaning.specs.Library.{argument, chosen_by, chosen_one, library_value}
 use Rattle.isp_meaning.specs.Payloads.{Payload, One, Each, bit, is_true, sole, spread, mapped, joined}
-use Rattle.isp_lower.specs.Code.{compute, select, unary}
+use Rattle.isp_lower.specs.Instructions.{compute, select, unary}
 use Rattle.isp_lower.specs.Layout.{register}
 use Rattle.isp_lower.specs.Library as table
 use Rattle.isp_lower.specs.Library.{library_code, library_rates, reduce, register_at}

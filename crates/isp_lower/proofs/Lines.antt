@@ -31,7 +31,7 @@ use Rattle.isp_code.specs.declared.instr.Plain.TheVariants as plain
 use Rattle.isp_meaning.specs.Payloads.{Payload, sole, spread, mapped, joined, converted, offender, if_fails}
 use Rattle.isp_lower.specs.Layout.{register, mask_register}
 use Rattle.isp_lower.specs.Setting.{AreAt, held_at}
-use Rattle.isp_lower.specs.Code.{copy, convert, unary, compare, compute, operate, operate_places}
+use Rattle.isp_lower.specs.Instructions.{copy, convert, unary, compare, compute, operate, operate_places}
 use Rattle.isp_lower.proofs.Base.{moved_by}
 use Rattle.isp_lower.proofs.Rates.{none_fails, some_lowest}
 

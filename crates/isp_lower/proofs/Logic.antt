@@ -23,7 +23,8 @@ use Rattle.isp_meaning.specs.Expressions.{needs, settled}
 use Rattle.isp_lower.specs.Layout.{register, mask_register}
 use Rattle.isp_lower.specs.Setting.{Setting, IsSettled, gang_of, AreAt, at_rate, Holds, Allowed}
 use Rattle.isp_lower.specs.Runs.{Enters, Ok, Runs}
-use Rattle.isp_lower.specs.Code.{copy, move_code, needing, decided, jump_on, jump_off, logic_code}
+use Rattle.isp_lower.specs.Instructions.{copy, jump_on, jump_off}
+use Rattle.isp_lower.specs.Pieces.{move_code, needing, decided, logic_code}
 use Rattle.isp_lower.proofs.Base.{are_front, are_back, put_same, put_other, comes_none, comes_on, at_to, spares_all}
 use Rattle.isp_lower.proofs.Rates.{at_kept, one_holds}
 use Rattle.isp_lower.proofs.Lines.{set_at, copy_line}

@@ -1,5 +1,5 @@
 -- Rows of registers, and a map that tells where the first row of each name stands.
-use Rattle.std.proofs.Common.{◌≡◌, ◌<◌, ℕ, zero, suc, map, subst, ◌+◌, length, List, [], ◌∷◌, ◌++◌, Some, None, Bool, true, false, refl, sym, ap, ◌∙◌, ◌≢◌, arith, eqb-true, eq-eqb, ne_eqb, get_or, take}
+use Rattle.std.proofs.Common.{◌≡◌, ◌<◌, ℕ, zero, suc, map, subst, ◌+◌, length, List, [], ◌∷◌, ◌++◌, Some, None, Bool, true, false, refl, sym, ap, ◌∙◌, ◌≢◌, arith, eqb-true, eq-eqb, ne_eqb, get_or, take, inl, append-nil}
 use Rattle.std.specs.Prelude.{◌==◌, if◌then◌else◌, Option, IfSome, IfNone, is_some, slice_get, cond, nat_lt}
 use Rattle.std.specs.BTreeMap.{BTreeMap, get}
 use Rattle.std.specs.Ordering.{nat_cmp, is_eq}
@@ -7,13 +7,15 @@ use Rattle.std.specs.declared.cmp.Ordering.TheVariants.{Less, Equal, Greater}
 use Rattle.std.proofs.lemmas.List.{map-append, length-map, length-take-le}
 use Rattle.std.proofs.lemmas.Option.{slice_get-get_or}
 use Rattle.std.proofs.lemmas.Cmp.{tied_itself, nat_cmp_total}
-use Rattle.isp_base.specs.Ranks.{rank}
+use Rattle.isp_base.specs.Ranks.{rank, same_elem}
 use Rattle.isp_base.specs.declared.types.Elem.{Elem}
 use Rattle.isp_base.proofs.RankLaws.{same_is}
-use Rattle.isp_lower.specs.Lookup.{AreNamedFrom, HasOwnType, IsNamedAt, Tells, name_of, own_type, row_of}
-use Rattle.isp_lower.specs.Rows.{Name, Variable, Result, Spare, Place, Fresh, Row, name_number, number_in, elem_in, with_fresh}
+use Rattle.isp_lower.specs.Lookup.{AreNamedFrom, HasOwnType, IsNamedAt, IsPlain, Tells, name_of, own_type, row_of}
+use Rattle.isp_lower.specs.Rows.{Name, Variable, Result, Spare, Place, Fresh, Kept, Row, has_type, keeps, name_number, number_in, elem_in, with_fresh}
+use Rattle.isp_lower.specs.Emitted.{KeepsIn}
+use Rattle.isp_lower.specs.declared.registers.RegisterName.TheVariants as one
 use Rattle.isp_lower.specs.declared.registers.RegisterRow.{RegisterRow}
-use Rattle.isp_lower.proofs.Rows.{few_ranks, rows_stay}
+use Rattle.isp_lower.proofs.Rows.{few_ranks, kept_more, kept_of, plain_keeps, rows_stay}
 
 some_same : {A : Type 0} {x y : A} → Some x ≡ Some y → x ≡ y
 some_same e = cc
@@ -160,6 +162,19 @@ module _ (rows new : List RegisterRow) (r : RegisterRow) (found : Option (ℕ ×
       go None absent at = at
       go (Some x) absent at = absurd (cc)
 
+-- where the row is refused, the map tells of the rows that are there
+pub refused_new : (rows : List RegisterRow) (r : RegisterRow) (found : Option (ℕ × Elem)) (m n : BTreeMap ℕ ℕ) (k len : ℕ) → Tells m (map row_of rows) → is_some found ≡ false → IfNone found (elem_in (map row_of rows) (name_of r.name) ≡ None)
+    → k ≡ name_number (name_of r.name) → ((q : ℕ) → get nat_cmp n q ≡ cond (is_eq (nat_cmp k q)) (Some len) (get nat_cmp m q)) → Tells n (map row_of rows)
+refused_new rows r found m n k len tells absent at e put x t is = put (name_number x) ∙ ap (λ z. cond (is_eq (nat_cmp z (name_number x))) (Some len) (get nat_cmp m (name_number x))) e ∙ go (is_eq (nat_cmp (name_number (name_of r.name)) (name_number x))) refl
+  where
+    none : (o : Option (ℕ × Elem)) → is_some o ≡ false → IfNone o (elem_in (map row_of rows) (name_of r.name) ≡ None) → elem_in (map row_of rows) (name_of r.name) ≡ None
+    none None out told = told
+    none (Some y) out told = absurd (cc)
+
+    go : (b : Bool) → is_eq (nat_cmp (name_number (name_of r.name)) (name_number x)) ≡ b → cond b (Some len) (get nat_cmp m (name_number x)) ≡ Some (number_in (map row_of rows) x)
+    go true same = none_some (sym is ∙ (same_elem_in (map row_of rows) x (name_of r.name) (sym (same_key (name_number (name_of r.name)) (name_number x) same)) ∙ none found absent at))
+    go false same = tells x t is
+
 -- ---- a name that has a row has a number below the count of rows
 
 below : (rows : List Row) (x : Name) (t : Elem) → elem_in rows x ≡ Some t → number_in rows x < length rows
@@ -193,6 +208,7 @@ other_name Result n m h lt = λ e. omega (arith, e)
 other_name (Spare t j) n m h lt = λ e. omega (arith, e)
 other_name Place n m h lt = λ e. omega (arith, e)
 other_name (Fresh j) n m h lt = λ e. omega (arith, e, h, lt)
+other_name (Kept t b) n m h lt = λ e. omega (arith, e)
 
 fresh_last : (n m : ℕ) (rows : List Row) (t : Elem) → AreNamedFrom n rows → n + length rows ≡ m → number_in (rows ++ (record { name = Fresh m; elem = t }) ∷ []) (Fresh m) ≡ length rows
 fresh_last n m [] t h e = ap (λ b. if b then 0 else 1 + name_number (Fresh m)) (eq-eqb (name_number (Fresh m)) (name_number (Fresh m)) refl)
@@ -249,6 +265,17 @@ own_name (Variable v) Place t e h = absurd (omega (arith, e))
 own_name Result Place t e h = absurd (omega (arith, e))
 own_name (Spare u i) Place t e h = absurd (omega (arith, e))
 own_name (Fresh i) Place t e h = absurd (omega (arith, e))
+own_name (Kept u b) (Spare w j) t e h = absurd (omega (arith, e))
+own_name (Kept u b) Place t e h = absurd (omega (arith, e))
+own_name (Variable v) (Kept w c) t e h = absurd (omega (arith, e))
+own_name Result (Kept w c) t e h = absurd (omega (arith, e))
+own_name (Spare u i) (Kept w c) t e h = absurd (omega (arith, e))
+own_name Place (Kept w c) t e h = absurd (omega (arith, e))
+own_name (Fresh i) (Kept w c) t e h = absurd (omega (arith, e))
+own_name (Kept u b) (Kept w c) t e h =
+    let a = few_ranks u in
+    let d = few_ranks w in
+    h ∙ same_is u w (eq-eqb (rank u) (rank w) (omega (arith, e, a, d)))
 
 pub own_in : (n : ℕ) (rows : List RegisterRow) (at : ℕ) (r : RegisterRow) → slice_get rows at ≡ Some r → AreNamedFrom n (map row_of rows) → HasOwnType (name_of r.name) r.elem
 own_in n [] at r e h = none_some (sym e)
@@ -274,6 +301,29 @@ elem_added (z ∷ rows) r e = go (name_number z.name == name_number r.name) (ele
 pub elem_pushed : (rows new : List RegisterRow) (r : RegisterRow) → new ≡ rows ++ r ∷ [] → elem_in (map row_of rows) (name_of r.name) ≡ None → elem_in (map row_of new) (name_of r.name) ≡ Some r.elem
 elem_pushed rows new r all e = ap (λ zs. elem_in zs (name_of r.name)) (ap (map row_of) all ∙ map-append row_of rows (r ∷ [])) ∙ elem_added (map row_of rows) (row_of r) e
 
+-- a row of another name keeps no constant more
+pub pushed_keeps : (rows new : List RegisterRow) (r : RegisterRow) → new ≡ rows ++ r ∷ [] → (t : Elem) (b : ℕ) → IsPlain (name_of r.name) → keeps (map row_of new) t b ≡ keeps (map row_of rows) t b
+pushed_keeps rows new r all t b plain = ap (λ zs. keeps zs t b) (ap (map row_of) all ∙ map-append row_of rows (r ∷ [])) ∙ plain_keeps (map row_of rows) (row_of r) t b plain
+
+-- the row of a constant keeps that one, and no other one more
+pub pushed_kept : (rows new : List RegisterRow) (u : Elem) (c : ℕ) → new ≡ rows ++ record { name = one.Kept u c; elem = u } ∷ [] → elem_in (map row_of rows) (Kept u c) ≡ None → KeepsIn (map row_of rows) (map row_of new) u c
+pushed_kept rows new u c all none =
+    let r : RegisterRow = record { name = one.Kept u c; elem = u } in
+    let more = ap (map row_of) all ∙ map-append row_of rows (r ∷ []) in
+    record {
+      rows = record { more = row_of r ∷ []; is = more };
+      has = kept_of (map row_of new) u c (elem_pushed rows new r all none);
+      only = λ t b h. kept_more (map row_of rows) u c t b (subst (λ zs. keeps zs t b ≡ true) more h);
+    }
+
+-- and it is there already where it is found
+pub found_kept : (rows : List RegisterRow) (u t : Elem) (c : ℕ) → elem_in (map row_of rows) (Kept u c) ≡ Some t → HasOwnType (Kept u c) t → KeepsIn (map row_of rows) (map row_of rows) u c
+found_kept rows u t c e own = record {
+  rows = record { more = []; is = sym (append-nil (map row_of rows)) };
+  has = kept_of (map row_of rows) u c (e ∙ ap (λ z. Some z) own);
+  only = λ v b h. inl h;
+}
+
 -- what is found of a name that says its type has that type
 pub own_is : (x : Name) (t u : Elem) → own_type x ≡ Some u → HasOwnType x t → t ≡ u
 own_is (Spare w j) t u e h = h ∙ some_same e
@@ -281,3 +331,11 @@ own_is Place t u e h = h ∙ some_same e
 own_is (Variable v) t u e h = none_some (sym e)
 own_is Result t u e h = none_some (sym e)
 own_is (Fresh j) t u e h = none_some (sym e)
+own_is (Kept w b) t u e h = h ∙ some_same e
+
+-- a constant is kept where its row is found
+pub found_keeps : (rows : List Row) (t u : Elem) (b : ℕ) → elem_in rows (Kept t b) ≡ Some u → HasOwnType (Kept t b) u → keeps rows t b ≡ true
+found_keeps rows t u b e own = ap (has_type t) e ∙ ap (same_elem u) (sym own) ∙ eq-eqb (rank u) (rank u) refl
+
+pub none_keeps : (rows : List Row) (t : Elem) (b : ℕ) → elem_in rows (Kept t b) ≡ None → keeps rows t b ≡ false
+none_keeps rows t b e = ap (has_type t) e

@@ -30,7 +30,8 @@ use Rattle.isp_typed.specs.Typed.{TExpr, TFunction, TSimple}
 use Rattle.isp_typed.specs.declared.variable.Variable.{Variable as Declared}
 use Rattle.isp_typed.specs.declared.variable.ArrayVariable.{ArrayVariable}
 use Rattle.isp_lower.specs.Asks.{Ask, expr_asks, simple_asks}
-use Rattle.isp_lower.specs.Code.{expr_code, expr_places}
+use Rattle.isp_lower.specs.Code.{expr_code}
+use Rattle.isp_lower.specs.Spans.{expr_places}
 use Rattle.isp_lower.specs.Emitted as emitted
 use Rattle.isp_lower.specs.Emitted.{rows_of}
 use Rattle.isp_lower.specs.Callees.{rates_in}
@@ -46,7 +47,7 @@ use Rattle.isp_lower.proofs.Trees.{ExprTree, SimpleTree}
 use Rattle.isp_lower.specs.declared.reserve.Reserve.{Reserve}
 use Rattle.isp_lower.proofs.Growing.{all_grow}
 use Rattle.isp_lower.proofs.Naming.{code_weaker}
-use Rattle.isp_lower.proofs.Rows.{register_there, row_typed}
+use Rattle.isp_lower.proofs.Rows.{kept_there, register_there, row_typed}
 use Rattle.isp_lower.proofs.SoundExprs.{value_sound}
 use Rattle.isp_lower.proofs.SoundSimples.{simple_sound}
 
@@ -172,8 +173,8 @@ routine_at [] f g e = absurd (cc)
 routine_at (k ∷ fs) zero g e = ap (λ z. Some (routine_for z)) (same_Some k g e)
 routine_at (k ∷ fs) (suc f) g e = routine_at fs f g e
 
-linked : (fs : List TFunction) (n : ℕ) (rows : Rows) → Links fs (with_places fs n) (layout_of (rates_in fs) rows)
-linked fs n rows = record { rates = refl; headers = λ f g e. record { routine = routine_for g; found = routine_at fs f g e; params = params_held (params_of g); returns = refl } }
+linked : (fs : List TFunction) (n : ℕ) (rows : Rows) (masks : ℕ) (code : List Instr) → Links fs (with_places fs n) (with_rows rows masks code) (layout_of (rates_in fs) rows)
+linked fs n rows masks code = record { rates = refl; constants = kept_there (with_rows rows masks code) (rates_in fs) rows (rows_made rows masks code); headers = λ f g e. record { routine = routine_for g; found = routine_at fs f g e; params = params_held (params_of g); returns = refl } }
 
 module _ (fs : List TFunction) (r : Reserve) (pc p k n : ℕ) (lt : k < r.masks) where
   abbrev rows : Rows
@@ -192,7 +193,7 @@ module _ (fs : List TFunction) (r : Reserve) (pc p k n : ℕ) (lt : k < r.masks)
       let b : length (with_places fs places).places ≡ places = many_long (record { start = 0; end = 0 }) places in
       of_rows rows r.masks code is
       (sound_there (with_places fs places) (with_rows rows r.masks code) is
-      (value_sound fs (with_places fs places) (with_rows rows r.masks code) l (linked fs places rows) x n tree (granted (rates_in fs) r code (expr_asks x n) has) pc p k lt (omega (arith, b)) (omega (arith, a))))
+      (value_sound fs (with_places fs places) (with_rows rows r.masks code) l (linked fs places rows r.masks code) x n tree (granted (rates_in fs) r code (expr_asks x n) has) pc p k lt (omega (arith, b)) (omega (arith, a))))
 
   pub simple_named : (x : TSimple) → SimpleTree fs x → Has r (simple_asks x n) → InCode (IsOf rows r.masks) (simple_code l x pc p k n)
   simple_named x tree has =
@@ -204,4 +205,4 @@ module _ (fs : List TFunction) (r : Reserve) (pc p k n : ℕ) (lt : k < r.masks)
       let b : length (with_places fs places).places ≡ places = many_long (record { start = 0; end = 0 }) places in
       of_rows rows r.masks code is
       (sound_there (with_places fs places) (with_rows rows r.masks code) is
-      (simple_sound fs (with_places fs places) (with_rows rows r.masks code) l (linked fs places rows) x n tree (granted (rates_in fs) r code (simple_asks x n) has) pc p k lt (omega (arith, b)) (omega (arith, a))))
+      (simple_sound fs (with_places fs places) (with_rows rows r.masks code) l (linked fs places rows r.masks code) x n tree (granted (rates_in fs) r code (simple_asks x n) has) pc p k lt (omega (arith, b)) (omega (arith, a))))

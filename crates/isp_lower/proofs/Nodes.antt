@@ -1,27 +1,38 @@
 -- One node of an expression, given what holds of its operands.
-use Rattle.std.proofs.Common.{◌≡◌, ℕ, ◌+◌, ◌<◌, ◌≤◌, List, [], ◌∷◌, ◌++◌, length, Option, Some, None, refl, sym, ap, ◌∙◌, subst, arith, length-append}
+use Rattle.std.proofs.Common.{◌≡◌, ℕ, ◌+◌, ◌%◌, ◌^◌, ◌<◌, ◌≤◌, List, [], ◌∷◌, ◌++◌, length, Option, Some, None, Bool, true, false, refl, sym, ap, ◌∙◌, subst, arith, length-append}
 use Rattle.std.specs.Prelude.{slice_get}
+use Rattle.std.proofs.lemmas.Option.{same_Some}
+use Rattle.isp_base.specs.Maps.{on}
 use Rattle.isp_base.specs.Sets.{Mask}
+use Rattle.isp_base.specs.Values.{width}
 use Rattle.isp_base.specs.declared.trap.TrapKind.{TrapKind}
 use Rattle.isp_base.specs.declared.trap.TrapKind.TheVariants.{Divide}
 use Rattle.isp_base.specs.declared.types.Elem.{Elem}
 use Rattle.isp_base.specs.declared.types.Rate.{Rate}
+use Rattle.isp_base.specs.declared.types.Rate.TheVariants.{Uniform, Varying}
+use Rattle.isp_base.specs.declared.types.Value.{Value}
 use Rattle.isp_base.specs.declared.types.Span.{Span}
 use Rattle.isp_code.specs.Calls.{no_place}
 use Rattle.isp_code.specs.Conf.{Conf, Go}
 use Rattle.isp_code.specs.Lines.{act}
 use Rattle.isp_code.specs.declared.instr.Instr.{Instr}
 use Rattle.isp_meaning.specs.State.{State, tick}
-use Rattle.isp_meaning.specs.Payloads.{Payload, mapped, joined}
+use Rattle.isp_meaning.specs.Payloads.{Payload, One, Each, converted, mapped, joined}
 use Rattle.isp_meaning.specs.Outcomes.{Val, Gives, bind, checked}
-use Rattle.isp_typed.specs.Typed.{TExpr, type_of}
-use Rattle.isp_lower.specs.Setting.{Setting, IsSettled, AreAt, at_rate, held_at, Holds}
+use Rattle.isp_meaning.specs.Expressions.{value}
+use Rattle.isp_typed.specs.Fine.{heads}
+use Rattle.isp_typed.specs.Typed.{TExpr, t_constant, t_program_index, t_place, t_convert, t_cast, t_unary, t_binary, t_compare, t_logic, t_choose, t_call, t_library, t_packed_store, t_packed_load, type_of}
+use Rattle.isp_lower.specs.Setting.{Setting, IsSettled, gang_of, calls_of, AreAt, at_rate, held_at, Holds}
 use Rattle.isp_lower.specs.Runs.{Enters, Ok, Runs}
-use Rattle.isp_lower.specs.Code.{found, operand, operand_of, lift_code, pair_code}
-use Rattle.isp_lower.proofs.Base.{are_back, comes_none, moved_by, spares_all, spares_less}
-use Rattle.isp_lower.proofs.Rates.{Filled, at_mapped, at_joined, filled_mapped, filled_joined}
+use Rattle.isp_lower.specs.Found.{found, in_vector, operand, operand_by, operand_of, lift_code, vector_of}
+use Rattle.isp_lower.specs.Known.{constant_of, known, known_as, unless_kept}
+use Rattle.isp_lower.specs.Pieces.{pair_code}
+use Rattle.isp_lower.proofs.Base.{are_front, are_back, at_to, comes_none, moved_by, spares_all, spares_less}
+use Rattle.isp_lower.proofs.Rates.{Filled, at_mapped, at_joined, filled_mapped, filled_joined, on_everywhere}
 use Rattle.isp_lower.proofs.Lines.{set_at, value_at}
 use Rattle.isp_lower.proofs.Combine.{lift_runs}
+use Rattle.isp_lower.proofs.Found.{constant_is_one}
+use Rattle.isp_lower.proofs.Values.{constant_is, wrap_bits}
 use Rattle.isp_lower.proofs.Targets.{Target, target, Leaves, leaves_after, bind_leaves, write_sure}
 use Rattle.isp_lower.proofs.Kept.{Low, runs_kept, held_kept}
 use Rattle.isp_meaning.specs.Loads.{KeepsBy}
@@ -44,12 +55,67 @@ module _ (w : Setting) (ready : IsSettled w) where
   leaf_runs g pc k n q rest a s c i r t x y le b has ex fill is =
       write_sure w ready g c c 0 pc (pc + 1) n rest a (tick s) i r t None Divide no_place x y (comes_none w c) b.at refl has b.stands (spares_all w n c) (λ k lt. refl) (omega (arith, b.used)) ex fill is
 
-  -- an operand, once its own code ran
-  pub operand_runs : (c : Conf) (pc k n q : ℕ) (a : Mask) (v : Val Payload) (r : Rate) (t : Elem) (x : TExpr) (code : List Instr) → OperandFits w r t x n → c.masks k ≡ a → k < n → AreAt w.routine.code pc (operand_of w.layout r x k n code) → Runs w c (pc + length code) n (1 + q) (Holds (type_of x).rate a (found w.layout x n)) v → Runs w c (pc + length (operand_of w.layout r x k n code)) n q (Holds r a (operand w.layout r x n)) v
-  operand_runs c pc k n q a v r t x code fit em lt has run =
-      let lift = lift_code w.layout r (type_of x).rate (type_of x).elem (found w.layout x n) k n in
-      let to : pc + length code + length lift ≡ pc + length (code ++ lift) = omega (arith, length-append code lift) in
-      subst (λ p. Runs w c p n q (Holds r a (operand w.layout r x n)) v) to (lift_runs w ready c (pc + length code) k n q a v r (type_of x).rate (type_of x).elem (found w.layout x n) fit.reaches em lt (are_back w.routine.code pc code lift has) run)
+  -- a constant that is kept in a vector
+  known_value : (x : TExpr) (v : Value) (a : Mask) (s : State) → known x ≡ Some v → value (gang_of w) w.frame (calls_of w) x a s ≡ Gives (One (v.bits % 2 ^ width v.elem)) (tick s)
+  known_value (t_constant u sp) v a s e = let h : u ≡ v = cc in ap (λ z. Gives (One (z.bits % 2 ^ width z.elem)) (tick s)) h
+  known_value (t_convert t x) v a s e = go (constant_of x) refl e
+    where
+      go : (o : Option Value) → constant_of x ≡ o → known_as t o ≡ Some v → bind (value (gang_of w) w.frame (calls_of w) x a s) (λ m s1. Gives (mapped (converted (type_of x).elem t) m) s1) ≡ Gives (One (v.bits % 2 ^ width v.elem)) (tick s)
+      go None eo h = absurd (cc)
+      go (Some u) eo h =
+          let one = constant_is_one x u eo in
+          let b = converted u.elem t u.bits in
+          ap (λ y. bind (value (gang_of w) w.frame (calls_of w) y a s) (λ m s1. Gives (mapped (converted (type_of y).elem t) m) s1)) one.1
+          ∙ ap (λ z. Gives (One z) (tick s)) (sym (constant_is u.elem t u.bits) ∙ wrap_bits t b)
+          ∙ ap (λ z. Gives (One (z.bits % 2 ^ width z.elem)) (tick s)) (same_Some (record { elem = t; bits = b }) v h)
+  known_value (t_program_index sp) v a s e = absurd (cc)
+  known_value (t_place p) v a s e = absurd (cc)
+  known_value (t_cast x t sp) v a s e = absurd (cc)
+  known_value (t_unary o x t sp) v a s e = absurd (cc)
+  known_value (t_binary o x y t sp) v a s e = absurd (cc)
+  known_value (t_compare d x y r sp) v a s e = absurd (cc)
+  known_value (t_logic g x y r sp) v a s e = absurd (cc)
+  known_value (t_choose d x y t sp) v a s e = absurd (cc)
+  known_value (t_call d t) v a s e = absurd (cc)
+  known_value (t_library g t xs u sp) v a s e = absurd (cc)
+  known_value (t_packed_store b x sp) v a s e = absurd (cc)
+  known_value (t_packed_load b u sp) v a s e = absurd (cc)
+
+  vector_runs : (r : Rate) (x : TExpr) (pc k n q rest : ℕ) (a : Mask) (s : State) (c : Conf) → rest ≤ 31 + q → Enters w pc k n a s c q → in_vector w.layout r (known x) ≡ true → Runs w c (pc + 0) n rest (Holds r a (vector_of w.layout (known x))) (value (gang_of w) w.frame (calls_of w) x a s)
+  vector_runs r x pc k n q rest a s c le b is = go r (known x) refl is
+    where
+      go : (g : Rate) (o : Option Value) → known x ≡ o → in_vector w.layout g o ≡ true → Runs w c (pc + 0) n rest (Holds g a (vector_of w.layout o)) (value (gang_of w) w.frame (calls_of w) x a s)
+      go Uniform o eo h = absurd (cc)
+      go Varying None eo h = absurd (cc)
+      go Varying (Some v) eo h =
+          let z = v.bits % 2 ^ width v.elem in
+          subst (Runs w c (pc + 0) n rest (Holds Varying a (w.layout.constant Varying v.elem v.bits))) (sym (known_value x v a s eo))
+          (record {
+            conf = c;
+            steps = 0;
+            comes = comes_none w c;
+            at = at_to w c pc _ b.at (omega arith);
+            stands = b.stands;
+            spares = spares_all w n c;
+            masks = λ j lt. refl;
+            holds = ap Each (sym (on_everywhere (gang_of w) z a (λ p h. (b.inside p h).0)) ∙ ap (on a) (sym (b.stands.constants Varying v.elem v.bits h)));
+            bound = omega (arith, le, b.used);
+          })
+
+  -- an operand, by the run of its own code
+  pub operand_runs : (c : Conf) (pc k n q rest : ℕ) (a : Mask) (s : State) (r : Rate) (t : Elem) (x : TExpr) (code : List Instr) → OperandFits w r t x n → heads x + (1 + rest) ≤ 5 + q → Enters w pc k n a s c q → AreAt w.routine.code pc (operand_of w.layout r x k n code) → (AreAt w.routine.code pc code → Runs w c (pc + length code) n (1 + rest) (Holds (type_of x).rate a (found w.layout x n)) (value (gang_of w) w.frame (calls_of w) x a s)) → Runs w c (pc + length (operand_of w.layout r x k n code)) n rest (Holds r a (operand w.layout r x n)) (value (gang_of w) w.frame (calls_of w) x a s)
+  operand_runs c pc k n q rest a s r t x code fit le b has run = go (in_vector w.layout r (known x)) refl has
+    where
+      lift : List Instr
+      lift = lift_code w.layout r (type_of x).rate (type_of x).elem (found w.layout x n) k n
+
+      go : (z : Bool) → in_vector w.layout r (known x) ≡ z → AreAt w.routine.code pc (unless_kept z (code ++ lift)) → Runs w c (pc + length (unless_kept z (code ++ lift))) n rest (Holds r a (operand_by w.layout z r x n)) (value (gang_of w) w.frame (calls_of w) x a s)
+      go true e at = vector_runs r x pc k n q rest a s c (omega (arith, le)) b e
+      go false e at =
+          let v = value (gang_of w) w.frame (calls_of w) x a s in
+          let to : pc + length code + length lift ≡ pc + length (code ++ lift) = omega (arith, length-append code lift) in
+          subst (λ p. Runs w c p n rest (Holds r a (operand_by w.layout false r x n)) v) to
+          (lift_runs w ready c (pc + length code) k n rest a v r (type_of x).rate (type_of x).elem (found w.layout x n) fit.reaches b.mask b.low (are_back w.routine.code pc code lift at) (run (are_front w.routine.code pc code lift at)))
 
   -- an operand and an instruction on it
   pub one_runs : (g : Target) (c : Conf) (pc k n q : ℕ) (a : Mask) (va : Val Payload) (r : Rate) (t : Elem) (x : ℕ) (ca : List Instr) (i : Instr) (f : ℕ → ℕ) → c.masks k ≡ a → k < n → AreAt w.routine.code pc (ca ++ i ∷ []) → ((c : Conf) → act w.code w.routine c i ≡ Go (set_at r c (target w.layout g r t n) (mapped f (value_at r c k x)))) → Runs w c (pc + length ca) n (1 + q) (Holds r a x) va → Leaves w g (target w.layout g r t n) c (pc + length (ca ++ i ∷ [])) n q r a (bind va (λ m s. Gives (mapped f m) s))

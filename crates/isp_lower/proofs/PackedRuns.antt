@@ -25,7 +25,8 @@ use Rattle.isp_meaning.specs.Payloads.{Payload, One, Each, spread}
 use Rattle.isp_meaning.specs.Places.{written}
 use Rattle.isp_meaning.specs.State.{State, extent}
 use Rattle.isp_typed.specs.declared.variable.ArrayVariable.{ArrayVariable}
-use Rattle.isp_lower.specs.Code.{is_whole, packed_store, packed_load}
+use Rattle.isp_lower.specs.Found.{is_whole}
+use Rattle.isp_lower.specs.Instructions.{packed_store, packed_load}
 use Rattle.isp_lower.specs.Layout.{register, mask_register, array_register}
 use Rattle.isp_lower.specs.Runs.{Comes}
 use Rattle.isp_lower.specs.Setting.{ArrayFits, ArrayFitsAt, Setting, IsSettled, gang_of, At, Stands, Spares, Holds, IsOther}
@@ -162,7 +163,7 @@ module _ (w : Setting) (ready : IsSettled w) where
       let ex : on a (c1.vectors x) ≡ spread a m = ap (spread nobody) (sym hold) in
       let ea : c1.arrays N ≡ s.arrays (w.frame.named y.number) = ap c1.arrays en ∙ ap (λ g. g (w.frame.named y.number)) st.arrays_are in
       let ef : F ≡ scatter (gang_of w) (packed_places z a) (spread a m) (s.arrays (w.frame.named y.number)) = ap (λ v. scatter (gang_of w) (packed_places v a) (on a (c1.vectors x)) (c1.arrays N)) ez ∙ ap (λ v. scatter (gang_of w) (packed_places z a) v (c1.arrays N)) ex ∙ ap (scatter (gang_of w) (packed_places z a) (spread a m)) ea in
-      record { uniforms = st.uniforms; varying = st.varying; result = st.result; results = st.results; own_arrays = st.own_arrays; arrays_are = arrays_put w ready c1 s N (w.frame.named y.number) F _ st.arrays_are en ef; out_is = st.out_is; run = st.run })
+      record { uniforms = st.uniforms; varying = st.varying; result = st.result; results = st.results; own_arrays = st.own_arrays; arrays_are = arrays_put w ready c1 s N (w.frame.named y.number) F _ st.arrays_are en ef; out_is = st.out_is; run = st.run; constants = st.constants })
       (record { scalars_stay = ke.scalars_stay; vectors_stay = ke.vectors_stay }) ma le le
 
   pub load_leaves : (u : Target) (y : ArrayVariable) (z : ℤ) (v : ℕ) (a : Mask) (s : State) (c c1 : Conf) (t pc pc' k j n q p : ℕ) (sp : Span) → IsOther w v → ArrayFits w y → y.ty.rate ≡ Uniform → any (gang_of w) a ≡ true → Comes w c t c1 → At w c1 pc → pc + 1 ≡ pc' → slice_get w.routine.code pc ≡ Some (packed_load (target w.layout u Uniform I32 n) (w.layout.array y.number) j (w.layout.variable Varying v) k p) → slice_get w.code.places p ≡ Some sp → Stands w s c1 → Spares w n c c1 → ((r : ℕ) → r < n → c1.masks r ≡ c.masks r) → c1.masks k ≡ a → t + 1 + q ≤ 32 * s.work → IsFirst z (c1.scalars j) → Leaves w u (target w.layout u Uniform I32 n) c pc' n q Uniform a (bind (checked (lowest (gang_of w) (packed_outside (extent w.frame y) z a)) Index sp s (packed_held (w.frame.named y.number) z a s)) (λ m s3. Gives (One (rank a (gang_of w))) (written Varying v a m s3)))
@@ -184,5 +185,5 @@ module _ (w : Setting) (ready : IsSettled w) where
       let ea : c1.arrays (c1.home.named A) ≡ s.arrays (w.frame.named y.number) = ap c1.arrays en ∙ ap (λ g. g (w.frame.named y.number)) st.arrays_are in
       let ex : Each (on a (λ p. s.arrays (w.frame.named y.number) (unsigned_abs (packed_index z a p)))) ≡ Each x = sym (ap (λ g. Each (on a (λ p. c1.arrays (c1.home.named A) (unsigned_abs (packed_index g a p))))) ez ∙ ap (λ g. Each (on a (λ p. g (unsigned_abs (packed_index z a p))))) ea) in
       let g = written_stands w ready Varying v c1 a m s (Each x) st ex other in
-      record { uniforms = g.uniforms; varying = g.varying; result = g.result; results = g.results; own_arrays = g.own_arrays; arrays_are = g.arrays_are; out_is = g.out_is; run = g.run })
+      record { uniforms = g.uniforms; varying = g.varying; result = g.result; results = g.results; own_arrays = g.own_arrays; arrays_are = g.arrays_are; out_is = g.out_is; run = g.run; constants = g.constants })
       (let k2 = spares_on w n c c1 (set_at Varying c1 V (Each x)) ke (variable_spares w ready Varying v n c1 (Each x)) in record { scalars_stay = k2.scalars_stay; vectors_stay = k2.vectors_stay }) ma le le

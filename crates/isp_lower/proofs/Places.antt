@@ -14,7 +14,10 @@ use Rattle.isp_meaning.specs.Places.{Place}
 use Rattle.isp_meaning.specs.Expressions.{place}
 use Rattle.isp_lower.specs.Setting.{Setting, IsSettled, gang_of, calls_of, AreAt}
 use Rattle.isp_lower.specs.Runs.{Enters, Runs}
-use Rattle.isp_lower.specs.Code.{index, index_by, expr_code, index_code, index_places, is_run, start_in}
+use Rattle.isp_lower.specs.Code.{expr_code, index_code}
+use Rattle.isp_lower.specs.Elements.{index_by, is_run, start_in}
+use Rattle.isp_lower.specs.Found.{index}
+use Rattle.isp_lower.specs.Spans.{index_places}
 use Rattle.isp_lower.specs.Held.{held_at}
 use Rattle.isp_lower.specs.Rated.{Reaches}
 use Rattle.isp_lower.proofs.Base.{comes_none, at_to, spares_all}

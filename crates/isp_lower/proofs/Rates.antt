@@ -1,5 +1,5 @@
 -- Values at a rate: what operators, tests and writes do to them.
-use Rattle.std.proofs.Common.{◌≡◌, ℕ, zero, suc, Option, Some, None, Bool, true, false, refl, sym, ap, ◌∙◌, subst, arith}
+use Rattle.std.proofs.Common.{◌≡◌, ℕ, zero, suc, ◌<◌, Option, Some, None, Bool, true, false, refl, sym, ap, ◌∙◌, subst, lt-ltb, arith}
 use Rattle.std.specs.Prelude.{if◌then◌else◌, ◌||◌}
 use Rattle.std.proofs.lemmas.Bool.{or_from}
 use Rattle.std.proofs.Common.{◌<◌, ◌≤◌, ◌⊎◌, inl, inr}
@@ -11,6 +11,7 @@ use Rattle.isp_base.specs.declared.types.Rate.{Rate}
 use Rattle.isp_base.specs.declared.types.Rate.TheVariants.{Uniform, Varying}
 use Rattle.isp_lower.proofs.Splits.{split_at}
 use Rattle.isp_meaning.specs.Payloads.{Payload, One, Each, sole, spread, mapped, joined, kept_by, offender, if_fails}
+use Rattle.isp_lower.specs.Held.{everywhere}
 use Rattle.isp_lower.specs.Setting.{at_rate, held_at}
 
 -- ---- operators
@@ -112,6 +113,14 @@ filled_on a x old = fun_ext (λ p. at (a p) p)
     at : (b : Bool) (p : ℕ) → (if b then Some (or_old (if b then Some (x p) else None) (old p)) else None) ≡ (if b then Some (x p) else None)
     at true p = refl
     at false p = refl
+
+-- bits that each lane of the gang has, in members of it
+pub on_everywhere : (gang b : ℕ) (a : Mask) → ((p : ℕ) → a p ≡ true → p < gang) → on a (everywhere gang b) ≡ on a (λ p. b)
+on_everywhere gang b a inside = fun_ext (λ p. at (a p) p (inside p))
+  where
+    at : (z : Bool) (p : ℕ) → (z ≡ true → p < gang) → (if z then Some (everywhere gang b p) else None) ≡ (if z then Some b else None)
+    at true p h = ap (λ d. Some (or_old (if d then Some b else None) 0)) (lt-ltb p gang (h refl))
+    at false p h = refl
 
 pub filled_held : (r : Rate) (a : Mask) (sc : ℕ → ℕ) (ve : ℕ → Lanes) (d : ℕ) → Filled r a (held_at r sc ve a d)
 filled_held Uniform a sc ve d = refl

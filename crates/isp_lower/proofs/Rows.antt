@@ -1,8 +1,10 @@
 -- Rows give each name a register of its own, with the type that the row has.
-use Rattle.std.proofs.Common.{◌≡◌, ℕ, suc, ◌+◌, ◌<◌, length, subst, List, [], ◌∷◌, ◌++◌, map, Some, Bool, true, false, refl, sym, ap, ◌∙◌, arith, eqb-true}
+use Rattle.std.proofs.Common.{◌≡◌, ◌⊎◌, inl, inr, ℕ, suc, ◌+◌, ◌<◌, length, subst, List, [], ◌∷◌, ◌++◌, map, Option, Some, None, Bool, true, false, refl, sym, ap, ◌∙◌, arith, eqb-true, eq-eqb}
 use Rattle.std.specs.Prelude.{◌==◌, if◌then◌else◌, slice_get}
+use Rattle.std.proofs.lemmas.Bool.{ne_eqb}
 use Rattle.std.proofs.lemmas.Option.{get_or_from_slice_get, slice_get_within}
 use Rattle.isp_base.specs.Ranks.{rank}
+use Rattle.isp_base.proofs.RankLaws.{same_is}
 use Rattle.isp_base.specs.declared.types.Elem.{Elem}
 use Rattle.isp_base.specs.declared.types.Elem.TheVariants.{Bool as Truth, I8, U8, I16, U16, I32, U32, I64, U64}
 use Rattle.isp_base.specs.declared.types.Rate.{Rate}
@@ -10,8 +12,10 @@ use Rattle.isp_base.specs.declared.types.Rate.TheVariants.{Uniform, Varying}
 use Rattle.isp_code.specs.Listing.{Routine}
 use Rattle.isp_code.specs.Registers.{table_of, types_in, count_of}
 use Rattle.isp_lower.specs.Layout.{IsApart, class_at}
-use Rattle.isp_lower.specs.Rows.{Name, Variable, Result, Spare, Place, Fresh, name_number, Row, number_in, elem_in, Rows, rows_at, layout_of, numbered, HasRow}
-use Rattle.isp_lower.specs.Sound.{IsRegister, HasRegister}
+use Rattle.isp_lower.specs.Rows.{Name, Variable, Result, Spare, Place, Fresh, Kept, keeps, has_type, name_number, Row, number_in, elem_in, Rows, rows_at, layout_of, numbered, HasRow}
+use Rattle.isp_lower.specs.Sound.{HasKept, IsRegister, HasRegister}
+use Rattle.isp_lower.specs.Lookup.{IsPlain}
+use Rattle.isp_lower.proofs.Splits.{same_elem-is}
 use Rattle.isp_lower.specs.Setting.{Setting}
 use Rattle.isp_lower.specs.Tables.{IsTyped}
 
@@ -52,6 +56,15 @@ layout_apart rates rows = record {
   place_result = λ r e. let h = one_number (rows_at rows r) Place Result e in omega (arith, h);
   place_spare = λ r t j e. let h = one_number (rows_at rows r) Place (Spare t j) e in omega (arith, h);
   arrays = λ v w ne e. let h = one_number rows.arrays (Variable v) (Variable w) e in ne (omega (arith, h));
+  constants = λ r t u b c e.
+      let h = one_number (rows_at rows r) (Kept t b) (Kept u c) e in
+      let x = few_ranks t in
+      let y = few_ranks u in
+      (same_is t u (eq-eqb (rank t) (rank u) (omega (arith, h, x, y))), omega (arith, h, x, y));
+  kept_variable = λ r t b v k e. let h = one_number (rows_at rows r) (Kept t b) (Variable v) e in omega (arith, h);
+  kept_result = λ r t b k e. let h = one_number (rows_at rows r) (Kept t b) Result e in omega (arith, h);
+  kept_spare = λ r t b u j k e. let h = one_number (rows_at rows r) (Kept t b) (Spare u j) e in omega (arith, h);
+  kept_place = λ r t b k e. let h = one_number (rows_at rows r) (Kept t b) Place e in omega (arith, h);
 }
 
 -- the type of a row stands at its number
@@ -86,6 +99,7 @@ numbered_in rates rows r Result = refl
 numbered_in rates rows r (Spare t j) = refl
 numbered_in rates rows r Place = refl
 numbered_in rates rows r (Fresh j) = refl
+numbered_in rates rows r (Kept t b) = refl
 
 count_at : (h : Routine) (r : Rate) → length (types_in (table_of h) (class_at r)) ≡ count_of h (class_at r)
 count_at h Uniform = refl
@@ -98,3 +112,48 @@ register_there h rates rows made r x t has =
     let at : slice_get types n ≡ Some t = ap (λ ts. slice_get ts n) (made r) ∙ row_typed (rows_at rows r) x t has in
     let low : n < count_of h (class_at r) = subst (λ m. n < m) (count_at h r) (slice_get_within types n t at) in
     subst (λ m. IsRegister h r m t) (numbered_in rates rows r x) ((refl, low), get_or_from_slice_get types n t Truth at)
+
+-- a constant that is kept has a row of its type
+pub kept_row : (rows : List Row) (t : Elem) (b : ℕ) → keeps rows t b ≡ true → elem_in rows (Kept t b) ≡ Some t
+kept_row rows t b e = go (elem_in rows (Kept t b)) refl e
+  where
+    go : (o : Option Elem) → elem_in rows (Kept t b) ≡ o → has_type t o ≡ true → elem_in rows (Kept t b) ≡ Some t
+    go None eo h = absurd (cc)
+    go (Some u) eo h = eo ∙ ap (λ z. Some z) (same_elem-is u t h)
+
+pub kept_of : (rows : List Row) (t : Elem) (b : ℕ) → elem_in rows (Kept t b) ≡ Some t → keeps rows t b ≡ true
+kept_of rows t b e = ap (has_type t) e ∙ eq-eqb (rank t) (rank t) refl
+
+-- a row of another name keeps no constant more
+other_keeps : (rows : List Row) (z : Row) (t : Elem) (b : ℕ) → (name_number z.name == name_number (Kept t b)) ≡ false → keeps (rows ++ z ∷ []) t b ≡ keeps rows t b
+other_keeps rows z t b e = ap (has_type t) (go rows)
+  where
+    go : (xs : List Row) → elem_in (xs ++ z ∷ []) (Kept t b) ≡ elem_in xs (Kept t b)
+    go [] = ap (λ d. if d then Some z.elem else None) e
+    go (y ∷ ys) = ap (λ o. if name_number y.name == name_number (Kept t b) then Some y.elem else o) (go ys)
+
+pub plain_keeps : (rows : List Row) (z : Row) (t : Elem) (b : ℕ) → IsPlain z.name → keeps (rows ++ z ∷ []) t b ≡ keeps rows t b
+plain_keeps rows z t b plain = other_keeps rows z t b (other z.name plain)
+  where
+    other : (x : Name) → IsPlain x → (name_number x == name_number (Kept t b)) ≡ false
+    other (Variable v) p = ne_eqb (name_number (Variable v)) (name_number (Kept t b)) (λ e. omega (arith, e))
+    other Result p = ne_eqb (name_number Result) (name_number (Kept t b)) (λ e. omega (arith, e))
+    other (Spare u j) p = ne_eqb (name_number (Spare u j)) (name_number (Kept t b)) (λ e. omega (arith, e))
+    other Place p = ne_eqb (name_number Place) (name_number (Kept t b)) (λ e. omega (arith, e))
+    other (Fresh j) p = ne_eqb (name_number (Fresh j)) (name_number (Kept t b)) (λ e. omega (arith, e))
+    other (Kept u c) p = absurd p
+
+-- the row of a constant keeps that one, and no other one more
+pub kept_more : (rows : List Row) (u : Elem) (c : ℕ) (t : Elem) (b : ℕ) → keeps (rows ++ record { name = Kept u c; elem = u } ∷ []) t b ≡ true → (keeps rows t b ≡ true) ⊎ ((t ≡ u) × (b ≡ c))
+kept_more rows u c t b h = go (name_number (Kept u c) == name_number (Kept t b)) refl
+  where
+    go : (d : Bool) → (name_number (Kept u c) == name_number (Kept t b)) ≡ d → (keeps rows t b ≡ true) ⊎ ((t ≡ u) × (b ≡ c))
+    go true e =
+        let n = eqb-true (name_number (Kept u c)) (name_number (Kept t b)) e in
+        let x = few_ranks u in
+        let y = few_ranks t in
+        inr (same_is t u (eq-eqb (rank t) (rank u) (omega (arith, n, x, y))), omega (arith, n, x, y))
+    go false e = inl (sym (other_keeps rows (record { name = Kept u c; elem = u }) t b e) ∙ h)
+
+pub kept_there : (h : Routine) (rates : ℕ → List Rate) (rows : Rows) → ((r : Rate) → types_in (table_of h) (class_at r) ≡ map (λ y. y.elem) (rows_at rows r)) → HasKept h (layout_of rates rows)
+kept_there h rates rows made r t b e = register_there h rates rows made r (Kept t b) t (kept_row (rows_at rows r) t b e)

@@ -1,31 +1,38 @@
--- `?:` between two variables: one instruction after the test.
-use Rattle.std.proofs.Common.{◌≡◌, ℕ, ◌+◌, ◌<◌, ◌≤◌, List, [], ◌∷◌, ◌++◌, length, None, Bool, true, false, refl, sym, ap, ◌∙◌, subst, arith, length-append}
+-- `?:` between two variables or constants that are kept: one instruction after the test.
+use Rattle.std.proofs.Common.{◌≡◌, ℕ, ◌+◌, ◌%◌, ◌^◌, ◌<◌, ◌≤◌, List, [], ◌∷◌, ◌++◌, length, Option, Some, None, Bool, true, false, refl, sym, ap, ◌∙◌, subst, arith, length-append}
 use Rattle.std.specs.Prelude.{if◌then◌else◌, not, ◌&&◌}
 use Rattle.isp_base.specs.Maps.{on, where_true}
 use Rattle.isp_base.specs.Sets.{Mask, nobody, any}
 use Rattle.isp_base.specs.declared.trap.TrapKind.TheVariants.{Divide}
+use Rattle.isp_base.specs.Values.{width}
 use Rattle.isp_base.specs.declared.types.Elem.{Elem}
 use Rattle.isp_base.specs.declared.types.Rate.{Rate}
 use Rattle.isp_base.specs.declared.types.Rate.TheVariants.{Uniform, Varying}
+use Rattle.isp_base.specs.declared.types.Value.{Value}
 use Rattle.isp_code.specs.Calls.{no_place}
 use Rattle.isp_code.specs.Conf.{Conf, Go}
 use Rattle.isp_code.specs.Lines.{act}
 use Rattle.isp_code.specs.declared.instr.Instr.{Instr}
 use Rattle.isp_typed.specs.Typed.{TExpr, t_constant, t_program_index, t_place, t_convert, t_cast, t_unary, t_binary, t_compare, t_logic, t_choose, t_call, t_library, t_packed_store, t_packed_load, t_variable, t_element, type_of}
 use Rattle.isp_meaning.specs.State.{State, tick}
-use Rattle.isp_meaning.specs.Payloads.{Payload, One, Each, nothing, is_true, is_false, spread, kept_by, selected}
+use Rattle.isp_meaning.specs.Payloads.{Payload, One, Each, nothing, is_true, is_false, spread, kept_by, selected, converted}
 use Rattle.isp_meaning.specs.Outcomes.{Val, Gives, bind, value_unless_empty}
 use Rattle.isp_meaning.specs.Places.{variable}
 use Rattle.isp_meaning.specs.Expressions.{value}
 use Rattle.isp_meaning.specs.Calls.{same_rate}
 use Rattle.isp_lower.specs.Setting.{Setting, IsSettled, gang_of, calls_of, AreAt, Stands, at_rate, held_at, Holds, Allowed}
 use Rattle.isp_lower.specs.Runs.{Runs}
-use Rattle.isp_lower.specs.Code.{is_copied, variable_found, stays, lifted, found, select}
+use Rattle.isp_lower.specs.Found.{is_copied, is_kept, kept_found, variable_found, lifted, found}
+use Rattle.isp_lower.specs.Instructions.{select}
+use Rattle.isp_lower.specs.Known.{bits_as, constant_of}
+use Rattle.isp_lower.specs.Stays.{stays}
 use Rattle.isp_lower.proofs.Base.{are_back}
 use Rattle.isp_lower.proofs.Rates.{Filled, at_kept, filled_on}
 use Rattle.isp_lower.proofs.Lines.{set_at}
 use Rattle.isp_lower.proofs.Logic.{unless_some, unless_none, any_nobody, is_nobody, where_inside}
 use Rattle.isp_lower.proofs.Choose.{selected_at, select_is}
+use Rattle.isp_lower.proofs.Found.{constant_is_one}
+use Rattle.isp_lower.proofs.Values.{wrap_bits, constant_is}
 use Rattle.isp_lower.proofs.Targets.{Target, target, Leaves, bind_leaves, write_sure}
 
 pub same_rate-is : (r g : Rate) → same_rate r g ≡ true → r ≡ g
@@ -56,8 +63,13 @@ module _ (w : Setting) where
   ticked : (s : State) → Later s (tick s)
   ticked s = record { stands = λ c st. st; work = omega arith }
 
+  -- so has the register of a constant
+  kept_there : (z : Bool) (t : Elem) (b m n : ℕ) (T : Mask) (s : State) (c : Conf) → Stands w s c → w.layout.kept Uniform t b ≡ z → z ≡ true → b % 2 ^ width t ≡ m → Holds Uniform T (kept_found w.layout z Uniform t b n) (One m) c
+  kept_there true t b m n T s c st ez e is = ap One (sym is ∙ sym (st.constants Uniform t b ez))
+  kept_there false t b m n T s c st ez e is = absurd (cc)
+
   pub stays_in_place : (x : TExpr) (n : ℕ) → stays w.layout x ≡ true → InPlace (type_of x).rate (found w.layout x n) (value (gang_of w) w.frame (calls_of w) x)
-  stays_in_place (t_constant v sp) n e T s c st = absurd (cc)
+  stays_in_place (t_constant v sp) n e T s c st = (One (v.bits % 2 ^ width v.elem), tick s, refl, ticked s, kept_there (w.layout.kept Uniform v.elem v.bits) v.elem v.bits (v.bits % 2 ^ width v.elem) n T s c st refl e refl)
   stays_in_place (t_program_index sp) n e T s c st = absurd (cc)
   stays_in_place (t_place (t_variable v t sp)) n e T s c st = (variable t.rate v T (tick s), tick s, refl, ticked s, go (is_copied w.layout t.rate v) e)
     where
@@ -65,7 +77,15 @@ module _ (w : Setting) where
       go true h = absurd (cc)
       go false h = held_there t.rate v T (tick s) c st
   stays_in_place (t_place (t_element b i t sp)) n e T s c st = absurd (cc)
-  stays_in_place (t_convert u x) n e T s c st = absurd (cc)
+  stays_in_place (t_convert u x) n e T s c st = go (constant_of x) refl e
+    where
+      go : (o : Option Value) → constant_of x ≡ o → is_kept w.layout o (type_of x).rate u ≡ true → (m : Payload) × (s' : State) × (value (gang_of w) w.frame (calls_of w) (t_convert u x) T s ≡ Gives m s') × Later s s' × Holds (type_of x).rate T (kept_found w.layout (is_kept w.layout o (type_of x).rate u) (type_of x).rate u (bits_as o u) n) m c
+      go None eo h = absurd (cc)
+      go (Some v) eo h =
+          let one = constant_is_one x v eo in
+          let b = converted v.elem u v.bits in
+          subst (λ y. w.layout.kept (type_of y).rate u b ≡ true → (m : Payload) × (s' : State) × (value (gang_of w) w.frame (calls_of w) (t_convert u y) T s ≡ Gives m s') × Later s s' × Holds (type_of y).rate T (kept_found w.layout (w.layout.kept (type_of y).rate u b) (type_of y).rate u b n) m c) (sym one.1)
+          (λ k. (One (converted v.elem u (v.bits % 2 ^ width v.elem)), tick s, refl, ticked s, kept_there (w.layout.kept Uniform u b) u b (converted v.elem u (v.bits % 2 ^ width v.elem)) n T s c st refl k (sym (wrap_bits u b) ∙ constant_is v.elem u v.bits))) h
   stays_in_place (t_cast x t sp) n e T s c st = go (same_rate t.rate (type_of x).rate) refl (λ h. stays_in_place x n h T (tick s) c st) e
     where
       go : (d : Bool) → same_rate t.rate (type_of x).rate ≡ d → (stays w.layout x ≡ true → (m : Payload) × (s' : State) × (value (gang_of w) w.frame (calls_of w) x T (tick s) ≡ Gives m s') × Later (tick s) s' × Holds (type_of x).rate T (found w.layout x n) m c) → (d && stays w.layout x) ≡ true → (m : Payload) × (s' : State) × (value (gang_of w) w.frame (calls_of w) x T (tick s) ≡ Gives m s') × Later s s' × Holds t.rate T (lifted w.layout t.rate (type_of x).rate (type_of x).elem (found w.layout x n) n) m c

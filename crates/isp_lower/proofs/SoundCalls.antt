@@ -18,10 +18,11 @@ use Rattle.isp_typed.specs.declared.variable.Holds.TheVariants as holds
 use Rattle.isp_typed.specs.declared.variable.Variable.{Variable}
 use Rattle.isp_lower.specs.Asks.{Ask, argument_asks, arguments_asks, lift_asks, taken}
 use Rattle.isp_lower.specs.Callees.{rate_held, rates_held}
-use Rattle.isp_lower.specs.Code.{operand, argument_register, argument_registers, calling}
+use Rattle.isp_lower.specs.Code.{argument_register, argument_registers, calling}
+use Rattle.isp_lower.specs.Found.{operand}
 use Rattle.isp_lower.specs.Header.{value_kind, kind_of, elem_held, value_returned}
 use Rattle.isp_lower.specs.Layout.{Layout, class_at, register, mask_register, array_register}
-use Rattle.isp_lower.specs.Sound.{IsSound, IsRegister, IsShared, AreHeld, HasHeader, Granted}
+use Rattle.isp_lower.specs.Sound.{HasKept, IsSound, IsRegister, IsShared, AreHeld, HasHeader, Granted}
 use Rattle.isp_lower.proofs.SoundFound.{operand_there}
 use Rattle.isp_lower.proofs.Trees.{ArgumentsTree, ArgumentTree}
 
@@ -58,7 +59,7 @@ module _ (h : Routine) where
 abbrev OneAs : Routine → ParamKind → Elem → Register → Type 0
 OneAs h k t x = IsThere h (class_of k) x × (elem_of h x ≡ t) × IsPassed h k x
 
-module _ (fs : List TFunction) (h : Routine) (l : Layout) where
+module _ (fs : List TFunction) (h : Routine) (l : Layout) (constants : HasKept h l) where
   pub arguments_passed : (vs : List Variable) (xs : TArguments) (ps : List Param) (n : ℕ) → ArgumentsTree fs vs xs → Granted h l (arguments_asks xs n) → AreHeld vs ps → ArePassed h ps (argument_registers l (rates_held vs) xs n)
   arguments_passed [] t_no_arguments [] n is f held = tt
   arguments_passed [] t_no_arguments (p ∷ ps) n is f held = absurd held
@@ -69,7 +70,7 @@ module _ (fs : List TFunction) (h : Routine) (l : Layout) where
     where
       one : (y : Holds) (x : TArgument) → ArgumentTree fs y x → Granted h l (argument_asks x n) → p.kind ≡ kind_of y → p.elem ≡ elem_held y → OneAs h p.kind p.elem (argument_register l (rate_held y) x n)
       one (holds.Value t) (t_by_value x) is f ek ee =
-          let o = operand_there fs h l t.rate t.elem x n is.0 is.1 (taken_there h l t.rate x n _ f) in
+          let o = operand_there fs h l constants t.rate t.elem x n is.0 is.1 (taken_there h l t.rate x n _ f) in
           subst (λ k. OneAs h k p.elem (register t.rate (operand l t.rate x n))) (sym ek) ((o.0.0 ∙ class_is h t.rate, subst (λ c. operand l t.rate x n < count_of h c) (class_is h t.rate) o.0.1), o.1 ∙ sym ee, passed_is h t.rate (register t.rate (operand l t.rate x n)))
       one (holds.Value t) (t_by_name b sp) is f ek ee = absurd is
       one (holds.Given e) (t_by_value x) is f ek ee = absurd is

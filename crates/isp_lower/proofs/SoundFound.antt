@@ -1,18 +1,23 @@
 -- Values are found in registers that are there and of their types.
-use Rattle.std.proofs.Common.{◌≡◌, ℕ, List, Bool, true, false, refl, sym, ◌∙◌, subst, inl, inr}
+use Rattle.std.proofs.Common.{◌≡◌, ℕ, List, Option, Some, None, Bool, true, false, refl, sym, ◌∙◌, subst, inl, inr}
 use Rattle.std.specs.Prelude.{◌&&◌}
 use Rattle.isp_base.specs.declared.types.Elem.{Elem}
 use Rattle.isp_base.specs.declared.types.Elem.TheVariants.{I64}
 use Rattle.isp_base.specs.declared.types.Rate.{Rate}
 use Rattle.isp_base.specs.declared.types.Rate.TheVariants.{Uniform, Varying}
+use Rattle.isp_base.specs.declared.types.Value.{Value}
 use Rattle.isp_code.specs.Listing.{Routine, Listing}
 use Rattle.isp_typed.specs.Typed.{TExpr, t_constant, t_program_index, t_place, t_convert, t_cast, t_unary, t_binary, t_compare, t_logic, t_choose, t_call, t_library, t_packed_store, t_packed_load, TPlace, t_variable, t_element, TFunction, place_type, type_of}
 use Rattle.isp_meaning.specs.Calls.{same_rate}
+use Rattle.isp_meaning.specs.Payloads.{converted}
 use Rattle.isp_lower.specs.Layout.{Layout}
-use Rattle.isp_lower.specs.Code.{is_copied, variable_found, is_whole, lifted, part_to, place_found, found, operand, whole, index, stays, stays_at, index_by, is_run, start_in}
+use Rattle.isp_lower.specs.Elements.{index_by, is_run, start_in}
+use Rattle.isp_lower.specs.Found.{in_vector, operand_by, vector_of, is_copied, is_kept, kept_found, variable_found, is_whole, lifted, part_to, place_found, found, operand, whole, index}
+use Rattle.isp_lower.specs.Known.{bits_as, constant_of, known}
+use Rattle.isp_lower.specs.Stays.{stays, stays_at}
 use Rattle.isp_lower.specs.Asks.{copy_asks, expr_asks, index_asks, lift_asks, operand_asks, whole_asks, element_asks, is_lane, place_asks, run_asks, start_asks}
-use Rattle.isp_lower.specs.Sound.{IsRegister, Granted, HasArray, IsShared}
-use Rattle.isp_lower.proofs.Found.{whole_is}
+use Rattle.isp_lower.specs.Sound.{HasKept, IsRegister, Granted, HasArray, IsShared}
+use Rattle.isp_lower.proofs.Found.{known_elem, whole_is}
 use Rattle.isp_lower.proofs.Short.{same_rate-is}
 use Rattle.isp_lower.proofs.Stayed.{stays_same}
 use Rattle.isp_lower.proofs.Trees.{ExprTree, OperandTree}
@@ -29,7 +34,7 @@ pub both_second : (a b : Bool) → (a && b) ≡ true → b ≡ true
 both_second true b e = e
 both_second false b e = absurd (cc)
 
-module _ (fs : List TFunction) (h : Routine) (l : Layout) where
+module _ (fs : List TFunction) (h : Routine) (l : Layout) (constants : HasKept h l) where
   -- ---- a value of one rate where another is wanted
 
   pub lift_there : (given r : Rate) (u t : Elem) (x n : ℕ) → Reaches given r → u ≡ t → Granted h l (lift_asks r given u n) → IsRegister h given x u → IsRegister h r (lifted l r given u x n) t
@@ -59,11 +64,22 @@ module _ (fs : List TFunction) (h : Routine) (l : Layout) where
       go false e = f.0
   place_there (t_element b i t sp) n f = f.1
 
+  kept_there : (r : Rate) (t : Elem) (b n : ℕ) → IsRegister h r (l.spare r t n) t → IsRegister h r (kept_found l (l.kept r t b) r t b n) t
+  kept_there r t b n f = go (l.kept r t b) refl
+    where
+      go : (z : Bool) → l.kept r t b ≡ z → IsRegister h r (kept_found l z r t b n) t
+      go true e = constants r t b e
+      go false e = f
+
+  converted_there : (o : Option Value) (r : Rate) (e : Elem) (n : ℕ) → IsRegister h r (l.spare r e n) e → IsRegister h r (kept_found l (is_kept l o r e) r e (bits_as o e) n) e
+  converted_there None r e n f = f
+  converted_there (Some v) r e n f = kept_there r e (converted v.elem e v.bits) n f
+
   pub found_there : (x : TExpr) (n : ℕ) → ExprTree fs x → Granted h l (expr_asks x n) → IsRegister h (type_of x).rate (found l x n) (type_of x).elem
-  found_there (t_constant v sp) n is f = f
+  found_there (t_constant v sp) n is f = kept_there Uniform v.elem v.bits n f
   found_there (t_program_index sp) n is f = f
   found_there (t_place z) n is f = place_there z n f
-  found_there (t_convert e x) n is f = f.0
+  found_there (t_convert e x) n is f = converted_there (constant_of x) (type_of x).rate e n f.0
   found_there (t_cast x t sp) n is f =
       lift_there (type_of x).rate t.rate (type_of x).elem t.elem (found l x n) n is.0.reaches is.0.elem f.0 (found_there x n is.1 f.1)
   found_there (t_unary o x t sp) n is f = f.0
@@ -77,7 +93,16 @@ module _ (fs : List TFunction) (h : Routine) (l : Layout) where
   found_there (t_packed_load b v sp) n is f = f.0
 
   pub operand_there : (r : Rate) (t : Elem) (x : TExpr) (n : ℕ) → OperandTree r t x → ExprTree fs x → Granted h l (operand_asks r x n) → IsRegister h r (operand l r x n) t
-  operand_there r t x n o is f = lift_there (type_of x).rate r (type_of x).elem t (found l x n) n o.reaches o.elem f.0 (found_there x n is f.1)
+  operand_there r t x n o is f = go (in_vector l r (known x)) refl
+    where
+      vector : (g : Rate) (k : Option Value) → known x ≡ k → in_vector l g k ≡ true → IsRegister h g (vector_of l k) t
+      vector Uniform k ek e = absurd (cc)
+      vector Varying None ek e = absurd (cc)
+      vector Varying (Some v) ek e = let there = constants Varying v.elem v.bits e in (there.0, there.1 ∙ sym (known_elem x v ek) ∙ o.elem)
+
+      go : (z : Bool) → in_vector l r (known x) ≡ z → IsRegister h r (operand_by l z r x n) t
+      go true e = vector r (known x) refl e
+      go false e = lift_there (type_of x).rate r (type_of x).elem t (found l x n) n o.reaches o.elem f.0 (found_there x n is f.1)
 
   -- ---- an index, as int64
 

@@ -20,10 +20,11 @@ use Rattle.isp_typed.specs.Typed.{TExprs, t_no_exprs, t_expr_then, TFunction, ty
 use Rattle.isp_typed.specs.declared.library.Library.{Library}
 use Rattle.isp_typed.specs.declared.library.Library.TheVariants as library
 use Rattle.isp_lower.specs.Asks.{values_asks}
-use Rattle.isp_lower.specs.Code.{operand, value_registers}
+use Rattle.isp_lower.specs.Code.{value_registers}
+use Rattle.isp_lower.specs.Found.{operand}
 use Rattle.isp_lower.specs.Layout.{Layout}
 use Rattle.isp_lower.specs.Library.{exchange_of, library_code, library_rates, reduce, register_at, scan_of}
-use Rattle.isp_lower.specs.Sound.{IsSound, AreSound, IsRegister, Granted}
+use Rattle.isp_lower.specs.Sound.{HasKept, IsSound, AreSound, IsRegister, Granted}
 use Rattle.isp_lower.proofs.InRow.{EachFrom, each_past, elem_at}
 use Rattle.isp_lower.proofs.LibraryTypes.{count_of, elems_of, part_elems}
 use Rattle.isp_lower.proofs.Parts.{IsNumber}
@@ -37,12 +38,12 @@ module _ (h : Routine) where
   abbrev pub ThereFrom : List Rate → List Elem → List ℕ → Type 0
   ThereFrom rs es xs = EachFrom (λ j r x. IsRegister h r x (elem_at es j)) rs 0 xs
 
-  module _ (fs : List TFunction) (l : Layout) where
+  module _ (fs : List TFunction) (l : Layout) (constants : HasKept h l) where
     pub there_from : (rs : List Rate) (xs : TExprs) (n : ℕ) → length rs ≤ count_of xs → ValuesTree fs rs xs → Granted h l (values_asks rs xs n) → ThereFrom rs (elems_of xs) (value_registers l rs xs n)
     there_from [] xs n le is f = tt
     there_from (r ∷ rs) t_no_exprs n le is f = absurd (omega (arith, le))
     there_from (r ∷ rs) (t_expr_then x xs) n le is f =
-        (operand_there fs h l r (type_of x).elem x n is.0 is.1 f.1.0, each_past (λ j q y. IsRegister h q y (elem_at (elems_of (t_expr_then x xs)) j)) rs 0 (operand l r x n) (value_registers l rs xs (n + 1)) (there_from rs xs (n + 1) (omega (arith, le)) is.2 f.1.1))
+        (operand_there fs h l constants r (type_of x).elem x n is.0 is.1 f.1.0, each_past (λ j q y. IsRegister h q y (elem_at (elems_of (t_expr_then x xs)) j)) rs 0 (operand l r x n) (value_registers l rs xs (n + 1)) (there_from rs xs (n + 1) (omega (arith, le)) is.2 f.1.1))
 
 -- ---- types
 

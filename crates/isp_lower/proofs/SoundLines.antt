@@ -27,7 +27,8 @@ use Rattle.isp_typed.specs.Fine.{WorksIn}
 use Rattle.isp_typed.specs.declared.variable.Logic.{Logic}
 use Rattle.isp_typed.specs.declared.variable.Logic.TheVariants.{And, Or}
 use Rattle.isp_lower.specs.Layout.{register, mask_register, array_register}
-use Rattle.isp_lower.specs.Code.{copy, convert, unary, compare, compute, operate, operate_places, packed_store, packed_load, read, write, constant, splat, select, where_so, the_others, jump_off, jump_on, decided, needing, move, move_code, read_by, write_by}
+use Rattle.isp_lower.specs.Instructions.{copy, convert, unary, compare, compute, operate, operate_places, packed_store, packed_load, read, write, constant, splat, select, where_so, the_others, jump_off, jump_on, read_by, write_by}
+use Rattle.isp_lower.specs.Pieces.{decided, needing, move, move_code}
 use Rattle.isp_lower.specs.Sound.{IsSound, AreSound, IsRegister, IsShared}
 use Rattle.isp_lower.proofs.Numbers.{number_fits}
 use Rattle.isp_lower.proofs.Parts.{IsNumber}

@@ -15,9 +15,15 @@ use Rattle.isp_typed.specs.Typed.{TExpr, TFunction, type_of}
 use Rattle.isp_typed.specs.declared.variable.Logic.{Logic}
 use Rattle.isp_meaning.specs.Calls.{same_rate}
 use Rattle.isp_lower.specs.Layout.{Layout}
-use Rattle.isp_lower.specs.Code.{convert, copy, select, jump_on, jump_off, decided, guard, choice, move_code, is_whole, constant_of, needing, pair_code, logic_code, choose_rest, the_others, lift_code, lift_to, convert_to, found, operand, operand_of, whole, whole_of, index_of, choose_code, stays_at, is_short, index_by_of, is_run, start_code}
+use Rattle.isp_lower.specs.Code.{choose_code}
+use Rattle.isp_lower.specs.Elements.{index_by_of, is_run, start_code}
+use Rattle.isp_lower.specs.Found.{in_vector, is_whole, lift_code, lift_to, convert_to, found, operand, operand_of, whole, whole_of, index_of}
+use Rattle.isp_lower.specs.Instructions.{convert, copy, select, jump_on, jump_off, the_others}
+use Rattle.isp_lower.specs.Known.{known, unless_kept, constant_of}
+use Rattle.isp_lower.specs.Pieces.{decided, guard, choice, move_code, needing, pair_code, logic_code, choose_rest}
+use Rattle.isp_lower.specs.Stays.{stays_at, is_short}
 use Rattle.isp_lower.specs.Asks.{expr_asks, first_slot, index_asks, lift_asks, operand_asks, second_slot, sides_ask, test_asks, whole_asks, element_asks, is_lane, run_asks, start_asks}
-use Rattle.isp_lower.specs.Sound.{IsSound, AreSound, IsRegister, Granted}
+use Rattle.isp_lower.specs.Sound.{HasKept, IsSound, AreSound, IsRegister, Granted}
 use Rattle.isp_lower.proofs.Found.{constant_is_one}
 use Rattle.isp_lower.proofs.Short.{same_rate-is}
 use Rattle.isp_lower.proofs.SoundFound.{both_first, both_second, lift_there, found_there, whole_there, stayed_there}
@@ -59,6 +65,11 @@ module _ (code : Listing) (h : Routine) where
   pub here_then : (pc : ℕ) (a : List Instr) (i : Instr) → Here pc a → IsSound code h i → Here pc (a ++ i ∷ [])
   here_then pc a i f s = here_both pc a (i ∷ []) f (λ lt. (s, tt))
 
+  -- code that is left out where a constant is kept
+  pub unless_sound : (z : Bool) (pc : ℕ) (xs : List Instr) → Here pc xs → Here pc (unless_kept z xs)
+  unless_sound true pc xs s = λ lt. tt
+  unless_sound false pc xs s = s
+
   pub pair_sound : (pc : ℕ) (a : List Instr) (b : ℕ → List Instr) (i : Instr) → Here pc a → Anywhere b → IsSound code h i → Here pc (pair_code pc a b i)
   pair_sound pc a b i f g s =
       here_both pc a (b (pc + length a) ++ i ∷ []) f (here_then (pc + length a) (b (pc + length a)) i (g (pc + length a)) s)
@@ -74,7 +85,7 @@ module _ (code : Listing) (h : Routine) where
       let e1 = length-append ca (instr.Jump (pb + length (b pb)) ∷ b pb) in
       (s pb (omega (arith, e1, lt)), sound_both code h ca (instr.Jump (pb + length (b pb)) ∷ b pb) (f (pc + 1) (omega (arith, e1, lt))) (jump_sound code h (pb + length (b pb)) (omega (arith, e1, lt)), g pb (omega (arith, e1, lt))))
 
-  module _ (fs : List TFunction) (l : Layout) where
+  module _ (fs : List TFunction) (l : Layout) (constants : HasKept h l) where
     -- `&&` and `||`
     pub logic_sound : (r : Rate) (g : Logic) (d x y pc k n : ℕ) (a : List Instr) (b : ℕ → ℕ → List Instr) → IsRegister h r d Truth → IsRegister h r x Truth → IsRegister h r y Truth → k < h.masks → Granted h l (test_asks r n) → Here pc a → AnyMask b → Here pc (logic_code r g d x y pc k n a b)
     logic_sound Uniform g d x y pc k n a b hd hx hy lk test f t =
@@ -102,7 +113,7 @@ module _ (code : Listing) (h : Routine) where
     pub lift_sound : (given r : Rate) (u t : Elem) (x k n : ℕ) → Reaches given r → u ≡ t → Granted h l (lift_asks r given u n) → IsRegister h given x u → k < h.masks → AreSound code h (lift_code l r given u x k n)
     lift_sound Uniform Uniform u t x k n is e f hx lk = tt
     lift_sound Uniform Varying u t x k n is e f hx lk =
-        (splat_sound code h t (l.spare Varying u n) x k (lift_there fs h l Uniform Varying u t x n is e f hx) (hx.0, hx.1 ∙ e) lk, tt)
+        (splat_sound code h t (l.spare Varying u n) x k (lift_there fs h l constants Uniform Varying u t x n is e f hx) (hx.0, hx.1 ∙ e) lk, tt)
     lift_sound Varying Uniform u t x k n is e f hx lk = absurd is
     lift_sound Varying Varying u t x k n is e f hx lk = tt
 
@@ -114,7 +125,8 @@ module _ (code : Listing) (h : Routine) where
 
     pub operand_sound : (r : Rate) (t : Elem) (x : TExpr) (pc k n : ℕ) (a : List Instr) → OperandTree r t x → ExprTree fs x → Granted h l (operand_asks r x n) → k < h.masks → Here pc a → Here pc (operand_of l r x k n a)
     operand_sound r t x pc k n a o is f lk s =
-        here_both pc a (lift_code l r (type_of x).rate (type_of x).elem (found l x n) k n) s (λ lt. lift_sound (type_of x).rate r (type_of x).elem t (found l x n) k n o.reaches o.elem f.0 (found_there fs h l x n is f.1) lk)
+        unless_sound (in_vector l r (known x)) pc (a ++ lift_code l r (type_of x).rate (type_of x).elem (found l x n) k n)
+        (here_both pc a (lift_code l r (type_of x).rate (type_of x).elem (found l x n) k n) s (λ lt. lift_sound (type_of x).rate r (type_of x).elem t (found l x n) k n o.reaches o.elem f.0 (found_there fs h l constants x n is f.1) lk))
 
     -- ---- a value of one type where another is wanted
 
@@ -131,12 +143,12 @@ module _ (code : Listing) (h : Routine) where
     whole_sound : (b : Bool) (i : TExpr) (pc k n : ℕ) (a : List Instr) → ExprTree fs i → Granted h l (whole_asks i n (expr_asks i n)) → k < h.masks → Here pc a → Here pc (whole_of l b i k n a)
     whole_sound true i pc k n a is f lk s = s
     whole_sound false i pc k n a is f lk s =
-        convert_to_sound i I64 (l.spare (type_of i).rate I64 n) pc k n a f.0 (found_there fs h l i n is f.1) lk s
+        convert_to_sound i I64 (l.spare (type_of i).rate I64 n) pc k n a f.0 (found_there fs h l constants i n is f.1) lk s
 
     pub index_sound : (r : Rate) (i : TExpr) (pc k n : ℕ) (a : List Instr) → Reaches (type_of i).rate r → ExprTree fs i → Granted h l (index_asks r i n (expr_asks i n)) → k < h.masks → Here pc a → Here pc (index_of l r i k n a)
     index_sound r i pc k n a re is f lk s =
         let x = whole l (is_whole (type_of i).elem) i n in
-        here_both pc (whole_of l (is_whole (type_of i).elem) i k n a) (lift_code l r (type_of i).rate I64 x k n) (whole_sound (is_whole (type_of i).elem) i pc k n a is f.1 lk s) (λ lt. lift_sound (type_of i).rate r I64 I64 x k n re refl f.0 (whole_there fs h l (is_whole (type_of i).elem) i n refl is f.1) lk)
+        here_both pc (whole_of l (is_whole (type_of i).elem) i k n a) (lift_code l r (type_of i).rate I64 x k n) (whole_sound (is_whole (type_of i).elem) i pc k n a is f.1 lk s) (λ lt. lift_sound (type_of i).rate r I64 I64 x k n re refl f.0 (whole_there fs h l constants (is_whole (type_of i).elem) i n refl is f.1) lk)
 
     -- that of an element
     start_sound : (i : TExpr) (n : ℕ) → Counting l i → Granted h l (start_asks i n) → AreSound code h (start_code l (is_lane i) n)
@@ -165,6 +177,6 @@ module _ (code : Listing) (h : Routine) where
     short_sound r t c x y d k n mx my e hd oc ox oy ic ix iy fc fx fy lk =
         let same = same_rate-is r (type_of c).rate (both_first (same_rate r (type_of c).rate) (stays_at l r x && stays_at l r y) e) in
         let both = both_second (same_rate r (type_of c).rate) (stays_at l r x && stays_at l r y) e in
-        let hc = found_there fs h l c n ic fc in
+        let hc = found_there fs h l constants c n ic fc in
         let test : IsRegister h r (found l c n) Truth = subst (λ u. IsRegister h r (found l c n) u) oc.elem (subst (λ q. IsRegister h q (found l c n) (type_of c).elem) (sym same) hc) in
-        select_sound code h r t d (found l c n) (found l x n) (found l y n) k hd test (stayed_there fs h l r t x n mx (both_first (stays_at l r x) (stays_at l r y) both) ox ix fx) (stayed_there fs h l r t y n my (both_second (stays_at l r x) (stays_at l r y) both) oy iy fy) lk
+        select_sound code h r t d (found l c n) (found l x n) (found l y n) k hd test (stayed_there fs h l constants r t x n mx (both_first (stays_at l r x) (stays_at l r y) both) ox ix fx) (stayed_there fs h l constants r t y n my (both_second (stays_at l r x) (stays_at l r y) both) oy iy fy) lk

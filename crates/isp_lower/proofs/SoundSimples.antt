@@ -9,10 +9,15 @@ use Rattle.isp_base.specs.declared.types.Span.{Span}
 use Rattle.isp_code.specs.Listing.{Listing, Routine}
 use Rattle.isp_typed.specs.Typed.{TExpr, TPlace, t_variable, t_element, TItem, t_plain, t_with_value, t_with_size, TFunction, TSimple, t_value, t_run, t_assign, t_update, t_step, place_type, type_of}
 use Rattle.isp_lower.specs.Layout.{Layout}
-use Rattle.isp_lower.specs.Code.{copy, operate_places, part_to, lift_to, found, operand, operand_of, writes_part, writes_last, expr_places, index_places, expr_to, expr_code, index_code, variable_from, variable_code, index_by, write_by, is_run}
-use Rattle.isp_lower.specs.Items.{zero_code, item_code, item_places, items_code, items_places}
+use Rattle.isp_lower.specs.Code.{expr_to, expr_code, index_code, variable_from, variable_code}
+use Rattle.isp_lower.specs.Elements.{index_by, is_run}
+use Rattle.isp_lower.specs.Found.{part_to, lift_to, found, operand, operand_of}
+use Rattle.isp_lower.specs.Instructions.{copy, operate_places, write_by}
+use Rattle.isp_lower.specs.Spans.{expr_places, index_places}
+use Rattle.isp_lower.specs.Stays.{writes_part, writes_last}
+use Rattle.isp_lower.specs.Items.{zero_code, zero_each, item_code, item_places, items_code, items_places}
 use Rattle.isp_lower.specs.Asks.{beyond, change_asks, item_asks, items_asks, operand_asks, simple_asks, step_asks, target_asks, work_asks, zero_asks}
-use Rattle.isp_lower.specs.Simple.{update_to, change_code, change_places, one_in, one_code, assign_code, assign_places, change_by_code, step_code, simple_code, simple_places}
+use Rattle.isp_lower.specs.Simple.{update_to, change_code, change_places, one_in, one_code, assign_code, assign_places, change_by_code, step_code, simple_code, simple_places, one_of}
 use Rattle.isp_lower.specs.Sound.{AreSound, Links, PartSound, IsRegister, Granted}
 use Rattle.isp_lower.proofs.Splits.{same_elem-is}
 use Rattle.isp_lower.proofs.SoundExprs.{Named, array_there, call_sound, expr_sound, place_sound, part_sound, value_sound}
@@ -22,16 +27,16 @@ use Rattle.isp_lower.proofs.SoundParts.{few_front, few_back, Here, here_both, he
 use Rattle.isp_lower.proofs.Parts.{IsNumber}
 use Rattle.isp_lower.proofs.Trees.{ExprTree, ItemTree, ItemsTree, OperandTree, PlaceTree, SimpleTree}
 
-module _ (fs : List TFunction) (code : Listing) (h : Routine) (l : Layout) (links : Links fs code l) where
+module _ (fs : List TFunction) (code : Listing) (h : Routine) (l : Layout) (links : Links fs code h l) where
   -- ---- a register of a variable gets a value
 
   from_sound : (b : Bool) (r : Rate) (t : Elem) (d : ℕ) (x : TExpr) (pc p k n : ℕ) → IsRegister h r d t → OperandTree r t x → ExprTree fs x → Granted h l (operand_asks r x n) → k < h.masks → Named code h l p (expr_places l x) → Here code h pc (variable_from l b r d x pc p k n)
   from_sound true r t d x pc p k n hd o is f lk lp =
-      let hx = found_there fs h l x n is f.1 in
+      let hx = found_there fs h l links.constants x n is f.1 in
       let e = part_to l r (type_of x).rate d (found l x n) in
-      here_both code h pc (expr_to l e x pc p k n) (lift_to l r (type_of x).rate d (found l x n) k) (expr_sound fs code h l links x e pc p k n is f.1 (part_there fs h l (type_of x).rate r (type_of x).elem t d (found l x n) o.reaches o.elem hd hx) lk lp) (λ lt. lift_to_sound code h fs l (type_of x).rate r (type_of x).elem t d (found l x n) k o.reaches o.elem hd hx lk)
+      here_both code h pc (expr_to l e x pc p k n) (lift_to l r (type_of x).rate d (found l x n) k) (expr_sound fs code h l links x e pc p k n is f.1 (part_there fs h l links.constants (type_of x).rate r (type_of x).elem t d (found l x n) o.reaches o.elem hd hx) lk lp) (λ lt. lift_to_sound code h fs l links.constants (type_of x).rate r (type_of x).elem t d (found l x n) k o.reaches o.elem hd hx lk)
   from_sound false r t d x pc p k n hd o is f lk lp =
-      here_then code h pc (operand_of l r x k n (expr_code l x pc p k n)) (copy r d (operand l r x n) k) (part_sound fs code h l links r t x pc p k n o is f lk lp) (copy_sound code h r t d (operand l r x n) k hd (operand_there fs h l r t x n o is f) lk)
+      here_then code h pc (operand_of l r x k n (expr_code l x pc p k n)) (copy r d (operand l r x n) k) (part_sound fs code h l links r t x pc p k n o is f lk lp) (copy_sound code h r t d (operand l r x n) k hd (operand_there fs h l links.constants r t x n o is f) lk)
 
   variable_sound : (r : Rate) (t : Elem) (v : ℕ) (x : TExpr) (pc p k n : ℕ) → IsRegister h r (l.variable r v) t → OperandTree r t x → ExprTree fs x → Granted h l (operand_asks r x n) → k < h.masks → Named code h l p (expr_places l x) → Here code h pc (variable_code l r v x pc p k n)
   variable_sound r t v x pc p k n hd o is f lk lp =
@@ -53,7 +58,7 @@ module _ (fs : List TFunction) (code : Listing) (h : Routine) (l : Layout) (link
       let last = write_by z t.rate (l.array b.number) (index_by l z t.rate i n) (operand l t.rate x (n + 1)) k (p + length pi + length px) in
       let low = few_back (length code.places) (p + length pi) px (sp ∷ []) back in
       here_both code h pc ci (cx ++ last ∷ []) (place_sound fs code h l links (t_element b i t sp) pc p k n iz fz lk (few_front (length code.places) p pi (px ++ sp ∷ []) lp))
-      (here_then code h pc1 cx last (part_sound fs code h l links t.rate t.elem x pc1 (p + length pi) k (n + 1) o ix f lk (few_front (length code.places) (p + length pi) px (sp ∷ []) back)) (write_by_sound code h z t.rate t.elem (l.array b.number) (index_by l z t.rate i n) (operand l t.rate x (n + 1)) k (p + length pi + length px) (array_there code h l b t.rate t.elem fz.0 iz.0 iz.3) (element_index_there fs h l code b t.rate i n iz.1 iz.2 fz.0 fz.1) (operand_there fs h l t.rate t.elem x (n + 1) o ix f) lk (omega (arith, low))))
+      (here_then code h pc1 cx last (part_sound fs code h l links t.rate t.elem x pc1 (p + length pi) k (n + 1) o ix f lk (few_front (length code.places) (p + length pi) px (sp ∷ []) back)) (write_by_sound code h z t.rate t.elem (l.array b.number) (index_by l z t.rate i n) (operand l t.rate x (n + 1)) k (p + length pi + length px) (array_there code h l b t.rate t.elem fz.0 iz.0 iz.3) (element_index_there fs h l links.constants code b t.rate i n iz.1 iz.2 fz.0 fz.1) (operand_there fs h l links.constants t.rate t.elem x (n + 1) o ix f) lk (omega (arith, low))))
 
   -- ---- an operator on a place
 
@@ -70,7 +75,7 @@ module _ (fs : List TFunction) (code : Listing) (h : Routine) (l : Layout) (link
   change_sound o t (t_element b j u s) y p k n i sp is iz fz f hy lk lp =
       let there = array_there code h l b u.rate u.elem fz.0 iz.0 iz.3 in
       let z = is_run l b.ty.rate j in
-      let at = element_index_there fs h l code b u.rate j n iz.1 iz.2 fz.0 fz.1 in
+      let at = element_index_there fs h l links.constants code b u.rate j n iz.1 iz.2 fz.0 fz.1 in
       let d = l.spare u.rate u.elem i in
       let middle = update_to l (same_elem u.elem t) o t u.rate d d y k i (p + 1) in
       let last = write_by z u.rate (l.array b.number) (index_by l z u.rate j n) d k p in
@@ -87,7 +92,7 @@ module _ (fs : List TFunction) (code : Listing) (h : Routine) (l : Layout) (link
       let cx = operand_of l (place_type z).rate x k m (expr_code l x pc1 (p + length pz) k m) in
       let last = change_code l o t z (operand l (place_type z).rate x m) (p + length pz + length px) k n (m + 1) in
       here_both code h pc cz (cx ++ last) (place_sound fs code h l links z pc p k n iz fz lk (few_front (length code.places) p pz (px ++ change_places l o z sp) lp))
-      (here_both code h pc1 cx last (part_sound fs code h l links (place_type z).rate t x pc1 (p + length pz) k m ox ix f lk (few_front (length code.places) (p + length pz) px (change_places l o z sp) back)) (λ lt. change_sound o t z (operand l (place_type z).rate x m) (p + length pz + length px) k n (m + 1) sp is iz fz fc (operand_there fs h l (place_type z).rate t x m ox ix f) lk (few_back (length code.places) (p + length pz) px (change_places l o z sp) back)))
+      (here_both code h pc1 cx last (part_sound fs code h l links (place_type z).rate t x pc1 (p + length pz) k m ox ix f lk (few_front (length code.places) (p + length pz) px (change_places l o z sp) back)) (λ lt. change_sound o t z (operand l (place_type z).rate x m) (p + length pz + length px) k n (m + 1) sp is iz fz fc (operand_there fs h l links.constants (place_type z).rate t x m ox ix f) lk (few_back (length code.places) (p + length pz) px (change_places l o z sp) back)))
 
   step_sound : (o : BinOp) (t : Elem) (z : TPlace) (pc p k n : ℕ) (sp : Span) → IsNumber t → PlaceTree fs z → Granted h l (step_asks t z n) → k < h.masks → Named code h l p (index_places l z ++ change_places l o z sp) → Here code h pc (step_code l o t z pc p k n)
   step_sound o t z pc p k n sp is iz f lk lp =
@@ -95,9 +100,10 @@ module _ (fs : List TFunction) (code : Listing) (h : Routine) (l : Layout) (link
       let m = beyond z n in
       let r = (place_type z).rate in
       let cz = index_code l z pc p k n in
+      let fit : OperandTree r t (one_of t) = record { elem = refl; reaches = tt } in
       let one = one_code l r t k m in
       let last = change_code l o t z (one_in l r t m) (p + length pz) k n (m + 1) in
-      here_both code h pc cz (one ++ last) (place_sound fs code h l links z pc p k n iz f.0 lk (few_front (length code.places) p pz (change_places l o z sp) lp)) (λ lt. sound_both code h one last (constant_sound code h t (l.spare Uniform t m) 1 f.1.1.0.0, lift_sound code h fs l Uniform r t t (l.spare Uniform t m) k m tt refl f.1.1.0.1 f.1.1.0.0 lk) (change_sound o t z (one_in l r t m) (p + length pz) k n (m + 1) sp is iz f.0 f.1.1.1 (lift_there fs h l Uniform r t t (l.spare Uniform t m) m tt refl f.1.1.0.1 f.1.1.0.0) lk (few_back (length code.places) p pz (change_places l o z sp) lp)))
+      here_both code h pc cz (one ++ last) (place_sound fs code h l links z pc p k n iz f.0 lk (few_front (length code.places) p pz (change_places l o z sp) lp)) (here_both code h (pc + length cz) one last (part_sound fs code h l links r t (one_of t) (pc + length cz) 0 k m fit tt (f.1.1.0.1, f.1.1.0.0) lk (omega arith)) (λ lt. change_sound o t z (one_in l r t m) (p + length pz) k n (m + 1) sp is iz f.0 f.1.1.1 (operand_there fs h l links.constants r t (one_of t) m fit tt (f.1.1.0.1, f.1.1.0.0)) lk (few_back (length code.places) p pz (change_places l o z sp) lp)))
 
   pub simple_sound : (x : TSimple) (n : ℕ) → SimpleTree fs x → Granted h l (simple_asks x n) → PartSound code h (simple_places l x) (λ pc p k. simple_code l x pc p k n)
   simple_sound (t_value x) n is f pc p k lk lp lt = value_sound fs code h l links x n is f pc p k lk lp lt
@@ -110,7 +116,11 @@ module _ (fs : List TFunction) (code : Listing) (h : Routine) (l : Layout) (link
 
   zero_sound : (r : Rate) (t : Elem) (v k n : ℕ) → Granted h l (zero_asks r t v n) → k < h.masks → AreSound code h (zero_code l r t v k n)
   zero_sound Uniform t v k n f lk = (constant_sound code h t (l.variable Uniform v) 0 f, tt)
-  zero_sound Varying t v k n f lk = (constant_sound code h t (l.spare Uniform t n) 0 f.0, (splat_sound code h t (l.variable Varying v) (l.spare Uniform t n) k f.1 f.0 lk, tt))
+  zero_sound Varying t v k n f lk = go (l.kept Varying t 0) refl
+    where
+      go : (z : Bool) → l.kept Varying t 0 ≡ z → AreSound code h (zero_each l z t v k n)
+      go true e = (copy_sound code h Varying t (l.variable Varying v) (l.constant Varying t 0) k f.1 (links.constants Varying t 0 e) lk, tt)
+      go false e = (constant_sound code h t (l.spare Uniform t n) 0 f.0, (splat_sound code h t (l.variable Varying v) (l.spare Uniform t n) k f.1 f.0 lk, tt))
 
   item_sound : (x : TItem) (pc p k n : ℕ) → ItemTree fs x → Granted h l (item_asks n x) → k < h.masks → Named code h l p (item_places l x) → Here code h pc (item_code l x pc p k n)
   item_sound (t_plain v t sp) pc p k n is f lk lp = λ lt. zero_sound t.rate t.elem v k n f lk

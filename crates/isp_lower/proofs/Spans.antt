@@ -16,7 +16,8 @@ use Rattle.isp_typed.specs.declared.library.Part.{Part}
 use Rattle.isp_typed.specs.declared.variable.Holds.{Holds}
 use Rattle.isp_typed.specs.declared.variable.Holds.TheVariants as holds
 use Rattle.isp_typed.specs.declared.variable.Variable.{Variable}
-use Rattle.isp_lower.specs.Code.{expr_places, index_places, read_places, base_places, values_places, call_places, arguments_places, argument_places, operate_places}
+use Rattle.isp_lower.specs.Instructions.{operate_places}
+use Rattle.isp_lower.specs.Spans.{expr_places, index_places, read_places, base_places, values_places, call_places, arguments_places, argument_places}
 use Rattle.isp_lower.specs.Items.{item_places, items_places}
 use Rattle.isp_lower.specs.Layout.{Layout}
 use Rattle.isp_lower.specs.Simple.{simple_places}

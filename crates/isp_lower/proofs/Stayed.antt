@@ -1,4 +1,4 @@
--- A variable, in brackets or not, is found where it is, whatever the slot.
+-- A variable, in brackets or not, and a constant that is kept are found where they are, whatever the slot.
 use Rattle.std.proofs.Common.{◌≡◌, ℕ, Bool, true, false, refl}
 use Rattle.std.specs.Prelude.{◌&&◌, not}
 use Rattle.isp_base.specs.declared.types.Elem.{Elem}
@@ -6,7 +6,9 @@ use Rattle.isp_base.specs.declared.types.Rate.{Rate}
 use Rattle.isp_base.specs.declared.types.Rate.TheVariants.{Uniform, Varying}
 use Rattle.isp_typed.specs.Typed.{TExpr, t_constant, t_program_index, t_place, t_convert, t_cast, t_unary, t_binary, t_compare, t_logic, t_choose, t_call, t_library, t_packed_store, t_packed_load, t_variable, t_element, type_of}
 use Rattle.isp_meaning.specs.Calls.{same_rate}
-use Rattle.isp_lower.specs.Code.{is_copied, variable_found, found, is_short, lifted, stays, stays_at}
+use Rattle.isp_lower.specs.Found.{is_copied, is_kept, kept_found, variable_found, found, lifted}
+use Rattle.isp_lower.specs.Known.{bits_as, constant_of}
+use Rattle.isp_lower.specs.Stays.{is_short, stays, stays_at}
 use Rattle.isp_lower.specs.Layout.{Layout}
 
 pub both_true : (a b : Bool) → (a && b) ≡ true → (a ≡ true) × (b ≡ true)
@@ -19,8 +21,12 @@ same_lifted l Uniform Varying t x y n m e is = absurd (cc)
 same_lifted l Varying Uniform t x y n m e is = absurd (cc)
 same_lifted l Varying Varying t x y n m e is = is
 
+same_kept : (l : Layout) (z : Bool) (r : Rate) (t : Elem) (b n m : ℕ) → z ≡ true → kept_found l z r t b n ≡ kept_found l z r t b m
+same_kept l true r t b n m e = refl
+same_kept l false r t b n m e = absurd (cc)
+
 pub stays_same : (l : Layout) (x : TExpr) (n m : ℕ) → stays l x ≡ true → found l x n ≡ found l x m
-stays_same l (t_constant v sp) n m e = absurd (cc)
+stays_same l (t_constant v sp) n m e = same_kept l (l.kept Uniform v.elem v.bits) Uniform v.elem v.bits n m e
 stays_same l (t_program_index sp) n m e = absurd (cc)
 stays_same l (t_place (t_variable v t sp)) n m e = go (is_copied l t.rate v) e
   where
@@ -28,7 +34,7 @@ stays_same l (t_place (t_variable v t sp)) n m e = go (is_copied l t.rate v) e
     go true h = absurd (cc)
     go false h = refl
 stays_same l (t_place (t_element b i t sp)) n m e = absurd (cc)
-stays_same l (t_convert u x) n m e = absurd (cc)
+stays_same l (t_convert u x) n m e = same_kept l (is_kept l (constant_of x) (type_of x).rate u) (type_of x).rate u (bits_as (constant_of x) u) n m e
 stays_same l (t_cast x t sp) n m e =
     let both = both_true (same_rate t.rate (type_of x).rate) (stays l x) e in
     same_lifted l t.rate (type_of x).rate (type_of x).elem (found l x n) (found l x m) n m both.0 (stays_same l x n m both.1)

@@ -1,11 +1,16 @@
 -- What stays in place names no place of the source.
-use Rattle.std.proofs.Common.{◌≡◌, Bool, true, false, [], ◌++◌, refl, ap, ◌∙◌}
+use Rattle.std.proofs.Common.{◌≡◌, Bool, true, false, [], ◌++◌, Option, Some, None, refl, ap, ◌∙◌}
 use Rattle.std.specs.Prelude.{◌&&◌}
 use Rattle.isp_base.specs.declared.types.Rate.{Rate}
+use Rattle.isp_base.specs.declared.types.Value.{Value}
 use Rattle.isp_typed.specs.Typed.{TExpr, t_constant, t_program_index, t_place, t_convert, t_cast, t_unary, t_binary, t_compare, t_logic, t_choose, t_call, t_library, t_packed_store, t_packed_load, t_variable, t_element, type_of}
 use Rattle.isp_meaning.specs.Calls.{same_rate}
 use Rattle.isp_lower.specs.Layout.{Layout}
-use Rattle.isp_lower.specs.Code.{expr_places, is_short, stays, stays_at}
+use Rattle.isp_lower.specs.Found.{is_kept}
+use Rattle.isp_lower.specs.Known.{constant_of}
+use Rattle.isp_lower.specs.Spans.{expr_places}
+use Rattle.isp_lower.specs.Stays.{is_short, stays, stays_at}
+use Rattle.isp_lower.proofs.Found.{constant_is_one}
 
 both_true : (a b : Bool) → (a && b) ≡ true → (a ≡ true) × (b ≡ true)
 both_true true b e = (refl, e)
@@ -16,7 +21,11 @@ stays_silent l (t_constant v sp) e = refl
 stays_silent l (t_program_index sp) e = refl
 stays_silent l (t_place (t_variable v t sp)) e = refl
 stays_silent l (t_place (t_element b i t sp)) e = absurd (cc)
-stays_silent l (t_convert u x) e = absurd (cc)
+stays_silent l (t_convert u x) e = go (constant_of x) refl e
+  where
+    go : (o : Option Value) → constant_of x ≡ o → is_kept l o (type_of x).rate u ≡ true → expr_places l x ≡ []
+    go None eo h = absurd (cc)
+    go (Some v) eo h = let one = constant_is_one x v eo in ap (expr_places l) one.1
 stays_silent l (t_cast x t sp) e = stays_silent l x (both_true (same_rate t.rate (type_of x).rate) (stays l x) e).1
 stays_silent l (t_unary o x t sp) e = absurd (cc)
 stays_silent l (t_binary o x y t sp) e = absurd (cc)

@@ -1,5 +1,5 @@
 -- An operator on what a place holds: where the place has the type that the operator works in, no conversion is needed.
-use Rattle.std.proofs.Common.{◌+◌, ◌*◌, ◌<◌, ◌≤◌, [], ◌∷◌, ◌++◌, length, length-append, arith, ◌≡◌, ℕ, Option, Some, None, refl, sym, ap, ◌∙◌, subst, ℤ}
+use Rattle.std.proofs.Common.{◌+◌, ◌*◌, ◌%◌, ◌^◌, ◌<◌, ◌≤◌, List, [], ◌∷◌, ◌++◌, length, length-append, arith, ◌≡◌, ℕ, Option, Some, None, refl, sym, ap, ◌∙◌, subst, ℤ}
 use Rattle.std.specs.Prelude.{Bool, true, false, if◌then◌else◌}
 use Rattle.std.proofs.Math.Path.{fun_ext}
 use Rattle.isp_base.specs.Maps.{each1, each2, on}
@@ -17,24 +17,31 @@ use Rattle.isp_base.specs.declared.trap.TrapKind.{TrapKind}
 use Rattle.isp_base.specs.declared.trap.TrapKind.TheVariants.{Divide}
 use Rattle.isp_base.specs.declared.types.Rate.{Rate}
 use Rattle.isp_base.specs.declared.types.Span.{Span}
+use Rattle.isp_base.specs.declared.types.Value.{Value}
 use Rattle.isp_code.specs.Calls.{no_place}
 use Rattle.isp_code.specs.Conf.{Conf, Go}
 use Rattle.isp_code.specs.Registers.{elem_of}
+use Rattle.isp_code.specs.declared.instr.Instr.{Instr}
 use Rattle.isp_meaning.specs.State.{State, tick}
 use Rattle.isp_meaning.specs.Payloads.{offender}
 use Rattle.isp_meaning.specs.Outcomes.{Val, Gives, Fails, Stops, Done, bind, checked}
 use Rattle.isp_base.specs.Ranks.{same_elem}
 use Rattle.isp_base.specs.declared.trap.TrapKind.TheVariants.{Index}
-use Rattle.isp_base.specs.declared.types.Rate.TheVariants.{Uniform}
+use Rattle.isp_base.specs.declared.types.Rate.TheVariants.{Uniform, Varying}
 use Rattle.isp_typed.specs.Fine.{heads}
 use Rattle.isp_typed.specs.Typed.{TExpr, TPlace, t_variable, t_element, place_type, t_called, TSimple, t_value, t_run, t_assign, t_update, t_step, type_of}
 use Rattle.isp_meaning.specs.Places.{Place, Element, variable, written, outside, held, kept}
 use Rattle.isp_meaning.specs.Expressions.{place}
 use Rattle.isp_meaning.specs.Simple.{simple, update}
 use Rattle.isp_lower.specs.Runs.{Enters, DoneRuns}
-use Rattle.isp_lower.specs.Code.{constant, lift_code, operand, operand_of, index_code, index_places, expr_places, expr_code, index_by, write_by, is_run}
+use Rattle.isp_lower.specs.Code.{index_code, expr_code}
+use Rattle.isp_lower.specs.Elements.{index_by, is_run}
+use Rattle.isp_lower.specs.Found.{found, in_vector, kept_found, lifted, lift_code, operand, operand_by, operand_of}
+use Rattle.isp_lower.specs.Instructions.{constant, write_by, convert, operate, operate_places}
+use Rattle.isp_lower.specs.Known.{unless_kept}
+use Rattle.isp_lower.specs.Spans.{index_places, expr_places}
 use Rattle.isp_lower.proofs.Splits.{same_elem-is}
-use Rattle.isp_lower.proofs.Found.{few, lifted_low, operand_low}
+use Rattle.isp_lower.proofs.Found.{few, operand_low}
 use Rattle.isp_lower.proofs.Exprs.{means, PlaceHolds, variable_held, element_runs, expr_runs}
 use Rattle.isp_lower.proofs.Done.{done_after, bind_done, bind_checked}
 use Rattle.isp_lower.proofs.Places.{place_runs, place_kept, index_kept}
@@ -44,17 +51,16 @@ use Rattle.isp_lower.proofs.Nodes.{enters_part, enters_later, operand_runs}
 use Rattle.isp_lower.specs.Layout.{register}
 use Rattle.isp_lower.specs.Setting.{Setting, IsSettled, gang_of, calls_of, AreAt, At, Stands, at_rate, held_at, Holds, Allowed}
 use Rattle.isp_lower.specs.Runs.{Runs, Ok}
-use Rattle.isp_lower.specs.Code.{convert, operate, operate_places}
-use Rattle.isp_lower.specs.Simple.{update_to, change_code, change_by_code, change_places, one_in, one_code, step_code, simple_code, simple_places}
-use Rattle.isp_lower.proofs.Base.{are_front, are_back, comes_none, moved_by, spares_all, spares_less}
-use Rattle.isp_lower.proofs.Rates.{at_mapped, at_joined, at_offender, filled_mapped, filled_joined}
+use Rattle.isp_lower.specs.Simple.{update_to, change_code, change_by_code, change_places, one_in, one_code, one_of, step_code, simple_code, simple_places}
+use Rattle.isp_lower.proofs.Base.{are_front, are_back, at_to, comes_none, moved_by, spares_all, spares_less}
+use Rattle.isp_lower.proofs.Rates.{at_mapped, at_joined, at_offender, filled_mapped, filled_joined, on_everywhere}
 use Rattle.isp_lower.proofs.Lines.{set_at, value_at, convert_line, operate_at}
 use Rattle.isp_lower.proofs.Combine.{write_runs, lift_runs}
 use Rattle.isp_lower.proofs.Targets.{Target, InSlot, InVariable, target, Leaves, write_sure}
 use Rattle.isp_lower.proofs.Writes.{element_done}
 use Rattle.isp_lower.proofs.Nodes.{one_runs}
 use Rattle.isp_lower.proofs.Values.{number_is, wrap_bits}
-use Rattle.isp_lower.proofs.Kept.{Low, low_spare, Keeps, runs_kept, kept_same, keeps_on, held_kept, checked_still, value_still}
+use Rattle.isp_lower.proofs.Kept.{Low, Keeps, runs_kept, kept_same, keeps_on, held_kept, checked_still, value_still}
 use Rattle.isp_lower.proofs.Parts.{ChangeFits, IsNumber, SimpleParts, SpareFits, WorkFits}
 use Rattle.isp_lower.specs.Asks.{beyond}
 use Rattle.isp_lower.specs.Tables.{IsTyped}
@@ -247,8 +253,8 @@ module _ (w : Setting) (ready : IsSettled w) where
       let c1 = ok.conf in
       done_after w ready c c1 ok.steps end n q _ ok.comes ok.spares ok.masks
       (bind_done w ready c1 (pc1 + length ca) m 6 (ok.steps + q) (λ d c'. Holds r a y d c' × Keeps w m c1 c') (means w ready x a s1) _ end n
-      (runs_kept w c1 (pc1 + length ca) m (6 + (ok.steps + q)) (Holds r a y) (means w ready x a s1) s1 ok.stands (value_still w ready x m a s1 fit.2) (operand_runs w ready c1 pc1 k m (6 + (ok.steps + q)) a (means w ready x a s1) r t x cx fit.1 (ok.masks k lk ∙ b.mask) (omega (arith, more.0)) ha
-      (expr_runs w ready x pc1 p1 k m (8 + (ok.steps + q)) (1 + (6 + (ok.steps + q))) a s1 c1 fit.2 (are_front w.routine.code pc1 cx _ ha) (are_front w.code.places p1 (expr_places w.layout x) _ pl) (omega arith) (enters_later w ready pc pc1 k n m (8 + (ok.steps + q)) q (8 + q) a s s1 c more.0 b ok (omega arith)))))
+      (runs_kept w c1 (pc1 + length ca) m (6 + (ok.steps + q)) (Holds r a y) (means w ready x a s1) s1 ok.stands (value_still w ready x m a s1 fit.2) (operand_runs w ready c1 pc1 k m (8 + (ok.steps + q)) (6 + (ok.steps + q)) a s1 r t x cx fit.1 (omega arith) (enters_later w ready pc pc1 k n m (8 + (ok.steps + q)) q (8 + q) a s s1 c more.0 b ok (omega arith)) ha
+      (λ at. expr_runs w ready x pc1 p1 k m (8 + (ok.steps + q)) (1 + (6 + (ok.steps + q))) a s1 c1 fit.2 at (are_front w.code.places p1 (expr_places w.layout x) _ pl) (omega arith) (enters_later w ready pc pc1 k n m (8 + (ok.steps + q)) q (8 + q) a s s1 c more.0 b ok (omega arith)))))
       (λ v s2 ok2.
       done_after w ready c1 ok2.conf ok2.steps end n (ok.steps + q) _ ok2.comes (spares_less w n m c1 ok2.conf more.0 ok2.spares) (λ g l. ok2.masks g (omega (arith, more.0)))
       (subst (λ g. DoneRuns w ok2.conf g n (ok2.steps + (ok.steps + q)) (update (gang_of w) w.frame (calls_of w) o t z at v sp a s2)) to
@@ -257,15 +263,44 @@ module _ (w : Setting) (ready : IsSettled w) where
   -- ---- `++` and `--`
 
   -- the number 1
-  one_ok : (r : Rate) (t : Elem) (pc k m q : ℕ) (a : Mask) (s : State) (c : Conf) → IsNumber t → SpareFits w Uniform t m → k < m → c.masks k ≡ a → At w c pc → Stands w s c → 2 + q ≤ 32 * s.work → AreAt w.routine.code pc (one_code w.layout r t k m) → Runs w c (pc + length (one_code w.layout r t k m)) m q (Holds r a (one_in w.layout r t m)) (Gives (One 1) s)
-  one_ok r t pc k m q a s c num ty lk em at st us has =
-      let d = w.layout.spare Uniform t m in
-      let lift = lift_code w.layout r Uniform t d k m in
-      let to : pc + 1 + length lift ≡ pc + length (one_code w.layout r t k m) = omega arith in
-      subst (λ g. Runs w c g m q (Holds r a (one_in w.layout r t m)) (Gives (One 1) s)) to
-      (lift_runs w ready c (pc + 1) k m q a (Gives (One 1) s) r Uniform t d tt em lk has.1
-      (write_runs w ready c c 0 pc (pc + 1) m (1 + q) a s (constant d t 1) Uniform t None Divide no_place (One 1) (One 1) (comes_none w c) at refl has.0 st (spares_all w m c) (λ g l. refl) (omega (arith, us)) refl refl
-      (ap (λ u. Go (set_at Uniform c d (One (wrap u (number t 1))))) ty ∙ ap (λ z. Go (set_at Uniform c d (One z))) (one_is t num))))
+  one_ok : (r : Rate) (t : Elem) (pc k m q : ℕ) (a : Mask) (s : State) (c : Conf) → IsNumber t → SpareFits w Uniform t m → k < m → c.masks k ≡ a → ((p : ℕ) → a p ≡ true → Allowed w p) → At w c pc → Stands w s c → 2 + q ≤ 32 * s.work → AreAt w.routine.code pc (one_code w.layout r t k m) → Runs w c (pc + length (one_code w.layout r t k m)) m q (Holds r a (one_in w.layout r t m)) (Gives (One 1) s)
+  one_ok r t pc k m q a s c num ty lk em inside at st us has = go r (in_vector w.layout r (Some one)) refl has
+    where
+      one : Value
+      one = record { elem = t; bits = 1 }
+
+      code : List Instr
+      code = expr_code w.layout (one_of t) 0 0 k m
+
+      small : 1 % 2 ^ width t ≡ 1
+      small = sym (wrap_bits t 1) ∙ one_is t num
+
+      here : (P : Conf → Type 0) (z : ℕ) → 2 + z ≤ 32 * s.work → P c → Ok w c (pc + 0) m z P s
+      here P z le h = record { conf = c; steps = 0; comes = comes_none w c; at = at_to w c pc _ at (omega arith); stands = st; spares = spares_all w m c; masks = λ g l. refl; holds = h; bound = omega (arith, le) }
+
+      made : (z : Bool) → w.layout.kept Uniform t 1 ≡ z → AreAt w.routine.code pc (unless_kept z (constant (kept_found w.layout z Uniform t 1 m) t 1 ∷ [])) → Runs w c (pc + length (unless_kept z (constant (kept_found w.layout z Uniform t 1 m) t 1 ∷ []))) m (1 + q) (Holds Uniform a (kept_found w.layout z Uniform t 1 m)) (Gives (One 1) s)
+      made true e h =
+          let first = here (Holds Uniform a (w.layout.constant Uniform t 1) (One 1)) q us (ap One (sym small ∙ sym (st.constants Uniform t 1 e))) in
+          record { conf = first.conf; steps = first.steps; comes = first.comes; at = first.at; stands = first.stands; spares = first.spares; masks = first.masks; holds = first.holds; bound = omega (arith, us) }
+      made false e h =
+          let d = w.layout.spare Uniform t m in
+          write_runs w ready c c 0 pc (pc + 1) m (1 + q) a s (constant d t 1) Uniform t None Divide no_place (One 1) (One 1) (comes_none w c) at refl h.0 st (spares_all w m c) (λ g l. refl) (omega (arith, us)) refl refl
+          (ap (λ u. Go (set_at Uniform c d (One (wrap u (number t 1))))) ty ∙ ap (λ z. Go (set_at Uniform c d (One z))) (one_is t num))
+
+      lifts : (g : Rate) → AreAt w.routine.code pc (code ++ lift_code w.layout g Uniform t (found w.layout (one_of t) m) k m) → Runs w c (pc + length (code ++ lift_code w.layout g Uniform t (found w.layout (one_of t) m) k m)) m q (Holds g a (lifted w.layout g Uniform t (found w.layout (one_of t) m) m)) (Gives (One 1) s)
+      lifts g h =
+          let f = found w.layout (one_of t) m in
+          let lift = lift_code w.layout g Uniform t f k m in
+          let to : pc + length code + length lift ≡ pc + length (code ++ lift) = omega (arith, length-append code lift) in
+          subst (λ n. Runs w c n m q (Holds g a (lifted w.layout g Uniform t f m)) (Gives (One 1) s)) to
+          (lift_runs w ready c (pc + length code) k m q a (Gives (One 1) s) g Uniform t f tt em lk (are_back w.routine.code pc code lift h)
+          (made (w.layout.kept Uniform t 1) refl (are_front w.routine.code pc code lift h)))
+
+      go : (g : Rate) (z : Bool) → in_vector w.layout g (Some one) ≡ z → AreAt w.routine.code pc (unless_kept z (code ++ lift_code w.layout g Uniform t (found w.layout (one_of t) m) k m)) → Runs w c (pc + length (unless_kept z (code ++ lift_code w.layout g Uniform t (found w.layout (one_of t) m) k m))) m q (Holds g a (operand_by w.layout z g (one_of t) m)) (Gives (One 1) s)
+      go Uniform true e h = absurd (cc)
+      go Varying true e h =
+          here (Holds Varying a (w.layout.constant Varying t 1) (One 1)) q us (ap Each (ap (λ b. on a (λ p. b)) (sym small) ∙ sym (on_everywhere (gang_of w) (1 % 2 ^ width t) a (λ p l. (inside p l).0)) ∙ ap (on a) (sym (st.constants Varying t 1 e))))
+      go g false e h = lifts g h
 
   pub step_runs : (o : BinOp) (t : Elem) (z : TPlace) (sp : Span) (pc p k n q : ℕ) (a : Mask) (s : State) (c : Conf) → SimpleParts w (t_step o t z sp) n → AreAt w.routine.code pc (step_code w.layout o t z pc p k n) → AreAt w.code.places p (simple_places w.layout (t_step o t z sp)) → Enters w pc k n a s c q → DoneRuns w c (pc + length (step_code w.layout o t z pc p k n)) n q (simple (gang_of w) w.frame (calls_of w) (t_step o t z sp) a s)
   step_runs o t z sp pc p k n q a s c fit has places b =
@@ -288,11 +323,11 @@ module _ (w : Setting) (ready : IsSettled w) where
       (λ at s1 ok.
       let c1 = ok.conf in
       let e1 : c1.masks k ≡ a = ok.masks k lk ∙ b.mask in
-      let ok2 : Ok w c1 (pc1 + length ca) m (6 + (ok.steps + q)) (Holds r a y (One 1)) s1 = one_ok r t pc1 k m (6 + (ok.steps + q)) a s1 c1 fit.0.number fit.1 (omega (arith, more.0)) e1 ok.at ok.stands (omega (arith, ok.bound)) ha in
+      let ok2 : Ok w c1 (pc1 + length ca) m (6 + (ok.steps + q)) (Holds r a y (One 1)) s1 = one_ok r t pc1 k m (6 + (ok.steps + q)) a s1 c1 fit.0.number fit.1 (omega (arith, more.0)) e1 b.inside ok.at ok.stands (omega (arith, ok.bound)) ha in
       done_after w ready c c1 ok.steps end n q _ ok.comes ok.spares ok.masks
       (done_after w ready c1 ok2.conf ok2.steps end n (ok.steps + q) _ ok2.comes (spares_less w n m c1 ok2.conf more.0 ok2.spares) (λ g l. ok2.masks g (omega (arith, more.0)))
       (subst (λ g. DoneRuns w ok2.conf g n (ok2.steps + (ok.steps + q)) (update (gang_of w) w.frame (calls_of w) o t z at (One 1) sp a s1)) to
-      (change_runs o t z sp at (One 1) (pc1 + length ca) p1 k n (m + 1) y (ok2.steps + (ok.steps + q)) a s1 ok2.conf fit.0 (omega arith) (omega (arith, more.0)) lk (lifted_low w ready r Uniform t (w.layout.spare Uniform t m) m tt (low_spare w.layout Uniform t (m + 1) m (omega arith))) ok2.at (ok2.masks k (omega (arith, more.0)) ∙ e1) b.some b.inside ok2.stands (omega (arith, ok2.bound)) (place_kept w ready z n a at c1 ok2.conf fit.0.target (kept_same w m c1 ok2.conf s1 ok.stands ok2.stands ok2.spares) ok.holds) ok2.holds (are_back w.routine.code pc1 ca last h1) (are_back w.code.places p (index_places w.layout z) _ places)))))
+      (change_runs o t z sp at (One 1) (pc1 + length ca) p1 k n (m + 1) y (ok2.steps + (ok.steps + q)) a s1 ok2.conf fit.0 (omega arith) (omega (arith, more.0)) lk (operand_low w ready r t (one_of t) m (record { elem = refl; reaches = tt; lift = fit.2 }) fit.1) ok2.at (ok2.masks k (omega (arith, more.0)) ∙ e1) b.some b.inside ok2.stands (omega (arith, ok2.bound)) (place_kept w ready z n a at c1 ok2.conf fit.0.target (kept_same w m c1 ok2.conf s1 ok.stands ok2.stands ok2.spares) ok.holds) ok2.holds (are_back w.routine.code pc1 ca last h1) (are_back w.code.places p (index_places w.layout z) _ places)))))
 
   pub simple_runs : (x : TSimple) (pc p k n q : ℕ) (a : Mask) (s : State) (c : Conf) → SimpleParts w x n → AreAt w.routine.code pc (simple_code w.layout x pc p k n) → AreAt w.code.places p (simple_places w.layout x) → Enters w pc k n a s c q → DoneRuns w c (pc + length (simple_code w.layout x pc p k n)) n q (simple (gang_of w) w.frame (calls_of w) x a s)
   simple_runs (t_value x) pc p k n q a s c fit has places b = value_runs w ready x pc p k n q a s c fit has places b

@@ -1,6 +1,8 @@
 -- A variable gets the value of an expression: from its last instruction where that writes it, else by a copy.
-use Rattle.std.proofs.Common.{◌≡◌, ℕ, ◌+◌, ◌<◌, ◌≤◌, List, [], ◌∷◌, ◌++◌, length, Bool, true, false, refl, sym, ◌∙◌, subst, arith, length-append}
+use Rattle.std.proofs.Common.{◌≡◌, ℕ, ◌+◌, ◌%◌, ◌^◌, ◌<◌, ◌≤◌, List, [], ◌∷◌, ◌++◌, length, Bool, true, false, refl, sym, ◌∙◌, subst, arith, length-append}
+use Rattle.std.specs.Prelude.{not}
 use Rattle.isp_base.specs.Sets.{Mask}
+use Rattle.isp_base.specs.Values.{width}
 use Rattle.isp_base.specs.declared.types.Elem.{Elem}
 use Rattle.isp_base.specs.declared.types.Rate.{Rate}
 use Rattle.isp_base.specs.declared.types.Rate.TheVariants.{Uniform, Varying}
@@ -14,13 +16,19 @@ use Rattle.isp_meaning.specs.Outcomes.{Val, Gives, bind}
 use Rattle.isp_meaning.specs.Places.{written}
 use Rattle.isp_lower.specs.Setting.{Setting, IsSettled, AreAt, Holds, OtherAt}
 use Rattle.isp_lower.specs.Runs.{Enters, Runs, DoneRuns}
-use Rattle.isp_lower.specs.Code.{is_copied, variable_read, copy, part_to, lift_to, writes_part, writes_last, found, operand, operand_of, expr_places, expr_code, expr_to, is_short, choose_to, variable_from, variable_code}
+use Rattle.isp_lower.specs.Code.{variable_read, expr_code, expr_to, choose_to, variable_from, variable_code}
+use Rattle.isp_lower.specs.Found.{convert_to, is_copied, is_kept, part_to, lift_to, found, operand, operand_of}
+use Rattle.isp_lower.specs.Instructions.{constant, copy}
+use Rattle.isp_lower.specs.Known.{constant_of, unless_kept}
+use Rattle.isp_lower.specs.Spans.{expr_places}
+use Rattle.isp_lower.specs.Stays.{writes_part, writes_last, is_short}
 use Rattle.isp_lower.proofs.Base.{are_front, are_back}
 use Rattle.isp_lower.proofs.Done.{bind_done, variable_done, splat_done}
 use Rattle.isp_lower.proofs.Found.{few}
+use Rattle.isp_lower.proofs.Values.{wrap_bits}
 use Rattle.isp_lower.proofs.Targets.{InVariable}
 use Rattle.isp_lower.proofs.Nodes.{enters_part, operand_runs}
-use Rattle.isp_lower.proofs.Exprs.{means, NodeRuns, number_node, index_node, element_node, convert_node, unary_node, binary_node, compare_node, choose_node, expr_runs, call_node, copied_node, packed_store_node, packed_load_node, base_runs, library_node, values_run, arguments_run}
+use Rattle.isp_lower.proofs.Exprs.{means, NodeRuns, constant_runs, index_node, element_node, convert_node, unary_node, binary_node, compare_node, choose_node, expr_runs, call_node, copied_node, packed_store_node, packed_load_node, base_runs, library_node, values_run, arguments_run}
 use Rattle.isp_lower.proofs.Parts.{ExprParts, OperandFits}
 use Rattle.isp_lower.specs.Rated.{Reaches}
 use Rattle.isp_lower.specs.Tables.{IsTyped}
@@ -45,7 +53,14 @@ module _ (w : Setting) (ready : IsSettled w) where
 
   -- an expression whose last instruction writes the variable
   direct_runs : (v : ℕ) (x : TExpr) → writes_last w.layout x ≡ true → NodeRuns w ready (InVariable v) x
-  direct_runs v (t_constant u sp) e pc p k n q rest a s c fit ty has places le b = number_node w ready (InVariable v) u sp pc p k n q rest a s c fit ty has places le b
+  direct_runs v (t_constant u sp) e pc p k n q rest a s c fit ty has places le b = go (w.layout.kept Uniform u.elem u.bits) e has
+    where
+      code : Bool → List Instr
+      code z = unless_kept z (constant (w.layout.variable Uniform v) u.elem u.bits ∷ [])
+
+      go : (z : Bool) → not z ≡ true → AreAt w.routine.code pc (code z) → OtherAt w Uniform v → DoneRuns w c (pc + length (code z)) n rest (bind (means w ready (t_constant u sp) a s) (λ m s. Gives tt (written Uniform v a m s)))
+      go true h at = absurd (cc)
+      go false h at = constant_runs w ready (InVariable v) pc k n q rest a s c u.elem u.bits (u.bits % 2 ^ width u.elem) (omega (arith, le)) b ty at.0 (wrap_bits u.elem u.bits)
   direct_runs v (t_program_index sp) e pc p k n q rest a s c fit ty has places le b = index_node w ready (InVariable v) sp pc p k n q rest a s c fit ty has places le b
   direct_runs v (t_place (t_variable u t sp)) e pc p k n q rest a s c fit ty has places le b = go (is_copied w.layout t.rate u) e has
     where
@@ -53,7 +68,14 @@ module _ (w : Setting) (ready : IsSettled w) where
       go true h at = copied_node w ready (InVariable v) u t pc k n q rest a s c (omega (arith, le)) b at.0
       go false h at = absurd (cc)
   direct_runs v (t_place (t_element y i t sp)) e pc p k n q rest a s c fit ty has places le b = element_node w ready (InVariable v) y i t sp (expr_runs w ready i) pc p k n q rest a s c fit ty has places le b
-  direct_runs v (t_convert u x) e pc p k n q rest a s c fit ty has places le b = convert_node w ready (InVariable v) u x (expr_runs w ready x) pc p k n q rest a s c fit ty has places le b
+  direct_runs v (t_convert u x) e pc p k n q rest a s c fit ty has places le b = go (is_kept w.layout (constant_of x) (type_of x).rate u) e has
+    where
+      code : Bool → List Instr
+      code z = unless_kept z (convert_to w.layout (constant_of x) u (type_of x).rate (w.layout.variable (type_of x).rate v) (found w.layout x n) k (expr_code w.layout x pc p k n))
+
+      go : (z : Bool) → not z ≡ true → AreAt w.routine.code pc (code z) → OtherAt w (type_of x).rate v → DoneRuns w c (pc + length (code z)) n rest (bind (means w ready (t_convert u x) a s) (λ m s. Gives tt (written (type_of x).rate v a m s)))
+      go true h at = absurd (cc)
+      go false h at = convert_node w ready (InVariable v) u x (expr_runs w ready x) pc p k n q rest a s c fit ty at places le b
   direct_runs v (t_cast x t sp) e pc p k n q rest a s c fit ty has places le b = λ other.
       let f : heads x ≤ 1 = few w x n fit.1 in
       part_done v (writes_last w.layout x) c pc k n rest a (means w ready x a (tick s)) t.rate (type_of x).rate (found w.layout x n) (λ d. expr_to w.layout d x pc p k n) fit.0.reaches other b.mask b.low e has
@@ -100,6 +122,6 @@ module _ (w : Setting) (ready : IsSettled w) where
           let ha : AreAt w.routine.code pc ca = are_front w.routine.code pc ca last at in
           let to : pc + length ca + 1 ≡ pc + length (ca ++ last) = omega (arith, length-append ca last) in
           bind_done w ready c (pc + length ca) n 1 rest (Holds r a (operand w.layout r x n)) (means w ready x a s) _ _ n
-          (operand_runs w ready c pc k n (1 + rest) a (means w ready x a s) r e x cx ofit b.mask b.low ha
-          (expr_runs w ready x pc p k n q (1 + (1 + rest)) a s c fit (are_front w.routine.code pc cx _ ha) places (omega arith) b))
+          (operand_runs w ready c pc k n q (1 + rest) a s r e x cx ofit (omega arith) b ha
+          (λ at. expr_runs w ready x pc p k n q (1 + (1 + rest)) a s c fit at places (omega arith) b))
           (λ m s2 ok. variable_done w ready r v m a s2 c ok.conf ok.steps (pc + length ca) _ k (operand w.layout r x n) n rest ok.comes ok.at to (are_back w.routine.code pc ca last at).0 ok.stands ok.spares ok.masks (ok.masks k b.low ∙ b.mask) (omega (arith, ok.bound)) ok.holds other)

@@ -26,15 +26,16 @@ use Rattle.isp_meaning.specs.Places as meant
 use Rattle.isp_meaning.specs.Places.{written, own_stored, with_elements}
 use Rattle.isp_lower.specs.Layout.{register, mask_register, array_register}
 use Rattle.isp_lower.specs.Setting.{ArrayFitsAt, Setting, IsSettled, gang_of, At, Stands, Spares, at_rate, held_at, Holds, Allowed, OtherAt}
-use Rattle.isp_lower.specs.Code.{write, write_by}
+use Rattle.isp_lower.specs.Instructions.{write, write_by}
 use Rattle.isp_lower.proofs.Base.{put_same, put_other, moved_by, comes_on, fails_on, step_go, step_fail, next_at, at_to}
+use Rattle.isp_lower.proofs.Constants.{scalar_put, vector_put}
 use Rattle.isp_lower.proofs.Rates.{at_mapped}
 use Rattle.isp_base.specs.Traps.{trap}
 use Rattle.isp_base.specs.declared.trap.TrapKind.{TrapKind}
 use Rattle.isp_code.specs.declared.instr.Instr.{Instr}
 use Rattle.isp_meaning.specs.Outcomes.{Gives, bind, checked}
 use Rattle.isp_lower.specs.Runs.{Comes, DoneRuns}
-use Rattle.isp_lower.specs.Code.{is_whole}
+use Rattle.isp_lower.specs.Found.{is_whole}
 use Rattle.isp_lower.proofs.Access.{as_whole, size_at, outside_is, index_element, same_elements, one_inside, map_of}
 use Rattle.isp_lower.proofs.Rates.{at_offender}
 use Rattle.isp_lower.proofs.Lines.{set_at, value_at, unless_is, failing_is, place_named}
@@ -132,6 +133,7 @@ module _ (w : Setting) (ready : IsSettled w) where
     arrays_are = st.arrays_are;
     out_is = st.out_is;
     run = run_place w.layout.run w.start w.members (c.scalars (w.layout.place Uniform)) (put c.scalars (w.layout.variable Uniform v) (sole y) (w.layout.place Uniform)) s.varying (sym (put_other c.scalars (w.layout.variable Uniform v) (sole y) (w.layout.place Uniform) (ready.apart.place_variable Uniform v))) st.run;
+    constants = scalar_put w.layout (gang_of w) c.scalars c.vectors (w.layout.variable Uniform v) (sole y) (λ t b k. ready.apart.kept_variable Uniform t b v k) st.constants;
   }
   written_stands Varying v c a m s y st e other =
       let x = over (spread nobody y) (c.vectors (w.layout.variable Varying v)) in
@@ -144,6 +146,7 @@ module _ (w : Setting) (ready : IsSettled w) where
         arrays_are = st.arrays_are;
         out_is = st.out_is;
         run = run_each w.layout.run w.start w.members (c.scalars (w.layout.place Uniform)) s.varying (put s.varying v (over (spread a m) (s.varying v))) (λ i ei. sym (put_other s.varying v (over (spread a m) (s.varying v)) i (other i ei))) st.run;
+        constants = vector_put w.layout (gang_of w) c.scalars c.vectors (w.layout.variable Varying v) x (λ t b k. ready.apart.kept_variable Varying t b v k) st.constants;
       }
 
   -- one instruction that changes the state, or traps
@@ -212,7 +215,7 @@ module _ (w : Setting) (ready : IsSettled w) where
       let ei : element I64 (c2.scalars j) ≡ element t i = ap (element I64) (sym (ap sole hold.holds)) ∙ index_element (is_whole t) t (extent_at Uniform w.frame y.number) i refl few fine in
       let en : N ≡ w.frame.named y.number = named_is y c2 pc at fy.1 in
       let ef : F ≡ meant.stored (gang_of w) a (One (element t i)) m (s.arrays (w.frame.named y.number)) = ap (λ u. put (c2.arrays N) u (c2.scalars x)) ei ∙ ap (λ g. put (g N) (element t i) (c2.scalars x)) stands.arrays_are ∙ ap (λ u. put (s.arrays u) (element t i) (c2.scalars x)) en ∙ ap (λ u. meant.stored (gang_of w) a (One (element t i)) u (s.arrays (w.frame.named y.number))) (sym hx) in
-      record { uniforms = stands.uniforms; varying = stands.varying; result = stands.result; results = stands.results; own_arrays = stands.own_arrays; arrays_are = arrays_put c2 s N (w.frame.named y.number) F _ stands.arrays_are en ef; out_is = stands.out_is; run = stands.run })
+      record { uniforms = stands.uniforms; varying = stands.varying; result = stands.result; results = stands.results; own_arrays = stands.own_arrays; arrays_are = arrays_put c2 s N (w.frame.named y.number) F _ stands.arrays_are en ef; out_is = stands.out_is; run = stands.run; constants = stands.constants })
       spares masks le le
   element_done z Varying Uniform y t i m a s c c2 st pc pc' k j x n q p sp fy re few some inside h at to has place stands spares masks em le hold hx =
       let A = w.layout.array y.number in
@@ -232,7 +235,7 @@ module _ (w : Setting) (ready : IsSettled w) where
       ∙ ap (λ g. scatter (gang_of w) (spread a (mapped (element t) i)) (spread a m) (g N)) stands.arrays_are
       ∙ ap (λ u. scatter (gang_of w) (spread a (mapped (element t) i)) (spread a m) (s.arrays u)) en
       ∙ sym (stored_is (gang_of w) a (mapped (element t) i) m (s.arrays (w.frame.named y.number)) some) in
-      record { uniforms = stands.uniforms; varying = stands.varying; result = stands.result; results = stands.results; own_arrays = stands.own_arrays; arrays_are = arrays_put c2 s N (w.frame.named y.number) F _ stands.arrays_are en ef; out_is = stands.out_is; run = stands.run })
+      record { uniforms = stands.uniforms; varying = stands.varying; result = stands.result; results = stands.results; own_arrays = stands.own_arrays; arrays_are = arrays_put c2 s N (w.frame.named y.number) F _ stands.arrays_are en ef; out_is = stands.out_is; run = stands.run; constants = stands.constants })
       spares masks le le
   element_done false Varying Varying y t i m a s c c2 st pc pc' k j x n q p sp fy re few some inside h at to has place stands spares masks em le hold hx =
       let A = w.layout.array y.number in
@@ -248,5 +251,5 @@ module _ (w : Setting) (ready : IsSettled w) where
       ∙ ap (λ g. own_stored g (on a (c2.vectors x)) (c2.own A)) (places_are t (is_whole t) i a (c2.vectors j) (extent_at Varying w.frame y.number) refl few inside hold.holds none)
       ∙ ap (λ g. own_stored (spread a (mapped (element t) i)) g (c2.own A)) ex
       ∙ ap (own_stored (spread a (mapped (element t) i)) (spread a m)) (stands.own_arrays y.number) in
-      record { uniforms = stands.uniforms; varying = stands.varying; result = stands.result; results = stands.results; own_arrays = put_through c2.own s.own w.layout.array y.number F _ ready.apart.arrays stands.own_arrays ef; arrays_are = stands.arrays_are; out_is = stands.out_is; run = stands.run })
+      record { uniforms = stands.uniforms; varying = stands.varying; result = stands.result; results = stands.results; own_arrays = put_through c2.own s.own w.layout.array y.number F _ ready.apart.arrays stands.own_arrays ef; arrays_are = stands.arrays_are; out_is = stands.out_is; run = stands.run; constants = stands.constants })
       spares masks le le

@@ -6,7 +6,8 @@ use Rattle.isp_code.specs.declared.instr.Instr.{Instr}
 use Rattle.isp_typed.specs.Views.{functions_of}
 use Rattle.isp_lower.specs.Callees.{rates_in}
 use Rattle.isp_typed.specs.Typed.{TExpr, TSimple}
-use Rattle.isp_lower.specs.Code.{expr_code, expr_places}
+use Rattle.isp_lower.specs.Code.{expr_code}
+use Rattle.isp_lower.specs.Spans.{expr_places}
 use Rattle.isp_lower.specs.Drafts.{draft_of}
 use Rattle.isp_lower.specs.Emitted.{Appends, Grows, rows_of}
 use Rattle.isp_lower.specs.Layout.{Layout}

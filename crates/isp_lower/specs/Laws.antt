@@ -15,14 +15,16 @@ use Rattle.isp_lower.specs.Layout.{Layout, IsApart}
 use Rattle.isp_lower.specs.Rows.{Rows, layout_of}
 use Rattle.isp_lower.specs.Rated.{IsRated, SimpleRated, ItemsRated}
 use Rattle.isp_base.specs.declared.types.Rate.{Rate}
-use Rattle.isp_lower.specs.Sound.{Links, PartSound, IsRegister, ExprPresent, SimplePresent, ItemsPresent}
+use Rattle.isp_lower.specs.Sound.{HasKept, Links, PartSound, IsRegister, ExprPresent, SimplePresent, ItemsPresent}
 use Rattle.isp_lower.specs.Items.{items_code, items_places}
 use Rattle.isp_lower.specs.Simple.{simple_code, simple_places}
 use Rattle.isp_lower.specs.Setting.{Setting, IsSettled, with_turns, gang_of, calls_of, AreAt, Holds}
 use Rattle.isp_lower.specs.Runs.{Enters, Runs, DoneRuns}
 use Rattle.isp_lower.specs.Steps.{GoesOn}
 use Rattle.isp_lower.specs.Fits.{ExprFits, SimpleFits, ItemsFit}
-use Rattle.isp_lower.specs.Code.{found, expr_places, expr_code}
+use Rattle.isp_lower.specs.Code.{expr_code}
+use Rattle.isp_lower.specs.Found.{found}
+use Rattle.isp_lower.specs.Spans.{expr_places}
 
 -- From registers that stand for a state and a mask that stands for a set with members, the code of an expression gives
 -- its value and its state, traps as it traps, or goes on where it is cut. It leaves four steps: an expression of work w
@@ -62,13 +64,13 @@ LayoutsAreApart = (rates : ℕ → List Rate) (rows : Rows) → IsApart (layout_
 -- have routines with their headers; and so
 -- is the register in which the value of an expression is found, with the expression's type.
 pub record ExprSound : Type 0 where
-  pub part : (fs : List TFunction) (vars : List Variable) (code : Listing) (h : Routine) (l : Layout) (x : TExpr) (n : ℕ) → Links fs code l → FineExpr fs vars x → IsRated fs x → ExprPresent h l x n → PartSound code h (expr_places l x) (λ pc p k. expr_code l x pc p k n)
-  pub there : (fs : List TFunction) (vars : List Variable) (h : Routine) (l : Layout) (x : TExpr) (n : ℕ) → FineExpr fs vars x → IsRated fs x → ExprPresent h l x n → IsRegister h (type_of x).rate (found l x n) (type_of x).elem
+  pub part : (fs : List TFunction) (vars : List Variable) (code : Listing) (h : Routine) (l : Layout) (x : TExpr) (n : ℕ) → Links fs code h l → FineExpr fs vars x → IsRated fs x → ExprPresent h l x n → PartSound code h (expr_places l x) (λ pc p k. expr_code l x pc p k n)
+  pub there : (fs : List TFunction) (vars : List Variable) (h : Routine) (l : Layout) (x : TExpr) (n : ℕ) → HasKept h l → FineExpr fs vars x → IsRated fs x → ExprPresent h l x n → IsRegister h (type_of x).rate (found l x n) (type_of x).elem
 
 abbrev pub SimpleSound : Type 0
 SimpleSound =
-    (fs : List TFunction) (vars : List Variable) (code : Listing) (h : Routine) (l : Layout) (x : TSimple) (n : ℕ) → Links fs code l → FineSimple fs vars x → SimpleRated fs x → SimplePresent h l x n → PartSound code h (simple_places l x) (λ pc p k. simple_code l x pc p k n)
+    (fs : List TFunction) (vars : List Variable) (code : Listing) (h : Routine) (l : Layout) (x : TSimple) (n : ℕ) → Links fs code h l → FineSimple fs vars x → SimpleRated fs x → SimplePresent h l x n → PartSound code h (simple_places l x) (λ pc p k. simple_code l x pc p k n)
 
 abbrev pub ItemsSound : Type 0
 ItemsSound =
-    (fs : List TFunction) (vars : List Variable) (code : Listing) (h : Routine) (l : Layout) (xs : List TItem) (n : ℕ) → Links fs code l → All (FineItem fs vars) xs → ItemsRated fs xs → ItemsPresent h l n xs → PartSound code h (items_places l xs) (λ pc p k. items_code l xs pc p k n)
+    (fs : List TFunction) (vars : List Variable) (code : Listing) (h : Routine) (l : Layout) (xs : List TItem) (n : ℕ) → Links fs code h l → All (FineItem fs vars) xs → ItemsRated fs xs → ItemsPresent h l n xs → PartSound code h (items_places l xs) (λ pc p k. items_code l xs pc p k n)

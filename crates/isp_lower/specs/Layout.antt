@@ -3,8 +3,9 @@
 -- as a stack; slot j has mask register j too. Fresh registers are those that no tree asks for. Each of these is another
 -- register. With them stand the rates of the parameters of functions that code calls, by the functions' numbers, and which variables
 -- packed loads write: a varying one of these is copied where it is read, since a later part may write it. A varying variable may count the
--- lanes of a run, from the number in the place's register on; and code may be for lanes of such a run alone.
-use Rattle.std.specs.Prelude.{◌≢◌, ℕ, List, Option, Some, None, Bool, true, false}
+-- lanes of a run, from the number in the place's register on; and code may be for lanes of such a run alone. Constants of a type and
+-- with some bits may be kept at a rate: each has a register, which holds it while the function runs.
+use Rattle.std.specs.Prelude.{◌≡◌, ◌≢◌, ℕ, List, Option, Some, None, Bool, true, false}
 use Rattle.isp_base.specs.declared.types.Elem.{Elem}
 use Rattle.isp_base.specs.declared.types.Rate.{Rate}
 use Rattle.isp_base.specs.declared.types.Rate.TheVariants.{Uniform, Varying}
@@ -23,6 +24,8 @@ pub record Layout : Type 0 where
   pub array : ℕ → ℕ
   pub rates : ℕ → List Rate
   pub loaded : ℕ → Bool
+  pub kept : Rate → Elem → ℕ → Bool
+  pub constant : Rate → Elem → ℕ → ℕ
 
 pub record IsApart (l : Layout) : Type 0 where
   pub variables : (r : Rate) (v w : ℕ) → v ≢ w → l.variable r v ≢ l.variable r w
@@ -38,6 +41,11 @@ pub record IsApart (l : Layout) : Type 0 where
   pub result_fresh : (r : Rate) (j : ℕ) → l.result r ≢ l.fresh r j
   pub spare_fresh : (r : Rate) (t : Elem) (i j : ℕ) → l.spare r t i ≢ l.fresh r j
   pub arrays : (v w : ℕ) → v ≢ w → l.array v ≢ l.array w
+  pub constants : (r : Rate) (t u : Elem) (b c : ℕ) → l.constant r t b ≡ l.constant r u c → (t ≡ u) × (b ≡ c)
+  pub kept_variable : (r : Rate) (t : Elem) (b v : ℕ) → l.kept r t b ≡ true → l.constant r t b ≢ l.variable r v
+  pub kept_result : (r : Rate) (t : Elem) (b : ℕ) → l.kept r t b ≡ true → l.constant r t b ≢ l.result r
+  pub kept_spare : (r : Rate) (t : Elem) (b : ℕ) (u : Elem) (j : ℕ) → l.kept r t b ≡ true → l.constant r t b ≢ l.spare r u j
+  pub kept_place : (r : Rate) (t : Elem) (b : ℕ) → l.kept r t b ≡ true → l.constant r t b ≢ l.place r
 
 -- For lanes that need be no members of a run: a variable still counts those that are. For members of a run of which a variable counts the
 -- lanes: if there is no other, and no packed load writes the variable.

@@ -5,6 +5,12 @@ pub mod Layout
 pub mod Instructions
 pub mod Library
 pub mod Calls
+pub mod Pieces
+pub mod Known
+pub mod Found
+pub mod Elements
+pub mod Spans
+pub mod Stays
 pub mod Code
 pub mod Emitted
 pub mod Consecutive

@@ -14,7 +14,7 @@ use Rattle.isp_typed.specs.declared.variable.Variable as declared
 use Rattle.isp_lower.specs.Asks.{Ask, Nothing, Both, Register, ArrayOf, LocalOf, MaskOf, Number, Loads, All, base_asks, expr_asks, operand_asks, operands_asks, sides_ask, spare_ask, test_asks, first_slot, second_slot}
 use Rattle.isp_lower.specs.Emitted.{Grows, HasArray, HasLoaded, HasRow}
 use Rattle.isp_lower.specs.Rows as row
-use Rattle.isp_lower.specs.Rows.{Name, Variable, Result, Spare, Place, Fresh, Rows, elem_in}
+use Rattle.isp_lower.specs.Rows.{Name, Variable, Result, Spare, Place, Fresh, Kept, Rows, elem_in}
 use Rattle.isp_lower.specs.Tables.{AnyArray}
 use Rattle.isp_lower.specs.declared.registers.Registers.{Registers}
 use Rattle.isp_lower.specs.declared.reserve.Reserve.{Reserve}
@@ -29,6 +29,7 @@ HasSpare r rate Result t = Unit {0}
 HasSpare r rate (Spare u j) t = HasRow r rate (Spare u j) t
 HasSpare r rate Place t = HasRow r rate Place t
 HasSpare r rate (Fresh j) t = HasRow r rate (Fresh j) t
+HasSpare r rate (Kept u b) t = HasRow r rate (Kept u b) t
 
 abbrev pub IsReserved : Reserve → Ask → Type 0
 IsReserved r a = All (HasSpare r.registers) AnyArray AnyArray (λ k. k < r.masks) (HasLoaded r.registers) a
@@ -68,6 +69,7 @@ module _ (vars : List declared.Variable) (answer : Option Ty) where
   OwnRegister r (Spare u j) t = Unit {0}
   OwnRegister r Place t = Unit {0}
   OwnRegister r (Fresh j) t = Unit {0}
+  OwnRegister r (Kept u b) t = Unit {0}
 
   abbrev pub IsOwn : Ask → Type 0
   IsOwn Nothing = Unit {0}
@@ -88,6 +90,7 @@ module _ (rows : Rows) where
   HasOwnRow r (Spare u j) t = Unit {0}
   HasOwnRow r Place t = Unit {0}
   HasOwnRow r (Fresh j) t = Unit {0}
+  HasOwnRow r (Kept u b) t = Unit {0}
 
   abbrev pub HasOwn : Ask → Type 0
   HasOwn Nothing = Unit {0}

@@ -1,8 +1,8 @@
 -- A layout from lists of rows: a register has the number of the first row of its class that has its name. So rows are
 -- added at the end, as names come up, and no number changes. A name that no row has gets a number past the last row. The variables
 -- that packed loads write are rows too, which are no registers.
-use Rattle.std.specs.Prelude.{◌≡◌, ℕ, ◌+◌, ◌*◌, ◌==◌, List, [], ◌∷◌, ◌++◌, length, Option, Some, None, is_some, true, false, if◌then◌else◌}
-use Rattle.isp_base.specs.Ranks.{rank}
+use Rattle.std.specs.Prelude.{◌≡◌, ℕ, ◌+◌, ◌*◌, ◌==◌, List, [], ◌∷◌, ◌++◌, length, Option, Some, None, Bool, is_some, true, false, if◌then◌else◌}
+use Rattle.isp_base.specs.Ranks.{rank, same_elem}
 use Rattle.isp_base.specs.declared.types.Elem.{Elem}
 use Rattle.isp_base.specs.declared.types.Rate.{Rate}
 use Rattle.isp_base.specs.declared.types.Rate.TheVariants.{Uniform, Varying}
@@ -14,6 +14,7 @@ pub data Name : Type 0 where
   Spare : Elem → ℕ → Name
   Place : Name
   Fresh : ℕ → Name
+  Kept : Elem → ℕ → Name
 
 -- each name has another number
 abbrev pub name_number : Name → ℕ
@@ -21,7 +22,8 @@ name_number Result = 0
 name_number (Variable v) = 1 + 3 * v
 name_number (Spare t j) = 2 + 3 * (9 * j + rank t)
 name_number Place = 3
-name_number (Fresh j) = 6 + 3 * j
+name_number (Fresh j) = 6 + 6 * j
+name_number (Kept t b) = 9 + 6 * (9 * b + rank t)
 
 pub record Row : Type 0 where
   pub name : Name
@@ -46,6 +48,14 @@ abbrev pub rows_at : Rows → Rate → List Row
 rows_at rows Uniform = rows.scalars
 rows_at rows Varying = rows.vectors
 
+-- a constant has a register of its type
+abbrev pub has_type : Elem → Option Elem → Bool
+has_type t None = false
+has_type t (Some u) = same_elem u t
+
+abbrev pub keeps : List Row → Elem → ℕ → Bool
+keeps rows t b = has_type t (elem_in rows (Kept t b))
+
 -- the register of a fresh name
 abbrev pub fresh_at : Rows → Rate → ℕ → ℕ
 fresh_at rows r j = number_in (rows_at rows r) (Fresh j)
@@ -53,7 +63,7 @@ fresh_at rows r j = number_in (rows_at rows r) (Fresh j)
 -- with the rates of the parameters of functions
 abbrev pub layout_of : (ℕ → List Rate) → Rows → Layout
 layout_of rates rows =
-    record { rates = rates; variable = λ r v. number_in (rows_at rows r) (Variable v); result = λ r. number_in (rows_at rows r) Result; spare = λ r t j. number_in (rows_at rows r) (Spare t j); place = λ r. number_in (rows_at rows r) Place; run = None; in_run = false; fresh = fresh_at rows; array = λ v. number_in rows.arrays (Variable v); loaded = λ v. is_some (elem_in rows.loaded (Variable v)) }
+    record { rates = rates; variable = λ r v. number_in (rows_at rows r) (Variable v); result = λ r. number_in (rows_at rows r) Result; spare = λ r t j. number_in (rows_at rows r) (Spare t j); place = λ r. number_in (rows_at rows r) Place; run = None; in_run = false; fresh = fresh_at rows; array = λ v. number_in rows.arrays (Variable v); loaded = λ v. is_some (elem_in rows.loaded (Variable v)); kept = λ r t b. keeps (rows_at rows r) t b; constant = λ r t b. number_in (rows_at rows r) (Kept t b) }
 
 -- the number of the register that a layout has for a name
 abbrev pub numbered : Layout → Rate → Name → ℕ
@@ -62,6 +72,7 @@ numbered l r Result = l.result r
 numbered l r (Spare t j) = l.spare r t j
 numbered l r Place = l.place r
 numbered l r (Fresh j) = l.fresh r j
+numbered l r (Kept t b) = l.constant r t b
 
 -- a name has a row of this rate and this type
 abbrev pub HasRow : Rows → Rate → Name → Elem → Type 0

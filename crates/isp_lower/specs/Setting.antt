@@ -23,7 +23,7 @@ use Rattle.isp_meaning.specs.Calls.{most_calls, calls_at}
 use Rattle.isp_lower.specs.Callees.{rates_in}
 use Rattle.isp_lower.specs.Calls.{AreHanded, Takes, CallRuns}
 use Rattle.isp_lower.specs.Layout.{Layout, IsApart, array_register, register}
-pub use Rattle.isp_lower.specs.Held.{at_rate, held_at, Holds}
+pub use Rattle.isp_lower.specs.Held.{at_rate, held_at, Holds, ConstantsHold}
 use Rattle.isp_lower.specs.Consecutive.{RunHolds}
 use Rattle.isp_base.specs.declared.types.Elem.TheVariants.{I32}
 
@@ -115,7 +115,8 @@ pub record IsCounter (w : Setting) (i : ℕ) : Type 0 where
 
 -- The routine is that of the call, its registers are apart, it hands over as the functions' parameters ask, and its arrays
 -- are those of the function's variables, with the same stores open on both sides; those that run and those that may still
--- run are as many calls as there may be; and a call from here does what it means.
+-- run are as many calls as there may be; a call from here does what it means; and the registers of constants that are kept have
+-- their types.
 pub record IsSettled (w : Setting) : Type 0 where
   pub gang : w.code.gang ≡ w.program.gang
   pub found : slice_get w.code.routines w.home.fn ≡ Some w.routine
@@ -128,10 +129,11 @@ pub record IsSettled (w : Setting) : Type 0 where
   pub arrays : (b : ArrayVariable) → HoldsArray w.function.variables b → ArrayFits w b
   pub calls : CallsRun w
   pub counter : (i : ℕ) → w.layout.run ≡ Some i → IsCounter w i
+  pub constants : (r : Rate) (t : Elem) (b : ℕ) → w.layout.kept r t b ≡ true → elem_of w.routine (register r (w.layout.constant r t b)) ≡ t
 
--- Registers, own arrays, arrays and output stand for a state. It is stated of these parts alone, so that a step that
--- changes other parts of the machine leaves the fact as it is.
-pub record StandsFor (l : Layout) (start : ℕ) (members : Mask) (ones : ℕ → ℕ) (each : ℕ → Lanes) (owns : ℕ → ℕ → Lanes) (one : ℕ) (in_each : Lanes) (stores : ℕ → Lanes) (text : List ℕ) (scalars : ℕ → ℕ) (vectors : ℕ → Lanes) (own : ℕ → ℕ → Lanes) (arrays : ℕ → Lanes) (out : List ℕ) : Type 0 where
+-- Registers, own arrays, arrays and output stand for a state, and registers of constants hold these. It is stated of these parts
+-- alone, so that a step that changes other parts of the machine leaves the fact as it is.
+pub record StandsFor (l : Layout) (gang : ℕ) (start : ℕ) (members : Mask) (ones : ℕ → ℕ) (each : ℕ → Lanes) (owns : ℕ → ℕ → Lanes) (one : ℕ) (in_each : Lanes) (stores : ℕ → Lanes) (text : List ℕ) (scalars : ℕ → ℕ) (vectors : ℕ → Lanes) (own : ℕ → ℕ → Lanes) (arrays : ℕ → Lanes) (out : List ℕ) : Type 0 where
   pub uniforms : (v : ℕ) → scalars (l.variable Uniform v) ≡ ones v
   pub varying : (v : ℕ) → vectors (l.variable Varying v) ≡ each v
   pub result : scalars (l.result Uniform) ≡ one
@@ -140,6 +142,7 @@ pub record StandsFor (l : Layout) (start : ℕ) (members : Mask) (ones : ℕ →
   pub arrays_are : arrays ≡ stores
   pub out_is : out ≡ text
   pub run : RunHolds l.run start members (scalars (l.place Uniform)) each
+  pub constants : ConstantsHold l gang scalars vectors
 
 -- a variable that is not the one that counts the lanes of a run
 abbrev pub IsOther : Setting → ℕ → Type 0
@@ -151,7 +154,7 @@ OtherAt w Uniform v = Unit {0}
 OtherAt w Varying v = IsOther w v
 
 abbrev pub Stands : Setting → State → Conf → Type 0
-Stands w s c = StandsFor w.layout w.start w.members s.uniforms s.varying s.own s.result s.results s.arrays s.out c.scalars c.vectors c.own c.arrays c.out
+Stands w s c = StandsFor w.layout (gang_of w) w.start w.members s.uniforms s.varying s.own s.result s.results s.arrays s.out c.scalars c.vectors c.own c.arrays c.out
 
 -- the spare registers of lower slots are as they were, whatever variables are written
 pub record SparesStay (l : Layout) (n : ℕ) (scalars : ℕ → ℕ) (vectors : ℕ → Lanes) (scalars' : ℕ → ℕ) (vectors' : ℕ → Lanes) : Type 0 where

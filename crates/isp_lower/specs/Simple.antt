@@ -6,11 +6,19 @@ use Rattle.isp_base.specs.declared.types.Rate.{Rate}
 use Rattle.isp_base.specs.declared.types.Span.{Span}
 use Rattle.isp_code.specs.declared.instr.Instr.{Instr}
 use Rattle.isp_base.specs.Ranks.{same_elem}
-use Rattle.isp_base.specs.declared.types.Rate.TheVariants.{Uniform}
-use Rattle.isp_typed.specs.Typed.{TExpr, TPlace, t_variable, t_element, place_type, TSimple, t_value, t_run, t_assign, t_update, t_step}
+use Rattle.isp_typed.specs.Typed.{TExpr, t_constant, TPlace, t_variable, t_element, place_type, TSimple, t_value, t_run, t_assign, t_update, t_step}
 use Rattle.isp_lower.specs.Layout.{Layout}
-use Rattle.isp_lower.specs.Code.{convert, operate, operate_places, read_by, write_by, constant, lifted, lift_code, two, operand, operand_of, index_by, expr_places, index_places, read_places, call_places, expr_code, index_code, call_code, variable_code, is_run}
+use Rattle.isp_lower.specs.Code.{expr_code, index_code, call_code, variable_code}
+use Rattle.isp_lower.specs.Elements.{index_by, is_run}
+use Rattle.isp_lower.specs.Found.{operand, operand_of}
+use Rattle.isp_lower.specs.Instructions.{convert, operate, operate_places, read_by, write_by}
+use Rattle.isp_lower.specs.Pieces.{two}
+use Rattle.isp_lower.specs.Spans.{expr_places, index_places, read_places, call_places}
 pub use Rattle.isp_lower.specs.Asks.{beyond}
+
+-- the number 1 of a type, at no place of the source
+abbrev pub one_of : Elem → TExpr
+one_of t = t_constant (record { elem = t; bits = 1 }) (record { start = 0; end = 0 })
 
 module _ (l : Layout) where
   -- the target's index, the right side, the access
@@ -49,10 +57,10 @@ module _ (l : Layout) where
 
   -- `++` and `--`: the number 1 is the right side
   abbrev pub one_in : Rate → Elem → ℕ → ℕ
-  one_in r t m = lifted l r Uniform t (l.spare Uniform t m) m
+  one_in r t m = operand l r (one_of t) m
 
   abbrev pub one_code : Rate → Elem → ℕ → ℕ → List Instr
-  one_code r t k m = constant (l.spare Uniform t m) t 1 ∷ lift_code l r Uniform t (l.spare Uniform t m) k m
+  one_code r t k m = operand_of l r (one_of t) k m (expr_code l (one_of t) 0 0 k m)
 
   abbrev pub step_code : BinOp → Elem → TPlace → ℕ → ℕ → ℕ → ℕ → List Instr
   step_code o t z pc p k n =

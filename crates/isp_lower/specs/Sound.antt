@@ -51,11 +51,6 @@ pub record HasHeader (code : Listing) (f : ℕ) (g : TFunction) : Type 0 where
   pub params : AreHeld (params_of g) routine.params
   pub returns : routine.returns ≡ returns_of g.answer
 
--- so each function has its routine, and code hands over at the rates of the parameters
-pub record Links (fs : List TFunction) (code : Listing) (l : Layout) : Type 0 where
-  pub rates : l.rates ≡ rates_in fs
-  pub headers : (f : ℕ) (g : TFunction) → slice_get fs f ≡ Some g → HasHeader code f g
-
 -- ---- the registers that a function has
 
 module _ (h : Routine) where
@@ -97,3 +92,15 @@ module _ (h : Routine) where
 
     abbrev pub ItemsPresent : ℕ → List TItem → Type 0
     ItemsPresent n xs = Granted (items_asks n xs)
+
+-- ---- the functions that code calls, and the constants that it finds
+
+-- each constant that a layout keeps has its register
+abbrev pub HasKept : Routine → Layout → Type 0
+HasKept h l = (r : Rate) (t : Elem) (b : ℕ) → l.kept r t b ≡ true → IsRegister h r (l.constant r t b) t
+
+-- each function has its routine, code hands over at the rates of the parameters, and constants that are kept have their registers
+pub record Links (fs : List TFunction) (code : Listing) (h : Routine) (l : Layout) : Type 0 where
+  pub rates : l.rates ≡ rates_in fs
+  pub headers : (f : ℕ) (g : TFunction) → slice_get fs f ≡ Some g → HasHeader code f g
+  pub constants : HasKept h l

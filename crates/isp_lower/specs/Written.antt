@@ -3,16 +3,25 @@
 use Rattle.std.specs.Prelude.{ℕ, ◌+◌, ◌∷◌, [], ◌++◌, List, length, map, Bool, false, Option}
 use Rattle.isp_base.specs.Ranks.{same_elem}
 use Rattle.isp_base.specs.declared.operators.BinOp.{BinOp}
+use Rattle.isp_base.specs.declared.types.Elem.{Elem}
 use Rattle.isp_base.specs.declared.types.Rate.{Rate}
+use Rattle.isp_base.specs.declared.types.Rate.TheVariants.{Uniform}
 use Rattle.isp_base.specs.declared.types.Span.{Span}
 use Rattle.isp_base.specs.declared.types.Ty.{Ty}
+use Rattle.isp_base.specs.declared.types.Value.{Value}
 use Rattle.isp_code.specs.declared.instr.Division.{Division}
 use Rattle.isp_code.specs.declared.instr.Instr.{Instr}
 use Rattle.isp_code.specs.declared.instr.Instr.TheVariants as instr
 use Rattle.isp_code.specs.declared.instr.JumpTest.TheVariants as jump
 use Rattle.isp_code.specs.declared.register.Register.{Register}
 use Rattle.isp_typed.specs.Typed.{TArgument, TArguments, TBase, TCall, TExpr, TExprs, TPlace, type_of}
-use Rattle.isp_lower.specs.Code.{argument_code, argument_places, arguments_code, arguments_places, base_code, base_places, call_code, call_places, choice, choose_code, choose_rest, expr_code, expr_places, expr_to, found, guard, index_by_of, index_of, index_places, is_copied, is_whole, jump_off, jump_on, lift_code, move_code, operand, operand_of, operate, operate_places, packed_load, packed_store, read_by, select, value_registers, values_code, values_places, variable_code, variable_from, variable_read, whole_of, write_by, is_run}
+use Rattle.isp_lower.specs.Code.{argument_code, arguments_code, base_code, call_code, choose_code, expr_code, expr_to, value_registers, values_code, variable_code, variable_from, variable_read}
+use Rattle.isp_lower.specs.Elements.{index_by_of, is_run}
+use Rattle.isp_lower.specs.Found.{convert_to, found, index_of, is_copied, is_whole, lift_code, operand, operand_of, whole_of}
+use Rattle.isp_lower.specs.Instructions.{constant, jump_off, jump_on, operate, operate_places, packed_load, packed_store, read_by, select, write_by}
+use Rattle.isp_lower.specs.Known.{constant_of, unless_kept}
+use Rattle.isp_lower.specs.Pieces.{choice, choose_rest, guard, move_code}
+use Rattle.isp_lower.specs.Spans.{argument_places, arguments_places, base_places, call_places, expr_places, index_places, values_places}
 use Rattle.isp_typed.specs.declared.library.Library.{Library}
 use Rattle.isp_typed.specs.declared.variable.ArrayVariable.{ArrayVariable}
 use Rattle.isp_lower.specs.Emitted.{Appends, layout}
@@ -49,6 +58,11 @@ behind at = record { mask = at.mask; slot = record { number = at.slot.number + 1
 -- a value of a register where a rate is wanted
 abbrev pub lift_at : Scope → Rate → Held → Site → Piece
 lift_at on r h at = record { code = λ pc p. lift_code (layout on) r h.ty.rate h.ty.elem h.from.number at.mask.number at.slot.number; places = [] }
+
+-- a constant in register d, but where it is kept
+abbrev pub constant_at : Scope → Value → RegisterNumber → Piece
+constant_at on v d =
+    record { code = λ pc p. unless_kept ((layout on).kept Uniform v.elem v.bits) (constant d.number v.elem v.bits ∷ []); places = [] }
 
 -- the same in a slot
 abbrev pub moved_at : Scope → Held → Site → Piece
@@ -98,6 +112,14 @@ to_at on x d at = record { code = λ pc p. expr_to (layout on) d.number x pc p a
 abbrev pub value_at : Scope → Bool → TExpr → Target → Piece
 value_at on last x t =
     record { code = λ pc p. variable_from (layout on) last t.ty.rate t.to.number x pc p t.site.mask.number t.site.slot.number; places = expr_places (layout on) x }
+
+-- a value as one of another type in register d
+abbrev pub convert_at : Scope → Elem → TExpr → RegisterNumber → Site → Piece
+convert_at on e x d at =
+    let l = layout on in
+    let k = at.mask.number in
+    let n = at.slot.number in
+    record { code = λ pc p. convert_to l (constant_of x) e (type_of x).rate d.number (found l x n) k (expr_code l x pc p k n); places = expr_places l x }
 
 -- a node of a tree for a target
 abbrev pub node_at : Scope → TExpr → Target → Piece

@@ -2,7 +2,7 @@
 ghost use Rattle.std.specs.Prelude.{◌≡◌, OnOk};
 ghost use Rattle.isp_typed.specs.Views.{expr_of, place_of};
 ghost use Rattle.isp_lower.specs.Asks.{ArrayOf, assign_asks, operand_asks, variable_asks};
-ghost use Rattle.isp_lower.specs.Code.{writes_last, writes_part};
+ghost use Rattle.isp_lower.specs.Stays.{writes_last, writes_part};
 ghost use Rattle.isp_lower.specs.Emitted.{Present, layout};
 ghost use Rattle.isp_lower.specs.Layout.{Layout};
 ghost use Rattle.isp_lower.specs.Written.{Writes, assign_at, element_to_at, variable_at};
@@ -10,7 +10,7 @@ ghost use Rattle.isp_lower.specs.Written.{Writes, assign_at, element_to_at, vari
 use crate::elements::element_index;
 use crate::expression::{cast_to, copied, operand};
 use crate::sites::{Element, Home, Site, Target};
-use crate::truths::{is_run, is_short};
+use crate::truths::{is_kept, is_run, is_short};
 use crate::types::{Body, Scope};
 use crate::written::write_from;
 use isp_base::Rate;
@@ -43,10 +43,10 @@ fn writes_last(on: &Scope, x: &TypedExpr) -> bool
             ..
         } => is_short(on, ty.rate, test, then, otherwise),
         TypedExpr::Place(TypedPlace::Variable { number, ty, .. }) => on.copies(ty.rate, *number),
+        TypedExpr::Constant { value, .. } => !on.keeps(Rate::Uniform, value.elem, value.bits),
+        TypedExpr::Convert { elem, operand } => !is_kept(on, *elem, operand),
         TypedExpr::Place(TypedPlace::Element { .. })
-        | TypedExpr::Constant { .. }
         | TypedExpr::ProgramIndex { .. }
-        | TypedExpr::Convert { .. }
         | TypedExpr::Unary { .. }
         | TypedExpr::Binary { .. }
         | TypedExpr::Compare { .. }

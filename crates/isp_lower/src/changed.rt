@@ -10,14 +10,14 @@ ghost use Rattle.isp_lower.specs.Written.{Writes, change_by_at, changed_at, elem
 
 use crate::elements::element_index;
 use crate::expression::operand;
-use crate::leaves::{constant, convert, read_by, write_by};
-use crate::located::lift;
+use crate::leaves::{convert, read_by, write_by};
+use crate::located::{constant_to, in_vector, kept_found, lift};
 use crate::numbered::RegisterNumber;
 use crate::sites::{Element, Held, Home, Operation, Site, Target};
 use crate::truths::is_run;
 use crate::types::{Body, Scope};
 use crate::written::operate_to;
-use isp_base::{Elem, Rate, Ty};
+use isp_base::{Elem, Rate, Ty, Value};
 use isp_typed::{TypedExpr, TypedPlace};
 use std::alloc::AllocError;
 
@@ -180,8 +180,12 @@ fn one(
         rate: Rate::Uniform,
         elem,
     };
-    let from = on.spare(ty.rate, elem, site.slot);
-    b.push(constant(from, elem, 1))?;
+    let value = Value { elem, bits: 1 };
+    if let Some(to) = in_vector(on, rate, Some(value)) {
+        return Ok(to);
+    }
+    let from = kept_found(on, Rate::Uniform, elem, 1, site.slot);
+    constant_to(b, on, value, from)?;
     lift(b, on, rate, Held { from, ty }, site)
 }
 

@@ -1,7 +1,7 @@
 //! Code of one expression or assignment, for who owns an emitter.
 ghost use Rattle.std.specs.Prelude.{◌≡◌, ◌<◌, IfOk, OnErr, OnOk};
 ghost use Rattle.isp_typed.specs.Views.{expr_of, simple_of};
-ghost use Rattle.isp_lower.specs.Code.{found};
+ghost use Rattle.isp_lower.specs.Found.{found};
 ghost use Rattle.isp_lower.specs.Drafts.{HasAllNamed, IsBegun, draft_of};
 ghost use Rattle.isp_lower.specs.Asks.{expr_asks, simple_asks};
 ghost use Rattle.isp_lower.specs.Rated.{IsFineExpr, IsFineSimple, IsRated, SimpleRated};

@@ -4,11 +4,14 @@ ghost use Rattle.isp_base.specs.declared.types.Rate.TheVariants.{Uniform, Varyin
 ghost use Rattle.isp_typed.specs.Typed.{t_arguments, t_binary, t_choose, t_compare, t_convert, t_exprs, t_logic, t_place, t_unary, type_of};
 ghost use Rattle.isp_typed.specs.Views.{argument_of, arguments_of, call_of, expr_of, exprs_of, place_of};
 ghost use Rattle.isp_lower.specs.Asks.{argument_asks, arguments_asks, call_asks, expr_asks, index_asks, operand_asks, spare_ask, values_asks, whole_asks};
-ghost use Rattle.isp_lower.specs.Code.{argument_register, argument_registers, expr_code, expr_places, found, index, is_short, is_whole, operand, value_registers, whole};
+ghost use Rattle.isp_lower.specs.Code.{argument_register, argument_registers, expr_code, value_registers};
+ghost use Rattle.isp_lower.specs.Found.{found, index, is_whole, operand, whole};
+ghost use Rattle.isp_lower.specs.Spans.{expr_places};
+ghost use Rattle.isp_lower.specs.Stays.{is_short};
 ghost use Rattle.isp_lower.specs.Emitted.{Appends, Present, layout};
 ghost use Rattle.isp_lower.specs.Layout.{register};
 ghost use Rattle.isp_lower.specs.Library.{library_rates};
-ghost use Rattle.isp_lower.specs.Written.{Writes, argument_at, arguments_at, by_jump_at, by_masks_at, call_at, chosen_at, guarded_at, index_at, library_at, node_at, numbers, operand_at, short_at, side_at, skipped_at, to_at, value_at, values_at, whole_at};
+ghost use Rattle.isp_lower.specs.Written.{Writes, argument_at, arguments_at, by_jump_at, by_masks_at, call_at, chosen_at, convert_at, guarded_at, index_at, library_at, node_at, numbers, operand_at, short_at, side_at, skipped_at, to_at, value_at, values_at, whole_at};
 
 use crate::elements::element_to;
 use crate::leaves::{
@@ -16,11 +19,11 @@ use crate::leaves::{
     splat, the_others, unary, where_so,
 };
 use crate::library::{Operands, put_library, value_rate};
-use crate::located::{found, lift, moved, read_variable, stayed};
+use crate::located::{constant_to, found, in_vector, lift, moved, read_variable, stayed};
 use crate::numbered::{RegisterNumber, Slot};
 use crate::packed::{packed_load_to, packed_store_to};
 use crate::sites::{Held, Home, Site, Skip, Target};
-use crate::truths::{constant_of, decided, is_short, is_whole};
+use crate::truths::{constant_of, decided, is_kept, is_short, is_whole, known};
 use crate::types::{Body, Scope};
 use crate::written::{operate_to, put_needing};
 use isp_base::{BinOp, Compare, Elem, Rate, Ty, UnaryOp, convert as value_as};
@@ -61,10 +64,10 @@ fn write_to(
 {
     let target = Target::new(to, x.ty(), x.span(), site);
     match x {
-        TypedExpr::Constant { value, .. } => b.push(constant(to, value.elem, value.bits)),
+        TypedExpr::Constant { value, .. } => constant_to(b, on, *value, to),
         TypedExpr::ProgramIndex { .. } => b.push(lane_numbers(to, site.mask)),
         TypedExpr::Place(place) => place_to(b, on, place, to, site),
-        TypedExpr::Convert { elem, operand } => convert_to(b, on, *elem, operand, to, site),
+        TypedExpr::Convert { elem, operand } => converted_to(b, on, *elem, operand, to, site),
         TypedExpr::Cast { operand, .. } => cast_to(b, on, operand, target),
         TypedExpr::Unary {
             operator,
@@ -110,6 +113,7 @@ fn write_to(
 
 /// The value as one of a rate.
 #[cycle(expr)]
+#[tactic(auto, using(crate::proofs::Keeping::vector_appends))]
 pub fn operand(
     b: &mut Body,
     on: &Scope,
@@ -121,6 +125,9 @@ pub fn operand(
     ensures register { IfOk result (λ d. d.number ≡ operand (layout on.now) rate (expr_of x.now) site.slot.number) }
     ensures code { OnOk result (Writes b.old b.new (operand_at on.now rate (expr_of x.now) site)) }
 {
+    if let Some(to) = in_vector(on, rate, known(x)) {
+        return Ok(to);
+    }
     let from = expr(b, on, x, site)?;
     let ty = x.ty();
     lift(b, on, rate, Held { from, ty }, site)
@@ -214,7 +221,7 @@ fn convert_to(
     site: Site,
 ) -> Result<(), AllocError>
     requires { Present on.now (expr_asks (expr_of x.now) site.slot.number) }
-    ensures { OnOk result (Writes b.old b.new (to_at on.now (t_convert elem (expr_of x.now)) to site)) }
+    ensures { OnOk result (Writes b.old b.new (convert_at on.now elem (expr_of x.now) to site)) }
 {
     match constant_of(x) {
         Some(value) => {
@@ -227,6 +234,27 @@ fn convert_to(
             b.push(convert(x.ty().rate, to, from, site.mask))?;
             Ok(())
         }
+    }
+}
+
+/// The same, but of a constant that is kept.
+#[cycle(expr)]
+#[tactic(auto, using(crate::proofs::Keeping::kept_appends))]
+fn converted_to(
+    b: &mut Body,
+    on: &Scope,
+    elem: Elem,
+    x: &TypedExpr,
+    to: RegisterNumber,
+    site: Site,
+) -> Result<(), AllocError>
+    requires { Present on.now (expr_asks (expr_of x.now) site.slot.number) }
+    ensures { OnOk result (Writes b.old b.new (to_at on.now (t_convert elem (expr_of x.now)) to site)) }
+{
+    if is_kept(on, elem, x) {
+        Ok(())
+    } else {
+        convert_to(b, on, elem, x, to, site)
     }
 }
 

@@ -36,11 +36,12 @@ pub use laws::{
     assignments_go_on, assignments_run, assignments_sound, declarations_run, declarations_sound,
     expressions_go_on, expressions_run, expressions_sound, layouts_are_apart,
 };
-pub use leaves::{copy, mask, scalar, the_others, vector, where_so};
+pub use leaves::{constant, copy, mask, scalar, splat, the_others, vector, where_so};
 pub use numbered::{MaskNumber, PlaceNumber, RegisterNumber, Slot, TextNumber};
 pub use register_rows::RegisterRows;
-pub use registers::{RegisterName, RegisterRow, Registers};
+pub use registers::{Constant, RegisterName, RegisterRow, Registers};
 pub use reserve::Reserve;
 pub use sites::Site;
 pub use statements::{declared, simple};
+pub use truths::known;
 pub use types::{Body, Emitter, Scope};

@@ -1,17 +1,20 @@
 //! Where the values of expressions are found.
-ghost use Rattle.std.specs.Prelude.{◌≡◌, ℕ, true, IfOk, OnOk};
+ghost use Rattle.std.specs.Prelude.{◌≡◌, ℕ, is_some, true, IfOk, IfSome, OnOk};
+ghost use Rattle.isp_typed.specs.Typed.{t_convert, type_of};
 ghost use Rattle.isp_typed.specs.Views.{expr_of};
 ghost use Rattle.isp_lower.specs.Asks.{Register, copy_asks, expr_asks, lift_asks, spare_ask};
-ghost use Rattle.isp_lower.specs.Code.{found, is_copied, lifted, stays, variable_found};
+ghost use Rattle.isp_lower.specs.Found.{found, in_vector, is_copied, kept_found, lifted, variable_found, vector_of};
+ghost use Rattle.isp_lower.specs.Stays.{stays};
 ghost use Rattle.isp_lower.specs.Emitted.{Present, layout};
 ghost use Rattle.isp_lower.specs.Rows.{Variable};
-ghost use Rattle.isp_lower.specs.Written.{Writes, lift_at, moved_at, variable_read_at};
+ghost use Rattle.isp_lower.specs.Written.{Writes, constant_at, lift_at, moved_at, variable_read_at};
 
-use crate::leaves::{copy, splat};
+use crate::leaves::{constant, copy, splat};
 use crate::numbered::{MaskNumber, RegisterNumber, Slot};
 use crate::sites::{Held, Home, Site};
+use crate::truths::constant_of;
 use crate::types::{Body, Scope};
-use isp_base::{Elem, Rate, Ty};
+use isp_base::{Elem, Rate, Ty, Value, convert as value_as};
 use isp_typed::{TypedExpr, TypedPlace};
 use std::alloc::AllocError;
 
@@ -85,7 +88,66 @@ pub(crate) fn read_variable(
     Ok(())
 }
 
-/// The register in which an expression's value is found: that of a variable that stays in place, else one of the slot.
+/// The register of a constant: the one that keeps it, or one of the slot.
+pub(crate) fn kept_found(
+    on: &Scope,
+    rate: Rate,
+    elem: Elem,
+    bits: u64,
+    slot: Slot,
+) -> RegisterNumber
+    requires { Present on.now (spare_ask rate elem slot.number) }
+    ensures { result.number ≡ kept_found (layout on.now) ((layout on.now).kept rate elem bits) rate elem bits slot.number }
+{
+    match on.kept(rate, elem, bits) {
+        Some(to) => to,
+        None => on.spare(rate, elem, slot),
+    }
+}
+
+/// The register in which a value as one of another type is found.
+fn converted_found(on: &Scope, elem: Elem, x: &TypedExpr, slot: Slot) -> RegisterNumber
+    requires { Present on.now (spare_ask (type_of (expr_of x.now)).rate elem slot.number) }
+    ensures { result.number ≡ found (layout on.now) (t_convert elem (expr_of x.now)) slot.number }
+{
+    let rate = x.ty().rate;
+    match constant_of(x) {
+        Some(value) => {
+            let bits = value_as(value.elem, elem, value.bits);
+            kept_found(on, rate, elem, bits, slot)
+        }
+        None => on.spare(rate, elem, slot),
+    }
+}
+
+/// A constant goes to a register, but where it is kept.
+pub(crate) fn constant_to(
+    b: &mut Body,
+    on: &Scope,
+    value: Value,
+    to: RegisterNumber,
+) -> Result<(), AllocError>
+    ensures { OnOk result (Writes b.old b.new (constant_at on.now value to)) }
+{
+    if !on.keeps(Rate::Uniform, value.elem, value.bits) {
+        b.push(constant(to, value.elem, value.bits))?;
+    }
+    Ok(())
+}
+
+/// The vector that keeps a constant where a value of a rate is wanted, if one does.
+pub(crate) fn in_vector(on: &Scope, rate: Rate, value: Option<Value>) -> Option<RegisterNumber>
+    ensures number { IfSome result (λ d. d.number ≡ vector_of (layout on.now) value) }
+    ensures is { is_some result ≡ in_vector (layout on.now) rate value }
+{
+    match (rate, value) {
+        (Rate::Varying, Some(value)) => on.kept(Rate::Varying, value.elem, value.bits),
+        _ => None,
+    }
+}
+
+/// The register in which an expression's value is found: that of a variable that stays in place or of a constant that is kept, else one of
+/// the slot.
 #[cycle(found)]
 pub fn found(on: &Scope, x: &TypedExpr, slot: Slot) -> RegisterNumber
     requires { Present on.now (expr_asks (expr_of x.now) slot.number) }
@@ -100,10 +162,12 @@ pub fn found(on: &Scope, x: &TypedExpr, slot: Slot) -> RegisterNumber
             let given = operand.ty();
             lifted(on, ty.rate, given.rate, given.elem, from, slot)
         }
+        TypedExpr::Constant { value, .. } => {
+            kept_found(on, Rate::Uniform, value.elem, value.bits, slot)
+        }
+        TypedExpr::Convert { elem, operand } => converted_found(on, *elem, operand, slot),
         TypedExpr::Place(TypedPlace::Element { .. })
-        | TypedExpr::Constant { .. }
         | TypedExpr::ProgramIndex { .. }
-        | TypedExpr::Convert { .. }
         | TypedExpr::Unary { .. }
         | TypedExpr::Binary { .. }
         | TypedExpr::Compare { .. }
@@ -119,7 +183,7 @@ pub fn found(on: &Scope, x: &TypedExpr, slot: Slot) -> RegisterNumber
     }
 }
 
-/// The register of a variable that stays in place, in brackets or not, whatever the slot.
+/// The register of what stays in place, whatever the slot.
 pub(crate) fn stayed(on: &Scope, x: &TypedExpr, slot: Slot) -> RegisterNumber
     requires there { Present on.now (expr_asks (expr_of x.now) slot.number) }
     requires stays { stays (layout on.now) (expr_of x.now) ≡ true }

@@ -59,7 +59,8 @@ fn name_number(name: RegisterName) -> u128
         RegisterName::Variable(number) => 1 + 3 * number as u128,
         RegisterName::Spare(elem, slot) => 2 + 3 * (9 * slot.number as u128 + rank(elem)),
         RegisterName::Place => 3,
-        RegisterName::Fresh(number) => 6 + 3 * number as u128,
+        RegisterName::Fresh(number) => 6 + 6 * number as u128,
+        RegisterName::Kept(elem, bits) => 9 + 6 * (9 * bits as u128 + rank(elem)),
     }
 }
 

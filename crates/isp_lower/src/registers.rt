@@ -1,10 +1,11 @@
 //! The registers of the function in hand.
-ghost use Rattle.std.specs.Prelude.{◌≡◌, length, map, Some, IfOk, OnErr, OnOk};
-ghost use Rattle.isp_lower.specs.Emitted.{Begins, Grows, HasLoaded, HasRow, name_of, row_of, rows_of};
-ghost use Rattle.isp_lower.specs.Lookup.{IsAsked, own_type};
+ghost use Rattle.std.specs.Prelude.{◌≡◌, ℕ, length, map, Some, IfOk, OnErr, OnOk};
+ghost use Rattle.isp_lower.specs.Emitted.{Begins, Grows, HasLoaded, HasRow, Keeps, KeepsIn, name_of, row_of, rows_of};
+ghost use Rattle.isp_lower.specs.Lookup.{IsAsked, IsPlain, own_type};
+ghost use Rattle.isp_base.specs.declared.types.Elem.{Elem};
 ghost use Rattle.isp_base.specs.declared.types.Elem.TheVariants.{I64};
 ghost use Rattle.isp_base.specs.declared.types.Rate.TheVariants.{Uniform};
-ghost use Rattle.isp_lower.specs.Rows.{Place, Result, Spare, Variable as VariableName, elem_in, fresh_at, rows_at, with_fresh_at};
+ghost use Rattle.isp_lower.specs.Rows.{Place, Result, Spare, Variable as VariableName, elem_in, fresh_at, keeps, rows_at, with_fresh_at};
 
 use crate::numbered::{RegisterNumber, Slot};
 use crate::register_rows::RegisterRows;
@@ -12,8 +13,8 @@ use isp_base::{Elem, Rate, Ty};
 use isp_typed::ArrayVariable;
 use std::alloc::AllocError;
 
-/// What a register is for: a variable, by its number, what the function gives back, values of a type in a slot, the place of a run, or
-/// what no tree asks for; then it is named by its own number.
+/// What a register is for: a variable, by its number, what the function gives back, values of a type in a slot, the place of a run,
+/// what no tree asks for; then it is named by its own number; or a constant, by its type and its bits.
 #[derive(Clone, Copy)]
 pub enum RegisterName {
     Variable(usize),
@@ -21,6 +22,7 @@ pub enum RegisterName {
     Spare(Elem, Slot),
     Place,
     Fresh(usize),
+    Kept(Elem, u64),
 }
 
 /// A register.
@@ -28,6 +30,14 @@ pub enum RegisterName {
 pub struct RegisterRow {
     pub name: RegisterName,
     pub elem: Elem,
+}
+
+/// A constant of a type, by its bits, at the rate at which it is wanted.
+#[derive(Clone, Copy)]
+pub struct Constant {
+    pub rate: Rate,
+    pub elem: Elem,
+    pub bits: u64,
 }
 
 /// The registers that a function has so far, by class: the number of one is that of the first row of its name. The variables that
@@ -44,9 +54,22 @@ pub struct Registers {
 fn given_or_new(rows: &mut RegisterRows, name: RegisterName, elem: Elem) -> Result<(), AllocError>
     requires asked { IsAsked (name_of name) }
     requires own { own_type (name_of name) ≡ Some elem }
+    requires plain { IsPlain (name_of name) }
     ensures rows { OnOk result (Begins (map row_of rows.old) (map row_of rows.new)) }
     ensures elem { OnOk result (elem_in (map row_of rows.new) (name_of name) ≡ Some elem) }
+    ensures kept { OnOk result ((t : Elem) (b : ℕ) → keeps (map row_of rows.new) t b ≡ keeps (map row_of rows.old) t b) }
 {
+    match rows.find(name) {
+        Some(_) => Ok(()),
+        None => rows.push(RegisterRow { name, elem }),
+    }
+}
+
+/// A register that keeps a constant: the next one where there is none.
+fn kept_or_new(rows: &mut RegisterRows, elem: Elem, bits: u64) -> Result<(), AllocError>
+    ensures { OnOk result (KeepsIn (map row_of rows.old) (map row_of rows.new) elem bits) }
+{
+    let name = RegisterName::Kept(elem, bits);
     match rows.find(name) {
         Some(_) => Ok(()),
         None => rows.push(RegisterRow { name, elem }),
@@ -72,6 +95,16 @@ impl Registers {
         ensures given { OnOk result (HasRow self.new Uniform Place I64) }
     {
         given_or_new(&mut self.scalars, RegisterName::Place, Elem::I64)
+    }
+
+    /// A constant is kept: it gets a register of its rate, which is a new one where it has none.
+    pub fn keep(&mut self, it: Constant) -> Result<(), AllocError>
+        ensures { OnOk result (Keeps self.old self.new it) }
+    {
+        match it.rate {
+            Rate::Uniform => kept_or_new(&mut self.scalars, it.elem, it.bits),
+            Rate::Varying => kept_or_new(&mut self.vectors, it.elem, it.bits),
+        }
     }
 
     /// A packed load writes a variable.

@@ -1,13 +1,13 @@
 //! Registers are looked up; each that is asked for is there.
-ghost use Rattle.std.specs.Prelude.{◌≡◌, drop, map, take, Some};
+ghost use Rattle.std.specs.Prelude.{◌≡◌, drop, is_some, map, take, IfSome, Some};
 ghost use Rattle.isp_lower.specs.Asks.{Ask as Asks, ArrayOf, Register as Ask};
 ghost use Rattle.isp_lower.specs.Layout.{outside, within};
 ghost use Rattle.isp_lower.specs.Callees.{next_rate, rate_held, rates_held};
-ghost use Rattle.isp_lower.specs.Code.{is_copied};
+ghost use Rattle.isp_lower.specs.Found.{is_copied};
 ghost use Rattle.isp_lower.specs.Emitted.{Present, layout, name_of, row_of};
 ghost use Rattle.isp_base.specs.declared.types.Elem.TheVariants.{I64};
 ghost use Rattle.isp_base.specs.declared.types.Rate.TheVariants.{Uniform};
-ghost use Rattle.isp_lower.specs.Rows.{Place, Result, Spare, Variable, elem_in, number_in};
+ghost use Rattle.isp_lower.specs.Rows.{Kept, Place, Result, Spare, Variable, elem_in, keeps, number_in};
 
 use crate::numbered::{RegisterNumber, Slot};
 use crate::register_rows::RegisterRows;
@@ -26,6 +26,19 @@ fn given(rows: &RegisterRows, name: RegisterName, elem: Elem) -> RegisterNumber
             number: place as u32,
         },
         None => RegisterNumber { number: 0 },
+    }
+}
+
+/// The register of a constant, if it is kept.
+fn kept_in(rows: &RegisterRows, elem: Elem, bits: u64) -> Option<RegisterNumber>
+    ensures number { IfSome result (λ d. d.number ≡ number_in (map row_of rows.now) (Kept elem bits)) }
+    ensures kept { is_some result ≡ keeps (map row_of rows.now) elem bits }
+{
+    match rows.find(RegisterName::Kept(elem, bits)) {
+        Some((place, _)) => Some(RegisterNumber {
+            number: place as u32,
+        }),
+        None => None,
     }
 }
 
@@ -138,6 +151,24 @@ impl Scope<'_> {
                 .find(RegisterName::Variable(number))
                 .is_some(),
         }
+    }
+
+    /// The register in which a constant is kept at a rate, if it is.
+    pub fn kept(&self, rate: Rate, elem: Elem, bits: u64) -> Option<RegisterNumber>
+        ensures number { IfSome result (λ d. d.number ≡ (layout self.now).constant rate elem bits) }
+        ensures kept { is_some result ≡ (layout self.now).kept rate elem bits }
+    {
+        match rate {
+            Rate::Uniform => kept_in(&self.registers.scalars, elem, bits),
+            Rate::Varying => kept_in(&self.registers.vectors, elem, bits),
+        }
+    }
+
+    /// Whether a constant is kept at a rate.
+    pub fn keeps(&self, rate: Rate, elem: Elem, bits: u64) -> bool
+        ensures { result ≡ (layout self.now).kept rate elem bits }
+    {
+        self.kept(rate, elem, bits).is_some()
     }
 
     /// The register of what the function gives back.

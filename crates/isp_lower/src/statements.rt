@@ -9,7 +9,7 @@ ghost use Rattle.isp_lower.specs.Simple.{simple_code, simple_places};
 use crate::assigned::{assign, variable_to};
 use crate::changed::{change_by, step};
 use crate::expression::{call_to, expr};
-use crate::leaves::{clear, constant, splat};
+use crate::leaves::{clear, constant, copy, splat};
 use crate::sites::{Home, Operation, Site};
 use crate::types::{Body, Scope};
 use isp_base::{Rate, Ty};
@@ -71,6 +71,10 @@ fn zero_to(b: &mut Body, on: &Scope, number: usize, ty: Ty, site: Site) -> Resul
         }
         Rate::Varying => {
             let to = on.variable(number, ty);
+            if let Some(from) = on.kept(Rate::Varying, ty.elem, 0) {
+                b.push(copy(Rate::Varying, to, from, site.mask))?;
+                return Ok(());
+            }
             let from = on.spare(Rate::Uniform, ty.elem, site.slot);
             b.push(constant(from, ty.elem, 0))?;
             b.push(splat(to, from, site.mask))?;

@@ -2,12 +2,17 @@
 ghost use Rattle.std.specs.Prelude.{◌≡◌, ◌&&◌};
 ghost use Rattle.isp_meaning.specs.Calls.{same_rate};
 ghost use Rattle.isp_lower.specs.Asks.{is_lane};
-ghost use Rattle.isp_lower.specs.Code.{constant_of, counts, decided, is_counter, is_run, is_short, is_whole, stays, stays_at};
+ghost use Rattle.isp_lower.specs.Elements.{counts, is_counter, is_run};
+ghost use Rattle.isp_lower.specs.Found.{is_kept, is_whole};
+ghost use Rattle.isp_lower.specs.Known.{constant_of, known, known_as};
+ghost use Rattle.isp_lower.specs.Pieces.{decided};
+ghost use Rattle.isp_lower.specs.Stays.{is_short, stays, stays_at};
 ghost use Rattle.isp_lower.specs.Emitted.{layout};
+ghost use Rattle.isp_typed.specs.Typed.{type_of};
 ghost use Rattle.isp_typed.specs.Views.{expr_of};
 
 use crate::types::Scope;
-use isp_base::{Elem, Rate, Value};
+use isp_base::{Elem, Rate, Value, convert as value_as};
 use isp_code::JumpTest;
 use isp_typed::{Logic, TypedExpr, TypedPlace};
 
@@ -71,7 +76,20 @@ fn same_rate(a: Rate, b: Rate) -> bool
     }
 }
 
-/// Whether an expression is a variable that stays in place, in brackets or not.
+/// Whether a value as one of another type is a constant that is kept.
+pub(crate) fn is_kept(on: &Scope, elem: Elem, x: &TypedExpr) -> bool
+    ensures { result ≡ is_kept (layout on.now) (constant_of (expr_of x.now)) (type_of (expr_of x.now)).rate elem }
+{
+    match constant_of(x) {
+        Some(value) => {
+            let bits = value_as(value.elem, elem, value.bits);
+            on.keeps(x.ty().rate, elem, bits)
+        }
+        None => false,
+    }
+}
+
+/// Whether an expression is a variable that stays in place, in brackets or not, or a constant that is kept.
 fn stays(on: &Scope, x: &TypedExpr) -> bool
     ensures { result ≡ stays (layout on.now) (expr_of x.now) }
 {
@@ -79,10 +97,10 @@ fn stays(on: &Scope, x: &TypedExpr) -> bool
         TypedExpr::Place(TypedPlace::Variable { number, ty, .. }) => !on.copies(ty.rate, *number),
         TypedExpr::Cast { operand, ty, .. } => same_rate(ty.rate, operand.ty().rate)
             && stays(on, operand),
+        TypedExpr::Constant { value, .. } => on.keeps(Rate::Uniform, value.elem, value.bits),
+        TypedExpr::Convert { elem, operand } => is_kept(on, *elem, operand),
         TypedExpr::Place(TypedPlace::Element { .. })
-        | TypedExpr::Constant { .. }
         | TypedExpr::ProgramIndex { .. }
-        | TypedExpr::Convert { .. }
         | TypedExpr::Unary { .. }
         | TypedExpr::Binary { .. }
         | TypedExpr::Compare { .. }
@@ -109,7 +127,7 @@ fn both_stay(on: &Scope, rate: Rate, then: &TypedExpr, otherwise: &TypedExpr) ->
     stays_at(on, rate, then) && stays_at(on, rate, otherwise)
 }
 
-/// Whether a choice is one instruction: between two variables that stay in place, by a test of their rate.
+/// Whether a choice is one instruction: between two that stay in place, by a test of their rate.
 pub fn is_short(
     on: &Scope,
     rate: Rate,
@@ -131,6 +149,41 @@ pub(crate) fn constant_of(x: &TypedExpr) -> Option<Value>
         TypedExpr::ProgramIndex { .. }
         | TypedExpr::Place(_)
         | TypedExpr::Convert { .. }
+        | TypedExpr::Cast { .. }
+        | TypedExpr::Unary { .. }
+        | TypedExpr::Binary { .. }
+        | TypedExpr::Compare { .. }
+        | TypedExpr::Logic { .. }
+        | TypedExpr::Choose { .. }
+        | TypedExpr::Call { .. }
+        | TypedExpr::Library { .. }
+        | TypedExpr::PackedStore { .. }
+        | TypedExpr::PackedLoad { .. } => None,
+    }
+}
+
+/// A constant as one of another type.
+fn known_as(elem: Elem, value: Option<Value>) -> Option<Value>
+    ensures { result ≡ known_as elem value }
+{
+    match value {
+        Some(value) => {
+            let bits = value_as(value.elem, elem, value.bits);
+            Some(Value { elem, bits })
+        }
+        None => None,
+    }
+}
+
+/// The constant that an expression is, converted or not.
+pub fn known(x: &TypedExpr) -> Option<Value>
+    ensures { result ≡ known (expr_of x.now) }
+{
+    match x {
+        TypedExpr::Constant { value, .. } => Some(*value),
+        TypedExpr::Convert { elem, operand } => known_as(*elem, constant_of(operand)),
+        TypedExpr::ProgramIndex { .. }
+        | TypedExpr::Place(_)
         | TypedExpr::Cast { .. }
         | TypedExpr::Unary { .. }
         | TypedExpr::Binary { .. }

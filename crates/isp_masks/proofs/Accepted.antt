@@ -1,5 +1,5 @@
 -- The verifier accepts the code of bodies whose registers are there.
-use Rattle.std.proofs.Common.{◌≡◌, ℕ, zero, suc, ◌-◌, List, [], ◌∷◌, ◌++◌, length, take, Some, None, true, refl, ap, ◌∙◌, subst, arith, length-append}
+use Rattle.std.proofs.Common.{◌≡◌, ◌+◌, ℕ, zero, suc, ◌-◌, List, [], ◌∷◌, ◌++◌, length, take, Some, None, true, refl, ap, ◌∙◌, subst, arith, length-append}
 use Rattle.std.proofs.lemmas.Option.{same_Some}
 use Rattle.std.specs.Prelude.{slice_get}
 use Rattle.isp_code.specs.Listing.{Listing, Routine}
@@ -9,6 +9,7 @@ use Rattle.isp_verify.specs.Faults.{stays, last, header_fits, code_fault}
 use Rattle.isp_verify.proofs.AcceptedLaws.{fine_accepted}
 use Rattle.isp_lower.specs.Sound.{IsSound, AreSound}
 use Rattle.isp_masks.specs.Accepted.{IsBodyCode}
+use Rattle.isp_masks.specs.Keeping.{constants_code}
 use Rattle.isp_masks.specs.Spots.{first_spot}
 use Rattle.isp_masks.specs.Statements.{block_code, returned}
 use Rattle.isp_masks.proofs.Rated.{block_tree}
@@ -25,11 +26,12 @@ last_of [] x = refl
 last_of (i ∷ a) x = last_of a x
 
 pub body_sound : (code : Listing) (h : Routine) → IsBodyCode code h → AreSound code h h.code
-body_sound code h is = function_sound is.functions code h is.layout is.links is.answer is.body is.numbers is.code_is (block_tree is.functions is.variables is.answer is.body is.fine is.rated) is.present is.masks is.places is.texts is.given
+body_sound code h is = function_sound is.functions code h is.layout is.links is.answer is.constants is.body is.numbers is.code_is (block_tree is.functions is.variables is.answer is.body is.fine is.rated) is.present is.kept is.spares is.masks is.places is.texts is.given
 
 body_ends : (code : Listing) (h : Routine) → IsBodyCode code h → stays (slice_get h.code (last h)) ≡ true
 body_ends code h is =
-    let body = block_code is.layout is.answer is.body 0 is.numbers first_spot in
+    let ca = constants_code is.layout 3 is.constants in
+    let body = ca ++ block_code is.layout is.answer is.body (0 + length ca) is.numbers first_spot in
     let back = instr.Return (returned is.layout is.answer) in
     let size : length h.code - 1 ≡ length body = omega (arith, ap length is.code_is ∙ length-append body (back ∷ [])) in
     ap (λ n. stays (slice_get h.code n)) size ∙ ap (λ c. stays (slice_get c (length body))) is.code_is ∙ ap stays (last_of body back)

@@ -34,7 +34,8 @@ use Rattle.isp_meaning.specs.State.{State, below}
 use Rattle.isp_meaning.specs.Statements.{block}
 use Rattle.isp_meaning.proofs.Grown.{prefix_self}
 use Rattle.isp_lower.specs.Layout.{Layout, register}
-use Rattle.isp_lower.specs.Setting.{Setting, IsSettled, Stands}
+use Rattle.isp_lower.specs.Pieces.{two}
+use Rattle.isp_lower.specs.Setting.{Setting, IsSettled}
 use Rattle.isp_lower.proofs.Lemmas.{are_front, are_back, put_same, step_is}
 use Rattle.isp_code.proofs.Steps.{after-sum}
 use Rattle.isp_masks.specs.Agreement.{RunsAgree}
@@ -46,7 +47,9 @@ use Rattle.isp_masks.proofs.Arrays.{opened_same, sizes_same, entry_opens, arrays
 use Rattle.isp_masks.proofs.Begins.{begins}
 use Rattle.isp_masks.proofs.Calls.{calls_run}
 use Rattle.isp_masks.proofs.Endings.{longer, one_end, grows, rows_same}
-use Rattle.isp_masks.proofs.Stmts.{block_runs}
+use Rattle.isp_masks.specs.Keeping.{constants_code}
+use Rattle.isp_masks.proofs.ConstantBodies.{kept_body_runs}
+use Rattle.isp_masks.proofs.ConstantsRun.{Bare}
 use Rattle.isp_masks.proofs.Fitting.{block_parts}
 use Rattle.isp_masks.specs.Free.{BlockFree}
 
@@ -81,6 +84,7 @@ module _ (program : Program) (code : Listing) (all : AreCompiled program code) (
     sizes = sizes_there n;
     arrays = arrays_fit program code f h g l n xs is.arrays sig short;
     counter = λ i e. let no : Some i ≡ None = sym e ∙ is.run in absurd (cc);
+    constants = is.kept_typed;
     calls = calls_run program code all 255 f h g l (λ a. a) [] (handed 0 xs) (first_frame xs) n is.found (opened_there n) (sizes_there n) refl;
   }
 
@@ -106,7 +110,7 @@ module _ (program : Program) (code : Listing) (all : AreCompiled program code) (
       go Varying er = absurd (cc)
 
   abbrev body : List Instr
-  body = block_code l h.answer h.body 0 z first_spot
+  body = two 0 (constants_code l 3 is.constants) (λ pc1. block_code l h.answer h.body pc1 z first_spot)
 
   abbrev last : Instr
   last = instr.Return (returned l h.answer)
@@ -114,7 +118,7 @@ module _ (program : Program) (code : Listing) (all : AreCompiled program code) (
   abbrev everybody : Mask
   everybody = everyone (gang_width program.gang)
 
-  follows_from : (n : ℕ) (v : Res) → StmtRuns (world n) n (first_conf code f g xs) (0 + length (block_code l h.answer h.body 0 z first_spot)) first_spot (1 + 0) v → Follows n (ended h.answer (first_frame xs) everybody (first_state xs) v)
+  follows_from : (n : ℕ) (v : Res) → StmtRuns (world n) n (first_conf code f g xs) (0 + length body) first_spot (1 + 0) v → Follows n (ended h.answer (first_frame xs) everybody (first_state xs) v)
   follows_from n (Went s g1 b ct rt) r =
       let c = r.conf in
       let pc = 0 + length body in
@@ -136,24 +140,16 @@ module _ (program : Program) (code : Listing) (all : AreCompiled program code) (
       (r.steps, omega (arith, r.bound), ap (outcome (rows xs)) r.fails ∙ ap (λ z. Traps t (rows_now (rows xs) z) r.conf.out) r.arrays_are ∙ ap (Traps t (rows_now (rows xs) s.arrays)) r.out_is, tt)
   follows_from n (Cut s) r = (r.steps, omega (arith, r.bound), ap (outcome (rows xs)) r.goes ∙ ap GoesOn r.out_is, r.far)
 
-  body_runs : (n : ℕ) → StmtRuns (world n) n (first_conf code f g xs) (0 + length (block_code l h.answer h.body 0 z first_spot)) first_spot (1 + 0) (block (gang_width program.gang) (frame_of h (handed 0 xs) (first_frame xs)) (calls_at program n 255) n h.body everybody (entry_state program h xs))
+  body_runs : (n : ℕ) → StmtRuns (world n) n (first_conf code f g xs) (0 + length body) first_spot (1 + 0) (block (gang_width program.gang) (frame_of h (handed 0 xs) (first_frame xs)) (calls_at program n 255) n h.body everybody (entry_state program h xs))
   body_runs n =
       let c = first_conf code f g xs in
       let begin = λ (u : Gang). begun h (handed 0 xs) (first_frame xs) (everyone (gang_width u)) (first_state xs) in
-      let n01 : ◌≢◌ {A = ℕ} 0 1 = omega arith in
-      let n02 : ◌≢◌ {A = ℕ} 0 2 = omega arith in
-      let n12 : ◌≢◌ {A = ℕ} 1 2 = omega arith in
       subst (λ u. StmtRuns (world n) n c (0 + length body) first_spot (1 + 0) (block (gang_width u) (frame_of h (handed 0 xs) (first_frame xs)) (calls_at program n 255) n h.body (everyone (gang_width u)) (begin u))) is.gang
-      (block_runs h.body (world n) (settled n) 0 z first_spot 0 (everyone (gang_width code.gang)) (begin code.gang) c (block_parts (world n) h.body 3 (λ i e. ((settled n).counter i e).constant) (record { fine = is.fine.body; rated = is.rated; named = is.named; free = subst (λ o. BlockFree o h.body) (sym is.run) is.free })) (are_front g.code 0 body (last ∷ []) is.code_is) is.names (record { low_on = omega arith; low_continued = omega arith; low_returned = omega arith; on_continued = n01; on_returned = n02; continued_returned = n12 })
-      (record {
-        at = record { home_is = refl; waiting_is = refl; pc_is = refl };
-        mask = put_same (λ k. nobody) 0 (everyone (gang_width code.gang));
-        some = someone code.gang;
-        inside = λ p e. (all_inside (gang_width code.gang) p e, λ i. let no : true ≡ false = sym i ∙ is.outside in absurd (cc));
-        stands = subst (λ z. Stands (world n) (begin z) c) (sym is.gang) (begins program code f h g l n xs is.run is.passed is.fine.params entry.one sig);
-        used = omega arith;
-        low = omega arith;
-      }))
+      (kept_body_runs (world n) (settled n) h.body is.constants 0 z 0 (everyone (gang_width code.gang)) (begin code.gang) c
+      (block_parts (world n) h.body 3 (λ i e. ((settled n).counter i e).constant) (record { fine = is.fine.body; rated = is.rated; named = is.named; free = subst (λ o. BlockFree o h.body) (sym is.run) is.free }))
+      is.keeps is.spares_typed (are_front g.code 0 body (last ∷ []) is.code_is) is.names (record { home_is = refl; waiting_is = refl; pc_is = refl }) (put_same (λ k. nobody) 0 (everyone (gang_width code.gang))) (someone code.gang)
+      (λ p e. (all_inside (gang_width code.gang) p e, λ i. let no : true ≡ false = sym i ∙ is.outside in absurd (cc)))
+      (subst (λ z. Bare (world n) (begin z) c) (sym is.gang) (begins program code f h g l n xs is.run is.passed is.fine.params entry.one sig)) (λ t b p kept out. refl) (omega arith))
 
   follows : (n : ℕ) → Follows n (meaning program f n xs)
   follows n =

@@ -9,6 +9,7 @@ use Rattle.isp_base.specs.Types.{gang_width}
 use Rattle.isp_base.specs.declared.signature.Argument.{Argument}
 use Rattle.isp_base.specs.declared.signature.Argument.TheVariants.{Value as AValue, Array as AnArray}
 use Rattle.isp_base.specs.declared.signature.Parameter.{Parameter}
+use Rattle.isp_base.specs.declared.types.Elem.{Elem}
 use Rattle.isp_base.specs.declared.types.Rate.{Rate}
 use Rattle.isp_base.specs.declared.types.Rate.TheVariants.{Uniform, Varying}
 use Rattle.isp_code.specs.Listing.{Listing, Routine}
@@ -21,9 +22,9 @@ use Rattle.isp_typed.specs.declared.variable.Variable.{Variable}
 use Rattle.isp_meaning.specs.Calls.{is_value, same_rate, one_passed}
 use Rattle.isp_meaning.specs.Runs.{handed}
 use Rattle.isp_lower.specs.Layout.{Layout}
-use Rattle.isp_lower.specs.Setting.{Stands}
 use Rattle.isp_masks.specs.Compiled.{entry_state, entry_setting, AreOne, IsOne}
 use Rattle.isp_masks.specs.Passing.{count_if, count_value, value_count, HasRate, PassedFirst, Passes}
+use Rattle.isp_masks.proofs.ConstantsRun.{Bare}
 use Rattle.isp_masks.proofs.Passing.{same_true, ones_begin, each_begin}
 use Rattle.isp_masks.proofs.Unions.{both_so}
 use Rattle.isp_lower.proofs.Lemmas.{none_holds}
@@ -131,7 +132,8 @@ module _ (program : Program) (code : Listing) (f : ℕ) (h : TFunction) (g : Rou
     only = λ v e. handed_none h.parameters xs 0 v sig (none_param h.parameters (params_of h) v are e);
   }
 
-  pub begins : Stands (entry_setting program code f h g l turns xs) (entry_state program h xs) (first_conf code f g xs)
+  -- but for the constants that are kept
+  pub begins : Bare (entry_setting program code f h g l turns xs) (entry_state program h xs) (first_conf code f g xs)
   begins = record {
     uniforms = ones_begin h l first (λ r. slice_index (values xs) r) (λ r p. 0) (handed 0 xs) (everyone (gang_width program.gang)) passes;
     varying = each_begin h l first (λ r. slice_index (values xs) r) (λ r p. 0) (handed 0 xs) (everyone (gang_width program.gang)) passes;
@@ -141,4 +143,5 @@ module _ (program : Program) (code : Listing) (f : ℕ) (h : TFunction) (g : Rou
     arrays_are = refl;
     out_is = refl;
     run = none_holds l.run 0 nobody ((first_conf code f g xs).scalars (l.place Uniform)) (entry_state program h xs).varying none;
+    constants = λ r t b e. absurd (cc);
   }

@@ -47,6 +47,11 @@ apart_same l o d a = record {
   result_fresh = a.result_fresh;
   spare_fresh = a.spare_fresh;
   arrays = a.arrays;
+  constants = a.constants;
+  kept_variable = a.kept_variable;
+  kept_result = a.kept_result;
+  kept_spare = a.kept_spare;
+  kept_place = a.kept_place;
 }
 
 module _ (w : Setting) (o : Option ℕ) (d : Bool) (m : Mask) (b : ℕ) where
@@ -70,13 +75,14 @@ module _ (w : Setting) (o : Option ℕ) (d : Bool) (m : Mask) (b : ℕ) where
     arrays = λ y h. let f = ready.arrays y h in record { is = array_same y.ty.rate y f.is; below = f.below; few = f.few };
     calls = λ k g pc q sp a ps s c is. ready.calls k g pc q sp a ps s c (record { function = is.function; here = is.here; place = is.place; at = is.at; mask = is.mask; some = is.some; inside = is.inside; hands = is.hands; result = is.result; arrays_are = is.arrays_are; out_is = is.out_is; used = is.used });
     counter = counter;
+    constants = ready.constants;
   }
 
   pub stands_there : (s : State) (c : Conf) → Stands w s c → RunHolds o b m (c.scalars (w.layout.place Uniform)) s.varying → Stands there s c
-  stands_there s c st h = record { uniforms = st.uniforms; varying = st.varying; result = st.result; results = st.results; own_arrays = st.own_arrays; arrays_are = st.arrays_are; out_is = st.out_is; run = h }
+  stands_there s c st h = record { uniforms = st.uniforms; varying = st.varying; result = st.result; results = st.results; own_arrays = st.own_arrays; arrays_are = st.arrays_are; out_is = st.out_is; run = h; constants = st.constants }
 
   stands_back : (s : State) (c : Conf) → Stands there s c → RunHolds w.layout.run w.start w.members (c.scalars (w.layout.place Uniform)) s.varying → Stands w s c
-  stands_back s c st h = record { uniforms = st.uniforms; varying = st.varying; result = st.result; results = st.results; own_arrays = st.own_arrays; arrays_are = st.arrays_are; out_is = st.out_is; run = h }
+  stands_back s c st h = record { uniforms = st.uniforms; varying = st.varying; result = st.result; results = st.results; own_arrays = st.own_arrays; arrays_are = st.arrays_are; out_is = st.out_is; run = h; constants = st.constants }
 
   pub runs_back : (turns : ℕ) (c : Conf) (pc : ℕ) (spot : Spot) (q : ℕ) (v : Res) → ((s : State) (c1 : Conf) → Stands there s c1 → RunHolds w.layout.run w.start w.members (c1.scalars (w.layout.place Uniform)) s.varying) → StmtRuns there turns c pc spot q v → StmtRuns w turns c pc spot q v
   runs_back turns c pc spot q (Went s g u ct rt) keep r = record {

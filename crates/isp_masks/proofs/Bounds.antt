@@ -1,7 +1,7 @@
 -- The bounds of ranges, as they are taken, and what all runs use.
-use Rattle.std.proofs.Common.{◌≡◌, ◌≢◌, ℕ, zero, suc, ◌+◌, ◌-◌, ◌<◌, ◌≤◌, List, [], ◌∷◌, ◌++◌, length, Some, None, true, refl, sym, ap, ap₂, ◌∙◌, subst, arith, length-append, mod-eq_of_lt}
+use Rattle.std.proofs.Common.{◌≡◌, ◌≢◌, ℕ, zero, suc, ◌+◌, ◌-◌, ◌<◌, ◌≤◌, List, [], ◌∷◌, ◌++◌, length, Option, Some, None, true, refl, sym, ap, ap₂, ◌∙◌, subst, arith, append-nil, length-append, mod-eq_of_lt}
 use native.Mathlib.Nat.{mod-mod}
-use Rattle.std.specs.Prelude.{pos, ◌+ℤ◌, ◌≤ℤ◌, ◌^◌, if◌then◌else◌}
+use Rattle.std.specs.Prelude.{pos, ◌+ℤ◌, ◌≤ℤ◌, ◌^◌, ◌%◌, if◌then◌else◌}
 use Rattle.std.proofs.lemmas.Int.{ints}
 use Rattle.std.proofs.lemmas.Bool.{lt-ltb}
 use Rattle.isp_base.proofs.Elems.{number_below}
@@ -19,14 +19,22 @@ use Rattle.isp_code.specs.Conf.{Conf, Go}
 use Rattle.isp_code.specs.Lines.{act}
 use Rattle.isp_code.specs.declared.instr.Instr.{Instr}
 use Rattle.isp_typed.specs.Fine.{heads}
-use Rattle.isp_typed.specs.Typed.{TExpr, TRange, type_of}
+use Rattle.isp_typed.specs.Typed.{TExpr, t_constant, t_program_index, t_place, t_convert, t_cast, t_unary, t_binary, t_compare, t_logic, t_choose, t_call, t_library, t_packed_store, t_packed_load, TRange, type_of}
 use Rattle.isp_meaning.specs.Expressions.{value}
 use Rattle.isp_meaning.specs.Outcomes.{Val, Gives, Fails, Stops}
-use Rattle.isp_meaning.specs.Payloads.{Payload, One, Each, sole}
+use Rattle.isp_meaning.specs.Payloads.{Payload, One, Each, converted, sole}
 use Rattle.isp_meaning.specs.Rounds.{Range}
-use Rattle.isp_meaning.specs.State.{State}
+use Rattle.isp_meaning.specs.State.{State, tick}
 use Rattle.isp_meaning.specs.Statements.{ranges}
-use Rattle.isp_lower.specs.Code.{constant, convert, splat, found, expr_code, expr_places}
+use Rattle.isp_lower.specs.Code.{expr_code}
+use Rattle.isp_lower.specs.Found.{convert_to, is_whole, found, whole_of}
+use Rattle.isp_lower.specs.Instructions.{constant, convert, splat}
+use Rattle.isp_lower.specs.Known.{constant_of}
+use Rattle.isp_lower.specs.Spans.{expr_places}
+use Rattle.isp_lower.specs.Layout.{Layout}
+use Rattle.isp_base.specs.Values.{width}
+use Rattle.isp_base.specs.declared.types.Span.{Span}
+use Rattle.isp_base.specs.declared.types.Value.{Value}
 use Rattle.isp_lower.specs.Runs.{Comes, Enters, Failed, Runs, Stopped}
 use Rattle.isp_lower.specs.Setting.{Setting, IsSettled, gang_of, calls_of, AreAt, At, Spares, Stands, Holds, at_rate, held_at}
 use Rattle.isp_lower.specs.Tables.{IsTyped}
@@ -67,6 +75,36 @@ on_at a x p e = ap (λ b. if b then Some (x p) else None) e
 over_at : (a : Mask) (x old : Lanes) (p : ℕ) → a p ≡ true → over (on a x) old p ≡ x p
 over_at a x old p e = rw e refl
 
+-- ---- a constant
+
+constant_is_one : (x : TExpr) (v : Value) → constant_of x ≡ Some v → (sp : Span) × (x ≡ t_constant v sp)
+constant_is_one (t_constant u sp) v e = let h : u ≡ v = cc in (sp, ap (λ z. t_constant z sp) h)
+constant_is_one (t_program_index sp) v e = absurd (cc)
+constant_is_one (t_place p) v e = absurd (cc)
+constant_is_one (t_convert t x) v e = absurd (cc)
+constant_is_one (t_cast x t sp) v e = absurd (cc)
+constant_is_one (t_unary o x t sp) v e = absurd (cc)
+constant_is_one (t_binary o x y t sp) v e = absurd (cc)
+constant_is_one (t_compare c x y r sp) v e = absurd (cc)
+constant_is_one (t_logic g x y r sp) v e = absurd (cc)
+constant_is_one (t_choose c x y t sp) v e = absurd (cc)
+constant_is_one (t_call c t) v e = absurd (cc)
+constant_is_one (t_library g t xs u sp) v e = absurd (cc)
+constant_is_one (t_packed_store b x sp) v e = absurd (cc)
+constant_is_one (t_packed_load b u sp) v e = absurd (cc)
+
+-- the bits of an int32 as those of an int64, and as those that an expression holds
+loaded_is : (b : ℕ) → wrap I64 (number I64 (converted I32 I64 b)) ≡ wrap I64 (number I32 (b % 2 ^ 32))
+loaded_is b = ap (wrap I64) (widened b) ∙ sym (ap (wrap I64) (ap (number_to 32 (2 ^ 31 - 1)) (mod-mod b (2 ^ 32))))
+
+-- ---- the code of a bound is that of an int32 as an int64
+
+pub bound_is : (l : Layout) (x : TExpr) (pc p k n : ℕ) → (type_of x).rate ≡ Uniform → (type_of x).elem ≡ I32 → bound_code l x pc p k n ≡ convert_to l (constant_of x) I64 Uniform (wide l n) (found l x n) k (expr_code l x pc p k n)
+bound_is l x pc p k n er et =
+    append-nil (whole_of l (is_whole (type_of x).elem) x k n (expr_code l x pc p k n))
+    ∙ ap (λ t. whole_of l (is_whole t) x k n (expr_code l x pc p k n)) et
+    ∙ ap (λ r. convert_to l (constant_of x) I64 r (l.spare r I64 n) (found l x n) k (expr_code l x pc p k n)) er
+
 module _ (w : Setting) (ready : IsSettled w) where
   abbrev means : TExpr → Mask → State → Val Payload
   means = value (gang_of w) w.frame (calls_of w)
@@ -75,8 +113,8 @@ module _ (w : Setting) (ready : IsSettled w) where
   abbrev IsBound : ℕ → Payload → Conf → Type 0
   IsBound n m c = c.scalars (wide w.layout n) ≡ wrap I64 (number I32 (sole m))
 
-  bound_runs : (x : TExpr) (pc p k n q : ℕ) (a : Mask) (s : State) (c : Conf) → BoundParts w x n → AreAt w.routine.code pc (bound_code w.layout x pc p k n) → AreAt w.code.places p (expr_places w.layout x) → Enters w pc k n a s c q → Runs w c (pc + length (bound_code w.layout x pc p k n)) n (0 + q) (IsBound n) (means x a s)
-  bound_runs x pc p k n q a s c fit has places b =
+  value_runs : (x : TExpr) (pc p k n q : ℕ) (a : Mask) (s : State) (c : Conf) → BoundParts w x n → AreAt w.routine.code pc (expr_code w.layout x pc p k n ++ convert Uniform (wide w.layout n) (found w.layout x n) k ∷ []) → AreAt w.code.places p (expr_places w.layout x) → Enters w pc k n a s c q → Runs w c (pc + length (expr_code w.layout x pc p k n ++ convert Uniform (wide w.layout n) (found w.layout x n) k ∷ [])) n (0 + q) (IsBound n) (means x a s)
+  value_runs x pc p k n q a s c fit has places b =
       let fx : heads x ≤ 1 = few w x n fit.3 in
       go (means x a s) (expr_runs w ready x pc p k n q (1 + q) a s c fit.3 (are_front w.routine.code pc cx (last ∷ []) has) places (omega arith) b)
     where
@@ -93,7 +131,7 @@ module _ (w : Setting) (ready : IsSettled w) where
       last = convert Uniform d f k
 
       typed : IsTyped w Uniform f I32
-      typed = subst (λ r. IsTyped w r f I32) fit.0 (found_typed w x n fit.3 ∙ fit.1)
+      typed = subst (λ r. IsTyped w r f I32) fit.0 (found_typed w ready x n fit.3 ∙ fit.1)
 
       pc1 : ℕ
       pc1 = pc + length cx
@@ -121,6 +159,39 @@ module _ (w : Setting) (ready : IsSettled w) where
           }
       go (Fails t s1) bad = failed_less w ready c 1 (0 + q) t s1 (let e : 1 + q ≡ 1 + (0 + q) = omega arith in subst (λ z. Failed w c z t s1) e bad)
       go (Stops s1) cut = stopped_less w ready w.turns c 1 (0 + q) s1 (let e : 1 + q ≡ 1 + (0 + q) = omega arith in subst (λ z. Stopped w w.turns c z s1) e cut)
+
+  -- a constant is loaded
+  constant_runs : (v : Value) (sp : Span) (pc p k n q : ℕ) (a : Mask) (s : State) (c : Conf) → BoundParts w (t_constant v sp) n → AreAt w.routine.code pc (constant (wide w.layout n) I64 (converted v.elem I64 v.bits) ∷ []) → Enters w pc k n a s c q → Runs w c (pc + 1) n (0 + q) (IsBound n) (means (t_constant v sp) a s)
+  constant_runs v sp pc p k n q a s c fit has b = record {
+    conf = c1;
+    steps = 1;
+    comes = set_comes w ready Uniform c d (One bits) pc (constant d I64 (converted v.elem I64 v.bits)) b.at has.0 (ap (λ t. Go (set_at Uniform c d (One (wrap t (number I64 (converted v.elem I64 v.bits)))))) fit.2);
+    at = set_goes w ready Uniform c d (One bits) pc b.at;
+    stands = set_stands w ready Uniform c I64 n (One bits) (tick s) b.stands;
+    spares = set_spares w ready Uniform c I64 n n (One bits) (omega arith);
+    masks = λ r lt. refl;
+    holds = put_same c.scalars d bits ∙ subst (λ t. wrap I64 (number I64 (converted t I64 v.bits)) ≡ wrap I64 (number I32 (v.bits % 2 ^ width t))) (sym fit.1) (loaded_is v.bits);
+    bound = omega (arith, b.used);
+  }
+    where
+      d : ℕ
+      d = wide w.layout n
+
+      bits : ℕ
+      bits = wrap I64 (number I64 (converted v.elem I64 v.bits))
+
+      c1 : Conf
+      c1 = set_at Uniform c d (One bits)
+
+  bound_runs : (x : TExpr) (pc p k n q : ℕ) (a : Mask) (s : State) (c : Conf) → BoundParts w x n → AreAt w.routine.code pc (bound_code w.layout x pc p k n) → AreAt w.code.places p (expr_places w.layout x) → Enters w pc k n a s c q → Runs w c (pc + length (bound_code w.layout x pc p k n)) n (0 + q) (IsBound n) (means x a s)
+  bound_runs x pc p k n q a s c fit has places b =
+      subst (λ code. AreAt w.routine.code pc code → Runs w c (pc + length code) n (0 + q) (IsBound n) (means x a s)) (sym (bound_is w.layout x pc p k n fit.0 fit.1)) (by (constant_of x) refl) has
+    where
+      by : (o : Option Value) → constant_of x ≡ o → AreAt w.routine.code pc (convert_to w.layout o I64 Uniform (wide w.layout n) (found w.layout x n) k (expr_code w.layout x pc p k n)) → Runs w c (pc + length (convert_to w.layout o I64 Uniform (wide w.layout n) (found w.layout x n) k (expr_code w.layout x pc p k n))) n (0 + q) (IsBound n) (means x a s)
+      by None e at = value_runs x pc p k n q a s c fit at places b
+      by (Some v) e at =
+          let one = constant_is_one x v e in
+          subst (λ y. BoundParts w y n → Runs w c (pc + 1) n (0 + q) (IsBound n) (means y a s)) (sym one.1) (λ fits. constant_runs v one.0 pc p k n q a s c fits at b) fit
 
   pub bounds_run : (rs : List TRange) (pc p k e q : ℕ) (a : Mask) (s : State) (c : Conf) → BoundsParts w rs e → AreAt w.routine.code pc (bounds_code w.layout rs pc p k e) → AreAt w.code.places p (ranges_places w.layout rs) → Enters w pc k e a s c q → Runs w c (pc + length (bounds_code w.layout rs pc p k e)) e q (λ xs c1. AreHeld w rs xs e c1) (ranges (gang_of w) w.frame (calls_of w) rs a s)
   bounds_run [] pc p k e q a s c fit has places b =

@@ -40,7 +40,8 @@ use Rattle.isp_meaning.specs.State.{State, Frame}
 use Rattle.isp_meaning.specs.Statements.{block}
 use Rattle.isp_lower.specs.Calls.{Takes, given_in, given_back, CallRuns}
 use Rattle.isp_lower.specs.Layout.{Layout, class_at, register}
-use Rattle.isp_lower.specs.Setting.{Setting, IsSettled, IsCalling, CallsRun, Stands}
+use Rattle.isp_lower.specs.Pieces.{two}
+use Rattle.isp_lower.specs.Setting.{Setting, IsSettled, IsCalling, CallsRun}
 use Rattle.isp_lower.specs.Steps.{ComesIn, FailedIn, StoppedIn}
 use Rattle.isp_lower.proofs.Lemmas.{are_front, are_back, put_same, comes_on, step_by, step_is, failed_after, stopped_after, place_named, none_holds}
 use Rattle.isp_masks.specs.Compiled.{call_setting, IsFunctionCode, AreCompiled}
@@ -51,7 +52,9 @@ use Rattle.isp_masks.proofs.Arrays.{Opens, opened_same, sizes_same, fit_there}
 use Rattle.isp_masks.proofs.Fitting.{block_parts}
 use Rattle.isp_masks.proofs.Handing.{scalars_of, vectors_of, names_of, passes, opens}
 use Rattle.isp_masks.proofs.Passing.{ones_begin, each_begin}
-use Rattle.isp_masks.proofs.Stmts.{block_runs}
+use Rattle.isp_masks.specs.Keeping.{constants_code}
+use Rattle.isp_masks.proofs.ConstantBodies.{kept_body_runs}
+use Rattle.isp_masks.proofs.ConstantsRun.{Bare}
 use Rattle.isp_masks.specs.Free.{BlockFree}
 
 is_there : {A : Type 0} (xs : List A) (k : ℕ) → k < length xs → (x : A) × (slice_get xs k ≡ Some x)
@@ -159,12 +162,13 @@ module _ (program : Program) (code : Listing) (all : AreCompiled program code) w
         arrays = fit_there program code k.function h1 g1 l1 (names_of a c k.arguments) waiting1 ps frame turns n compiled.compiled.arrays open_there;
         calls = runs;
         counter = λ i e. let no : Some i ≡ None = sym e ∙ compiled.compiled.run in absurd (cc);
+        constants = compiled.compiled.kept_typed;
       }
 
       -- ---- the body
 
       abbrev body : List Instr
-      body = block_code l1 h1.answer h1.body 0 compiled.numbers first_spot
+      body = two 0 (constants_code l1 3 compiled.compiled.constants) (λ pc1. block_code l1 h1.answer h1.body pc1 compiled.numbers first_spot)
 
       abbrev last : Instr
       last = instr.Return (returned l1 h1.answer)
@@ -172,7 +176,8 @@ module _ (program : Program) (code : Listing) (all : AreCompiled program code) w
       abbrev start : State
       start = meaning.begun h1 ps frame a s
 
-      begins : (n : ℕ) → Stands (inner n) start begun_conf
+      -- but for the constants that are kept
+      begins : (n : ℕ) → Bare (inner n) start begun_conf
       begins n =
           let own = passes a c (params_of h1) ps k.arguments (c.masks k.mask.number) is.mask is.hands in
           record {
@@ -184,25 +189,20 @@ module _ (program : Program) (code : Listing) (all : AreCompiled program code) w
             arrays_are = ap (λ z. below z c.arrays) home_opened ∙ ap (below frame.opened) is.arrays_are;
             out_is = is.out_is;
             run = none_holds l1.run (inner n).start (inner n).members (begun_conf.scalars (l1.place Uniform)) start.varying compiled.compiled.run;
+            constants = λ r t b e. absurd (cc);
           }
 
       -- the body leaves a step for the return
       body_runs : (n : ℕ) → IsSettled (inner n) → StmtRuns (inner n) turns begun_conf (0 + length body) first_spot (1 + (1 + q)) (block (gang_width program.gang) (frame_of h1 ps frame) (calls_at program turns n) turns h1.body a start)
       body_runs n settled =
-          let n01 : ◌≢◌ {A = ℕ} 0 1 = omega arith in
-          let n02 : ◌≢◌ {A = ℕ} 0 2 = omega arith in
-          let n12 : ◌≢◌ {A = ℕ} 1 2 = omega arith in
+          let own = passes a c (params_of h1) ps k.arguments (c.masks k.mask.number) is.mask is.hands in
           subst (λ z. StmtRuns (inner n) turns begun_conf (0 + length body) first_spot (1 + (1 + q)) (block (gang_width z) (frame_of h1 ps frame) (calls_at program turns n) turns h1.body a start)) compiled.compiled.gang
-          (block_runs h1.body (inner n) settled 0 compiled.numbers first_spot (1 + q) a start begun_conf (block_parts (inner n) h1.body 3 (λ i e. (settled.counter i e).constant) (record { fine = compiled.compiled.fine.body; rated = compiled.compiled.rated; named = compiled.compiled.named; free = subst (λ o. BlockFree o h1.body) (sym compiled.compiled.run) compiled.compiled.free })) (are_front g1.code 0 body (last ∷ []) compiled.compiled.code_is) compiled.compiled.names (record { low_on = omega arith; low_continued = omega arith; low_returned = omega arith; on_continued = n01; on_returned = n02; continued_returned = n12 })
-          (record {
-            at = record { home_is = ap (λ z. new_home g1 k.function (names_of a c k.arguments) z c.home.opened) home_sizes ∙ ap (λ z. new_home g1 k.function (names_of a c k.arguments) frame.sizes z) home_opened; waiting_is = refl; pc_is = refl };
-            mask = put_same (λ j. nobody) 0 (c.masks k.mask.number) ∙ is.mask;
-            some = is.some;
-            inside = λ p e. (is.inside p e, λ i. let no : true ≡ false = sym i ∙ compiled.compiled.outside in absurd (cc));
-            stands = begins n;
-            used = is.used;
-            low = omega arith;
-          }))
+          (kept_body_runs (inner n) settled h1.body compiled.compiled.constants 0 compiled.numbers (1 + q) a start begun_conf
+          (block_parts (inner n) h1.body 3 (λ i e. (settled.counter i e).constant) (record { fine = compiled.compiled.fine.body; rated = compiled.compiled.rated; named = compiled.compiled.named; free = subst (λ o. BlockFree o h1.body) (sym compiled.compiled.run) compiled.compiled.free }))
+          compiled.compiled.keeps compiled.compiled.spares_typed (are_front g1.code 0 body (last ∷ []) compiled.compiled.code_is) compiled.compiled.names
+          (record { home_is = ap (λ z. new_home g1 k.function (names_of a c k.arguments) z c.home.opened) home_sizes ∙ ap (λ z. new_home g1 k.function (names_of a c k.arguments) frame.sizes z) home_opened; waiting_is = refl; pc_is = refl })
+          (put_same (λ j. nobody) 0 (c.masks k.mask.number) ∙ is.mask) is.some (λ p e. (is.inside p e, λ i. let no : true ≡ false = sym i ∙ compiled.compiled.outside in absurd (cc))) (begins n)
+          (λ t b p kept out. ap (λ (f : ℕ → ℕ). f p) (own.each_end (l1.constant Varying t b) (compiled.compiled.passed.constant Varying t b))) is.used)
 
       -- the first step
       enters_there : nat_lt (depth c) 256 ≡ true → ComesIn code c 1 begun_conf

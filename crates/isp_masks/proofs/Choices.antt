@@ -16,7 +16,8 @@ use Rattle.isp_meaning.specs.State.{State}
 use Rattle.isp_meaning.specs.Payloads.{Payload, is_true, kept_by}
 use Rattle.isp_meaning.specs.Outcomes.{Res, Went, Trapped, Cut, go_on, went_all, both_sides, unless_empty, if_so}
 use Rattle.isp_meaning.specs.Statements.{branches}
-use Rattle.isp_lower.specs.Code.{jump_off, guard}
+use Rattle.isp_lower.specs.Instructions.{jump_off}
+use Rattle.isp_lower.specs.Pieces.{guard}
 use Rattle.isp_lower.specs.Layout.{register, mask_register}
 use Rattle.isp_lower.specs.Runs.{Comes}
 use Rattle.isp_lower.specs.Setting.{Setting, IsSettled, gang_of, AreAt, At, Stands, Holds, Allowed}

@@ -12,7 +12,8 @@ use Rattle.isp_tree.specs.declared.stmt.Form.{Form}
 use Rattle.isp_meaning.specs.State.{State}
 use Rattle.isp_meaning.specs.Outcomes.{Val, Gives, Fails, Stops, Done, Res, Went, Trapped, Cut, with_value, go_on, went_all, unless_empty, if_so}
 use Rattle.isp_meaning.specs.Statements.{all_go}
-use Rattle.isp_lower.specs.Code.{guard, jump_off}
+use Rattle.isp_lower.specs.Instructions.{jump_off}
+use Rattle.isp_lower.specs.Pieces.{guard}
 use Rattle.isp_lower.specs.Layout.{mask_register}
 use Rattle.isp_lower.specs.Runs.{Comes, Ok, Runs, DoneRuns}
 use Rattle.isp_lower.specs.Setting.{Setting, IsSettled, gang_of, AreAt, At, Stands, Spares}

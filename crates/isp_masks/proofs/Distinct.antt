@@ -31,7 +31,10 @@ use Rattle.isp_meaning.specs.Rounds.{Round, have, holders, rounds, round_of_valu
 use Rattle.isp_meaning.specs.State.{State, tick}
 use Rattle.isp_meaning.proofs.Distinct.{unique_first, unique_none}
 use Rattle.isp_meaning.proofs.Members.{any_at, lowest_below, lowest_in, no_lowest}
-use Rattle.isp_lower.specs.Code.{compare, convert, copy, expr_code, expr_places, operand, operand_of, splat}
+use Rattle.isp_lower.specs.Code.{expr_code}
+use Rattle.isp_lower.specs.Found.{operand, operand_of}
+use Rattle.isp_lower.specs.Instructions.{compare, convert, copy, splat}
+use Rattle.isp_lower.specs.Spans.{expr_places}
 use Rattle.isp_lower.specs.Layout.{mask_register, register}
 use Rattle.isp_lower.specs.Library.{reduce}
 use Rattle.isp_lower.specs.Runs.{Comes, Ok}
@@ -411,9 +414,9 @@ module _ (w : Setting) (ready : IsSettled w) (spot : Spot) (i : ℕ) (t : Elem) 
       → AreAt w.routine.code pc (whole_code pc p code) → AreAt w.code.places p (expr_places w.layout e) → AreThree spot → EntersAt w pc spot a s c q → StmtRuns w w.turns c (pc + length (whole_code pc p code)) spot q (meant body a s)
   unique_runs pc p q a s c code body fit runs has places three b =
       let few_heads : heads e ≤ 1 = few w e slot fit.expr in
-      let ran = expr_runs w ready e pc p spot.on slot (32 + q) (1 + (2 + q)) a (tick s) c fit.expr (are_front w.routine.code pc ce _ at_values) places (omega arith) (enters_part w ready pc spot.on slot (32 + q) q a s c (omega arith) b) in
       with_runs w ready c pc1 slot 2 q (Holds Varying a y) (value (gang_of w) w.frame (calls_of w) e a (tick s)) _ end spot
-      (operand_runs w ready c pc spot.on slot (2 + q) a (value (gang_of w) w.frame (calls_of w) e a (tick s)) Varying (elem_in e) e ce fit.operand b.mask b.low at_values ran) keeps
+      (operand_runs w ready c pc spot.on slot (32 + q) (2 + q) a (tick s) Varying (elem_in e) e ce fit.operand (omega arith) (enters_part w ready pc spot.on slot (32 + q) q a s c (omega arith) b) at_values
+      (λ at. expr_runs w ready e pc p spot.on slot (32 + q) (1 + (2 + q)) a (tick s) c fit.expr at places (omega arith) (enters_part w ready pc spot.on slot (32 + q) q a s c (omega arith) b))) keeps
     where
       slot : ℕ
       slot = spot.slot

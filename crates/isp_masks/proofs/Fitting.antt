@@ -23,7 +23,7 @@ use Rattle.isp_masks.proofs.Bodies.{body_as, body_run, run_as, with_layout}
 use Rattle.isp_masks.specs.Free.{BlockFree, FirstFree, IsApartFrom, ItemsFree, NoneYet, StmtFree, StmtsFree, last_index_of}
 use Rattle.isp_masks.specs.Statements.{body_layout}
 use Rattle.isp_lower.specs.Layout.{Layout, outside}
-use Rattle.isp_lower.specs.Rows.{Name, Variable, Result, Spare, Place, Fresh}
+use Rattle.isp_lower.specs.Rows.{Name, Variable, Result, Spare, Place, Fresh, Kept}
 use Rattle.isp_lower.specs.Tables.{AnyMask, IsLoadedIn, IsNamedIn, Table}
 use Rattle.isp_typed.specs.Fine.{FineBlock, FineFirst, FineRange, FineSimple, FineStmt, FineStmts, HoldsArray, foreach_index}
 use Rattle.isp_tree.specs.Sound.{IfAny}
@@ -51,7 +51,7 @@ module _ (w : Setting) where
   one_for_all Varying re = absurd re
 
   bound_fits : (x : TExpr) (n : ℕ) → OperandTree Uniform I32 x → ExprTree w.program.functions x → Named (bound_asks x n) → BoundParts w x n
-  bound_fits x n o t i = (one_for_all (type_of x).rate o.reaches, o.elem, i.0, expr_fits w x n t i.1)
+  bound_fits x n o t i = (one_for_all (type_of x).rate o.reaches, o.elem, i.0, expr_fits w x n t i.1.1.1)
 
   bounds_fit : (rs : List TRange) (n : ℕ) → RangesTree w.program.functions rs → Named (bounds_asks rs n) → BoundsParts w rs n
   bounds_fit [] n t i = tt
@@ -113,6 +113,7 @@ named_same h l o d r Result t f = f
 named_same h l o d r (Spare u j) t f = f
 named_same h l o d r Place t f = f
 named_same h l o d r (Fresh j) t f = f
+named_same h l o d r (Kept u b) t f = f
 
 table_same : (h : Routine) (l : Layout) (vars : List variable.Variable) (o : Option ℕ) (d : Bool) (a : Ask) → Table h l vars a → Table h (run_as l o d) vars a
 table_same h l vars o d a f =

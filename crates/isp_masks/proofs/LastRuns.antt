@@ -26,13 +26,14 @@ use Rattle.isp_meaning.specs.Payloads.{Payload, One, Each, sole}
 use Rattle.isp_meaning.specs.Places.{written}
 use Rattle.isp_meaning.specs.Rounds.{Range, Round, rounds, from_on, last_run}
 use Rattle.isp_meaning.specs.State.{State}
-use Rattle.isp_lower.specs.Code.{compute, convert, copy, jump_off, splat, two}
+use Rattle.isp_lower.specs.Instructions.{compute, convert, copy, jump_off, splat}
+use Rattle.isp_lower.specs.Pieces.{two}
 use Rattle.isp_lower.specs.Consecutive.{CountsFrom, RunHolds}
 use Rattle.isp_lower.specs.Layout.{Layout, mask_register, within}
 use Rattle.isp_lower.specs.Runs.{Comes, DoneOk}
 use Rattle.isp_lower.specs.Setting.{Setting, IsSettled, gang_of, AreAt, At, Stands, Spares, IsOther}
 use Rattle.isp_lower.specs.Tables.{IsTyped}
-use Rattle.isp_lower.proofs.Lemmas.{are_front, are_back, put_same, put_other, comes_on, comes_none, step_go, at_to, spares_all, spares_less, spares_on, failed_less, stopped_less, jumped, jump_comes, jump_at, masked, masked_at, set_at, set_comes, set_goes, set_spares, set_stands, variable_spares, written_stands, none_holds}
+use Rattle.isp_lower.proofs.Lemmas.{scalar_put, are_front, are_back, put_same, put_other, comes_on, comes_none, step_go, at_to, spares_all, spares_less, spares_on, failed_less, stopped_less, jumped, jump_comes, jump_at, masked, masked_at, set_at, set_comes, set_goes, set_spares, set_stands, variable_spares, written_stands, none_holds}
 use Rattle.isp_masks.specs.Ranges.{goes_on, wide, narrow, lane, range_mask, last_index, next_index, run_back, run_place, run_step}
 use Rattle.isp_masks.specs.Spots.{body_spot}
 use Rattle.isp_masks.specs.StmtRuns.{StmtRuns}
@@ -72,6 +73,7 @@ module _ (w : Setting) (ready : IsSettled w) (none : w.layout.run ≡ None) wher
     arrays_are = st.arrays_are;
     out_is = st.out_is;
     run = none_holds w.layout.run w.start w.members (put c.scalars (w.layout.place Uniform) (sole y) (w.layout.place Uniform)) s.varying none;
+    constants = scalar_put w.layout (gang_of w) c.scalars c.vectors (w.layout.place Uniform) (sole y) (λ t b k. ready.apart.kept_place Uniform t b k) st.constants;
   }
 
   pub run_place_is : (i h m : ℕ) (d : Bool) → w.layout.loaded i ≡ d → m < h → IsTyped w Uniform (w.layout.place Uniform) I64 → IsTyped w Uniform (wide w.layout m) I64 → IsRunPlace w i h m d (run_place w.layout d m)

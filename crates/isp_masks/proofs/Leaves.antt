@@ -15,10 +15,13 @@ use Rattle.isp_meaning.specs.Payloads.{Payload, sole, spread}
 use Rattle.isp_meaning.specs.Outcomes.{Went, with_value}
 use Rattle.isp_meaning.specs.Expressions.{value}
 use Rattle.isp_meaning.specs.Statements.{answered, answered_at, jumped}
-use Rattle.isp_lower.specs.Code.{copy, found, operand, operand_of, expr_places, expr_code}
+use Rattle.isp_lower.specs.Code.{expr_code}
+use Rattle.isp_lower.specs.Found.{found, operand, operand_of}
+use Rattle.isp_lower.specs.Instructions.{copy}
+use Rattle.isp_lower.specs.Spans.{expr_places}
 use Rattle.isp_lower.specs.Runs.{Comes}
 use Rattle.isp_lower.specs.Setting.{Setting, IsSettled, gang_of, calls_of, AreAt, At, Stands, Spares, at_rate, held_at, Holds}
-use Rattle.isp_lower.proofs.Lemmas.{are_front, are_back, put_same, put_other, comes_on, step_go, at_to, spares_all, spares_on, set_comes, set_goes, set_masks, few, masked, masked_at, set_at, copy_line, enters_part, operand_runs, expr_runs, run_place}
+use Rattle.isp_lower.proofs.Lemmas.{are_front, are_back, put_same, put_other, comes_on, step_go, at_to, spares_all, spares_on, set_comes, set_goes, set_masks, few, masked, masked_at, set_at, copy_line, enters_part, operand_runs, expr_runs, run_place, scalar_put, vector_put}
 use Rattle.isp_masks.specs.Sets.{unite, clear_mask, leave_code, jump_code}
 use Rattle.isp_masks.specs.Statements.{answer_code}
 use Rattle.isp_masks.specs.Spots.{Spot}
@@ -114,6 +117,7 @@ module _ (w : Setting) (ready : IsSettled w) where
     arrays_are = st.arrays_are;
     out_is = st.out_is;
     run = run_place w.layout.run w.start w.members (c.scalars (w.layout.place Uniform)) (put c.scalars (w.layout.result Uniform) (sole y) (w.layout.place Uniform)) s.varying (sym (put_other c.scalars (w.layout.result Uniform) (sole y) (w.layout.place Uniform) (ready.apart.place_result Uniform))) st.run;
+    constants = scalar_put w.layout (gang_of w) c.scalars c.vectors (w.layout.result Uniform) (sole y) (λ t b k. ready.apart.kept_result Uniform t b k) st.constants;
   }
   result_stands Varying c a m s y st e =
       let x = over (spread nobody y) (c.vectors (w.layout.result Varying)) in
@@ -126,6 +130,7 @@ module _ (w : Setting) (ready : IsSettled w) where
         arrays_are = st.arrays_are;
         out_is = st.out_is;
         run = st.run;
+        constants = vector_put w.layout (gang_of w) c.scalars c.vectors (w.layout.result Varying) x (λ t b k. ready.apart.kept_result Varying t b k) st.constants;
       }
 
   result_spares : (r : Rate) (n : ℕ) (c : Conf) (y : Payload) → Spares w n c (set_at r c (w.layout.result r) y)
@@ -160,8 +165,8 @@ module _ (w : Setting) (ready : IsSettled w) where
       let e2 : pc + length (ca ++ put_it) ≡ pc1 + 1 = omega (arith, length-append ca put_it) in
       let h2 : AreAt w.routine.code (pc1 + 1) (leave_code spot.returned spot.on) = subst (λ z. AreAt w.routine.code z (leave_code spot.returned spot.on)) e2 (are_back w.routine.code pc (ca ++ put_it) (leave_code spot.returned spot.on) has) in
       with_runs w ready c pc1 spot.slot 3 (1 + q) (Holds t.rate a u) (value (gang_of w) w.frame (calls_of w) x a (tick s)) _ end spot
-      (operand_runs w ready c pc spot.on spot.slot (3 + (1 + q)) a (value (gang_of w) w.frame (calls_of w) x a (tick s)) t.rate t.elem x cx fit.0 b.mask b.low ha
-      (expr_runs w ready x pc p spot.on spot.slot (32 + q) (1 + (3 + (1 + q))) a (tick s) c fit.1 (are_front w.routine.code pc cx _ ha) places (omega arith) (enters_part w ready pc spot.on spot.slot (32 + q) q a s c (omega arith) b)))
+      (operand_runs w ready c pc spot.on spot.slot (32 + q) (3 + (1 + q)) a (tick s) t.rate t.elem x cx fit.0 (omega arith) (enters_part w ready pc spot.on spot.slot (32 + q) q a s c (omega arith) b) ha
+      (λ at. expr_runs w ready x pc p spot.on spot.slot (32 + q) (1 + (3 + (1 + q))) a (tick s) c fit.1 at places (omega arith) (enters_part w ready pc spot.on spot.slot (32 + q) q a s c (omega arith) b)))
       (λ m s1 ok.
       let c1 = ok.conf in
       let em : c1.masks spot.on ≡ a = ok.masks spot.on b.low ∙ b.mask in

@@ -6,6 +6,10 @@ mod Names
 mod Combine
 mod Sides
 mod KeptParts
+mod ConstantsRun
+mod ConstantBodies
+mod ConstantsSound
+mod ConstantRows
 mod Choices
 mod Leaves
 mod Sequences

@@ -1,5 +1,5 @@
 -- The code of a loop does what the loop means, where the code of its body does.
-use Rattle.std.proofs.Common.{false, ◌≡◌, ℕ, ◌+◌, ◌≤◌, List, ◌++◌, length, Option, Some, None, refl, sym, ◌∙◌, subst, arith, length-append}
+use Rattle.std.proofs.Common.{false, ◌≡◌, ℕ, ◌+◌, ◌≤◌, List, [], ◌++◌, length, Option, Some, None, refl, sym, ◌∙◌, subst, arith, length-append}
 use Rattle.isp_base.specs.Sets.{Mask}
 use Rattle.isp_base.specs.Types.{gang_width}
 use Rattle.isp_base.specs.declared.types.Span.{Span}
@@ -16,17 +16,20 @@ use Rattle.isp_meaning.specs.Simple.{first_part, step_part}
 use Rattle.isp_meaning.specs.State.{State, tick}
 use Rattle.isp_meaning.specs.Statements.{run, test_part}
 use Rattle.isp_meaning.proofs.Parts.{four_sets}
-use Rattle.isp_lower.specs.Code.{two, found, expr_places, expr_code}
-use Rattle.isp_lower.specs.Runs.{Enters, Failed, Stopped, DoneOk, DoneRuns}
+use Rattle.isp_lower.specs.Code.{expr_code}
+use Rattle.isp_lower.specs.Spans.{expr_places}
+use Rattle.isp_lower.specs.Found.{found}
+use Rattle.isp_lower.specs.Pieces.{two}
+use Rattle.isp_lower.specs.Runs.{Failed, Stopped, DoneRuns, Enters}
 use Rattle.isp_lower.specs.Setting.{Setting, IsSettled, gang_of, calls_of, AreAt}
-use Rattle.isp_lower.proofs.Lemmas.{are_front, are_back, comes_none, at_to, spares_all, failed_less, stopped_less, expr_runs, few, items_run, enters_part, simple_runs, ExprParts}
+use Rattle.isp_lower.proofs.Lemmas.{are_front, are_back, failed_less, stopped_less, expr_runs, few, items_run, enters_part, simple_runs, ExprParts}
 use Rattle.isp_masks.specs.Exits.{exits_of, all_go_on, nobody_leaves, only_returns}
 use Rattle.isp_masks.specs.Fors.{first_code, step_code, first_places, step_places}
 use Rattle.isp_masks.specs.LoopRuns.{TestRuns, BodyRuns, StepRuns, IsBody, LoopsRun}
 use Rattle.isp_masks.specs.Loops.{is_wide, for_code, endless_code}
-use Rattle.isp_masks.specs.Named.{Named}
+use Rattle.isp_masks.specs.Named.{AreNamed, Named}
 use Rattle.isp_masks.specs.Spots.{Numbers, Spot, body_spot, past}
-use Rattle.isp_masks.specs.Statements.{stmt_places, stmt_code}
+use Rattle.isp_masks.specs.Statements.{stmt_places, stmt_texts, stmt_code, test_place}
 use Rattle.isp_masks.specs.StmtRuns.{AreThree, aside, EntersAt, StmtRuns}
 use Rattle.isp_masks.proofs.Combine.{stmt_after, stmt_less}
 use Rattle.isp_masks.proofs.Exiting.{run_leaves}
@@ -34,6 +37,7 @@ use Rattle.isp_masks.proofs.Loops.{loops_run}
 use Rattle.isp_masks.proofs.Names.{named_before, named_past}
 use Rattle.isp_masks.proofs.Sequences.{set_aside}
 use Rattle.isp_masks.proofs.Parts.{FirstFits, StepFits, StmtParts}
+use Rattle.isp_masks.proofs.Turns.{none_done}
 
 -- the masks of a loop, for its body
 pub masks_of : (n : ℕ) → AreThree (body_spot n)
@@ -68,39 +72,42 @@ module _ (w : Setting) (ready : IsSettled w) where
   is_body x T s =
       (subst (λ u. Parted T (run (gang_width u) w.frame (calls_of w) w.turns x T s)) (sym ready.gang) (four_sets w.program w.turns w.left w.frame x T s), run_leaves (gang_of w) w.frame (calls_of w) w.turns x T s)
 
-  -- nothing is done
-  none_done : (pc k n q : ℕ) (a : Mask) (s : State) (c : Conf) → Enters w pc k n a s c q → DoneOk w c (pc + 0) n q s
-  none_done pc k n q a s c b = record {
-    conf = c;
-    steps = 0;
-    comes = comes_none w c;
-    at = at_to w c pc (pc + 0) b.at (omega arith);
-    stands = b.stands;
-    spares = spares_all w n c;
-    masks = λ r lt. refl;
-    bound = omega (arith, b.used);
-  }
-
   step_runs : (o : Option TSimple) (n p : ℕ) → StepFits w o (n + 3) → AreAt w.code.places p (step_places w.layout o) → StepRuns w n (λ pc. step_code w.layout o pc p n (n + 3)) (step_part (gang_of w) w.frame (calls_of w) o)
-  step_runs None n p fit places T s c pc z has b = none_done pc n (n + 3) z T s c b
+  step_runs None n p fit places T s c pc z has b = none_done w ready pc n (n + 3) z T s c b
   step_runs (Some x) n p fit places T s c pc z has b = simple_runs w ready x pc p n (n + 3) z T s c fit has places b
 
   -- the first part of a `for`, whose own unit of work leaves 32 steps
   first_runs : (o : Option TFirst) (pc p k n q : ℕ) (a : Mask) (s : State) (c : Conf) → FirstFits w o n → AreAt w.routine.code pc (first_code w.layout o pc p k n) → AreAt w.code.places p (first_places w.layout o) → Enters w pc k n a s c q → DoneRuns w c (pc + length (first_code w.layout o pc p k n)) n q (first_part (gang_of w) w.frame (calls_of w) o a s)
-  first_runs None pc p k n q a s c fit has places b = none_done pc k n q a s c b
+  first_runs None pc p k n q a s c fit has places b = none_done w ready pc k n q a s c b
   first_runs (Some (t_first_declare xs sp)) pc p k n q a s c fit has places b = items_run w ready xs pc p k n q a (tick s) c fit has places (enters_part w ready pc k n q q a s c (omega arith) b)
   first_runs (Some (t_first_simple x)) pc p k n q a s c fit has places b = simple_runs w ready x pc p k n q a s c fit has places b
+
+  -- what stands behind the places of a body and a step
+  behind_step : (x : TStmt) (o : Option TSimple) (z : Numbers) (ps : List Span) → AreNamed w.code z (stmt_places w.layout x ++ (step_places w.layout o ++ ps)) (stmt_texts x) → AreAt w.code.places (test_place w.layout x o z) ps
+  behind_step x o z ps names =
+      let px = stmt_places w.layout x in
+      let po = step_places w.layout o in
+      are_back w.code.places (z.place + length px) po ps (are_back w.code.places z.place px (po ++ ps) names.places_are)
+
+  step_front : (x : TStmt) (o : Option TSimple) (z : Numbers) (ps : List Span) → AreNamed w.code z (stmt_places w.layout x ++ (step_places w.layout o ++ ps)) (stmt_texts x) → AreAt w.code.places (z.place + length (stmt_places w.layout x)) (step_places w.layout o)
+  step_front x o z ps names =
+      let px = stmt_places w.layout x in
+      let po = step_places w.layout o in
+      are_front w.code.places (z.place + length px) po ps (are_back w.code.places z.place px (po ++ ps) names.places_are)
 
   -- ---- the loops
 
   pub while_runs : (f : Form) (g : ℕ) (e : TExpr) (x : TStmt) (sp : Span) → CodeRuns x → CodeRuns (t_while f g e x sp)
   while_runs f g e x sp r pc z spot q a s c fit has names three b =
       let pe = expr_places w.layout e in
+      let px = stmt_places w.layout x in
       let n = spot.slot in
+      let z1 = past pe z in
+      let rest = named_past w.code z pe _ _ names in
       let wide = is_wide f (type_of e).rate in
       let l : LoopsRun w wide (exits_of x) spot a = loops_run w ready wide (exits_of x) spot a three in
       set_aside w ready (nobody_leaves (only_returns (exits_of x))) c _ spot q _
-      (l.while_loop (type_of e).rate (found w.layout e (n + 3)) pc q s c _ _ _ _ (test_runs e n z.place fit.0 (are_front w.code.places z.place pe _ names.places_are)) (body_runs x n (past pe z) r fit.1 (named_past w.code z pe _ _ names)) (is_body x) has b)
+      (l.while_loop (type_of e).rate (found w.layout e (n + 3)) pc q s c _ _ _ _ _ (test_runs e n z.place fit.0 (are_front w.code.places z.place pe _ names.places_are)) (test_runs e n (test_place w.layout x None z1) fit.0 (behind_step x None z1 pe rest)) (body_runs x n z1 r fit.1 (named_before w.code z1 px _ _ rest)) (is_body x) has b)
 
   pub do_runs : (f : Form) (g : ℕ) (x : TStmt) (e : TExpr) (sp : Span) → CodeRuns x → CodeRuns (t_do f g x e sp)
   do_runs f g x e sp r pc z spot q a s c fit has names three b =
@@ -109,7 +116,7 @@ module _ (w : Setting) (ready : IsSettled w) where
       let wide = is_wide f (type_of e).rate in
       let l : LoopsRun w wide (exits_of x) spot a = loops_run w ready wide (exits_of x) spot a three in
       set_aside w ready (nobody_leaves (only_returns (exits_of x))) c _ spot q _
-      (l.do_loop (type_of e).rate (found w.layout e (n + 3)) pc q (tick s) c _ _ _ _ (test_runs e n (z.place + length px) fit.0 (are_back w.code.places z.place px _ names.places_are)) (body_runs x n z r fit.1 (named_before w.code z px _ _ names)) (is_body x) has (enters_part w ready pc spot.on n (3 + q) q a s c (omega arith) b))
+      (l.do_loop (type_of e).rate (found w.layout e (n + 3)) pc q (tick s) c _ _ _ _ (test_runs e n (test_place w.layout x None z) fit.0 (behind_step x None z (expr_places w.layout e) names)) (body_runs x n z r fit.1 (named_before w.code z px _ _ names)) (is_body x) has (enters_part w ready pc spot.on n (3 + q) q a s c (omega arith) b))
 
   -- the first part of a `for`, and what follows it
   behind_first : (o : Option TFirst) (pc p : ℕ) (spot : Spot) (q : ℕ) (a : Mask) (s : State) (c : Conf) (code : ℕ → List Instr) (next : State → Res) → FirstFits w o spot.slot → AreAt w.routine.code pc (two pc (first_code w.layout o pc p spot.on spot.slot) code) → AreAt w.code.places p (first_places w.layout o) → AreThree spot → EntersAt w pc spot a s c q
@@ -161,7 +168,7 @@ module _ (w : Setting) (ready : IsSettled w) where
       (behind_first first pc z.place spot q a s c
       (λ pc1. endless_code (exits_of x) pc1 spot (λ pc2. stmt_code w.layout w.frame.answer x pc2 z1 (body_spot n)) (λ pc2. step_code w.layout step pc2 (z1.place + length px) n (n + 3)))
       (λ s1. looped None x step a s1) fit.0 has (are_front w.code.places z.place pf _ names.places_are) three b
-      (λ pc1 s1 c1 y at en. l.endless_loop pc1 y s1 c1 _ _ _ _ (body_runs x n z1 r fit.3 (named_before w.code z1 px _ _ own)) (step_runs step n (z1.place + length px) fit.2 (are_back w.code.places z1.place px _ own.places_are)) (is_body x) at en))
+      (λ pc1 s1 c1 y at en. l.endless_loop pc1 y s1 c1 _ _ _ _ (body_runs x n z1 r fit.3 (named_before w.code z1 px _ _ own)) (step_runs step n (z1.place + length px) fit.2 (step_front x step z1 [] own)) (is_body x) at en))
   for_runs f g first (Some e) step i x sp r pc z spot q a s c fit has names three b =
       let pf = first_places w.layout first in
       let pe = expr_places w.layout e in
@@ -175,6 +182,6 @@ module _ (w : Setting) (ready : IsSettled w) where
       let l : LoopsRun w wide (exits_of x) spot a = loops_run w ready wide (exits_of x) spot a three in
       set_aside w ready (nobody_leaves (only_returns (exits_of x))) c _ spot q _
       (behind_first first pc z.place spot q a s c
-      (λ pc1. for_code wide (exits_of x) (type_of e).rate (found w.layout e (n + 3)) pc1 spot (λ pc2. expr_code w.layout e pc2 z1.place n (n + 3)) (λ pc2. stmt_code w.layout w.frame.answer x pc2 z2 (body_spot n)) (λ pc2. step_code w.layout step pc2 (z2.place + length px) n (n + 3)))
+      (λ pc1. for_code wide (exits_of x) (type_of e).rate (found w.layout e (n + 3)) pc1 spot (λ pc2. expr_code w.layout e pc2 z1.place n (n + 3)) (λ pc2. expr_code w.layout e pc2 (test_place w.layout x step z2) n (n + 3)) (λ pc2. stmt_code w.layout w.frame.answer x pc2 z2 (body_spot n)) (λ pc2. step_code w.layout step pc2 (z2.place + length px) n (n + 3)))
       (λ s1. looped (Some e) x step a s1) fit.0 has (are_front w.code.places z.place pf _ names.places_are) three b
-      (λ pc1 s1 c1 y at en. l.for_loop (type_of e).rate (found w.layout e (n + 3)) pc1 y s1 c1 _ _ _ _ _ _ (test_runs e n z1.place fit.1 (are_front w.code.places z1.place pe _ own.places_are)) (body_runs x n z2 r fit.3 (named_before w.code z2 px _ _ rest)) (step_runs step n (z2.place + length px) fit.2 (are_back w.code.places z2.place px _ rest.places_are)) (is_body x) at en))
+      (λ pc1 s1 c1 y at en. l.for_loop (type_of e).rate (found w.layout e (n + 3)) pc1 y s1 c1 _ _ _ _ _ _ _ (test_runs e n z1.place fit.1 (are_front w.code.places z1.place pe _ own.places_are)) (test_runs e n (test_place w.layout x step z2) fit.1 (behind_step x step z2 pe rest)) (body_runs x n z2 r fit.3 (named_before w.code z2 px _ _ rest)) (step_runs step n (z2.place + length px) fit.2 (step_front x step z2 pe rest)) (is_body x) at en))

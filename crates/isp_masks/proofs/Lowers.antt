@@ -80,6 +80,9 @@ module _ (fs : List TFunction) (code : Listing) (h : TFunction) (g : Routine) (f
     rows_are = low.present;
     result = result_row h.variables h.answer low.rows low.scalars_first low.vectors_first;
     masks = low.three;
+    constants = low.constants;
+    keeps = low.keeps;
+    spares = low.spares;
     code_is = low.code_is;
     low = low.low;
     low_texts = low.low_texts;

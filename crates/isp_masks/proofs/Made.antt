@@ -1,5 +1,5 @@
 -- A routine that is made from a function is what is asked of code.
-use Rattle.std.proofs.Common.{◌≡◌, ℕ, suc, ◌+◌, ◌≤◌, List, [], ◌∷◌, length, Option, Some, None, refl, sym, subst, arith}
+use Rattle.std.proofs.Common.{◌≡◌, ℕ, suc, ◌+◌, ◌≤◌, List, [], ◌∷◌, length, Option, Some, None, false, refl, sym, subst, arith}
 use Rattle.std.specs.Prelude.{slice_get, option_map}
 use Rattle.std.proofs.lemmas.Option.{slice_get_within}
 use Rattle.isp_base.specs.declared.types.Elem.{Elem}
@@ -12,6 +12,7 @@ use Rattle.isp_code.specs.Listing.{Listing, Routine}
 use Rattle.isp_code.specs.Registers.{elem_of}
 use Rattle.isp_typed.specs.Fine.{FineFunction}
 use Rattle.isp_typed.specs.Typed.{Program, TFunction}
+use Rattle.isp_lower.specs.Asks.{All}
 use Rattle.isp_lower.specs.Callees.{rates_in}
 use Rattle.isp_lower.specs.Layout.{register}
 use Rattle.isp_lower.specs.Emitted.{Begins, first_rows}
@@ -19,7 +20,8 @@ use Rattle.isp_lower.specs.Rows.{Rows, Result, HasRow, IsLoaded, layout_of}
 use Rattle.isp_lower.specs.Setting.{AreAt}
 use Rattle.isp_lower.specs.Sound.{HasMask, HasHeader, HasRegister}
 use Rattle.isp_lower.specs.Tables.{AnyArray, IsLoadedIn}
-use Rattle.isp_lower.proofs.Lemmas.{layout_apart, register_there, all_grow}
+use Rattle.isp_lower.proofs.Lemmas.{kept_there, layout_apart, register_there, all_grow}
+use Rattle.isp_lower.specs.declared.registers.Constant.{Constant}
 use Rattle.isp_masks.specs.Accepted.{IsBodyCode}
 use Rattle.isp_masks.specs.Compiled.{ResultFits, IsCompiled, IsEntry}
 use Rattle.isp_lower.specs.Header.{value_returned, returns_of}
@@ -27,6 +29,7 @@ use Rattle.isp_masks.specs.Made.{ResultRow, IsMade, IsUniform, GivesUniform}
 use Rattle.isp_masks.specs.Spots.{Numbers}
 use Rattle.isp_masks.specs.Statements.{block_places, block_texts, returned, function_code}
 use Rattle.isp_masks.proofs.ArraysThere.{BodyPresent, body_present}
+use Rattle.isp_masks.specs.Keeping.{Each, constants_asks}
 use Rattle.isp_masks.proofs.Passing.{passed_first}
 use Rattle.isp_masks.specs.Asks.{block_asks}
 use Rattle.isp_masks.specs.Rated.{BlockRated}
@@ -65,6 +68,15 @@ module _ (fs : List TFunction) (code : Listing) (h : TFunction) (g : Routine) (r
   given (Some t) row e =
       subst (λ z. IsGiven g z (Some (register t.rate ((layout_of (rates_in fs) rows).result t.rate)))) (sym e) (given_at t.rate t.elem (register_there g (rates_in fs) rows made.types t.rate Result t.elem row))
 
+  -- what the code asks for that keeps constants
+  there : (ks : List Constant) → All (HasRow rows) AnyArray AnyArray (HasMask g) (IsLoaded rows) (constants_asks 3 ks) → All (HasRegister g (layout_of (rates_in fs) rows)) AnyArray AnyArray (HasMask g) (IsLoadedIn (layout_of (rates_in fs) rows)) (constants_asks 3 ks)
+  there ks f =
+      all_grow (HasRow rows) (HasRegister g (layout_of (rates_in fs) rows)) AnyArray AnyArray AnyArray AnyArray (HasMask g) (HasMask g) (IsLoaded rows) (IsLoadedIn (layout_of (rates_in fs) rows)) (register_there g (rates_in fs) rows made.types) (λ b z. z) (λ b z. z) (λ n z. z) (λ v z. z) (constants_asks 3 ks) f
+
+  spares_typed : (ks : List Constant) → All (HasRegister g (layout_of (rates_in fs) rows)) AnyArray AnyArray (HasMask g) (IsLoadedIn (layout_of (rates_in fs) rows)) (constants_asks 3 ks) → Each (λ x. elem_of g (register Uniform ((layout_of (rates_in fs) rows).spare Uniform x.elem 3)) ≡ x.elem) ks
+  spares_typed [] f = tt
+  spares_typed (x ∷ xs) f = (f.1.0.1, spares_typed xs f.1.1)
+
   pub made_accepted : ((f : ℕ) (k : TFunction) → slice_get fs f ≡ Some k → HasHeader code f k) → BlockRated fs h.answer h.body → IsBodyCode code g
   made_accepted headers plain = record {
     layout = layout_of (rates_in fs) rows;
@@ -76,9 +88,12 @@ module _ (fs : List TFunction) (code : Listing) (h : TFunction) (g : Routine) (r
     variables = h.variables;
     fine = fine.body;
     rated = plain;
-    links = record { rates = refl; headers = headers };
+    links = record { rates = refl; headers = headers; constants = kept_there g (rates_in fs) rows made.types };
     present = present.present;
     masks = made.masks;
+    constants = made.constants;
+    kept = made.keeps.all;
+    spares = there made.constants made.spares;
     places = at_low code.places z.place (block_places (layout_of (rates_in fs) rows) h.body) made.low made.names.places_are;
     texts = at_low code.texts z.text (block_texts h.body) made.low_texts made.names.texts_are;
     given = given h.answer made.result made.returns;
@@ -101,12 +116,16 @@ made_compiled program code f h g rows z gang source found fine plain free made s
   rates = refl;
   fine = fine;
   passed = passed_first h (rates_in program.functions) rows scalars vectors;
-  code_is = subst (λ c. AreAt c 0 (function_code (layout_of (rates_in program.functions) rows) h.answer h.body 0 z)) (sym made.code_is) (at_whole (function_code (layout_of (rates_in program.functions) rows) h.answer h.body 0 z));
+  code_is = subst (λ c. AreAt c 0 (function_code (layout_of (rates_in program.functions) rows) h.answer made.constants h.body 0 z)) (sym made.code_is) (at_whole (function_code (layout_of (rates_in program.functions) rows) h.answer made.constants h.body 0 z));
   names = made.names;
   rated = plain;
   free = free;
   run = refl;
   outside = refl;
+  constants = made.constants;
+  keeps = made.keeps;
+  kept_typed = λ r t b e. (kept_there g (rates_in program.functions) rows made.types r t b e).1;
+  spares_typed = spares_typed program.functions code h g rows z fine made made.constants (there program.functions code h g rows z fine made made.constants made.spares);
   named = (present program.functions code h g rows z fine made).named;
   arrays = made.arrays;
 }

@@ -61,7 +61,7 @@ module _ (fs : List TFunction) (vars : List Variable) (answer : Option Ty) where
   unique_own i t e n is f = (operand_own vars answer fs Varying e n f, (tt, (turn_own i t is, (tt, ((tt, (tt, (tt, tt))), (tt, loop_own (n + 1)))))))
 
   bound_own : (x : TExpr) (n : ℕ) → FineValue fs vars I32 x → IsOwn vars answer (bound_asks x n)
-  bound_own x n f = (tt, expr_own vars answer fs x n f.0)
+  bound_own x n f = (tt, (tt, (tt, expr_own vars answer fs x n f.0)))
 
   bounds_own : (rs : List TRange) (n : ℕ) → All (FineRange fs vars) rs → IsOwn vars answer (bounds_asks rs n)
   bounds_own [] n f = tt

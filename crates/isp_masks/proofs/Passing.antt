@@ -19,7 +19,7 @@ use Rattle.isp_meaning.specs.Expressions.{Passed, Values, Store}
 use Rattle.isp_meaning.specs.Payloads.{Payload, sole, spread}
 use Rattle.isp_lower.specs.Emitted.{Begins, row_at, row_where, value_row, value_rows, result_rows, first_rows}
 use Rattle.isp_lower.specs.Layout.{Layout}
-use Rattle.isp_lower.specs.Rows.{Name, Variable, Result, Row, Rows, name_number, number_in, rows_at, layout_of}
+use Rattle.isp_lower.specs.Rows.{Name, Variable, Result, Kept, Row, Rows, name_number, number_in, rows_at, layout_of}
 use Rattle.isp_masks.specs.Passing.{count_if, count_value, value_count, HasRate, PassedFirst, Passes}
 
 -- ---- rates
@@ -129,6 +129,9 @@ passed_first h rates rows s v = record {
   result = λ r.
       let b = begun r in
       subst (λ z. value_count r (params_of h) ≤ number_in z Result) (sym b.1) (other_number r (length h.params) h.variables b.0 0 Result (λ u w e has same. omega (arith, same)));
+  constant = λ r t c.
+      let b = begun r in
+      subst (λ z. value_count r (params_of h) ≤ number_in z (Kept t c)) (sym b.1) (other_number r (length h.params) h.variables b.0 0 (Kept t c) (λ u w e has same. omega (arith, same)));
 }
   where
     begun : (r : Rate) → (more : List Row) × (rows_at rows r ≡ value_rows r 0 h.variables ++ more)

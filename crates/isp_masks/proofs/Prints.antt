@@ -22,7 +22,8 @@ use Rattle.isp_meaning.specs.Payloads.{Payload, sole, spread}
 use Rattle.isp_meaning.specs.Printing.{shown_at, shown_all}
 use Rattle.isp_meaning.specs.State.{State, tick}
 use Rattle.isp_lower.specs.Callees.{later}
-use Rattle.isp_lower.specs.Code.{operand, value_registers, values_code}
+use Rattle.isp_lower.specs.Code.{value_registers, values_code}
+use Rattle.isp_lower.specs.Found.{operand}
 use Rattle.isp_lower.specs.Runs.{Comes}
 use Rattle.isp_lower.specs.Setting.{Setting, IsSettled, gang_of, calls_of, AreAt, At, Holds}
 use Rattle.isp_lower.specs.Tables.{IsTyped}
@@ -163,7 +164,7 @@ module _ (w : Setting) (ready : IsSettled w) where
       let regs = value_registers w.layout (own_rates xs) (t_exprs xs) (n + 1) in
       let u = shown_at r (type_of x).elem (gang_of w) a m in
       wrote_on c (length (parts_code ps (own_rates xs) regs t k)) u (parts_text ps (shown_all (gang_of w) a xs ms))
-      (say_comes c pc (show r (operand w.layout r x n) k) u at has.0 (show_says r (type_of x).elem (operand w.layout r x n) k a m c (operand_typed w r (type_of x).elem x n fit.0 fit.1) hold.0 em))
+      (say_comes c pc (show r (operand w.layout r x n) k) u at has.0 (show_says r (type_of x).elem (operand w.layout r x n) k a m c (operand_typed w ready r (type_of x).elem x n fit.0 fit.1) hold.0 em))
       (parts_come ps xs ms (pc + 1) t k (n + 1) a (wrote c 1 u) (wrote_at c pc u at) has.1 texts em (hold_still (own_rates xs) a regs ms c (c.out ++ u) hold.1) fit.2)
 
   -- ---- the statement
@@ -201,7 +202,7 @@ module _ (w : Setting) (ready : IsSettled w) where
           let c2 = wrote ok.conf (length cb) (parts_text (parts text) vs) in
           let come = parts_come (parts text) xs ms (pc + length ca) z.text spot.on n a ok.conf ok.at (are_back w.routine.code pc ca cb has) texts (ok.masks spot.on b.low ∙ b.mask) ok.holds fit in
           plain_ok w ready c c2 (ok.steps + length cb) (pc + length (ca ++ cb)) spot q a (record s1 { out = s1.out ++ print_text text vs }) (comes_on w c ok.conf c2 ok.steps (length cb) ok.comes come) (record { home_is = ok.at.home_is; waiting_is = ok.at.waiting_is; pc_is = ap (λ i. i + length cb) ok.at.pc_is ∙ to })
-          (record { uniforms = ok.stands.uniforms; varying = ok.stands.varying; result = ok.stands.result; results = ok.stands.results; own_arrays = ok.stands.own_arrays; arrays_are = ok.stands.arrays_are; out_is = ap (λ o. o ++ parts_text (parts text) vs) ok.stands.out_is ∙ ap (λ u. s1.out ++ u) (text_is text vs); run = ok.stands.run })
+          (record { uniforms = ok.stands.uniforms; varying = ok.stands.varying; result = ok.stands.result; results = ok.stands.results; own_arrays = ok.stands.own_arrays; arrays_are = ok.stands.arrays_are; out_is = ap (λ o. o ++ parts_text (parts text) vs) ok.stands.out_is ∙ ap (λ u. s1.out ++ u) (text_is text vs); run = ok.stands.run; constants = ok.stands.constants })
           ok.spares ok.masks three b.mask (omega (arith, ok.bound, short))
       go (Fails t s1) r = failed_less w ready c 32 q t s1 r
       go (Stops s1) r = stopped_less w ready w.turns c 32 q s1 r

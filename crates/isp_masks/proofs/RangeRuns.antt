@@ -19,7 +19,8 @@ use Rattle.isp_meaning.specs.Outcomes.{Res}
 use Rattle.isp_meaning.specs.Payloads.{One, is_true}
 use Rattle.isp_meaning.specs.Rounds.{Range, Run, Round, rounds, length_of, runs_for, from_on, last_run, with_outer, joined_lists, runs_of, counted}
 use Rattle.isp_meaning.specs.State.{State}
-use Rattle.isp_lower.specs.Code.{compare, compute, convert, copy, jump_off, two}
+use Rattle.isp_lower.specs.Instructions.{compare, compute, convert, copy, jump_off}
+use Rattle.isp_lower.specs.Pieces.{two}
 use Rattle.isp_lower.specs.Layout.{register}
 use Rattle.isp_lower.specs.Runs.{Comes}
 use Rattle.isp_lower.specs.Setting.{Setting, IsSettled, AreAt, At, Stands, IsOther}

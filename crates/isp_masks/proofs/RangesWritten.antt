@@ -14,7 +14,8 @@ use Rattle.isp_typed.specs.Typed.{TRange, TStmt}
 use Rattle.isp_typed.specs.Views.{ranges_of}
 use Rattle.isp_typed.specs.declared.stmt.TypedRange.{TypedRange}
 use Rattle.isp_tree.specs.Nodes.{nodes_of_all}
-use Rattle.isp_lower.specs.Code.{compare, convert, guard, jump_on, splat, two}
+use Rattle.isp_lower.specs.Instructions.{compare, convert, jump_on, splat}
+use Rattle.isp_lower.specs.Pieces.{guard, two}
 use Rattle.isp_lower.specs.Emitted.{Appends, Present, layout}
 use Rattle.isp_lower.specs.Layout.{Layout}
 use Rattle.isp_lower.specs.declared.types.Body.{Body}

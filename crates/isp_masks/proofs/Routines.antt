@@ -13,11 +13,12 @@ use Rattle.isp_code.specs.declared.instr.Instr.{Instr}
 use Rattle.isp_code.specs.declared.register.Class.TheVariants as class
 use Rattle.isp_meaning.specs.Calls.{same_rate}
 use Rattle.isp_lower.specs.Callees.{rates_in}
-use Rattle.isp_lower.specs.Emitted.{Begins, Grows, HasArray, HasRow, first_rows, result_rows, row_at, row_where, rows_of, texts_of, value_row, value_rows, HasLoaded}
+use Rattle.isp_lower.specs.Emitted.{Begins, HasArray, Longer, HasRow, first_rows, result_rows, row_at, row_where, rows_of, texts_of, value_row, value_rows, HasLoaded}
 use Rattle.isp_lower.specs.Layout.{Layout, class_at}
 use Rattle.isp_lower.specs.Rows.{Row, Rows, layout_of}
 use Rattle.isp_lower.specs.Setting.{AreAt}
-use Rattle.isp_lower.specs.Asks.{All}
+use Rattle.isp_lower.specs.Asks.{All, Ask, Both}
+use Rattle.isp_lower.specs.declared.registers.Constant.{Constant}
 use Rattle.isp_lower.specs.declared.registers.Registers.{Registers}
 use Rattle.isp_lower.specs.declared.types.Body.{Body}
 use Rattle.isp_lower.specs.Tables.{AnyArray}
@@ -33,6 +34,7 @@ use Rattle.isp_lower.specs.Reserved.{Has}
 use Rattle.isp_lower.specs.declared.reserve.Reserve.{Reserve}
 use Rattle.isp_masks.specs.Lowered.{AddsLowered, IsLowered}
 use Rattle.isp_masks.specs.Asks.{block_asks}
+use Rattle.isp_masks.specs.Keeping.{KeepsThem, constants_asks}
 use Rattle.isp_masks.specs.Spots.{next_of}
 use Rattle.isp_masks.specs.Statements.{block_places, block_texts, function_code}
 use Rattle.isp_masks.specs.Written.{Piece, Writes}
@@ -94,19 +96,19 @@ at_seam xs (y ∷ ys) zs = (
 -- ---- a routine
 
 -- the code of a body, and what it gives back
-abbrev body_piece : Layout → TFunction → Piece
-body_piece l h = record { code = function_code l h.answer h.body; places = block_places l h.body; texts = block_texts h.body }
+abbrev body_piece : Layout → List Constant → TFunction → Piece
+body_piece l ks h = record { code = function_code l h.answer ks h.body; places = block_places l h.body; texts = block_texts h.body }
 
-pub lowered : (fs : List TFunction) (h : TFunction) (g : Routine) (z r : Registers) (a b : Body) → a.code.items ≡ [] → rows_of z ≡ first_rows h.variables h.answer → Grows z r
-    → Writes a b (body_piece (layout_of (rates_in fs) (rows_of r)) h)
+pub lowered : (fs : List TFunction) (h : TFunction) (g : Routine) (ks : List Constant) (z r : Registers) (a b : Body) → a.code.items ≡ [] → rows_of z ≡ first_rows h.variables h.answer → Longer z r → KeepsThem (layout_of (rates_in fs) (rows_of r)) ks
+    → Writes a b (body_piece (layout_of (rates_in fs) (rows_of r)) ks h)
     → g.name ≡ h.name → g.exported ≡ h.exported → g.params ≡ params_of h.parameters h.variables → g.returns ≡ returns_of h.answer → g.locals ≡ locals_of h.variables
     → g.scalars ≡ drop (length (param_elems class.Scalar g.params)) (types_of (rows_of r).scalars)
     → g.vectors ≡ drop (length (param_elems class.Vector g.params)) (types_of (rows_of r).vectors)
-    → All (HasRow r) (HasArray r) (HasArray r) (λ k. k < g.masks) (HasLoaded r) (block_asks h.answer h.body 3) → 3 ≤ g.masks → g.code ≡ b.code.items → IsLowered fs h g b.places.items (texts_of b)
-lowered fs h g z r a b none first grows y name exported params returns locals scalars vectors present three code =
+    → All (HasRow r) (HasArray r) (HasArray r) (λ k. k < g.masks) (HasLoaded r) (Both (constants_asks 3 ks) (block_asks h.answer h.body 3)) → 3 ≤ g.masks → g.code ≡ b.code.items → IsLowered fs h g b.places.items (texts_of b)
+lowered fs h g ks z r a b none first grows keeps y name exported params returns locals scalars vectors present three code =
     let l = layout_of (rates_in fs) (rows_of r) in
     let rows = subst (λ (q : Rows). Begins q.scalars (rows_of r).scalars × Begins q.vectors (rows_of r).vectors × Begins q.arrays (rows_of r).arrays) first (grows.scalars, grows.vectors, grows.arrays) in
-    let part : List Instr → List Instr = λ before. before ++ function_code l h.answer h.body (length before) (next_of a) in
+    let part : List Instr → List Instr = λ before. before ++ function_code l h.answer ks h.body (length before) (next_of a) in
     record {
       name = name;
       exported = exported;
@@ -122,7 +124,10 @@ lowered fs h g z r a b none first grows y name exported params returns locals sc
       vectors = registers_are Varying h.parameters h.variables (result_rows Varying h.answer ++ rows.1.more) (rows_of r).vectors g.params g.vectors params
           (rows.1.is ∙ append_assoc (value_rows Varying 0 h.variables) (result_rows Varying h.answer) rows.1.more) vectors;
       three = three;
-      present = all_grow (HasRow r) (HasRow r) (HasArray r) AnyArray (HasArray r) AnyArray (λ k. k < g.masks) (λ k. k < g.masks) (HasLoaded r) (HasLoaded r) (λ q x t f. f) (λ v f. tt) (λ v f. tt) (λ k f. f) (λ v f. f) (block_asks h.answer h.body 3) present;
+      constants = ks;
+      keeps = keeps;
+      present = rows_there (block_asks h.answer h.body 3) present.1;
+      spares = rows_there (constants_asks 3 ks) present.0;
       numbers = next_of a;
       low = let n = ap length y.places ∙ length-append a.places.items (block_places l h.body) in omega (arith, n);
       low_texts = let n = ap length y.texts ∙ length-append (texts_of a) (block_texts h.body) in omega (arith, n);
@@ -130,14 +135,17 @@ lowered fs h g z r a b none first grows y name exported params returns locals sc
       places_are = subst (λ z. AreAt z (length a.places.items) (block_places l h.body)) (ap (λ z. a.places.items ++ z) (append-nil (block_places l h.body)) ∙ sym y.places) (at_seam a.places.items (block_places l h.body) []);
       texts_are = subst (λ z. AreAt z (length (texts_of a)) (block_texts h.body)) (ap (λ z. texts_of a ++ z) (append-nil (block_texts h.body)) ∙ sym y.texts) (at_seam (texts_of a) (block_texts h.body) []);
     }
+  where
+    rows_there : (x : Ask) → All (HasRow r) (HasArray r) (HasArray r) (λ k. k < g.masks) (HasLoaded r) x → All (HasRow r) AnyArray AnyArray (λ k. k < g.masks) (HasLoaded r) x
+    rows_there x f = all_grow (HasRow r) (HasRow r) (HasArray r) AnyArray (HasArray r) AnyArray (λ k. k < g.masks) (λ k. k < g.masks) (HasLoaded r) (HasLoaded r) (λ q y t z. z) (λ v z. tt) (λ v z. tt) (λ k z. z) (λ v z. z) x f
 
 -- the function at work, whose registers are reserved and whose body is written, is added
-pub adds : (h : TFunction) (old d : Draft) (z r : Reserve) (a b : Body) → d ≡ begun h old → a.code.items ≡ d.code → a.places.items ≡ d.places → texts_of a ≡ d.texts → rows_of z.registers ≡ d.rows → z.masks ≡ d.masks
-    → Grows z.registers r.registers → z.masks ≤ r.masks → Has r (block_asks h.answer h.body 3)
-    → Writes a b (body_piece (layout_of (rates_in d.callees) (rows_of r.registers)) h)
+pub adds : (h : TFunction) (ks : List Constant) (old d : Draft) (z r : Reserve) (a b : Body) → d ≡ begun h old → a.code.items ≡ d.code → a.places.items ≡ d.places → texts_of a ≡ d.texts → rows_of z.registers ≡ d.rows → z.masks ≡ d.masks
+    → Longer z.registers r.registers → z.masks ≤ r.masks → KeepsThem (layout_of (rates_in d.callees) (rows_of r.registers)) ks → Has r (Both (constants_asks 3 ks) (block_asks h.answer h.body 3))
+    → Writes a b (body_piece (layout_of (rates_in d.callees) (rows_of r.registers)) ks h)
     → (fs : List TFunction) → FineFunction fs h
     → AddsLowered h old (record d { places = b.places.items; texts = texts_of b; rows = rows_of r.registers; masks = r.masks; code = b.code.items })
-adds h old d z r a b is code places texts rows masks grows more has y fs fine =
+adds h ks old d z r a b is code places texts rows masks grows more keeps has y fs fine =
     let l = layout_of (rates_in d.callees) (rows_of r.registers) in
     let three : 3 ≤ r.masks = omega (arith, more, masks ∙ ap (λ (x : Draft). x.masks) is) in
     record {
@@ -149,6 +157,6 @@ adds h old d z r a b is code places texts rows masks grows more has y fs fine =
       callees = ap (λ (x : Draft). x.callees) is;
       places_fit = block_placed fs h.variables h.answer l h.body fine.body;
       texts_fit = block_told h.body;
-      lowered = subst (λ fs. IsLowered fs h (routine_with (heading_of h) (rows_of r.registers) r.masks b.code.items) b.places.items (texts_of b)) (ap (λ (x : Draft). x.callees) is) (lowered d.callees h (routine_with (heading_of h) (rows_of r.registers) r.masks b.code.items) z.registers r.registers a b (code ∙ ap (λ (x : Draft). x.code) is)
-          (rows ∙ ap (λ (x : Draft). x.rows) is) grows y refl refl refl refl refl refl refl has three refl);
+      lowered = subst (λ fs. IsLowered fs h (routine_with (heading_of h) (rows_of r.registers) r.masks b.code.items) b.places.items (texts_of b)) (ap (λ (x : Draft). x.callees) is) (lowered d.callees h (routine_with (heading_of h) (rows_of r.registers) r.masks b.code.items) ks z.registers r.registers a b (code ∙ ap (λ (x : Draft). x.code) is)
+          (rows ∙ ap (λ (x : Draft). x.rows) is) grows keeps y refl refl refl refl refl refl refl has three refl);
     }

@@ -1,5 +1,5 @@
--- What statements are written in: what follows a test, behind what stands before the jump past it; and a `for`, behind its first
--- part.
+-- What loops are written in: what follows a test, behind what stands before the jump past it; turns, whose jump back leads to
+-- where they begin; and a `for`, behind its first part.
 use Rattle.std.proofs.Common.{◌≡◌, ℕ, ◌+◌, [], ◌++◌, length, Option, Some, None, refl, ap, ◌∙◌, arith}
 use Rattle.isp_base.specs.declared.types.Rate.{Rate}
 use Rattle.isp_base.specs.declared.types.Rate.TheVariants.{Uniform, Varying}
@@ -7,15 +7,18 @@ use Rattle.isp_base.specs.declared.types.Span.{Span}
 use Rattle.isp_base.specs.declared.types.Ty.{Ty}
 use Rattle.isp_tree.specs.declared.stmt.Form.{Form}
 use Rattle.isp_typed.specs.Typed.{TExpr, TSimple, TFirst, TStmt, t_for}
-use Rattle.isp_lower.specs.Code.{guard}
-use Rattle.isp_lower.specs.Emitted.{Appends}
+use Rattle.isp_lower.specs.Pieces.{guard, two}
+use Rattle.isp_lower.specs.Emitted.{Appends, layout}
 use Rattle.isp_lower.specs.Layout.{Layout}
 use Rattle.isp_lower.specs.declared.types.Body.{Body}
-use Rattle.isp_masks.specs.Fors.{first_code, first_places}
+use Rattle.isp_lower.specs.declared.types.Scope.{Scope}
+use Rattle.isp_masks.specs.Exits.{nobody_leaves}
+use Rattle.isp_masks.specs.Fors.{first_code, first_places, step_places, test_places}
 use Rattle.isp_masks.specs.Loops.{sift_begin, sift_code, sift_jump}
 use Rattle.isp_masks.specs.Spots.{Numbers, Spot, next_of, past}
 use Rattle.isp_masks.specs.Statements.{stmt_code, stmt_places, stmt_texts, turns_code}
-use Rattle.isp_masks.specs.Written.{Piece, Writes}
+use Rattle.isp_masks.specs.Written.{Piece, Writes, next_at, turn_at, turning_at}
+use Rattle.isp_masks.specs.declared.looping.Loop.{Loop}
 use Rattle.isp_masks.proofs.Lists.{same_numbers}
 use Rattle.isp_masks.proofs.Writing.{writes_past}
 
@@ -51,6 +54,18 @@ sifted a b c r x n y f g = go r (writes_past a b c (λ pc m. sift_begin r x n) [
     }
     go Varying w = record {
       code = w.code ∙ ap (λ z. a.code.items ++ sift_code Varying x pc n (λ pc1. y.code pc1 z)) same_z;
+      places = w.places;
+      texts = w.texts;
+    }
+
+pub turns_written : (on : Scope) (a b : Body) (e : Option TExpr) (step : Option TSimple) (x : TStmt) (it : Loop) (top : ℕ) → top ≡ length a.code.items
+    → Writes a b (record { code = λ pc z. two pc ((turn_at on x it).code pc z) (λ pc1. (next_at on (nobody_leaves it.exits) e step it.slot.number top).code pc1 (z.place + length (stmt_places (layout on) x))); places = stmt_places (layout on) x ++ (step_places (layout on) step ++ test_places (layout on) e); texts = stmt_texts x })
+    → Writes a b (turning_at on e step x it)
+turns_written on a b e step x it top is w =
+    let pc = length a.code.items in
+    let z = next_of a in
+    record {
+      code = w.code ∙ ap (λ t. a.code.items ++ two pc ((turn_at on x it).code pc z) (λ pc1. (next_at on (nobody_leaves it.exits) e step it.slot.number t).code pc1 (z.place + length (stmt_places (layout on) x)))) is;
       places = w.places;
       texts = w.texts;
     }

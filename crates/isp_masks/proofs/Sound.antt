@@ -15,32 +15,38 @@ use Rattle.isp_tree.specs.declared.stmt.Form.TheVariants.{Plain, Coherent}
 use Rattle.isp_tree.specs.declared.stmt.Jump.{Jump}
 use Rattle.isp_tree.specs.declared.stmt.Jump.TheVariants.{Break, Continue}
 use Rattle.isp_typed.specs.Typed.{TExpr, type_of, elem_of as type_elem, TSimple, TFirst, t_first_declare, t_first_simple, TStmt, t_block, t_declare, t_simple, t_if, t_if_else, t_while, t_do, t_for, t_foreach, t_foreach_active, t_foreach_unique, t_unmasked, t_jump, t_return, t_print, t_assert, TBlock, t_braces, TStmts, t_no_stmts, t_stmt_then, TFunction}
-use Rattle.isp_lower.specs.Code.{jump_off, guard, found, expr_places, expr_code}
+use Rattle.isp_lower.specs.Code.{expr_code}
+use Rattle.isp_lower.specs.Found.{found, operand, operand_of}
+use Rattle.isp_lower.specs.Instructions.{jump_off, copy}
+use Rattle.isp_lower.specs.Pieces.{guard}
+use Rattle.isp_lower.specs.Spans.{expr_places}
 use Rattle.isp_lower.specs.Layout.{Layout, class_at, register, outside}
 use Rattle.isp_masks.specs.Exits.{exits_of, all_go_on, both_go_on, leaving_of}
 use Rattle.isp_masks.specs.Fors.{first_code, step_code, first_places, step_places}
-use Rattle.isp_masks.specs.Loops.{endless_code, for_code, is_wide, jump_all}
+use Rattle.isp_masks.specs.Loops.{endless_code, for_code, is_wide, jump_all, no_code}
 use Rattle.isp_masks.specs.Ranges.{ranges_places, runs_slot}
 use Rattle.isp_masks.specs.Rounds.{values_of}
 use Rattle.isp_masks.specs.Sets.{unite, leave_code, jump_code, jumped_code}
 use Rattle.isp_masks.specs.declared.exits.Leaving.{Leaving}
 use Rattle.isp_masks.specs.declared.exits.Leaving.TheVariants.{Never, Always, Maybe}
 use Rattle.isp_masks.specs.Spots.{Numbers, Spot, body_spot, first_spot, past, under, widely}
-use Rattle.isp_masks.specs.Statements.{behind, rest_code, parted_code, kept_code, both_kept_code, left_code, wide_code, if_code, if_else_code, answer_code, returned, stmt_places, block_places, stmts_places, stmt_texts, block_texts, stmts_texts, stmt_code, block_code, stmts_code, function_code, body_layout}
-use Rattle.isp_lower.specs.Code.{copy, operand, operand_of}
+use Rattle.isp_masks.specs.Statements.{behind, rest_code, parted_code, kept_code, both_kept_code, left_code, wide_code, if_code, if_else_code, answer_code, returned, stmt_places, block_places, stmts_places, stmt_texts, block_texts, stmts_texts, stmt_code, block_code, stmts_code, function_code, body_layout, test_place}
 use Rattle.isp_masks.specs.Asks.{unique_asks, part_asks, first_asks, step_asks, answer_asks, block_asks, stmt_asks, stmts_asks}
 use Rattle.isp_lower.specs.Sound.{AreSound, Links, PartSound, IsRegister, Granted, ExprPresent, HasRegister, HasArray, HasLocal, HasMask}
 use Rattle.isp_lower.proofs.Lemmas.{found_there, operand_there, sound_both, copy_sound, here_then, value_sound, part_sound, simple_sound, items_sound, ExprTree, OperandTree, all_grow}
 use Rattle.isp_masks.proofs.Combine.{part_spot}
 use Rattle.isp_masks.proofs.SoundRanges.{foreach_sound}
-use Rattle.isp_masks.proofs.SoundLoops.{HereSound, ValuesThere, whole, active_sound, unique_sound, unmasked_sound, guard_sound, two_sound, while_sound, for_sound, endless_sound, do_sound}
+use Rattle.isp_masks.proofs.SoundLoops.{HereSound, ValuesThere, whole, active_sound, unique_sound, unmasked_sound, guard_sound, two_sound, for_sound, endless_sound, turned_sound}
+use Rattle.isp_masks.specs.Keeping.{Each, constants_asks, constants_code}
+use Rattle.isp_masks.proofs.ConstantsSound.{constants_sound}
 use Rattle.isp_masks.proofs.SoundAsserts.{assert_sound}
 use Rattle.isp_masks.proofs.SoundPrints.{print_sound}
 use Rattle.isp_masks.proofs.Trees.{AnswerTree, BlockTree, FirstTree, StepTree, StmtTree, StmtsTree}
 use Rattle.isp_masks.proofs.Bodies.{body_as, run_as}
-use Rattle.isp_lower.specs.Rows.{Name, Variable, Result, Spare, Place, Fresh}
-use Rattle.isp_lower.specs.Tables.{IsLoadedIn}
-use Rattle.isp_lower.specs.Asks.{Ask}
+use Rattle.isp_lower.specs.Rows.{Name, Variable, Result, Spare, Place, Fresh, Kept}
+use Rattle.isp_lower.specs.Tables.{AnyArray, IsLoadedIn}
+use Rattle.isp_lower.specs.Asks.{All, Ask}
+use Rattle.isp_lower.specs.declared.registers.Constant.{Constant}
 use Rattle.isp_base.specs.declared.types.Elem.{Elem}
 
 module _ (code : Listing) (h : Routine) where
@@ -151,9 +157,9 @@ module _ (code : Listing) (h : Routine) where
 
   -- ---- statements
 
-  module _ (fs : List TFunction) (l : Layout) (links : Links fs code l) (answer : Option Ty) where
+  module _ (fs : List TFunction) (l : Layout) (links : Links fs code h l) (answer : Option Ty) where
     test_there : (b : Form) (e : TExpr) (n : ℕ) → ExprTree fs e → (type_of e).elem ≡ Truth → ExprPresent h l e n → Granted h l (part_asks b (type_of e).rate n) → TestThere l b e n
-    test_there b e n is bool f mask = let x = found_there fs h l e n is f in record { there = (x.0, x.1 ∙ bool); mask = mask }
+    test_there b e n is bool f mask = let x = found_there fs h l links.constants e n is f in record { there = (x.0, x.1 ∙ bool); mask = mask }
 
     -- the parts of a `for` that may be left out
     first_sound : (o : Option TFirst) (n : ℕ) → FirstTree fs o → Granted h l (first_asks o n) → PartSound code h (first_places l o) (λ pc p k. first_code l o pc p k n)
@@ -169,11 +175,11 @@ module _ (code : Listing) (h : Routine) where
     answer_sound : (a : Option Ty) (x : TExpr) (pc p k n : ℕ) → AnswerTree fs a x → Granted h l (answer_asks a x n) → k < h.masks → p + length (expr_places l x) ≤ length code.places → pc + length (answer_code l a x pc p k n) < length h.code → AreSound code h (answer_code l a x pc p k n)
     answer_sound None x pc p k n is f lk pl lt = value_sound fs code h l links x n is f pc p k lk pl lt
     answer_sound (Some t) x pc p k n is f lk pl lt =
-        here_then code h pc (operand_of l t.rate x k n (expr_code l x pc p k n)) (copy t.rate (l.result t.rate) (operand l t.rate x n) k) (part_sound fs code h l links t.rate t.elem x pc p k n is.0 is.1 f.1 lk pl) (copy_sound code h t.rate t.elem (l.result t.rate) (operand l t.rate x n) k f.0 (operand_there fs h l t.rate t.elem x n is.0 is.1 f.1) lk) lt
+        here_then code h pc (operand_of l t.rate x k n (expr_code l x pc p k n)) (copy t.rate (l.result t.rate) (operand l t.rate x n) k) (part_sound fs code h l links t.rate t.elem x pc p k n is.0 is.1 f.1 lk pl) (copy_sound code h t.rate t.elem (l.result t.rate) (operand l t.rate x n) k f.0 (operand_there fs h l links.constants t.rate t.elem x n is.0 is.1 f.1) lk) lt
 
   -- which variable counts the lanes of a run is no matter to what is there
-  links_same : (fs : List TFunction) (l : Layout) (o : Option ℕ) (d : Bool) → Links fs code l → Links fs code (run_as l o d)
-  links_same fs l o d links = record { rates = links.rates; headers = links.headers }
+  links_same : (fs : List TFunction) (l : Layout) (o : Option ℕ) (d : Bool) → Links fs code h l → Links fs code h (run_as l o d)
+  links_same fs l o d links = record { rates = links.rates; headers = links.headers; constants = links.constants }
 
   register_same : (l : Layout) (o : Option ℕ) (d : Bool) (r : Rate) (x : Name) (t : Elem) → HasRegister h l r x t → HasRegister h (run_as l o d) r x t
   register_same l o d r (Variable v) t f = f
@@ -181,6 +187,7 @@ module _ (code : Listing) (h : Routine) where
   register_same l o d r (Spare u j) t f = f
   register_same l o d r Place t f = f
   register_same l o d r (Fresh j) t f = f
+  register_same l o d r (Kept u b) t f = f
 
   granted_same : (l : Layout) (o : Option ℕ) (d : Bool) (a : Ask) → Granted h l a → Granted h (run_as l o d) a
   granted_same l o d a f =
@@ -198,7 +205,7 @@ module _ (code : Listing) (h : Routine) where
 
   module _ (fs : List TFunction) (answer : Option Ty) where
     mutual
-      pub stmt_sound : (x : TStmt) (l : Layout) (links : Links fs code l) (pc : ℕ) (z : Numbers) (spot : Spot) → StmtTree fs answer x → Granted h l (stmt_asks answer x spot.slot) → HasMasks spot → z.place + length (stmt_places l x) ≤ length code.places → z.text + length (stmt_texts x) ≤ length code.texts → pc + length (stmt_code l answer x pc z spot) < length h.code → AreSound code h (stmt_code l answer x pc z spot)
+      pub stmt_sound : (x : TStmt) (l : Layout) (links : Links fs code h l) (pc : ℕ) (z : Numbers) (spot : Spot) → StmtTree fs answer x → Granted h l (stmt_asks answer x spot.slot) → HasMasks spot → z.place + length (stmt_places l x) ≤ length code.places → z.text + length (stmt_texts x) ≤ length code.texts → pc + length (stmt_code l answer x pc z spot) < length h.code → AreSound code h (stmt_code l answer x pc z spot)
       stmt_sound (t_block b) l links pc z spot is f lm pl tx lt = block_sound b l links pc z spot is f lm pl tx lt
       stmt_sound (t_declare xs sp) l links pc z spot is f lm pl tx lt = items_sound fs code h l links xs spot.slot is f pc z.place spot.on lm.0 pl lt
       stmt_sound (t_simple x sp) l links pc z spot is f lm pl tx lt = simple_sound fs code h l links x spot.slot is f pc z.place spot.on lm.0 pl lt
@@ -228,49 +235,62 @@ module _ (code : Listing) (h : Routine) where
           sound_both code h ce rest (value_sound fs code h l links e n is.0 f.0 pc z.place spot.on lm.0 (omega (arith, e2, pl)) (omega (arith, e1, lt))) (if_else_sound l (both_go_on x y) b e spot part other lm.0 (test_there fs l links answer Coherent e n is.0 is.3 f.0 f.1.0) (λ pc2 m low lt2. stmt_sound x l links pc2 z1 (part_spot Coherent (type_of e).rate m spot) is.1 f.1.1.0 (low, lm.1, lm.2) (omega (arith, e2, e3, pl)) (omega (arith, e4, tx)) lt2) (λ pc2 m low lt2. stmt_sound y l links pc2 (behind l x z1) (part_spot Coherent (type_of e).rate m spot) is.2 f.1.1.1 (low, lm.1, lm.2) (omega (arith, e2, e3, pl)) (omega (arith, e4, tx)) lt2) (pc + length ce) (omega (arith, e1, lt)))
       stmt_sound (t_while b g e x sp) l links pc z spot is f lm pl tx lt =
           let pe = expr_places l e in
-          let e2 = length-append pe (stmt_places l x) in
+          let px = stmt_places l x in
+          let z1 = past pe z in
+          let e1 = length-append pe (px ++ pe) in
+          let e2 = length-append px pe in
           let n = spot.slot in
           let own : HasMasks (body_spot n) = (f.0.1.0, f.0.1.1.0, f.0.1.1.1) in
-          let test = found_there fs h l e (n + 3) is.0.0 f.1.0 in
-          while_sound code h (exits_of x) spot lm.0 lm.2 own (is_wide b (type_of e).rate) (type_of e).rate (found l e (n + 3)) (λ pc1. expr_code l e pc1 z.place n (n + 3)) (λ pc1. stmt_code l answer x pc1 (past pe z) (body_spot n)) test.0 (test.1 ∙ is.0.1)
-          (λ pc1 lt1. value_sound fs code h l links e (n + 3) is.0.0 f.1.0 pc1 z.place n own.0 (omega (arith, e2, pl)) lt1) (λ pc1 lt1. stmt_sound x l links pc1 (past pe z) (body_spot n) is.1 f.1.1 own (omega (arith, e2, pl)) tx lt1) pc lt
+          let test = found_there fs h l links.constants e (n + 3) is.0.0 f.1.0 in
+          let tests = λ (p pc1 : ℕ). expr_code l e pc1 p n (n + 3) in
+          let fine = λ (p : ℕ) (low : p + length pe ≤ length code.places) (pc1 : ℕ) (lt1 : pc1 + length (tests p pc1) < length h.code). value_sound fs code h l links e (n + 3) is.0.0 f.1.0 pc1 p n own.0 low lt1 in
+          let p2 = test_place l x None z1 in
+          for_sound code h (exits_of x) spot lm.0 lm.2 own (is_wide b (type_of e).rate) (type_of e).rate (found l e (n + 3)) (tests p2) (λ pc1. stmt_code l answer x pc1 z1 (body_spot n)) no_code test.0 (test.1 ∙ is.0.1)
+          (fine p2 (omega (arith, e1, e2, pl))) (λ pc1 lt1. stmt_sound x l links pc1 z1 (body_spot n) is.1 f.1.1 own (omega (arith, e1, e2, pl)) tx lt1) (λ pc1 lt1. tt) (tests z.place) (fine z.place (omega (arith, e1, pl))) pc lt
       stmt_sound (t_do b g x e sp) l links pc z spot is f lm pl tx lt =
           let px = stmt_places l x in
           let e2 = length-append px (expr_places l e) in
           let n = spot.slot in
           let own : HasMasks (body_spot n) = (f.0.1.0, f.0.1.1.0, f.0.1.1.1) in
-          let test = found_there fs h l e (n + 3) is.0.0 f.1.1 in
-          do_sound code h (exits_of x) spot lm.0 lm.2 own (is_wide b (type_of e).rate) (type_of e).rate (found l e (n + 3)) (λ pc1. expr_code l e pc1 (behind l x z).place n (n + 3)) (λ pc1. stmt_code l answer x pc1 z (body_spot n)) test.0 (test.1 ∙ is.0.1)
-          (λ pc1 lt1. value_sound fs code h l links e (n + 3) is.0.0 f.1.1 pc1 (z.place + length px) n own.0 (omega (arith, e2, pl)) lt1) (λ pc1 lt1. stmt_sound x l links pc1 z (body_spot n) is.1 f.1.0 own (omega (arith, e2, pl)) tx lt1) pc lt
+          let test = found_there fs h l links.constants e (n + 3) is.0.0 f.1.1 in
+          turned_sound code h (exits_of x) spot lm.0 lm.2 own (is_wide b (type_of e).rate) (type_of e).rate (found l e (n + 3)) (λ pc1. expr_code l e pc1 (test_place l x None z) n (n + 3)) (λ pc1. stmt_code l answer x pc1 z (body_spot n)) no_code test.0 (test.1 ∙ is.0.1)
+          (λ pc1 lt1. value_sound fs code h l links e (n + 3) is.0.0 f.1.1 pc1 (test_place l x None z) n own.0 (omega (arith, e2, pl)) lt1) (λ pc1 lt1. stmt_sound x l links pc1 z (body_spot n) is.1 f.1.0 own (omega (arith, e2, pl)) tx lt1) (λ pc1 lt1. tt) pc lt
       stmt_sound (t_for b g first None step i x sp) l links pc z spot is f lm pl tx lt =
           let pf = first_places l first in
           let px = stmt_places l x in
+          let ps = step_places l step in
           let z1 = past pf z in
-          let e1 = length-append pf (px ++ step_places l step) in
-          let e2 = length-append px (step_places l step) in
+          let e1 = length-append pf (px ++ (ps ++ [])) in
+          let e2 = length-append px (ps ++ []) in
+          let e3 = length-append ps [] in
           let n = spot.slot in
           let own : HasMasks (body_spot n) = (f.1.0.1.0, f.1.0.1.1.0, f.1.0.1.1.1) in
           let body = λ (pc1 : ℕ). stmt_code l answer x pc1 z1 (body_spot n) in
           let stepping = λ (pc1 : ℕ). step_code l step pc1 (z1.place + length px) n (n + 3) in
           two_sound code h (λ pc1. first_code l first pc1 z.place spot.on n) (λ pc1. endless_code (exits_of x) pc1 spot body stepping) (λ pc1 lt1. first_sound fs l links answer first n is.0 f.0 pc1 z.place spot.on lm.0 (omega (arith, e1, pl)) lt1)
-          (endless_sound code h (exits_of x) spot lm.0 lm.2 own body stepping (λ pc1 lt1. stmt_sound x l links pc1 z1 (body_spot n) is.3 f.1.1.1.1 own (omega (arith, e1, e2, pl)) tx lt1) (λ pc1 lt1. step_sound fs l links answer step (n + 3) is.2 f.1.1.1.0 pc1 (z1.place + length px) n own.0 (omega (arith, e1, e2, pl)) lt1)) pc lt
+          (endless_sound code h (exits_of x) spot lm.0 lm.2 own body stepping (λ pc1 lt1. stmt_sound x l links pc1 z1 (body_spot n) is.3 f.1.1.1.1 own (omega (arith, e1, e2, pl)) tx lt1) (λ pc1 lt1. step_sound fs l links answer step (n + 3) is.2 f.1.1.1.0 pc1 (z1.place + length px) n own.0 (omega (arith, e1, e2, e3, pl)) lt1)) pc lt
       stmt_sound (t_for b g first (Some e) step i x sp) l links pc z spot is f lm pl tx lt =
           let pf = first_places l first in
           let pe = expr_places l e in
           let px = stmt_places l x in
+          let ps = step_places l step in
           let z1 = past pf z in
           let z2 = past pe z1 in
-          let e1 = length-append pf (pe ++ (px ++ step_places l step)) in
-          let e2 = length-append pe (px ++ step_places l step) in
-          let e3 = length-append px (step_places l step) in
+          let e1 = length-append pf (pe ++ (px ++ (ps ++ pe))) in
+          let e2 = length-append pe (px ++ (ps ++ pe)) in
+          let e3 = length-append px (ps ++ pe) in
+          let e4 = length-append ps pe in
           let n = spot.slot in
           let own : HasMasks (body_spot n) = (f.1.0.1.0, f.1.0.1.1.0, f.1.0.1.1.1) in
-          let test = found_there fs h l e (n + 3) is.1.0 f.1.1.0 in
-          let tests = λ (pc1 : ℕ). expr_code l e pc1 z1.place n (n + 3) in
+          let test = found_there fs h l links.constants e (n + 3) is.1.0 f.1.1.0 in
+          let tests = λ (p pc1 : ℕ). expr_code l e pc1 p n (n + 3) in
+          let fine = λ (p : ℕ) (low : p + length pe ≤ length code.places) (pc1 : ℕ) (lt1 : pc1 + length (tests p pc1) < length h.code). value_sound fs code h l links e (n + 3) is.1.0 f.1.1.0 pc1 p n own.0 low lt1 in
+          let p2 = test_place l x step z2 in
           let body = λ (pc1 : ℕ). stmt_code l answer x pc1 z2 (body_spot n) in
           let stepping = λ (pc1 : ℕ). step_code l step pc1 (z2.place + length px) n (n + 3) in
-          two_sound code h (λ pc1. first_code l first pc1 z.place spot.on n) (λ pc1. for_code (is_wide b (type_of e).rate) (exits_of x) (type_of e).rate (found l e (n + 3)) pc1 spot tests body stepping) (λ pc1 lt1. first_sound fs l links answer first n is.0 f.0 pc1 z.place spot.on lm.0 (omega (arith, e1, pl)) lt1)
-          (for_sound code h (exits_of x) spot lm.0 lm.2 own (is_wide b (type_of e).rate) (type_of e).rate (found l e (n + 3)) tests body test.0 (test.1 ∙ is.1.1) (λ pc1 lt1. value_sound fs code h l links e (n + 3) is.1.0 f.1.1.0 pc1 z1.place n own.0 (omega (arith, e1, e2, pl)) lt1) (λ pc1 lt1. stmt_sound x l links pc1 z2 (body_spot n) is.3 f.1.1.1.1 own (omega (arith, e1, e2, e3, pl)) tx lt1) stepping (λ pc1 lt1. step_sound fs l links answer step (n + 3) is.2 f.1.1.1.0 pc1 (z2.place + length px) n own.0 (omega (arith, e1, e2, e3, pl)) lt1)) pc lt
+          two_sound code h (λ pc1. first_code l first pc1 z.place spot.on n) (λ pc1. for_code (is_wide b (type_of e).rate) (exits_of x) (type_of e).rate (found l e (n + 3)) pc1 spot (tests z1.place) (tests p2) body stepping) (λ pc1 lt1. first_sound fs l links answer first n is.0 f.0 pc1 z.place spot.on lm.0 (omega (arith, e1, pl)) lt1)
+          (for_sound code h (exits_of x) spot lm.0 lm.2 own (is_wide b (type_of e).rate) (type_of e).rate (found l e (n + 3)) (tests p2) body stepping test.0 (test.1 ∙ is.1.1) (fine p2 (omega (arith, e1, e2, e3, e4, pl))) (λ pc1 lt1. stmt_sound x l links pc1 z2 (body_spot n) is.3 f.1.1.1.1 own (omega (arith, e1, e2, e3, pl)) tx lt1) (λ pc1 lt1. step_sound fs l links answer step (n + 3) is.2 f.1.1.1.0 pc1 (z2.place + length px) n own.0 (omega (arith, e1, e2, e3, e4, pl)) lt1)
+          (tests z1.place) (fine z1.place (omega (arith, e1, e2, pl)))) pc lt
       stmt_sound (t_foreach w g rs x sp) l links pc z spot is f lm pl tx lt =
           let n = spot.slot in
           let k = runs_slot n rs in
@@ -278,7 +298,7 @@ module _ (code : Listing) (h : Routine) where
           let lb = body_layout l rs in
           let e1 = length-append pr (stmt_places lb x) in
           let own : HasMasks (body_spot k) = (f.0.1.1.1.1.0, f.0.1.1.1.1.1.0, f.0.1.1.1.1.1.1) in
-          let linked = body_as (λ m. Links fs code m) l rs links (λ o d. links_same fs l o d links) in
+          let linked = body_as (λ m. Links fs code h m) l rs links (λ o d. links_same fs l o d links) in
           let granted = body_as (λ m. Granted h m (stmt_asks answer x (k + 3))) l rs f.1 (λ o d. granted_same l o d (stmt_asks answer x (k + 3)) f.1) in
           foreach_sound code h l fs links rs z.place spot.on n (λ pc1. stmt_code lb answer x pc1 (past pr z) (body_spot k)) is.1 f.0.0 f.0.1.0 f.0.1.1.0 lm.0 own.0 (omega (arith, e1, pl)) (λ pc1 lt1. stmt_sound x lb linked pc1 (past pr z) (body_spot k) is.2 granted own (omega (arith, e1, pl)) tx lt1) pc lt
       stmt_sound (t_foreach_active w g i x sp) l links pc z spot is f lm pl tx lt =
@@ -293,7 +313,7 @@ module _ (code : Listing) (h : Routine) where
           let e1 = length-append pe (stmt_places l x) in
           let own : HasMasks (body_spot (n + 1)) = (f.0.1.1.1.1.1.1.1.0, f.0.1.1.1.1.1.1.1.1.0, f.0.1.1.1.1.1.1.1.1.1) in
           let tree : OperandTree Varying u e = any_operand t e is.0 in
-          let there = operand_there fs h l Varying u e n tree is.1 f.0.0 in
+          let there = operand_there fs h l links.constants Varying u e n tree is.1 f.0.0 in
           let values = λ (pc1 : ℕ). operand_of l Varying e k n (expr_code l e pc1 z.place k n) in
           let body = λ (pc1 : ℕ). stmt_code l answer x pc1 (past pe z) (body_spot (n + 1)) in
           unique_sound code h (values_of l u i n) u t values (operand l Varying e n) k n body (λ same. whole t (sym is.0.elem ∙ same)) (values_there l i t e n f.0) there lm.0 f.0.1.1.1.1.1.0 own.0
@@ -311,10 +331,10 @@ module _ (code : Listing) (h : Routine) where
       stmt_sound (t_print w text xs sp) l links pc z spot is f lm pl tx lt = print_sound code h l fs links text xs pc z.place z.text spot.on spot.slot is.1 f lm.0 pl tx lt
       stmt_sound (t_assert x c sp) l links pc z spot is f lm pl tx lt = assert_sound code h l fs links x c pc z.place spot.on spot.slot is.0 is.1 f lm.0 pl lt
 
-      pub block_sound : (x : TBlock) (l : Layout) (links : Links fs code l) (pc : ℕ) (z : Numbers) (spot : Spot) → BlockTree fs answer x → Granted h l (block_asks answer x spot.slot) → HasMasks spot → z.place + length (block_places l x) ≤ length code.places → z.text + length (block_texts x) ≤ length code.texts → pc + length (block_code l answer x pc z spot) < length h.code → AreSound code h (block_code l answer x pc z spot)
+      pub block_sound : (x : TBlock) (l : Layout) (links : Links fs code h l) (pc : ℕ) (z : Numbers) (spot : Spot) → BlockTree fs answer x → Granted h l (block_asks answer x spot.slot) → HasMasks spot → z.place + length (block_places l x) ≤ length code.places → z.text + length (block_texts x) ≤ length code.texts → pc + length (block_code l answer x pc z spot) < length h.code → AreSound code h (block_code l answer x pc z spot)
       block_sound (t_braces xs sp) l links pc z spot is f lm pl tx lt = stmts_sound xs l links pc z spot is f lm pl tx lt
 
-      pub stmts_sound : (xs : TStmts) (l : Layout) (links : Links fs code l) (pc : ℕ) (z : Numbers) (spot : Spot) → StmtsTree fs answer xs → Granted h l (stmts_asks answer xs spot.slot) → HasMasks spot → z.place + length (stmts_places l xs) ≤ length code.places → z.text + length (stmts_texts xs) ≤ length code.texts → pc + length (stmts_code l answer xs pc z spot) < length h.code → AreSound code h (stmts_code l answer xs pc z spot)
+      pub stmts_sound : (xs : TStmts) (l : Layout) (links : Links fs code h l) (pc : ℕ) (z : Numbers) (spot : Spot) → StmtsTree fs answer xs → Granted h l (stmts_asks answer xs spot.slot) → HasMasks spot → z.place + length (stmts_places l xs) ≤ length code.places → z.text + length (stmts_texts xs) ≤ length code.texts → pc + length (stmts_code l answer xs pc z spot) < length h.code → AreSound code h (stmts_code l answer xs pc z spot)
       stmts_sound t_no_stmts l links pc z spot is f lm pl tx lt = tt
       stmts_sound (t_stmt_then x xs) l links pc z spot is f lm pl tx lt =
           let ca = stmt_code l answer x pc z spot in
@@ -327,9 +347,15 @@ module _ (code : Listing) (h : Routine) where
           sound_both code h ca rest (stmt_sound x l links pc z spot is.0 f.0 lm (omega (arith, e2, pl)) (omega (arith, e3, tx)) (omega (arith, e1, lt))) (rest_sound (all_go_on x) xs spot.on part lm.0 (λ pc2 lt2. stmts_sound xs l links pc2 (behind l x z) spot is.1 f.1 lm (omega (arith, e2, pl)) (omega (arith, e3, tx)) lt2) (pc + length ca) (omega (arith, e1, lt)))
 
 -- a whole function: its body, and the return
-pub function_sound : (fs : List TFunction) (code : Listing) (h : Routine) (l : Layout) → Links fs code l → (answer : Option Ty) (b : TBlock) (z : Numbers) → h.code ≡ function_code l answer b 0 z → BlockTree fs answer b → Granted h l (block_asks answer b 3) → 3 ≤ h.masks → z.place + length (block_places l b) ≤ length code.places → z.text + length (block_texts b) ≤ length code.texts → IsGiven h h.returns (returned l answer) → AreSound code h h.code
-function_sound fs code h l links answer b z is tree body masks places texts given =
-    let cb = block_code l answer b 0 z first_spot in
+pub function_sound : (fs : List TFunction) (code : Listing) (h : Routine) (l : Layout) → Links fs code h l → (answer : Option Ty) (ks : List Constant) (b : TBlock) (z : Numbers) → h.code ≡ function_code l answer ks b 0 z → BlockTree fs answer b → Granted h l (block_asks answer b 3) → Each (λ x. l.kept x.rate x.elem x.bits ≡ true) ks → All (HasRegister h l) AnyArray AnyArray (HasMask h) (IsLoadedIn l) (constants_asks 3 ks) → 3 ≤ h.masks → z.place + length (block_places l b) ≤ length code.places → z.text + length (block_texts b) ≤ length code.texts → IsGiven h h.returns (returned l answer) → AreSound code h h.code
+function_sound fs code h l links answer ks b z is tree body kept spares masks places texts given =
+    let ca = constants_code l 3 ks in
+    let pc = 0 + length ca in
+    let cb = block_code l answer b pc z first_spot in
     let last = instr.Return (returned l answer) ∷ [] in
-    let size : length h.code ≡ length cb + 1 = ap length is ∙ length-append cb last in
-    subst (AreSound code h) (sym is) (sound_both code h cb last (block_sound code h fs answer b l links 0 z first_spot tree body (omega (arith, masks), omega (arith, masks), omega (arith, masks)) places texts (omega (arith, size))) (((given, tt), tt), tt))
+    let size : length h.code ≡ length ca + length cb + 1 = ap length is ∙ length-append (ca ++ cb) last ∙ ap (λ m. m + 1) (length-append ca cb) in
+    subst (AreSound code h) (sym is)
+    (sound_both code h (ca ++ cb) last
+    (sound_both code h ca cb (constants_sound code h l 3 links.constants ks kept spares)
+    (block_sound code h fs answer b l links pc z first_spot tree body (omega (arith, masks), omega (arith, masks), omega (arith, masks)) places texts (omega (arith, size))))
+    (((given, tt), tt), tt))

@@ -13,13 +13,14 @@ use Rattle.isp_code.specs.declared.instr.Instr.{Instr}
 use Rattle.isp_code.specs.declared.instr.Instr.TheVariants as instr
 use Rattle.isp_code.specs.declared.instr.JumpTest.TheVariants as jump
 use Rattle.isp_code.specs.declared.instr.Reduction.TheVariants as reduction
-use Rattle.isp_lower.specs.Code.{copy, where_so, the_others, jump_off, two, guard}
+use Rattle.isp_lower.specs.Instructions.{copy, where_so, the_others, jump_off}
+use Rattle.isp_lower.specs.Pieces.{two, guard}
 use Rattle.isp_lower.specs.Layout.{class_at, register, mask_register}
 use Rattle.isp_lower.specs.Library.{reduce}
 use Rattle.isp_lower.specs.Sound.{AreSound, IsRegister, IsSound}
 use Rattle.isp_lower.proofs.Lemmas.{sound_both, compare_sound, convert_sound, copy_sound, splat_sound}
 use Rattle.isp_masks.specs.Exits.{nobody_leaves}
-use Rattle.isp_masks.specs.Loops.{copy_mask, if_needed, enter_code, loop_end_code, rejoin_code, turn_code, back_code, sift_code, live_code, again_code, while_code, for_code, endless_code, do_code}
+use Rattle.isp_masks.specs.Loops.{copy_mask, if_needed, enter_code, loop_end_code, rejoin_code, turn_code, sift_code, live_code, again_code, next_code, loop_code, tested_code, for_code, endless_code}
 use Rattle.isp_masks.specs.Rounds.{unmasked_code, active_code, Values, value_code, rounds_code, unique_code}
 use Rattle.isp_masks.specs.Sets.{unite, clear_mask}
 use Rattle.isp_masks.specs.Spots.{Spot}
@@ -145,16 +146,12 @@ module _ (code : Listing) (h : Routine) where
         let cleared : AreSound code h clear = ((((refl, continued), tt), tt), tt) in
         two_sound (λ pc. if_needed e.continues clear) (λ pc. two pc (body pc) (λ pc1. rejoin_code wide e pc1 n)) (λ pc lt. needed_sound e.continues clear cleared) (two_sound body (λ pc. rejoin_code wide e pc n) f (rejoin_sound wide))
 
-    back_sound : (b : Bool) (top : ℕ) → top < length h.code → AreSound code h (back_code b n top ∷ [])
-    back_sound true top lt = (((lt, tt), tt), tt)
-    back_sound false top lt = ((((refl, live), (lt, tt)), tt), tt)
-
     live_sound : (b : Bool) (part : ℕ → List Instr) → HereSound part → HereSound (λ pc. live_code b n pc part)
     live_sound true part f = f
     live_sound false part f = guard_sound n part live f
 
-    step_back : (top : ℕ) (step : ℕ → List Instr) → top < length h.code → HereSound step → HereSound (λ pc. step pc ++ instr.Jump top ∷ [])
-    step_back top step lt f = two_sound step (λ pc. instr.Jump top ∷ []) f (λ pc lt1. (((lt, tt), tt), tt))
+    next_sound : (step back : ℕ → List Instr) → HereSound step → HereSound back → HereSound (λ pc. next_code e n pc step back)
+    next_sound step back fs fb = live_sound (nobody_leaves e) (λ pc. two pc (step pc) back) (two_sound step back fs fb)
 
     module _ (r : Rate) (x : ℕ) (there : IsThere h (class_at r) (register r x)) (bool : elem_of h (register r x) ≡ Truth) where
       sift_sound : (rest : ℕ → List Instr) → HereSound rest → HereSound (λ pc. sift_code r x pc n rest)
@@ -172,7 +169,7 @@ module _ (code : Listing) (h : Routine) where
           go Varying is has = ((((refl, live), ((is, has), ((refl, live), tt))), tt), ((((refl, live), (lt, tt)), tt), tt))
 
     -- a loop begins, makes its turns from the next instruction on, and ends
-    looped : (inside : ℕ → List Instr) → ((top : ℕ) → top < length h.code → top + length (inside top) < length h.code → AreSound code h (inside top)) → HereSound (λ pc. two pc (enter_code e k n) (λ top. two top (inside top) (λ pc1. loop_end_code e k rr n)))
+    looped : (inside : ℕ → List Instr) → ((top : ℕ) → top < length h.code → top + length (inside top) < length h.code → AreSound code h (inside top)) → HereSound (λ pc. loop_code e pc spot inside)
     looped inside f pc lt =
         let begin = enter_code e k n in
         let last = loop_end_code e k rr n in
@@ -181,34 +178,25 @@ module _ (code : Listing) (h : Routine) where
         let e2 = length-append (inside top) last in
         sound_both code h begin (inside top ++ last) enter_sound (sound_both code h (inside top) last (f top (omega (arith, e1, lt)) (omega (arith, e1, e2, lt))) end_sound)
 
-    -- a turn, and behind it the step and the jump back
-    abbrev behind : ℕ → (ℕ → List Instr) → ℕ → List Instr
-    behind top step pc = live_code (nobody_leaves e) n pc (λ pc1. step pc1 ++ instr.Jump top ∷ [])
-
-    behind_sound : (top : ℕ) (step : ℕ → List Instr) → top < length h.code → HereSound step → HereSound (behind top step)
-    behind_sound top step lt f = live_sound (nobody_leaves e) (λ pc1. step pc1 ++ instr.Jump top ∷ []) (step_back top step lt f)
-
     -- ---- the loops
 
     pub endless_sound : (body step : ℕ → List Instr) → HereSound body → HereSound step → HereSound (λ pc. endless_code e pc spot body step)
     endless_sound body step fb fs =
-        looped (λ top. two top (turn_code false e top n body) (behind top step)) (λ top lt lt1. two_sound (λ pc. turn_code false e pc n body) (behind top step) (turn_sound false body fb) (behind_sound top step lt fs) top lt1)
+        let back = λ (top pc : ℕ). instr.Jump top ∷ [] in
+        looped (λ top. two top (turn_code false e top n body) (λ pc. next_code e n pc step (back top))) (λ top lt. two_sound (λ pc. turn_code false e pc n body) (λ pc. next_code e n pc step (back top)) (turn_sound false body fb) (next_sound step (back top) fs (λ pc lt1. (((lt, tt), tt), tt))) top)
 
-    module _ (wide : Bool) (r : Rate) (x : ℕ) (test body : ℕ → List Instr) (there : IsThere h (class_at r) (register r x)) (bool : elem_of h (register r x) ≡ Truth) (ft : HereSound test) (fb : HereSound body) where
-      -- the test, and what follows it for those that pass
-      passed_sound : (rest : ℕ → List Instr) → HereSound rest → HereSound (λ pc. two pc (test pc) (λ pc1. sift_code r x pc1 n rest))
-      passed_sound rest f = two_sound test (λ pc1. sift_code r x pc1 n rest) ft (sift_sound r x there bool rest f)
+    module _ (wide : Bool) (r : Rate) (x : ℕ) (test body step : ℕ → List Instr) (there : IsThere h (class_at r) (register r x)) (bool : elem_of h (register r x) ≡ Truth) (ft : HereSound test) (fb : HereSound body) (fs : HereSound step) where
+      abbrev turns_from : ℕ → List Instr
+      turns_from top = tested_code wide e r x n top test body step
 
-      pub while_sound : HereSound (λ pc. while_code wide e r x pc spot test body)
-      while_sound =
-          let back = λ (top : ℕ). back_code (nobody_leaves e) n top ∷ [] in
-          looped (λ top. two top (test top) (λ pc1. sift_code r x pc1 n (λ pc2. two pc2 (turn_code wide e pc2 n body) (λ pc3. back top)))) (λ top lt lt1. passed_sound (λ pc2. two pc2 (turn_code wide e pc2 n body) (λ pc3. back top)) (two_sound (λ pc2. turn_code wide e pc2 n body) (λ pc3. back top) (turn_sound wide body fb) (λ pc3 lt3. back_sound (nobody_leaves e) top lt)) top lt1)
+      turns_sound : (top : ℕ) → top < length h.code → top + length (turns_from top) < length h.code → AreSound code h (turns_from top)
+      turns_sound top lt =
+          let back = λ (pc : ℕ). test pc ++ again_code r x n top in
+          two_sound (λ pc. turn_code wide e pc n body) (λ pc. next_code e n pc step back) (turn_sound wide body fb) (next_sound step back fs (two_sound test (λ pc. again_code r x n top) ft (λ pc lt1. again_sound r x there bool top lt))) top
 
-      pub for_sound : (step : ℕ → List Instr) → HereSound step → HereSound (λ pc. for_code wide e r x pc spot test body step)
-      for_sound step fs =
-          looped (λ top. two top (test top) (λ pc1. sift_code r x pc1 n (λ pc2. two pc2 (turn_code wide e pc2 n body) (behind top step)))) (λ top lt lt1. passed_sound (λ pc2. two pc2 (turn_code wide e pc2 n body) (behind top step)) (two_sound (λ pc2. turn_code wide e pc2 n body) (behind top step) (turn_sound wide body fb) (behind_sound top step lt fs)) top lt1)
+      pub turned_sound : HereSound (λ pc. loop_code e pc spot turns_from)
+      turned_sound = looped turns_from turns_sound
 
-      pub do_sound : HereSound (λ pc. do_code wide e r x pc spot test body)
-      do_sound =
-          let again = λ (top pc1 : ℕ). live_code (nobody_leaves e) n pc1 (λ pc2. test pc2 ++ again_code r x n top) in
-          looped (λ top. two top (turn_code wide e top n body) (again top)) (λ top lt lt1. two_sound (λ pc. turn_code wide e pc n body) (again top) (turn_sound wide body fb) (live_sound (nobody_leaves e) (λ pc2. test pc2 ++ again_code r x n top) (two_sound test (λ pc3. again_code r x n top) ft (λ pc3 lt3. again_sound r x there bool top lt))) top lt1)
+      pub for_sound : (entry : ℕ → List Instr) → HereSound entry → HereSound (λ pc. for_code wide e r x pc spot entry test body step)
+      for_sound entry fe =
+          looped (λ top. two top (entry top) (λ pc. sift_code r x pc n turns_from)) (λ top lt. two_sound entry (λ pc. sift_code r x pc n turns_from) fe (sift_sound r x there bool turns_from (λ pc lt1. turns_sound pc (omega (arith, lt1)) lt1)) top)

@@ -1,5 +1,5 @@
 -- Each instruction of the code of a `foreach` has its operands, where those of its body have.
-use Rattle.std.proofs.Common.{◌≡◌, ℕ, ◌+◌, ◌<◌, ◌≤◌, List, [], ◌∷◌, ◌++◌, length, Bool, true, false, refl, sym, ap, ◌∙◌, arith, length-append}
+use Rattle.std.proofs.Common.{◌≡◌, ℕ, ◌+◌, ◌<◌, ◌≤◌, List, [], ◌∷◌, ◌++◌, length, Option, Some, None, Bool, true, false, refl, sym, ap, ◌∙◌, subst, arith, length-append}
 use Rattle.isp_base.specs.Cross.{widened}
 use Rattle.isp_base.specs.declared.operators.Compare.TheVariants.{Less}
 use Rattle.isp_base.specs.declared.types.Elem.TheVariants.{Bool as Truth, I32, I64}
@@ -12,13 +12,21 @@ use Rattle.isp_code.specs.declared.instr.Instr.TheVariants as instr
 use Rattle.isp_code.specs.declared.instr.JumpTest.TheVariants as jump
 use Rattle.isp_code.specs.declared.instr.Plain.TheVariants as plain
 use Rattle.isp_typed.specs.Typed.{TExpr, TRange, TFunction, type_of}
-use Rattle.isp_lower.specs.Code.{compare, compute, constant, convert, splat, found, expr_code, expr_places, jump_on, two}
+use Rattle.isp_base.specs.declared.types.Value.{Value}
+use Rattle.isp_meaning.specs.Payloads.{converted}
+use Rattle.isp_lower.specs.Code.{expr_code}
+use Rattle.isp_lower.specs.Found.{convert_to, found}
+use Rattle.isp_lower.specs.Instructions.{compare, compute, constant, convert, splat, jump_on}
+use Rattle.isp_lower.specs.Known.{constant_of}
+use Rattle.isp_lower.specs.Pieces.{two}
+use Rattle.isp_lower.specs.Spans.{expr_places}
 use Rattle.isp_lower.specs.Layout.{Layout, mask_register}
 use Rattle.isp_lower.specs.Rated.{Reaches}
 use Rattle.isp_lower.specs.Sound.{AreSound, Granted, IsRegister, IsSound, Links}
 use Rattle.isp_lower.proofs.Lemmas.{sound_both, compare_sound, constant_sound, convert_sound, copy_sound, splat_sound, found_there, value_sound, ExprTree, OperandTree}
 use Rattle.isp_masks.specs.Asks.{bound_asks, bounds_asks, measures_asks, place_asks, places_asks}
 use Rattle.isp_masks.specs.Ranges.{goes_on, wide, narrow, test, lane, lane_numbers, sum_lanes, range_mask, places_slot, runs_slot, measures_code, bound_code, bounds_code, ranges_places, sweep_code, outer_index, last_index, run_back, run_place, run_step, runs_code, ranges_code, foreach_code}
+use Rattle.isp_masks.proofs.Bounds.{bound_is}
 use Rattle.isp_masks.proofs.SoundLoops.{HereSound, two_sound}
 use Rattle.isp_masks.proofs.Trees.{RangesTree}
 
@@ -95,18 +103,31 @@ module _ (code : Listing) (h : Routine) (l : Layout) where
 
   -- ---- the bounds
 
-  module _ (fs : List TFunction) (links : Links fs code l) where
+  module _ (fs : List TFunction) (links : Links fs code h l) where
     one_there : (g : Rate) (x : ℕ) → Reaches g Uniform → IsRegister h g x I32 → IsRegister h Uniform x I32
     one_there Uniform x re f = f
     one_there Varying x re f = absurd re
 
+    one_rate : (g : Rate) → Reaches g Uniform → g ≡ Uniform
+    one_rate Uniform re = refl
+    one_rate Varying re = absurd re
+
     bound_sound : (x : TExpr) (pc p k n : ℕ) → OperandTree Uniform I32 x → ExprTree fs x → Granted h l (bound_asks x n) → k < h.masks → p + length (expr_places l x) ≤ length code.places → pc + length (bound_code l x pc p k n) < length h.code → AreSound code h (bound_code l x pc p k n)
     bound_sound x pc p k n o is f lk pl lt =
-        let cx = expr_code l x pc p k n in
-        let last = convert Uniform (wide l n) (found l x n) k ∷ [] in
-        let e = length-append cx last in
-        let there = found_there fs h l x n is f.1 in
-        sound_both code h cx last (value_sound fs code h l links x n is f.1 pc p k lk pl (omega (arith, e, lt))) (convert_sound code h Uniform I64 I32 (wide l n) (found l x n) k f.0 (one_there (type_of x).rate (found l x n) o.reaches (there.0, there.1 ∙ o.elem)) lk, tt)
+        subst (λ z. pc + length z < length h.code → AreSound code h z) (sym (bound_is l x pc p k n (one_rate (type_of x).rate o.reaches) o.elem)) (by (constant_of x)) lt
+      where
+        cx : List Instr
+        cx = expr_code l x pc p k n
+
+        last : List Instr
+        last = convert Uniform (wide l n) (found l x n) k ∷ []
+
+        by : (v : Option Value) → pc + length (convert_to l v I64 Uniform (wide l n) (found l x n) k cx) < length h.code → AreSound code h (convert_to l v I64 Uniform (wide l n) (found l x n) k cx)
+        by None lt1 =
+            let e = length-append cx last in
+            let there = found_there fs h l links.constants x n is f.1.1.1 in
+            sound_both code h cx last (value_sound fs code h l links x n is f.1.1.1 pc p k lk pl (omega (arith, e, lt1))) (convert_sound code h Uniform I64 I32 (wide l n) (found l x n) k f.0 (one_there (type_of x).rate (found l x n) o.reaches (there.0, there.1 ∙ o.elem)) lk, tt)
+        by (Some v) lt1 = (constant_sound code h I64 (wide l n) (converted v.elem I64 v.bits) f.0, tt)
 
     bounds_sound : (rs : List TRange) (pc p k n : ℕ) → RangesTree fs rs → Granted h l (bounds_asks rs n) → k < h.masks → p + length (ranges_places l rs) ≤ length code.places → pc + length (bounds_code l rs pc p k n) < length h.code → AreSound code h (bounds_code l rs pc p k n)
     bounds_sound [] pc p k n is f lk pl lt = tt

@@ -11,7 +11,7 @@ use Rattle.isp_tree.specs.Sound.{IfAny}
 use Rattle.isp_typed.specs.Fine.{FineValue, FineSimple, FineFirst, FineRange, FineReturned, FineStmt, FineBlock, FineStmts}
 use Rattle.isp_typed.specs.Typed.{TFunction, TExpr, TSimple, TFirst, t_first_declare, t_first_simple, TRange, TStmt, t_block, t_declare, t_simple, t_if, t_if_else, t_while, t_do, t_for, t_foreach, t_foreach_active, t_foreach_unique, t_unmasked, t_jump, t_return, t_print, t_assert, TBlock, t_braces, TStmts, t_no_stmts, t_stmt_then}
 use Rattle.isp_typed.specs.declared.variable.Variable.{Variable}
-use Rattle.isp_lower.specs.Code.{expr_places}
+use Rattle.isp_lower.specs.Spans.{expr_places}
 use Rattle.isp_lower.specs.Layout.{Layout, outside}
 use Rattle.isp_lower.proofs.Lemmas.{Placed, placed_both, placed_one, expr_placed, shown_placed, simple_placed, items_placed, all_both}
 use Rattle.isp_masks.specs.Fors.{first_places, test_places, step_places}
@@ -55,12 +55,15 @@ module _ (fs : List TFunction) (vars : List Variable) where
       stmt_placed l (t_if k n e x s) f = placed_both (expr_places l e) (stmt_places l x) (expr_placed fs vars l e f.1.0) (stmt_placed l x f.2)
       stmt_placed l (t_if_else k n e x y s) f =
           placed_both (expr_places l e) (stmt_places l x ++ stmt_places l y) (expr_placed fs vars l e f.1.0) (placed_both (stmt_places l x) (stmt_places l y) (stmt_placed l x f.2) (stmt_placed l y f.3))
-      stmt_placed l (t_while k n e x s) f = placed_both (expr_places l e) (stmt_places l x) (expr_placed fs vars l e f.1.0) (stmt_placed l x f.2)
+      stmt_placed l (t_while k n e x s) f =
+          let test = expr_placed fs vars l e f.1.0 in
+          placed_both (expr_places l e) (stmt_places l x ++ expr_places l e) test (placed_both (stmt_places l x) (expr_places l e) (stmt_placed l x f.2) test)
       stmt_placed l (t_do k n x e s) f = placed_both (stmt_places l x) (expr_places l e) (stmt_placed l x f.1) (expr_placed fs vars l e f.2.0)
       stmt_placed l (t_for k n first e step i x s) f =
-          let turn = stmt_places l x ++ step_places l step in
-          placed_both (first_places l first) (test_places l e ++ turn) (first_placed l first f.2)
-          (placed_both (test_places l e) turn (test_placed l e f.3) (placed_both (stmt_places l x) (step_places l step) (stmt_placed l x f.5) (step_placed l step f.4)))
+          let back = step_places l step ++ test_places l e in
+          let test = test_placed l e f.3 in
+          placed_both (first_places l first) (test_places l e ++ (stmt_places l x ++ back)) (first_placed l first f.2)
+          (placed_both (test_places l e) (stmt_places l x ++ back) test (placed_both (stmt_places l x) back (stmt_placed l x f.5) (placed_both (step_places l step) (test_places l e) (step_placed l step f.4) test)))
       stmt_placed l (t_foreach w n rs x s) f =
           placed_both (ranges_places l rs) (stmt_places (body_layout l rs) x) (ranges_placed l rs f.1) (stmt_placed (body_layout l rs) x f.2)
       stmt_placed l (t_foreach_active w n i x s) f = stmt_placed l x f.2

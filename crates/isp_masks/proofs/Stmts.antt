@@ -13,7 +13,9 @@ use Rattle.isp_meaning.specs.Payloads.{Payload, is_false, offender}
 use Rattle.isp_meaning.specs.Outcomes.{Res, checked, went_all, with_value, unless_empty}
 use Rattle.isp_meaning.specs.Expressions.{value}
 use Rattle.isp_meaning.specs.Statements.{all_go, branches, run, block, run_all}
-use Rattle.isp_lower.specs.Code.{found, expr_places, expr_code}
+use Rattle.isp_lower.specs.Code.{expr_code}
+use Rattle.isp_lower.specs.Found.{found}
+use Rattle.isp_lower.specs.Spans.{expr_places}
 use Rattle.isp_lower.specs.Runs.{Ok}
 use Rattle.isp_lower.specs.Setting.{Setting, IsSettled, gang_of, calls_of, AreAt, Holds}
 use Rattle.isp_lower.proofs.Lemmas.{are_front, are_back, comes_none, at_to, spares_all, expr_runs, few, enters_less, enters_part, items_run, simple_runs, ExprParts}

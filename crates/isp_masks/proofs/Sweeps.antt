@@ -21,7 +21,7 @@ use Rattle.isp_meaning.specs.Outcomes.{Res, Went, Trapped, Cut, go_on, went_all}
 use Rattle.isp_meaning.specs.Payloads.{One}
 use Rattle.isp_meaning.specs.Rounds.{Round, rounds, from_on, joined_lists}
 use Rattle.isp_meaning.specs.State.{State}
-use Rattle.isp_lower.specs.Code.{compute}
+use Rattle.isp_lower.specs.Instructions.{compute}
 use Rattle.isp_lower.specs.Runs.{Comes, DoneOk, Failed, Stopped}
 use Rattle.isp_lower.specs.Setting.{Setting, IsSettled, AreAt, At, Stands, Spares}
 use Rattle.isp_lower.specs.Tables.{IsTyped}

@@ -1,7 +1,7 @@
 -- The turns of a loop: its end, a turn, the test before or behind it, and what stands between two turns; by induction on the
 -- turns that are left.
-use Rattle.std.proofs.Common.{◌≡◌, ◌≢◌, ℕ, zero, suc, ◌+◌, ◌*◌, ◌<◌, ◌≤◌, List, [], ◌∷◌, ◌++◌, length, Some, Bool, true, false, refl, sym, ap, ◌∙◌, subst, arith, length-append}
-use Rattle.std.specs.Prelude.{slice_get, not, if◌then◌else◌, ◌||◌}
+use Rattle.std.proofs.Common.{◌≡◌, ◌≢◌, ℕ, zero, suc, ◌+◌, ◌*◌, ◌<◌, ◌≤◌, List, [], ◌∷◌, ◌++◌, length, Bool, true, false, refl, sym, ap, ◌∙◌, subst, arith, length-append}
+use Rattle.std.specs.Prelude.{not, if◌then◌else◌, ◌||◌}
 use Rattle.isp_base.specs.Maps.{on, where_true}
 use Rattle.isp_base.specs.Sets.{Mask, nobody, union, without, any, all as all_of}
 use Rattle.isp_base.specs.declared.types.Rate.{Rate}
@@ -12,17 +12,18 @@ use Rattle.isp_code.specs.declared.instr.Instr.{Instr}
 use Rattle.isp_code.specs.declared.instr.Instr.TheVariants as instr
 use Rattle.isp_code.specs.declared.instr.JumpTest.TheVariants as jump
 use Rattle.isp_meaning.specs.Laws.{Parted}
-use Rattle.isp_meaning.specs.Loops.{loop_end, tested, stepped, turns}
+use Rattle.isp_meaning.specs.Loops.{loop_end, stepped, turns}
 use Rattle.isp_meaning.specs.Outcomes.{Val, Gives, Fails, Stops, Done, Res, Went, Trapped, Cut, go_on, with_value, if_so}
 use Rattle.isp_meaning.specs.Payloads.{Payload, is_true, kept_by, bit}
 use Rattle.isp_meaning.specs.State.{State, tick}
-use Rattle.isp_lower.specs.Code.{two, the_others}
+use Rattle.isp_lower.specs.Instructions.{the_others}
+use Rattle.isp_lower.specs.Pieces.{two}
 use Rattle.isp_lower.specs.Layout.{register, mask_register}
-use Rattle.isp_lower.specs.Runs.{Comes, Runs, DoneRuns, Stopped}
+use Rattle.isp_lower.specs.Runs.{Comes, Enters, Runs, DoneOk, DoneRuns, Stopped}
 use Rattle.isp_lower.specs.Setting.{Setting, IsSettled, gang_of, AreAt, At, Stands, Spares, Holds, Allowed}
 use Rattle.isp_lower.proofs.Lemmas.{are_front, are_back, put_same, put_other, comes_none, comes_on, step_go, at_to, spares_all, spares_less, spares_on, failed_after, stopped_after, failed_less, stopped_less, jumped, jump_comes, jump_at, masked, where_comes, others_comes, masked_at, any_nobody, where_inside, at_kept}
 use Rattle.isp_masks.specs.LoopRuns.{TestRuns, BodyRuns, StepRuns}
-use Rattle.isp_masks.specs.Loops.{copy_mask, if_needed, enter_code, loop_end_code, rejoin_code, turn_code, back_code, sift_code, live_code, again_code}
+use Rattle.isp_masks.specs.Loops.{copy_mask, if_needed, enter_code, loop_end_code, rejoin_code, turn_code, sift_code, live_code, again_code, next_code}
 use Rattle.isp_masks.specs.Sets.{unite, clear_mask}
 use Rattle.isp_masks.specs.Spots.{Spot, body_spot}
 use Rattle.isp_masks.specs.StmtRuns.{AreThree, EntersAt, Inside, StmtOk, StmtRuns}
@@ -57,6 +58,19 @@ live_in a g b c r s parts p h = go (g p) refl h
     go false e k = third_in (c p) (a p) _ _ _ (parts p) k
 
 module _ (w : Setting) (ready : IsSettled w) where
+  -- nothing is done
+  pub none_done : (pc k n q : ℕ) (a : Mask) (s : State) (c : Conf) → Enters w pc k n a s c q → DoneOk w c (pc + 0) n q s
+  none_done pc k n q a s c b = record {
+    conf = c;
+    steps = 0;
+    comes = comes_none w c;
+    at = at_to w c pc (pc + 0) b.at (omega arith);
+    stands = b.stands;
+    spares = spares_all w n c;
+    masks = λ r lt. refl;
+    bound = omega (arith, b.used);
+  }
+
   -- a cut past more turns is one past fewer
   fewer : (t m : ℕ) (c : Conf) (q : ℕ) (s : State) → m ≤ t → Stopped w t c q s → Stopped w m c q s
   fewer t m c q s le f = record { conf = f.conf; steps = f.steps; far = omega (arith, f.far); goes = f.goes; out_is = f.out_is; bound = f.bound }
@@ -527,34 +541,43 @@ module _ (w : Setting) (ready : IsSettled w) where
             subst (λ z. StmtRuns w t c4 z spot (1 + q) (Went s (without all returned) nobody nobody returned)) (sym ends)
             (end_runs t past (1 + q) live returned s c4 (in4 past (at_to w c4 out past (jump_at w ready c pc jump.Off (mask_register n) out true i.at (off_is false h)) out_is)) (omega (arith, used)) at_end)
 
-    -- ---- a step and a jump back to the test: `for`
+    -- ---- the step, and what leads back
 
-    -- what goes on from the test
+    -- what goes on from where a turn begins, or the test before it
     abbrev pub TopRuns : ℕ → ℕ → ℕ → (Mask → Mask → State → Res) → Type 0
     TopRuns t top end value =
         (q : ℕ) (live returned : Mask) (s : State) (c : Conf) → InLoop top live returned s c → Inside w live → any (gang_of w) live ≡ true → q ≤ 32 * s.work → StmtRuns w t c end spot q (value live returned s)
 
-    pub step_runs : (m top past end : ℕ) (step_code : ℕ → List Instr) (step : Mask → State → Val Done) (next : Mask → Mask → State → Res) → suc m ≤ w.turns → end ≡ past + length (loop_end_code e k rr n) → AreAt w.routine.code past (loop_end_code e k rr n) → StepRuns w n step_code step → TopRuns m top end next → Behind m (λ pc. live_code (nobody_leaves e) n pc (λ pc1. step_code pc1 ++ instr.Jump top ∷ [])) past end (λ live returned s. with_value (step live s) (λ _ s1. next live returned s1))
-    step_runs m top past end step_code step next le ends at_end run from_top live returned s c pc q has to i inside must used =
-        live_runs (suc m) (nobody_leaves e) past end pc q live returned s c (λ pc1. step_code pc1 ++ instr.Jump top ∷ []) (λ live returned s. with_value (step live s) (λ _ s1. next live returned s1)) ends must has to at_end i used
-        (λ c1 pc1 q1 at1 to1 i1 some used1. go c1 pc1 q1 i1 some (step live s) (are_back w.routine.code pc1 (step_code pc1) (instr.Jump top ∷ []) at1).0 (run live s c1 pc1 (4 + q1) (are_front w.routine.code pc1 (step_code pc1) (instr.Jump top ∷ []) at1) (record { at = i1.at; mask = i1.live_is; some = some; inside = inside; stands = i1.stands; used = omega (arith, used1); low = omega arith })))
+    -- what leads back to the next turn, behind the step
+    abbrev pub BackRuns : ℕ → (ℕ → List Instr) → ℕ → ℕ → (Mask → Mask → State → Res) → Type 0
+    BackRuns m back past end next =
+        (live returned : Mask) (s : State) (c : Conf) (pc q : ℕ) → AreAt w.routine.code pc (back pc) → pc + length (back pc) ≡ past → InLoop pc live returned s c → Inside w live → any (gang_of w) live ≡ true → 4 + q ≤ 32 * s.work → StmtRuns w (suc m) c end spot q (next live returned s)
+
+    pub step_runs : (m past end : ℕ) (step_code back : ℕ → List Instr) (step : Mask → State → Val Done) (next : Mask → Mask → State → Res) → suc m ≤ w.turns → end ≡ past + length (loop_end_code e k rr n) → AreAt w.routine.code past (loop_end_code e k rr n) → StepRuns w n step_code step → BackRuns m back past end next → Behind m (λ pc. next_code e n pc step_code back) past end (λ live returned s. with_value (step live s) (λ _ s1. next live returned s1))
+    step_runs m past end step_code back step next le ends at_end run f live returned s c pc q has to i inside must used =
+        live_runs (suc m) (nobody_leaves e) past end pc q live returned s c (λ pc1. two pc1 (step_code pc1) back) (λ live returned s. with_value (step live s) (λ _ s1. next live returned s1)) ends must has to at_end i used
+        (λ c1 pc1 q1 at1 to1 i1 some used1. go c1 pc1 q1 i1 some (step live s) at1 to1 (run live s c1 pc1 (4 + q1) (are_front w.routine.code pc1 (step_code pc1) (back (pc1 + length (step_code pc1))) at1) (record { at = i1.at; mask = i1.live_is; some = some; inside = inside; stands = i1.stands; used = omega (arith, used1); low = omega arith })))
       where
-        go : (c1 : Conf) (pc1 q1 : ℕ) → InLoop pc1 live returned s c1 → any (gang_of w) live ≡ true → (v : Val Done) → slice_get w.routine.code (pc1 + length (step_code pc1)) ≡ Some (instr.Jump top) → DoneRuns w c1 (pc1 + length (step_code pc1)) (n + 3) (4 + q1) v → StmtRuns w (suc m) c1 end spot q1 (with_value v (λ _ s1. next live returned s1))
-        go c1 pc1 q1 i1 some (Gives u s1) at ok =
+        go : (c1 : Conf) (pc1 q1 : ℕ) → InLoop pc1 live returned s c1 → any (gang_of w) live ≡ true → (v : Val Done) → AreAt w.routine.code pc1 (two pc1 (step_code pc1) back) → pc1 + length (two pc1 (step_code pc1) back) ≡ past → DoneRuns w c1 (pc1 + length (step_code pc1)) (n + 3) (4 + q1) v → StmtRuns w (suc m) c1 end spot q1 (with_value v (λ _ s1. next live returned s1))
+        go c1 pc1 q1 i1 some (Gives u s1) at to1 ok =
             let c2 = ok.conf in
-            let c3 : Conf = record c2 { pc = top } in
-            let long : ok.steps + 1 ≡ suc ok.steps = omega arith in
-            stmt_further m c1 c3 ok.steps end spot q1 _ (subst (λ z. Comes w c1 z c3) long (comes_on w c1 c2 c3 ok.steps 1 ok.comes (step_go w c2 (pc1 + length (step_code pc1)) (instr.Jump top) c3 ready ok.at at refl))) (spares_less w n (n + 3) c1 c2 (omega arith) ok.spares) (λ y lt ne. ok.masks y (omega arith)) three
-            (from_top (suc ok.steps + q1) live returned s1 c3 (record { at = record { home_is = ok.at.home_is; waiting_is = ok.at.waiting_is; pc_is = refl }; all_is = ok.masks k (omega (arith, three.low_on)) ∙ i1.all_is; live_is = ok.masks n (omega arith) ∙ i1.live_is; gone = gone_moved e.returns returned c1 c3 (ok.masks (n + 2) (omega arith)) i1.gone; stands = ok.stands }) inside some (omega (arith, ok.bound)))
-        go c1 pc1 q1 i1 some (Fails p s1) at bad = failed_less w ready c1 4 q1 p s1 bad
-        go c1 pc1 q1 i1 some (Stops s1) at cut = fewer w.turns (suc m) c1 q1 s1 le (stopped_less w ready w.turns c1 4 q1 s1 cut)
+            let pc2 = pc1 + length (step_code pc1) in
+            stmt_after w ready (suc m) c1 c2 ok.steps end spot q1 _ ok.comes (spares_less w n (n + 3) c1 c2 (omega arith) ok.spares) (λ y lt ne. ok.masks y (omega arith)) three
+            (f live returned s1 c2 pc2 (ok.steps + q1) (are_back w.routine.code pc1 (step_code pc1) (back pc2) at) (omega (arith, to1, length-append (step_code pc1) (back pc2))) (record { at = ok.at; all_is = ok.masks k (omega (arith, three.low_on)) ∙ i1.all_is; live_is = ok.masks n (omega arith) ∙ i1.live_is; gone = gone_moved e.returns returned c1 c2 (ok.masks (n + 2) (omega arith)) i1.gone; stands = ok.stands }) inside some (omega (arith, ok.bound)))
+        go c1 pc1 q1 i1 some (Fails p s1) at to1 bad = failed_less w ready c1 4 q1 p s1 bad
+        go c1 pc1 q1 i1 some (Stops s1) at to1 cut = fewer w.turns (suc m) c1 q1 s1 le (stopped_less w ready w.turns c1 4 q1 s1 cut)
 
-    -- ---- a test behind the body, and a jump back: `do`
+    -- a jump, where there is no test
+    pub jump_runs : (m top past end : ℕ) (next : Mask → Mask → State → Res) → TopRuns m top end next → BackRuns m (λ pc. instr.Jump top ∷ []) past end next
+    jump_runs m top past end next f live returned s c pc q has to i inside some used =
+        let c1 : Conf = record c { pc = top } in
+        stmt_further m c c1 0 end spot q _ (step_go w c pc (instr.Jump top) c1 ready i.at has.0 refl) (spares_all w n c) (λ y lt ne. refl) three
+        (f (1 + q) live returned s c1 (moved_on pc live returned s c top i) inside some (omega (arith, used)))
 
-    pub again_runs : (m : ℕ) (r : Rate) (x top past end : ℕ) (test_code rest_code : ℕ → List Instr) (test : Mask → State → Val Payload) (turn : Mask → Mask → State → Res) → suc m ≤ w.turns → end ≡ past + length (loop_end_code e k rr n) → AreAt w.routine.code past (loop_end_code e k rr n) → AreAt w.routine.code top (rest_code top) → top + length (rest_code top) ≡ past → TestRuns w n r x test_code test → KeptRuns m rest_code past end turn → Behind m (λ pc. live_code (nobody_leaves e) n pc (λ pc1. test_code pc1 ++ again_code r x n top)) past end (λ live returned s. with_value (test live s) (λ v s1. if_so (any (gang_of w) (kept_by is_true live v)) (turn (kept_by is_true live v) returned) (λ s2. Went s2 (without all returned) nobody nobody returned) s1))
-    again_runs m r x top past end test_code rest_code test turn le ends at_end at_top top_past run f live returned s c pc q has to i inside must used =
-        live_runs (suc m) (nobody_leaves e) past end pc q live returned s c (λ pc1. test_code pc1 ++ again_code r x n top) (λ live returned s. with_value (test live s) (λ v s1. if_so (any (gang_of w) (kept_by is_true live v)) (turn (kept_by is_true live v) returned) (λ s2. Went s2 (without all returned) nobody nobody returned) s1)) ends must has to at_end i used
-        (λ c1 pc1 q1 at1 to1 i1 some used1. go c1 pc1 q1 i1 some (test live s) (are_back w.routine.code pc1 (test_code pc1) (again_code r x n top) at1) (omega (arith, to1, length-append (test_code pc1) (again_code r x n top))) (run live s c1 pc1 q1 (are_front w.routine.code pc1 (test_code pc1) (again_code r x n top) at1) (record { at = i1.at; mask = i1.live_is; some = some; inside = inside; stands = i1.stands; used = omega (arith, used1); low = omega arith })))
+    -- a test, and a jump back to the body
+    pub again_runs : (m : ℕ) (r : Rate) (x top past end : ℕ) (test_code rest_code : ℕ → List Instr) (test : Mask → State → Val Payload) (turn : Mask → Mask → State → Res) → suc m ≤ w.turns → end ≡ past + length (loop_end_code e k rr n) → AreAt w.routine.code past (loop_end_code e k rr n) → AreAt w.routine.code top (rest_code top) → top + length (rest_code top) ≡ past → TestRuns w n r x test_code test → KeptRuns m rest_code past end turn → BackRuns m (λ pc. test_code pc ++ again_code r x n top) past end (λ live returned s. with_value (test live s) (λ v s1. if_so (any (gang_of w) (kept_by is_true live v)) (turn (kept_by is_true live v) returned) (λ s2. Went s2 (without all returned) nobody nobody returned) s1))
+    again_runs m r x top past end test_code rest_code test turn le ends at_end at_top top_past run f live returned s c pc q has to i inside some used =
+        go c pc q i some (test live s) (are_back w.routine.code pc (test_code pc) (again_code r x n top) has) (omega (arith, to, length-append (test_code pc) (again_code r x n top))) (run live s c pc q (are_front w.routine.code pc (test_code pc) (again_code r x n top) has) (record { at = i.at; mask = i.live_is; some = some; inside = inside; stands = i.stands; used = omega (arith, used); low = omega arith }))
       where
         finish : State → Res
         finish s2 = Went s2 (without all returned) nobody nobody returned
@@ -633,61 +656,6 @@ module _ (w : Setting) (ready : IsSettled w) where
             (jump_back r (pc1 + length (test_code pc1)) (ok.steps + q1) v1 s1 c2 (record { at = ok.at; all_is = ok.masks k (omega (arith, three.low_on)) ∙ i1.all_is; live_is = ok.masks n (omega arith) ∙ i1.live_is; gone = gone_moved e.returns returned c1 c2 (ok.masks (n + 2) (omega arith)) i1.gone; stands = ok.stands }) some ok.holds (omega (arith, ok.bound)) at to2)
         go c1 pc1 q1 i1 some (Fails p s1) at to2 bad = failed_less w ready c1 4 q1 p s1 bad
         go c1 pc1 q1 i1 some (Stops s1) at to2 cut = fewer w.turns (suc m) c1 q1 s1 le (stopped_less w ready w.turns c1 4 q1 s1 cut)
-
-    -- ---- a test and a jump back to it: `while`
-
-    module _ (r : Rate) (x top : ℕ) (test_code body_code : ℕ → List Instr) (test : Mask → State → Val Payload) (body : Mask → State → Res) (run_test : TestRuns w n r x test_code test) where
-      -- there is no step
-      abbrev no_step : Mask → State → Val Done
-      no_step l s = Gives tt s
-
-      abbrev back : ℕ → List Instr
-      back pc = back_code (nobody_leaves e) n top ∷ []
-
-      abbrev while_turns : ℕ → Mask → Mask → State → Res
-      while_turns = turns (gang_of w) test body no_step all
-
-      abbrev turn_and_back : ℕ → List Instr
-      turn_and_back pc = two pc (turn_code wide e pc n body_code) back
-
-      abbrev test_end : ℕ
-      test_end = top + length (test_code top)
-
-      abbrev sift_end : ℕ
-      sift_end = test_end + length (sift_code r x test_end n turn_and_back)
-
-      abbrev while_end : ℕ
-      while_end = sift_end + length (loop_end_code e k rr n)
-
-      module _ (at_test : AreAt w.routine.code top (test_code top)) (at_sift : AreAt w.routine.code test_end (sift_code r x test_end n turn_and_back)) (at_end : AreAt w.routine.code sift_end (loop_end_code e k rr n)) where
-        -- from the test, with what a turn does
-        pub from_top : (t q : ℕ) (live returned : Mask) (s : State) (c : Conf) → t ≤ w.turns → KeptRuns t turn_and_back sift_end while_end (while_turns t) → InLoop top live returned s c → Inside w live → any (gang_of w) live ≡ true → q ≤ 32 * s.work → StmtRuns w t c while_end spot q (tested (gang_of w) test body no_step all (while_turns t) live returned s)
-        from_top t q live returned s c le f i inside some used = tested_runs t r x top sift_end q live returned s c test_code turn_and_back test (while_turns t) le refl i inside some used at_test at_sift at_end run_test f
-
-        pub back_runs : (m : ℕ) → suc m ≤ w.turns → KeptRuns m turn_and_back sift_end while_end (while_turns m) → Behind m back sift_end while_end (stepped (gang_of w) test body no_step all (while_turns m))
-        back_runs m le f live returned s c pc q has to i inside must used = go (nobody_leaves e) (any (gang_of w) live) refl must has.0
-          where
-            again : (c1 : Conf) → Comes w c 1 c1 → At w c1 top → c1.masks ≡ c.masks → Stands w s c1 → Spares w n c c1 → any (gang_of w) live ≡ true → StmtRuns w (suc m) c while_end spot q (tested (gang_of w) test body no_step all (while_turns m) live returned s)
-            again c1 h at same st sp some =
-                stmt_further m c c1 0 while_end spot q _ h sp (λ y lt ne. ap (λ g. g y) same) three
-                (from_top m (1 + q) live returned s c1 (omega (arith, le)) f (record { at = at; all_is = ap (λ g. g k) same ∙ i.all_is; live_is = ap (λ g. g n) same ∙ i.live_is; gone = gone_moved e.returns returned c c1 (ap (λ g. g (n + 2)) same) i.gone; stands = st }) inside some (omega (arith, used)))
-
-            c2 : Conf
-            c2 = record c { pc = top }
-
-            c3 : Conf
-            c3 = jumped w ready c jump.On (mask_register n) top
-
-            on_is : (b : Bool) → any (gang_of w) live ≡ b → jumps w.code w.routine c jump.On (mask_register n) ≡ b
-            on_is b h = ap (any (gang_of w)) i.live_is ∙ h
-
-            go : (d b : Bool) → any (gang_of w) live ≡ b → (d ≡ true → any (gang_of w) live ≡ true) → slice_get w.routine.code pc ≡ Some (back_code d n top) → StmtRuns w (suc m) c while_end spot q (if_so b (stepped (gang_of w) test body no_step all (while_turns m) live returned) (loop_end (gang_of w) test body no_step all returned) s)
-            go true true h all_stay at = again c2 (step_go w c pc (instr.Jump top) c2 ready i.at at refl) (record { home_is = i.at.home_is; waiting_is = i.at.waiting_is; pc_is = refl }) refl i.stands (spares_all w n c) h
-            go true false h all_stay at = let no : true ≡ false = sym (all_stay refl) ∙ h in absurd (cc)
-            go false true h all_stay at = again c3 (jump_comes w ready c pc jump.On (mask_register n) top i.at at) (jump_at w ready c pc jump.On (mask_register n) top true i.at (on_is true h)) refl i.stands (spares_all w n c) h
-            go false false h all_stay at =
-                stmt_after w ready (suc m) c c3 1 while_end spot q (Went s (without all returned) nobody nobody returned) (jump_comes w ready c pc jump.On (mask_register n) top i.at at) (spares_all w n c) (λ y lt ne. refl) three
-                (end_runs (suc m) sift_end (1 + q) live returned s c3 (record { at = at_to w c3 (pc + 1) sift_end (jump_at w ready c pc jump.On (mask_register n) top false i.at (on_is false h)) (omega (arith, to)); all_is = i.all_is; live_is = i.live_is; gone = gone_moved e.returns returned c c3 refl i.gone; stands = i.stands }) (omega (arith, used)) at_end)
 
     -- ---- the beginning
 

@@ -5,7 +5,7 @@ use Rattle.isp_base.specs.declared.types.Span.{Span}
 use Rattle.isp_code.specs.declared.instr.Instr.{Instr}
 use Rattle.isp_code.specs.declared.instr.Instr.TheVariants as instr
 use Rattle.isp_code.specs.declared.instr.JumpTest.TheVariants as jump
-use Rattle.isp_lower.specs.Code.{choice, guard, two}
+use Rattle.isp_lower.specs.Pieces.{choice, guard, two}
 use Rattle.isp_lower.specs.Emitted.{Appends, texts_of}
 use Rattle.isp_lower.specs.Layout.{mask_register}
 use Rattle.isp_lower.specs.declared.types.Body.{Body}
@@ -103,22 +103,27 @@ writes_adding a b c x f p w g =
       texts = texts_still b c g.texts ∙ w.texts;
     }
 
--- one instruction before it
-pub writes_behind : (a b c : Body) (i : Instr) (y : Piece) → Appends a b (λ pc p. i ∷ []) [] → Writes b c y
-    → Writes a c (record { code = λ pc z. i ∷ y.code (pc + 1) z; places = y.places; texts = y.texts })
-writes_behind a b c i y f w =
+-- some before it
+pub writes_front : (a b c : Body) (f : List Instr) (y : Piece) → Appends a b (λ pc p. f) [] → Writes b c y
+    → Writes a c (record { code = λ pc z. f ++ y.code (pc + length f) z; places = y.places; texts = y.texts })
+writes_front a b c f y x w =
+    let none = x.places ∙ append-nil a.places.items in
     let pc = length a.code.items in
-    let none = f.places ∙ append-nil a.places.items in
     record {
       code =
           w.code
-          ∙ ap (λ z. b.code.items ++ y.code (length b.code.items) z) (next_same a b f.places f.texts)
-          ∙ ap (λ m. b.code.items ++ y.code m (next_of a)) (ap length f.code ∙ length-append a.code.items (i ∷ []))
-          ∙ ap (λ is. is ++ y.code (pc + 1) (next_of a)) f.code
-          ∙ append_assoc a.code.items (i ∷ []) (y.code (pc + 1) (next_of a));
+          ∙ ap (λ z. b.code.items ++ y.code (length b.code.items) z) (next_same a b x.places x.texts)
+          ∙ ap (λ m. b.code.items ++ y.code m (next_of a)) (ap length x.code ∙ length-append a.code.items f)
+          ∙ ap (λ is. is ++ y.code (pc + length f) (next_of a)) x.code
+          ∙ append_assoc a.code.items f (y.code (pc + length f) (next_of a));
       places = w.places ∙ ap (λ s. s ++ y.places) none;
-      texts = w.texts ∙ ap (λ s. s ++ y.texts) (texts_still a b f.texts);
+      texts = w.texts ∙ ap (λ s. s ++ y.texts) (texts_still a b x.texts);
     }
+
+-- one instruction before it
+pub writes_behind : (a b c : Body) (i : Instr) (y : Piece) → Appends a b (λ pc p. i ∷ []) [] → Writes b c y
+    → Writes a c (record { code = λ pc z. i ∷ y.code (pc + 1) z; places = y.places; texts = y.texts })
+writes_behind a b c i y f w = writes_front a b c (i ∷ []) y f w
 
 -- ---- a jump over a part
 

@@ -9,7 +9,7 @@ use Rattle.isp_base.specs.declared.types.Ty.{Ty}
 use Rattle.isp_tree.specs.declared.stmt.Form.{Form}
 use Rattle.isp_tree.specs.declared.stmt.Form.TheVariants.{Plain, Coherent}
 use Rattle.isp_typed.specs.Typed.{TExpr, t_exprs, type_of, elem_of, TSimple, TFirst, t_first_declare, t_first_simple, TRange, TStmt, t_block, t_declare, t_simple, t_if, t_if_else, t_while, t_do, t_for, t_foreach, t_foreach_active, t_foreach_unique, t_unmasked, t_jump, t_return, t_print, t_assert, TBlock, t_braces, TStmts, t_no_stmts, t_stmt_then}
-use Rattle.isp_lower.specs.Asks.{Ask, Nothing, Both, Register, MaskOf, Number, expr_asks, operand_asks, simple_asks, spare_ask, items_asks, test_asks, values_asks}
+use Rattle.isp_lower.specs.Asks.{Ask, Nothing, Both, Register, MaskOf, Number, expr_asks, index_asks, operand_asks, simple_asks, spare_ask, items_asks, test_asks, values_asks}
 use Rattle.isp_lower.specs.Rows.{Result, Variable, Place}
 use Rattle.isp_masks.specs.Prints.{own_rates}
 use Rattle.isp_masks.specs.Ranges.{places_slot, runs_slot}
@@ -65,7 +65,7 @@ measures_asks n =
     Both (spare_ask Uniform I32 n) (Both (spare_ask Varying I32 n) (Both (spare_ask Uniform I64 n) (Both (Number (n + 1)) (Both (spare_ask Uniform I32 (n + 1)) (Both (spare_ask Varying I32 (n + 1)) (Both (spare_ask Uniform I64 (n + 1)) (Number (n + 1 + 1))))))))
 
 abbrev pub bound_asks : TExpr → ℕ → Ask
-bound_asks x n = Both (spare_ask Uniform I64 n) (expr_asks x n)
+bound_asks x n = Both (spare_ask Uniform I64 n) (index_asks Uniform x n (expr_asks x n))
 
 abbrev pub bounds_asks : List TRange → ℕ → Ask
 bounds_asks [] n = Nothing

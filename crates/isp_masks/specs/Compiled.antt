@@ -4,6 +4,7 @@ use Rattle.isp_base.specs.Sets.{everyone, nobody}
 use Rattle.isp_base.specs.Types.{gang_width}
 use Rattle.isp_base.specs.declared.signature.Argument.{Argument}
 use Rattle.isp_base.specs.declared.types.Elem.{Elem}
+use Rattle.isp_base.specs.declared.types.Rate.{Rate}
 use Rattle.isp_base.specs.declared.types.Rate.TheVariants.{Uniform}
 use Rattle.isp_base.specs.declared.types.Ty.{Ty}
 use Rattle.isp_code.specs.Entries.{parameters_of, result_of}
@@ -24,9 +25,11 @@ use Rattle.isp_lower.specs.Callees.{rates_in}
 use Rattle.isp_lower.specs.Layout.{Layout, IsApart, register}
 use Rattle.isp_lower.specs.Setting.{Setting, AreAt}
 use Rattle.isp_lower.specs.Tables.{Table}
+use Rattle.isp_lower.specs.declared.registers.Constant.{Constant}
 use Rattle.isp_masks.specs.Arrays.{ArraysStand}
 use Rattle.isp_masks.specs.Asks.{block_asks}
 use Rattle.isp_masks.specs.Rated.{BlockRated}
+use Rattle.isp_masks.specs.Keeping.{Each, KeepsThem}
 use Rattle.isp_masks.specs.Passing.{PassedFirst}
 use Rattle.isp_masks.specs.Named.{AreNamed}
 use Rattle.isp_masks.specs.Spots.{Numbers}
@@ -84,12 +87,17 @@ pub record IsCompiled (program : Program) (code : Listing) (f : ℕ) (h : TFunct
   pub rates : l.rates ≡ rates_in program.functions
   pub fine : FineFunction program.functions h
   pub passed : PassedFirst h l
-  pub code_is : AreAt g.code 0 (function_code l h.answer h.body 0 z)
+  pub constants : List Constant
+  pub code_is : AreAt g.code 0 (function_code l h.answer constants h.body 0 z)
   pub names : AreNamed code z (block_places l h.body) (block_texts h.body)
   pub rated : BlockRated program.functions h.answer h.body
   pub free : BlockFree None h.body
   pub run : l.run ≡ None
   pub outside : l.in_run ≡ false
+  -- the constants are those that the layout keeps, in registers of their types, as are the spare ones through which vectors get them
+  pub keeps : KeepsThem l constants
+  pub kept_typed : (r : Rate) (t : Elem) (b : ℕ) → l.kept r t b ≡ true → elem_of g (register r (l.constant r t b)) ≡ t
+  pub spares_typed : Each (λ x. elem_of g (register Uniform (l.spare Uniform x.elem 3)) ≡ x.elem) constants
   pub named : Table g l h.variables (block_asks h.answer h.body 3)
   pub arrays : ArraysStand h g l
 

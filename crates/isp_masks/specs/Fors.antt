@@ -1,12 +1,17 @@
--- The parts of a `for` that may be left out: its first part, its test and its step.
-use Rattle.std.specs.Prelude.{ℕ, List, [], Option, Some, None}
+-- The parts of a `for` that may be left out: its first part, its test and its step. Of other loops too: a `while` and a `do` have no
+-- step.
+use Rattle.std.specs.Prelude.{ℕ, ◌+◌, List, [], ◌∷◌, ◌++◌, Option, Some, None}
 use Rattle.isp_base.specs.declared.types.Span.{Span}
 use Rattle.isp_code.specs.declared.instr.Instr.{Instr}
-use Rattle.isp_typed.specs.Typed.{TExpr, TSimple, TFirst, t_first_declare, t_first_simple}
-use Rattle.isp_lower.specs.Code.{expr_places}
+use Rattle.isp_code.specs.declared.instr.Instr.TheVariants as instr
+use Rattle.isp_typed.specs.Typed.{TExpr, type_of, TSimple, TFirst, t_first_declare, t_first_simple}
+use Rattle.isp_lower.specs.Code.{expr_code}
+use Rattle.isp_lower.specs.Spans.{expr_places}
+use Rattle.isp_lower.specs.Found.{found}
 use Rattle.isp_lower.specs.Items.{items_code, items_places}
 use Rattle.isp_lower.specs.Layout.{Layout}
 use Rattle.isp_lower.specs.Simple.{simple_code, simple_places}
+use Rattle.isp_masks.specs.Loops.{again_code}
 
 module _ (l : Layout) where
   abbrev pub first_code : Option TFirst → ℕ → ℕ → ℕ → ℕ → List Instr
@@ -17,6 +22,11 @@ module _ (l : Layout) where
   abbrev pub step_code : Option TSimple → ℕ → ℕ → ℕ → ℕ → List Instr
   step_code None pc p k n = []
   step_code (Some x) pc p k n = simple_code l x pc p k n
+
+  -- what leads back to instruction top: the test, where there is one, and a jump
+  abbrev pub back_code : Option TExpr → ℕ → ℕ → ℕ → ℕ → List Instr
+  back_code None pc p n top = instr.Jump top ∷ []
+  back_code (Some e) pc p n top = expr_code l e pc p n (n + 3) ++ again_code (type_of e).rate (found l e (n + 3)) n top
 
   -- ---- the places that they name
 

@@ -5,6 +5,7 @@ pub mod Spots
 pub mod Fors
 pub mod Loops
 pub mod Rounds
+pub mod Keeping
 pub mod Asserts
 pub mod Prints
 pub mod Printed

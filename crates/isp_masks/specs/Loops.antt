@@ -12,7 +12,8 @@ use Rattle.isp_tree.specs.declared.stmt.Form.{Form}
 use Rattle.isp_tree.specs.declared.stmt.Form.TheVariants.{Plain, Coherent}
 use Rattle.isp_typed.specs.Typed.{TExpr, type_of}
 use Rattle.isp_lower.specs.Layout.{mask_register}
-use Rattle.isp_lower.specs.Code.{where_so, the_others, jump_off, jump_on, two, guard}
+use Rattle.isp_lower.specs.Instructions.{where_so, the_others, jump_off, jump_on}
+use Rattle.isp_lower.specs.Pieces.{two, guard}
 use Rattle.isp_masks.specs.Exits.{nobody_leaves}
 use Rattle.isp_masks.specs.Sets.{unite, clear_mask}
 use Rattle.isp_masks.specs.Spots.{Spot}
@@ -48,11 +49,6 @@ abbrev pub turn_code : Bool → Exits → ℕ → ℕ → (ℕ → List Instr) �
 turn_code wide e pc n body =
     two pc (if_needed e.continues (clear_mask (n + 1) ∷ [])) (λ pc1. two pc1 (body pc1) (λ pc2. rejoin_code wide e pc2 n))
 
--- back to the test: where some may have left the body, only if somebody is live
-abbrev pub back_code : Bool → ℕ → ℕ → Instr
-back_code true n top = instr.Jump top
-back_code false n top = instr.JumpIf jump.On (mask_register n) top
-
 -- what follows a test in register x is for those that pass it, and is jumped past where nobody does
 abbrev pub sift_code : Rate → ℕ → ℕ → ℕ → (ℕ → List Instr) → List Instr
 sift_code Uniform x pc n rest = guard (jump_on jump.False x) pc rest
@@ -72,14 +68,14 @@ abbrev pub live_code : Bool → ℕ → ℕ → (ℕ → List Instr) → List In
 live_code true n pc code = code pc
 live_code false n pc code = guard (jump_off n) pc code
 
--- back to the body for those that pass the test of a `do`
+-- back to the body, for those that pass the test in register x
 abbrev pub again_code : Rate → ℕ → ℕ → ℕ → List Instr
 again_code Uniform x n top = jump_on jump.True x top ∷ []
 again_code Varying x n top = where_so n x n ∷ instr.JumpIf jump.On (mask_register n) top ∷ []
 
--- behind a turn of a `for`: the step, and back to the test
-abbrev pub step_back_code : Bool → ℕ → ℕ → ℕ → (ℕ → List Instr) → List Instr
-step_back_code alone n top pc step = live_code alone n pc (λ pc1. step pc1 ++ instr.Jump top ∷ [])
+-- behind a turn, for those that are live: the step, and what leads back
+abbrev pub next_code : Exits → ℕ → ℕ → (ℕ → List Instr) → (ℕ → List Instr) → List Instr
+next_code e n pc step back = live_code (nobody_leaves e) n pc (λ pc1. two pc1 (step pc1) back)
 
 -- a c-form by a varying test
 abbrev pub is_wide : Form → Rate → Bool
@@ -92,24 +88,37 @@ abbrev pub is_wide_by : Form → Option TExpr → Bool
 is_wide_by f None = false
 is_wide_by f (Some e) = is_wide f (type_of e).rate
 
-abbrev pub while_code : Bool → Exits → Rate → ℕ → ℕ → Spot → (ℕ → List Instr) → (ℕ → List Instr) → List Instr
-while_code wide e r x pc spot test body =
-    let n = spot.slot in
-    two pc (enter_code e spot.on n) (λ top. two top (two top (test top) (λ pc1. sift_code r x pc1 n (λ pc2. two pc2 (turn_code wide e pc2 n body) (λ pc3. back_code (nobody_leaves e) n top ∷ [])))) (λ pc4. loop_end_code e spot.on spot.returned n))
+-- a loop: it begins, its turns come, and it ends
+abbrev pub loop_code : Exits → ℕ → Spot → (ℕ → List Instr) → List Instr
+loop_code e pc spot turns =
+    two pc (enter_code e spot.on spot.slot) (λ top. two top (turns top) (λ pc1. loop_end_code e spot.on spot.returned spot.slot))
 
--- the first part of a `for` stands before
-abbrev pub for_code : Bool → Exits → Rate → ℕ → ℕ → Spot → (ℕ → List Instr) → (ℕ → List Instr) → (ℕ → List Instr) → List Instr
-for_code wide e r x pc spot test body step =
+-- turns from one on, with the test behind each
+abbrev pub tested_code : Bool → Exits → Rate → ℕ → ℕ → ℕ → (ℕ → List Instr) → (ℕ → List Instr) → (ℕ → List Instr) → List Instr
+tested_code wide e r x n top test body step =
+    two top (turn_code wide e top n body) (λ pc. next_code e n pc step (λ pc1. test pc1 ++ again_code r x n top))
+
+-- where there is no step
+abbrev pub no_code : ℕ → List Instr
+no_code pc = []
+
+abbrev pub do_code : Bool → Exits → Rate → ℕ → ℕ → Spot → (ℕ → List Instr) → (ℕ → List Instr) → List Instr
+do_code wide e r x pc spot test body =
+    loop_code e pc spot (λ top. tested_code wide e r x spot.slot top test body no_code)
+
+-- A `for`, whose first part stands before. The test is asked once before the turns: this is `entry`, the same test, whose places
+-- have other numbers.
+abbrev pub for_code : Bool → Exits → Rate → ℕ → ℕ → Spot → (ℕ → List Instr) → (ℕ → List Instr) → (ℕ → List Instr) → (ℕ → List Instr) → List Instr
+for_code wide e r x pc spot entry test body step =
     let n = spot.slot in
-    two pc (enter_code e spot.on n) (λ top. two top (two top (test top) (λ pc1. sift_code r x pc1 n (λ pc2. two pc2 (turn_code wide e pc2 n body) (λ pc3. step_back_code (nobody_leaves e) n top pc3 step)))) (λ pc5. loop_end_code e spot.on spot.returned n))
+    loop_code e pc spot (λ pc1. two pc1 (entry pc1) (λ pc2. sift_code r x pc2 n (λ top. tested_code wide e r x n top test body step)))
+
+-- a `for` without a step
+abbrev pub while_code : Bool → Exits → Rate → ℕ → ℕ → Spot → (ℕ → List Instr) → (ℕ → List Instr) → (ℕ → List Instr) → List Instr
+while_code wide e r x pc spot entry test body = for_code wide e r x pc spot entry test body no_code
 
 -- a `for` whose test is left out
 abbrev pub endless_code : Exits → ℕ → Spot → (ℕ → List Instr) → (ℕ → List Instr) → List Instr
 endless_code e pc spot body step =
     let n = spot.slot in
-    two pc (enter_code e spot.on n) (λ top. two top (two top (turn_code false e top n body) (λ pc1. step_back_code (nobody_leaves e) n top pc1 step)) (λ pc3. loop_end_code e spot.on spot.returned n))
-
-abbrev pub do_code : Bool → Exits → Rate → ℕ → ℕ → Spot → (ℕ → List Instr) → (ℕ → List Instr) → List Instr
-do_code wide e r x pc spot test body =
-    let n = spot.slot in
-    two pc (enter_code e spot.on n) (λ top. two top (two top (turn_code wide e top n body) (λ pc1. live_code (nobody_leaves e) n pc1 (λ pc2. test pc2 ++ again_code r x n top))) (λ pc3. loop_end_code e spot.on spot.returned n))
+    loop_code e pc spot (λ top. two top (turn_code false e top n body) (λ pc1. next_code e n pc1 step (λ pc2. instr.Jump top ∷ [])))

@@ -17,7 +17,9 @@ use Rattle.isp_lower.specs.Rows.{Rows, HasRow, IsLoaded, layout_of}
 use Rattle.isp_lower.specs.Setting.{AreAt}
 use Rattle.isp_lower.specs.Sound.{HasMask}
 use Rattle.isp_lower.specs.Tables.{AnyArray}
+use Rattle.isp_lower.specs.declared.registers.Constant.{Constant}
 use Rattle.isp_masks.specs.Asks.{block_asks}
+use Rattle.isp_masks.specs.Keeping.{KeepsThem, constants_asks}
 use Rattle.isp_masks.specs.Spots.{Numbers}
 use Rattle.isp_masks.specs.Statements.{block_places, block_texts, function_code}
 
@@ -48,11 +50,15 @@ pub record IsLowered (fs : List TFunction) (h : TFunction) (g : Routine) (places
   -- the registers and masks that the body asks for are there
   pub three : 3 ≤ g.masks
   pub present : All (HasRow rows) AnyArray AnyArray (HasMask g) (IsLoaded rows) (block_asks h.answer h.body 3)
+  -- these constants are kept, and what the code asks for that makes them is there
+  pub constants : List Constant
+  pub keeps : KeepsThem (layout_of (rates_in fs) rows) constants
+  pub spares : All (HasRow rows) AnyArray AnyArray (HasMask g) (IsLoaded rows) (constants_asks 3 constants)
   -- the code, by the layout of the rows; what it names begins at these numbers
   pub numbers : Numbers
   pub low : numbers.place ≤ length places
   pub low_texts : numbers.text ≤ length texts
-  pub code_is : g.code ≡ function_code (layout_of (rates_in fs) rows) h.answer h.body 0 numbers
+  pub code_is : g.code ≡ function_code (layout_of (rates_in fs) rows) h.answer constants h.body 0 numbers
   pub places_are : AreAt places numbers.place (block_places (layout_of (rates_in fs) rows) h.body)
   pub texts_are : AreAt texts numbers.text (block_texts h.body)
 

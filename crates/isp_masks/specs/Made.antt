@@ -15,10 +15,12 @@ use Rattle.isp_lower.specs.Layout.{class_at}
 use Rattle.isp_lower.specs.Rows.{Rows, Result, rows_at, HasRow, IsLoaded, layout_of}
 use Rattle.isp_lower.specs.Sound.{HasMask}
 use Rattle.isp_lower.specs.Tables.{AnyArray}
+use Rattle.isp_lower.specs.declared.registers.Constant.{Constant}
 use Rattle.isp_masks.specs.Arrays.{ArraysStand}
 use Rattle.isp_masks.specs.Compiled.{AreOne}
 use Rattle.isp_lower.specs.Header.{returns_of, types_of}
 use Rattle.isp_masks.specs.Asks.{block_asks}
+use Rattle.isp_masks.specs.Keeping.{KeepsThem, constants_asks}
 use Rattle.isp_masks.specs.Named.{AreNamed}
 use Rattle.isp_masks.specs.Spots.{Numbers}
 use Rattle.isp_masks.specs.Statements.{block_places, block_texts, function_code}
@@ -36,7 +38,10 @@ pub record IsMade (fs : List TFunction) (code : Listing) (h : TFunction) (g : Ro
   pub rows_are : All (HasRow rows) AnyArray AnyArray (HasMask g) (IsLoaded rows) (block_asks h.answer h.body 3)
   pub result : ResultRow rows h.answer
   pub masks : 3 ≤ g.masks
-  pub code_is : g.code ≡ function_code (layout_of (rates_in fs) rows) h.answer h.body 0 z
+  pub constants : List Constant
+  pub keeps : KeepsThem (layout_of (rates_in fs) rows) constants
+  pub spares : All (HasRow rows) AnyArray AnyArray (HasMask g) (IsLoaded rows) (constants_asks 3 constants)
+  pub code_is : g.code ≡ function_code (layout_of (rates_in fs) rows) h.answer constants h.body 0 z
   pub low : z.place ≤ length code.places
   pub low_texts : z.text ≤ length code.texts
   pub names : AreNamed code z (block_places (layout_of (rates_in fs) rows) h.body) (block_texts h.body)

@@ -3,6 +3,7 @@
 use Rattle.std.specs.Prelude.{◌≡◌, ◌≤◌, ℕ, suc, List, [], ◌∷◌, take, Some, None, Bool, true, false, slice_get}
 use Rattle.isp_base.specs.Maps.{Lanes}
 use Rattle.isp_base.specs.Sets.{Mask}
+use Rattle.isp_base.specs.declared.types.Elem.{Elem}
 use Rattle.isp_base.specs.declared.types.Rate.{Rate}
 use Rattle.isp_base.specs.declared.types.Rate.TheVariants.{Uniform, Varying}
 use Rattle.isp_typed.specs.Fine.{params_of}
@@ -39,6 +40,7 @@ pub record PassedFirst (h : TFunction) (l : Layout) : Type 0 where
   pub value : (r : Rate) (v : ℕ) (x : Variable) → slice_get (params_of h) v ≡ Some x → HasRate r x.holds → l.variable r v ≡ value_count r (take v (params_of h))
   pub other : (r : Rate) (v : ℕ) → ((x : Variable) → slice_get (params_of h) v ≡ Some x → HasRate r x.holds → ⊥) → value_count r (params_of h) ≤ l.variable r v
   pub result : (r : Rate) → value_count r (params_of h) ≤ l.result r
+  pub constant : (r : Rate) (t : Elem) (b : ℕ) → value_count r (params_of h) ≤ l.constant r t b
 
 -- Registers begin with what is passed to some parameters by a set: by their numbers the values, and 0 past them.
 pub record Passes (params : List Variable) (scalars : ℕ → ℕ) (vectors : ℕ → Lanes) (ps : List Passed) (a : Mask) : Type 0 where

@@ -14,7 +14,11 @@ use Rattle.isp_code.specs.declared.instr.Reduction.TheVariants as reduction
 use Rattle.isp_code.specs.declared.instr.ScalarInstr.TheVariants as scalar
 use Rattle.isp_code.specs.declared.instr.VectorInstr.TheVariants as vector
 use Rattle.isp_typed.specs.Typed.{TExpr, TRange}
-use Rattle.isp_lower.specs.Code.{compare, compute, constant, convert, copy, splat, jump_off, jump_on, two, guard, found, expr_code, expr_places}
+use Rattle.isp_lower.specs.Code.{expr_code}
+use Rattle.isp_lower.specs.Found.{index_of}
+use Rattle.isp_lower.specs.Instructions.{compare, compute, constant, convert, copy, splat, jump_off, jump_on}
+use Rattle.isp_lower.specs.Pieces.{two, guard}
+use Rattle.isp_lower.specs.Spans.{expr_places}
 use Rattle.isp_lower.specs.Layout.{Layout, mask_register, register}
 use Rattle.isp_masks.specs.Rounds.{fill_mask}
 
@@ -61,10 +65,10 @@ module _ (l : Layout) where
   measures_code n h =
       fill_mask h ∷ constant (narrow n) I32 1 ∷ splat (lane n) (narrow n) h ∷ sum_lanes (wide n) (lane n) h ∷ lane_numbers (lane n) h ∷ convert Uniform (narrow (n + 1)) (wide n) 0 ∷ splat (lane (n + 1)) (narrow (n + 1)) h ∷ constant (wide (n + 1)) I64 1 ∷ []
 
-  -- ---- the bounds, from left to right, each as int64 in a slot
+  -- ---- the bounds, from left to right, each as int64 in a slot, as a uniform index is: a constant is loaded as one
 
   abbrev pub bound_code : TExpr → ℕ → ℕ → ℕ → ℕ → List Instr
-  bound_code x pc p k n = expr_code l x pc p k n ++ convert Uniform (wide n) (found l x n) k ∷ []
+  bound_code x pc p k n = index_of l Uniform x k n (expr_code l x pc p k n)
 
   abbrev pub bounds_code : List TRange → ℕ → ℕ → ℕ → ℕ → List Instr
   bounds_code [] pc p k n = []

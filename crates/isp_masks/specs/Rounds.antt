@@ -12,7 +12,8 @@ use Rattle.isp_code.specs.declared.instr.JumpTest.TheVariants as jump
 use Rattle.isp_code.specs.declared.instr.MaskInstr.TheVariants as mask
 use Rattle.isp_code.specs.declared.instr.Reduction.TheVariants as reduction
 use Rattle.isp_code.specs.declared.instr.ScalarInstr.TheVariants as scalar
-use Rattle.isp_lower.specs.Code.{compare, convert, copy, splat, the_others, two, where_so}
+use Rattle.isp_lower.specs.Instructions.{compare, convert, copy, splat, the_others, where_so}
+use Rattle.isp_lower.specs.Pieces.{two}
 use Rattle.isp_lower.specs.Layout.{Layout, mask_register, register}
 use Rattle.isp_lower.specs.Library.{reduce}
 use Rattle.isp_masks.specs.Loops.{copy_mask}

@@ -14,13 +14,19 @@ use Rattle.isp_tree.specs.declared.stmt.Form.TheVariants.{Plain, Coherent}
 use Rattle.isp_tree.specs.declared.stmt.Jump.{Jump}
 use Rattle.isp_typed.specs.Typed.{TExpr, type_of, elem_of, TRange, TSimple, TStmt, t_block, t_declare, t_simple, t_if, t_if_else, t_while, t_do, t_for, t_foreach, t_foreach_active, t_foreach_unique, t_unmasked, t_jump, t_return, t_print, t_assert, TBlock, t_braces, TStmts, t_no_stmts, t_stmt_then}
 use Rattle.isp_lower.specs.Layout.{Layout, register, outside, within}
-use Rattle.isp_lower.specs.Code.{copy, where_so, the_others, jump_off, jump_on, two, guard, choice, found, operand, operand_of, expr_places, expr_code}
+use Rattle.isp_lower.specs.Code.{expr_code}
+use Rattle.isp_lower.specs.Found.{found, operand, operand_of}
+use Rattle.isp_lower.specs.Instructions.{copy, where_so, the_others, jump_off, jump_on}
+use Rattle.isp_lower.specs.Pieces.{two, guard, choice}
+use Rattle.isp_lower.specs.Spans.{expr_places}
 use Rattle.isp_lower.specs.Items.{items_code, items_places}
 use Rattle.isp_lower.specs.Simple.{simple_code, simple_places}
+use Rattle.isp_lower.specs.declared.registers.Constant.{Constant}
 use Rattle.isp_masks.specs.Asserts.{assert_code, assert_places}
-use Rattle.isp_masks.specs.Exits.{exits_of, nobody_leaves, all_go_on, both_go_on, leaving_of}
-use Rattle.isp_masks.specs.Fors.{first_code, step_code, first_places, test_places, step_places}
-use Rattle.isp_masks.specs.Loops.{copy_mask, is_wide, jump_all, turn_code, step_back_code, while_code, for_code, endless_code, do_code}
+use Rattle.isp_masks.specs.Exits.{exits_of, all_go_on, both_go_on, leaving_of}
+use Rattle.isp_masks.specs.Fors.{back_code, first_code, step_code, first_places, test_places, step_places}
+use Rattle.isp_masks.specs.Loops.{copy_mask, is_wide, jump_all, next_code, turn_code, while_code, for_code, endless_code, do_code}
+use Rattle.isp_masks.specs.Keeping.{constants_code}
 use Rattle.isp_masks.specs.Prints.{print_code, print_places, print_texts}
 use Rattle.isp_masks.specs.Ranges.{foreach_code, ranges_places, runs_slot}
 use Rattle.isp_masks.specs.Rounds.{unmasked_code, active_code, values_of, unique_code}
@@ -143,9 +149,9 @@ abbrev mutual
   stmt_places l (t_simple x sp) = simple_places l x
   stmt_places l (t_if f g e x sp) = expr_places l e ++ stmt_places l x
   stmt_places l (t_if_else f g e x y sp) = expr_places l e ++ (stmt_places l x ++ stmt_places l y)
-  stmt_places l (t_while f g e x sp) = expr_places l e ++ stmt_places l x
+  stmt_places l (t_while f g e x sp) = expr_places l e ++ (stmt_places l x ++ expr_places l e)
   stmt_places l (t_do f g x e sp) = stmt_places l x ++ expr_places l e
-  stmt_places l (t_for f g first e step i x sp) = first_places l first ++ (test_places l e ++ (stmt_places l x ++ step_places l step))
+  stmt_places l (t_for f g first e step i x sp) = first_places l first ++ (test_places l e ++ (stmt_places l x ++ (step_places l step ++ test_places l e)))
   stmt_places l (t_foreach w g rs x sp) = ranges_places l rs ++ stmt_places (body_layout l rs) x
   stmt_places l (t_foreach_active w g i x sp) = stmt_places l x
   stmt_places l (t_foreach_unique w g i t e x sp) = expr_places l e ++ stmt_places l x
@@ -169,6 +175,10 @@ module _ (l : Layout) where
   behind x z =
       record { place = z.place + length (stmt_places l x); text = z.text + length (stmt_texts x) }
 
+  -- and the place behind its step, where it is the body of a loop
+  abbrev pub test_place : TStmt → Option TSimple → Numbers → ℕ
+  test_place x step z = (behind x z).place + length (step_places l step)
+
 -- the code of a function with this layout and this result
 abbrev mutual
   pub stmt_code : Layout → Option Ty → TStmt → ℕ → Numbers → Spot → List Instr
@@ -183,10 +193,11 @@ abbrev mutual
       two pc (expr_code l e pc z.place spot.on spot.slot) (λ pc1. if_else_code (both_go_on x y) f (type_of e).rate (found l e spot.slot) pc1 spot (λ pc2 part. stmt_code l answer x pc2 z1 part) (λ pc2 part. stmt_code l answer y pc2 (behind l x z1) part))
   stmt_code l answer (t_while f g e x sp) pc z spot =
       let n = spot.slot in
-      while_code (is_wide f (type_of e).rate) (exits_of x) (type_of e).rate (found l e (n + 3)) pc spot (λ pc1. expr_code l e pc1 z.place n (n + 3)) (λ pc1. stmt_code l answer x pc1 (past (expr_places l e) z) (body_spot n))
+      let z1 = past (expr_places l e) z in
+      while_code (is_wide f (type_of e).rate) (exits_of x) (type_of e).rate (found l e (n + 3)) pc spot (λ pc1. expr_code l e pc1 z.place n (n + 3)) (λ pc1. expr_code l e pc1 (test_place l x None z1) n (n + 3)) (λ pc1. stmt_code l answer x pc1 z1 (body_spot n))
   stmt_code l answer (t_do f g x e sp) pc z spot =
       let n = spot.slot in
-      do_code (is_wide f (type_of e).rate) (exits_of x) (type_of e).rate (found l e (n + 3)) pc spot (λ pc1. expr_code l e pc1 (behind l x z).place n (n + 3)) (λ pc1. stmt_code l answer x pc1 z (body_spot n))
+      do_code (is_wide f (type_of e).rate) (exits_of x) (type_of e).rate (found l e (n + 3)) pc spot (λ pc1. expr_code l e pc1 (test_place l x None z) n (n + 3)) (λ pc1. stmt_code l answer x pc1 z (body_spot n))
   stmt_code l answer (t_for f g first None step i x sp) pc z spot =
       let n = spot.slot in
       let z1 = past (first_places l first) z in
@@ -195,7 +206,7 @@ abbrev mutual
       let n = spot.slot in
       let z1 = past (first_places l first) z in
       let z2 = past (expr_places l e) z1 in
-      two pc (first_code l first pc z.place spot.on n) (λ pc1. for_code (is_wide f (type_of e).rate) (exits_of x) (type_of e).rate (found l e (n + 3)) pc1 spot (λ pc2. expr_code l e pc2 z1.place n (n + 3)) (λ pc2. stmt_code l answer x pc2 z2 (body_spot n)) (λ pc2. step_code l step pc2 (behind l x z2).place n (n + 3)))
+      two pc (first_code l first pc z.place spot.on n) (λ pc1. for_code (is_wide f (type_of e).rate) (exits_of x) (type_of e).rate (found l e (n + 3)) pc1 spot (λ pc2. expr_code l e pc2 z1.place n (n + 3)) (λ pc2. expr_code l e pc2 (test_place l x step z2) n (n + 3)) (λ pc2. stmt_code l answer x pc2 z2 (body_spot n)) (λ pc2. step_code l step pc2 (behind l x z2).place n (n + 3)))
   stmt_code l answer (t_foreach w g rs x sp) pc z spot =
       foreach_code l rs pc z.place spot.on spot.slot (λ pc1. stmt_code (body_layout l rs) answer x pc1 (past (ranges_places l rs) z) (body_spot (runs_slot spot.slot rs)))
   stmt_code l answer (t_foreach_active w g i x sp) pc z spot =
@@ -225,12 +236,12 @@ module _ (l : Layout) (answer : Option Ty) where
   abbrev pub body_code : TStmt → ℕ → Numbers → ℕ → List Instr
   body_code x n z pc = stmt_code l answer x pc z (body_spot n)
 
-  -- a turn of a `for`, its step, and the jump back to the test
-  abbrev pub stepped_code : Bool → Option TSimple → TStmt → Exits → ℕ → ℕ → ℕ → Numbers → List Instr
-  stepped_code wide step x e n top pc z =
-      two pc (turn_code wide e pc n (body_code x n z)) (λ pc1. step_back_code (nobody_leaves e) n top pc1 (λ pc2. step_code l step pc2 (behind l x z).place n (n + 3)))
+  -- turns of a loop, from one on
+  abbrev pub turning_code : Bool → Exits → Option TExpr → Option TSimple → TStmt → ℕ → ℕ → Numbers → List Instr
+  turning_code wide e test step x n top z =
+      two top (turn_code wide e top n (body_code x n z)) (λ pc. next_code e n pc (λ pc1. step_code l step pc1 (behind l x z).place n (n + 3)) (λ pc1. back_code l test pc1 (test_place l x step z) n top))
 
-  -- a `for` behind its first part
+  -- a `while`, and a `for` behind its first part
   abbrev pub turns_code : Form → Option TExpr → Option TSimple → TStmt → ℕ → Numbers → Spot → List Instr
   turns_code f None step x pc z spot =
       let n = spot.slot in
@@ -238,8 +249,8 @@ module _ (l : Layout) (answer : Option Ty) where
   turns_code f (Some e) step x pc z spot =
       let n = spot.slot in
       let z1 = past (expr_places l e) z in
-      for_code (is_wide f (type_of e).rate) (exits_of x) (type_of e).rate (found l e (n + 3)) pc spot (λ pc1. expr_code l e pc1 z.place n (n + 3)) (body_code x n z1) (λ pc1. step_code l step pc1 (behind l x z1).place n (n + 3))
+      for_code (is_wide f (type_of e).rate) (exits_of x) (type_of e).rate (found l e (n + 3)) pc spot (λ pc1. expr_code l e pc1 z.place n (n + 3)) (λ pc1. expr_code l e pc1 (test_place l x step z1) n (n + 3)) (body_code x n z1) (λ pc1. step_code l step pc1 (behind l x z1).place n (n + 3))
 
-  -- the body, and what it gives back
-  abbrev pub function_code : TBlock → ℕ → Numbers → List Instr
-  function_code b pc z = block_code l answer b pc z first_spot ++ instr.Return (returned l answer) ∷ []
+  -- the constants that are kept, the body, and what it gives back
+  abbrev pub function_code : List Constant → TBlock → ℕ → Numbers → List Instr
+  function_code ks b pc z = two pc (constants_code l 3 ks) (λ pc1. block_code l answer b pc1 z first_spot) ++ instr.Return (returned l answer) ∷ []

@@ -1,6 +1,7 @@
 -- What each writer of statements appends, told what it is given: where registers lie, the trees, the masks of a statement and
 -- its first slot, a loop, a test.
-use Rattle.std.specs.Prelude.{◌≡◌, ℕ, ◌+◌, List, [], ◌∷◌, ◌++◌, length, Option, Bool, map}
+use Rattle.std.specs.Prelude.{◌≡◌, ℕ, ◌+◌, List, [], ◌∷◌, ◌++◌, length, Option, None, option_map, Bool, map}
+use Rattle.std.proofs.Common.{Bor}
 use Rattle.isp_base.specs.declared.types.Rate.{Rate}
 use Rattle.isp_base.specs.declared.operators.Compare.TheVariants.{Less}
 use Rattle.isp_base.specs.declared.types.Elem.TheVariants.{Bool as Truth, I32, I64}
@@ -9,7 +10,14 @@ use Rattle.isp_base.specs.declared.types.Span.{Span}
 use Rattle.isp_code.specs.declared.instr.Instr.{Instr}
 use Rattle.isp_tree.specs.declared.stmt.Form.{Form}
 use Rattle.isp_typed.specs.Typed.{TExpr, type_of, elem_of, TSimple, TFirst, TStmt, TBlock, TRange}
-use Rattle.isp_lower.specs.Code.{expr_code, expr_places, found, operand, operand_of, guard, jump_off, two, compare, compute, convert, copy, splat, the_others, where_so}
+use Rattle.isp_typed.specs.Views.{expr_of, simple_of}
+use Rattle.isp_typed.specs.declared.expr.TypedExpr.{TypedExpr}
+use Rattle.isp_typed.specs.declared.stmt.TypedSimple.{TypedSimple}
+use Rattle.isp_lower.specs.Code.{expr_code}
+use Rattle.isp_lower.specs.Spans.{expr_places}
+use Rattle.isp_lower.specs.Found.{found, operand, operand_of}
+use Rattle.isp_lower.specs.Instructions.{jump_off, compare, compute, convert, copy, splat, the_others, where_so}
+use Rattle.isp_lower.specs.Pieces.{guard, two}
 use Rattle.isp_lower.specs.Emitted.{layout, texts_of}
 use Rattle.isp_lower.specs.declared.types.Body.{Body}
 use Rattle.isp_lower.specs.declared.types.Scope.{Scope}
@@ -19,19 +27,21 @@ use Rattle.isp_lower.specs.Asks.{Ask, Both, Register, Number, spare_ask}
 use Rattle.isp_lower.specs.Layout.{Layout, within, outside}
 use Rattle.isp_lower.specs.Rows.{Variable, Place}
 use Rattle.isp_lower.specs.declared.numbered.Slot.{Slot}
+use Rattle.isp_lower.specs.declared.registers.Constant.{Constant}
 use Rattle.isp_masks.specs.Asks.{bounds_asks, loop_asks, measures_asks, places_asks}
 use Rattle.isp_masks.specs.Asserts.{assert_code, assert_places}
-use Rattle.isp_masks.specs.Exits.{exits_of, nobody_leaves, both_go_on, leaving_of}
-use Rattle.isp_masks.specs.Fors.{first_code, first_places, step_code, step_places, test_places}
-use Rattle.isp_masks.specs.Loops.{again_code, back_code, copy_mask, do_code, is_wide, jump_all, live_code, sift_code, step_back_code, turn_code, while_code}
+use Rattle.isp_masks.specs.Exits.{exits_of, both_go_on, leaving_of}
+use Rattle.isp_masks.specs.Fors.{back_code, first_code, first_places, step_code, step_places, test_places}
+use Rattle.isp_masks.specs.Loops.{copy_mask, do_code, is_wide, jump_all, live_code, sift_code, turn_code}
 use Rattle.isp_masks.specs.Ranges.{foreach_code, goes_on, last_index, narrow, outer_index, places_slot, range_mask, ranges_code, ranges_places, run_back, run_place, run_step, runs_code, runs_slot, test, wide}
 use Rattle.isp_masks.specs.Rounds.{active_code, unique_code, unmasked_code, values_of}
 use Rattle.isp_masks.specs.Sets.{unite}
 use Rattle.isp_masks.specs.Spots.{Numbers, Spot as Where, body_spot, next_of, past, spot_of, widely}
-use Rattle.isp_masks.specs.Statements.{answer_code, behind, block_code, block_places, block_texts, body_code, function_code, if_code, if_else_code, stepped_code, stmt_code, stmt_places, stmt_texts, turns_code, body_layout}
+use Rattle.isp_masks.specs.Statements.{answer_code, behind, block_code, block_places, block_texts, body_code, function_code, if_code, if_else_code, stmt_code, stmt_places, stmt_texts, test_place, turning_code, turns_code, body_layout}
 use Rattle.isp_masks.specs.declared.exits.Leaving.{Leaving}
 use Rattle.isp_masks.specs.declared.looping.Loop.{Loop}
 use Rattle.isp_masks.specs.declared.looping.Test.{Test}
+use Rattle.isp_masks.specs.declared.looping.Turning.{Turning}
 use Rattle.isp_masks.specs.declared.masks.Spot.{Spot}
 use Rattle.isp_masks.specs.declared.ranges.OuterIndex.{OuterIndex}
 use Rattle.isp_masks.specs.declared.ranges.Sweep.{Sweep}
@@ -59,8 +69,8 @@ block_at on b spot =
     record { code = λ pc z. block_code (layout on) on.answer b pc z (spot_of spot); places = block_places (layout on) b; texts = block_texts b }
 
 -- a function's body, and what it gives back
-abbrev pub function_at : Scope → TBlock → Piece
-function_at on b = record { code = function_code (layout on) on.answer b; places = block_places (layout on) b; texts = block_texts b }
+abbrev pub function_at : Scope → List Constant → TBlock → Piece
+function_at on ks b = record { code = function_code (layout on) on.answer ks b; places = block_places (layout on) b; texts = block_texts b }
 
 -- a value where results are, under mask k, in the slots from n on
 abbrev pub answer_at : Scope → TExpr → ℕ → ℕ → Silent
@@ -120,39 +130,61 @@ if_else_at on f e x y spot =
 
 -- ---- loops
 
--- a turn; in a `while` behind its test, with the jump back
+abbrev pub test_in : Turning → Option TExpr
+test_in t = option_map (λ (x : Bor TypedExpr). expr_of x.now) t.test
+
+abbrev pub step_in : Turning → Option TSimple
+step_in t = option_map (λ (x : Bor TypedSimple). simple_of x.now) t.step
+
+-- a turn
 abbrev pub turn_at : Scope → TStmt → Loop → Piece
 turn_at on x it =
     record { code = λ pc z. turn_code it.wide it.exits pc it.slot.number (body_code (layout on) on.answer x it.slot.number z); places = stmt_places (layout on) x; texts = stmt_texts x }
 
-abbrev pub while_turn_at : Scope → Test → TStmt → Loop → Piece
-while_turn_at on test x it =
-    let turn = turn_at on x it in
-    record { code = λ pc z. sift_code test.rate test.register.number pc it.slot.number (λ pc1. two pc1 (turn.code pc1 z) (λ pc2. back_code (nobody_leaves it.exits) it.slot.number it.top ∷ [])); places = turn.places; texts = turn.texts }
+-- what leads back to instruction top; behind the step; and for those that are live alone
+abbrev pub back_at : Scope → Option TExpr → ℕ → ℕ → Silent
+back_at on e n top =
+    record { code = λ pc p. back_code (layout on) e pc p n top; places = test_places (layout on) e }
 
-abbrev pub while_at : Scope → Form → TExpr → TStmt → Spot → Piece
-while_at on f e x spot =
+abbrev pub stepped_at : Scope → Option TExpr → Option TSimple → ℕ → ℕ → Silent
+stepped_at on e step n top =
     let l = layout on in
-    let n = spot.slot.number in
-    record { code = λ pc z. while_code (is_wide f (type_of e).rate) (exits_of x) (type_of e).rate (found l e (n + 3)) pc (spot_of spot) (λ pc1. expr_code l e pc1 z.place n (n + 3)) (body_code l on.answer x n (past (expr_places l e) z)); places = expr_places l e ++ stmt_places l x; texts = stmt_texts x }
+    record { code = λ pc p. two pc (step_code l step pc p n (n + 3)) (λ pc1. back_code l e pc1 (p + length (step_places l step)) n top); places = step_places l step ++ test_places l e }
+
+abbrev pub next_at : Scope → Bool → Option TExpr → Option TSimple → ℕ → ℕ → Silent
+next_at on alone e step n top =
+    let part = stepped_at on e step n top in
+    record { code = λ pc p. live_code alone n pc (λ pc1. part.code pc1 p); places = part.places }
+
+-- turns from one on; behind a test; and with a test before them
+abbrev pub turning_at : Scope → Option TExpr → Option TSimple → TStmt → Loop → Piece
+turning_at on e step x it =
+    let l = layout on in
+    record { code = turning_code l on.answer it.wide it.exits e step x it.slot.number; places = stmt_places l x ++ (step_places l step ++ test_places l e); texts = stmt_texts x }
+
+abbrev pub passed_at : Scope → Test → Option TExpr → Option TSimple → TStmt → Loop → Piece
+passed_at on test e step x it =
+    let turns = turning_at on e step x it in
+    record { code = λ pc z. sift_code test.rate test.register.number pc it.slot.number (λ pc1. turns.code pc1 z); places = turns.places; texts = turns.texts }
+
+abbrev pub entered_at : Scope → TExpr → Option TExpr → Option TSimple → TStmt → Loop → Piece
+entered_at on test e step x it =
+    let l = layout on in
+    let n = it.slot.number in
+    let turns = turning_at on e step x it in
+    record { code = λ pc z. two pc (expr_code l test pc z.place n (n + 3)) (λ pc1. sift_code (type_of test).rate (found l test (n + 3)) pc1 n (λ pc2. turns.code pc2 (past (expr_places l test) z))); places = expr_places l test ++ turns.places; texts = turns.texts }
+
+-- a `while`, and a `for` behind its first part
+abbrev pub turns_at : Scope → Form → Option TExpr → Option TSimple → TStmt → Spot → Piece
+turns_at on f e step x spot =
+    let l = layout on in
+    record { code = λ pc z. turns_code l on.answer f e step x pc z (spot_of spot); places = test_places l e ++ (stmt_places l x ++ (step_places l step ++ test_places l e)); texts = stmt_texts x }
 
 abbrev pub do_at : Scope → Form → TStmt → TExpr → Spot → Piece
 do_at on f x e spot =
     let l = layout on in
     let n = spot.slot.number in
-    record { code = λ pc z. do_code (is_wide f (type_of e).rate) (exits_of x) (type_of e).rate (found l e (n + 3)) pc (spot_of spot) (λ pc1. expr_code l e pc1 (behind l x z).place n (n + 3)) (body_code l on.answer x n z); places = stmt_places l x ++ expr_places l e; texts = stmt_texts x }
-
--- the test of a `do` and the jump back; and for those that are live alone
-abbrev pub again_at : Scope → TExpr → Loop → Silent
-again_at on e it =
-    let l = layout on in
-    let n = it.slot.number in
-    record { code = λ pc p. expr_code l e pc p n (n + 3) ++ again_code (type_of e).rate (found l e (n + 3)) n it.top; places = expr_places l e }
-
-abbrev pub live_again_at : Scope → Bool → TExpr → Loop → Silent
-live_again_at on alone e it =
-    let again = again_at on e it in
-    record { code = λ pc p. live_code alone it.slot.number pc (λ pc1. again.code pc1 p); places = again.places }
+    record { code = λ pc z. do_code (is_wide f (type_of e).rate) (exits_of x) (type_of e).rate (found l e (n + 3)) pc (spot_of spot) (λ pc1. expr_code l e pc1 (test_place l x None z) n (n + 3)) (body_code l on.answer x n z); places = stmt_places l x ++ expr_places l e; texts = stmt_texts x }
 
 -- ---- bodies that run over sets of their own
 
@@ -180,7 +212,7 @@ unique_at on i e x spot =
     let n = spot.slot.number in
     record { code = λ pc z. unique_code (values_of l (elem_of e) i n) (operand_of l Varying e k n (expr_code l e pc z.place k n)) (operand l Varying e n) pc k n (λ pc1. stmt_code l on.answer x pc1 (past (expr_places l e) z) (body_spot (n + 1))); places = expr_places l e ++ stmt_places l x; texts = stmt_texts x }
 
--- ---- `for`
+-- ---- parts of a `for`
 
 abbrev pub first_at : Scope → Option TFirst → ℕ → ℕ → Silent
 first_at on x k n =
@@ -189,36 +221,6 @@ first_at on x k n =
 abbrev pub step_at : Scope → Option TSimple → ℕ → Silent
 step_at on x n =
     record { code = λ pc p. step_code (layout on) x pc p n (n + 3); places = step_places (layout on) x }
-
--- the step and the jump back
-abbrev pub step_back_at : Scope → Bool → Option TSimple → Loop → Silent
-step_back_at on alone x it =
-    let step = step_at on x it.slot.number in
-    record { code = λ pc p. step_back_code alone it.slot.number it.top pc (λ pc1. step.code pc1 p); places = step.places }
-
--- a turn, its step and the jump back; behind a test; and with the test
-abbrev pub stepped_at : Scope → Option TSimple → TStmt → Loop → Piece
-stepped_at on step x it =
-    let l = layout on in
-    record { code = stepped_code l on.answer it.wide step x it.exits it.slot.number it.top; places = stmt_places l x ++ step_places l step; texts = stmt_texts x }
-
-abbrev pub passed_at : Scope → Test → Option TSimple → TStmt → Loop → Piece
-passed_at on test step x it =
-    let turn = stepped_at on step x it in
-    record { code = λ pc z. sift_code test.rate test.register.number pc it.slot.number (λ pc1. turn.code pc1 z); places = turn.places; texts = turn.texts }
-
-abbrev pub for_turn_at : Scope → TExpr → Option TSimple → TStmt → Loop → Piece
-for_turn_at on e step x it =
-    let l = layout on in
-    let n = it.slot.number in
-    let turn = stepped_at on step x it in
-    record { code = λ pc z. two pc (expr_code l e pc z.place n (n + 3)) (λ pc1. sift_code (type_of e).rate (found l e (n + 3)) pc1 n (λ pc2. turn.code pc2 (past (expr_places l e) z))); places = expr_places l e ++ turn.places; texts = turn.texts }
-
--- behind its first part
-abbrev pub turns_at : Scope → Form → Option TExpr → Option TSimple → TStmt → Spot → Piece
-turns_at on f e step x spot =
-    let l = layout on in
-    record { code = λ pc z. turns_code l on.answer f e step x pc z (spot_of spot); places = test_places l e ++ (stmt_places l x ++ step_places l step); texts = stmt_texts x }
 
 -- ---- `foreach`
 

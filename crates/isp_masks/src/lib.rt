@@ -5,6 +5,7 @@ mod asserting;
 mod awaited;
 mod branches;
 mod exits;
+mod keeping;
 mod laws;
 mod listing;
 mod looping;
@@ -23,6 +24,7 @@ mod sets;
 mod statement;
 mod steps;
 mod unique;
+mod wanted;
 
 pub use laws::{loops_run, lowered_agrees, statements_run};
 pub use lowering::lower;

@@ -2,10 +2,9 @@
 //! continued in a turn, the third those that returned.
 ghost use Rattle.std.specs.Prelude.{◌≡◌, ◌<◌, ◌+◌, ◌∷◌, [], length, option_map, slice_set, OnOk};
 ghost use Rattle.isp_typed.specs.Views.{expr_of};
-ghost use Rattle.isp_lower.specs.Code.{guard};
+ghost use Rattle.isp_lower.specs.Pieces.{guard};
 ghost use Rattle.isp_lower.specs.Emitted.{Appends};
-ghost use Rattle.isp_masks.specs.Exits.{nobody_leaves};
-ghost use Rattle.isp_masks.specs.Loops.{again_code, back_code, copy_mask, enter_code, if_needed, is_wide, is_wide_by, jump_all, loop_end_code, rejoin_code, sift_begin, sift_jump};
+ghost use Rattle.isp_masks.specs.Loops.{again_code, copy_mask, enter_code, if_needed, is_wide, is_wide_by, jump_all, loop_end_code, rejoin_code, sift_begin, sift_jump};
 ghost use Rattle.isp_masks.specs.Sets.{clear_mask, unite};
 
 use crate::exits::Exits;
@@ -15,16 +14,15 @@ use isp_base::Rate;
 use isp_code::{Instr, JumpTest, MaskInstr};
 use isp_lower::{Body, MaskNumber, RegisterNumber, Site, Slot, mask, scalar, the_others, where_so};
 use isp_tree::Form;
-use isp_typed::TypedExpr;
+use isp_typed::{TypedExpr, TypedSimple};
 use std::alloc::AllocError;
 
-/// A loop: whether it is a c-form by a varying test, who may leave its body, its first mask, and the instruction where its turns begin.
+/// A loop: whether it is a c-form by a varying test, who may leave its body, and its first mask.
 #[derive(Clone, Copy)]
 pub(crate) struct Loop {
     pub wide: bool,
     pub exits: Exits,
     pub slot: Slot,
-    pub top: u32,
 }
 
 /// The rate of a test, and the register of its value.
@@ -34,11 +32,11 @@ pub(crate) struct Test {
     pub register: RegisterNumber,
 }
 
-/// The form of a `for`, and its test, where it has one.
+/// What a loop does behind a turn: its step and its test, where it has them.
 #[derive(Clone, Copy)]
-pub(crate) struct ForTest<'a> {
-    pub form: Form,
-    pub test: &'a Option<TypedExpr>,
+pub(crate) struct Turning<'a> {
+    pub step: Option<&'a TypedSimple>,
+    pub test: Option<&'a TypedExpr>,
 }
 
 /// Whether a statement is a c-form by a varying test.
@@ -48,9 +46,9 @@ pub(crate) fn is_wide(form: Form, rate: Rate) -> bool
     matches!((form, rate), (Form::Coherent, Rate::Varying))
 }
 
-/// Whether a `for` is one, by its test.
-pub(crate) fn is_wide_by(form: Form, test: &Option<TypedExpr>) -> bool
-    ensures { result ≡ is_wide_by form (option_map expr_of test.now) }
+/// Whether a loop is one, by its test.
+pub(crate) fn is_wide_by(form: Form, test: Option<&TypedExpr>) -> bool
+    ensures { result ≡ is_wide_by form (option_map (λ x. expr_of x.now) test.entry) }
 {
     match test {
         None => false,
@@ -169,40 +167,24 @@ pub(crate) fn leave_loop(b: &mut Body, it: Loop, masks: Masks) -> Result<(), All
     Ok(())
 }
 
-/// Back to the test of a `while`.
-pub(crate) fn back(b: &mut Body, it: Loop) -> Result<(), AllocError>
-    ensures { OnOk result (Appends b.old b.new (λ pc p. back_code (nobody_leaves it.exits) it.slot.number it.top ∷ []) []) }
-{
-    if it.exits.is_none() {
-        b.push(Instr::Jump { target: it.top })?;
-    } else {
-        b.push(Instr::JumpIf {
-            test: JumpTest::On,
-            register: mask(it.slot.mask()),
-            target: it.top,
-        })?;
-    }
-    Ok(())
-}
-
-/// Back to the body of a `do`, for those that pass its test.
-pub(crate) fn again(b: &mut Body, test: Test, it: Loop) -> Result<(), AllocError>
-    ensures { OnOk result (Appends b.old b.new (λ pc p. again_code test.rate test.register.number it.slot.number it.top) []) }
+/// Back to the body, for those that pass a test.
+pub(crate) fn again(b: &mut Body, test: Test, slot: Slot, top: u32) -> Result<(), AllocError>
+    ensures { OnOk result (Appends b.old b.new (λ pc p. again_code test.rate test.register.number slot.number top) []) }
 {
     match test.rate {
         Rate::Uniform => {
             b.push(Instr::JumpIf {
                 test: JumpTest::True,
                 register: scalar(test.register),
-                target: it.top,
+                target: top,
             })?;
         }
         Rate::Varying => {
-            b.push(where_so(it.slot.mask(), test.register, it.slot.mask()))?;
+            b.push(where_so(slot.mask(), test.register, slot.mask()))?;
             b.push(Instr::JumpIf {
                 test: JumpTest::On,
-                register: mask(it.slot.mask()),
-                target: it.top,
+                register: mask(slot.mask()),
+                target: top,
             })?;
         }
     }

@@ -8,7 +8,8 @@ ghost use Rattle.isp_code.specs.declared.instr.JumpTest.TheVariants as jump;
 ghost use Rattle.isp_code.specs.declared.instr.Plain.TheVariants as plain;
 ghost use Rattle.isp_typed.specs.Views.{expr_of, ranges_of};
 ghost use Rattle.isp_lower.specs.Asks.{Register as Ask, spare_ask};
-ghost use Rattle.isp_lower.specs.Code.{compare, compute, constant, convert, copy, expr_places, splat};
+ghost use Rattle.isp_lower.specs.Instructions.{compare, compute, constant, convert, copy, splat};
+ghost use Rattle.isp_lower.specs.Spans.{expr_places};
 ghost use Rattle.isp_lower.specs.Emitted.{Appends, Present, layout};
 ghost use Rattle.isp_lower.specs.Layout.{mask_register};
 ghost use Rattle.isp_lower.specs.Rows.{Variable};
@@ -19,7 +20,9 @@ ghost use Rattle.isp_masks.specs.Written.{first_sweep, index_codes, inner_sweep,
 use crate::rounds::fill_mask;
 use isp_base::{Compare, Elem, Rate, Ty, number};
 use isp_code::{Instr, JumpTest, MaskInstr, Plain, Reduction, ScalarInstr, VectorInstr};
-use isp_lower::{Body, MaskNumber, RegisterNumber, Scope, Site, Slot, expr, mask, scalar, vector};
+use isp_lower::{
+    Body, MaskNumber, RegisterNumber, Scope, Site, Slot, index as as_index, mask, scalar, vector,
+};
 use isp_typed::{TypedExpr, TypedRange};
 use std::alloc::AllocError;
 
@@ -276,14 +279,12 @@ pub(crate) fn measures(
     Ok(())
 }
 
-/// A bound, as int64.
+/// A bound, as int64: a constant is loaded as one.
 fn bound(b: &mut Body, on: &Scope, x: &TypedExpr, site: Site) -> Result<(), AllocError>
     requires { Present on.now (bound_asks (expr_of x.now) site.slot.number) }
     ensures { OnOk result (Appends b.old b.new (λ pc p. bound_code (layout on.now) (expr_of x.now) pc p site.mask.number site.slot.number) (expr_places (layout on.now) (expr_of x.now))) }
 {
-    let from = expr(b, on, x, site)?;
-    let to = wide(on, site.slot);
-    b.push(converted(to, from))?;
+    as_index(b, on, Rate::Uniform, x, site)?;
     Ok(())
 }
 

@@ -30,6 +30,7 @@ fn bound(r: &mut Reserve, x: &TypedExpr, slot: Slot) -> Result<(), AllocError>
     ensures { OnOk result (Gives r.old r.new (bound_asks (expr_of x.now) slot.number)) }
 {
     r.spare(Rate::Uniform, Elem::I64, slot)?;
+    r.spare(x.ty().rate, Elem::I64, slot)?;
     r.expr(x, slot)?;
     Ok(())
 }

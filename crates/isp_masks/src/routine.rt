@@ -1,21 +1,25 @@
 //! The code of functions.
-ghost use Rattle.std.specs.Prelude.{◌≡◌, ◌≤◌, OnOk};
+ghost use Rattle.std.specs.Prelude.{◌≡◌, ◌≤◌, true, OnOk};
+ghost use Rattle.isp_lower.specs.Asks.{Both};
 ghost use Rattle.isp_lower.specs.Drafts.{draft_of};
 ghost use Rattle.isp_lower.specs.Emitted.{Grows, Present, first_rows, layout, rows_of};
 ghost use Rattle.isp_lower.specs.Reserved.{Has};
 ghost use Rattle.isp_typed.specs.Views.{block_of, function_of};
 ghost use Rattle.isp_masks.specs.Asks.{block_asks, result_asks};
+ghost use Rattle.isp_masks.specs.Keeping.{Each, constants_asks};
 ghost use Rattle.isp_masks.specs.Lowered.{AddsLowered, BodyIsOwn, IsFineFunction};
 ghost use Rattle.isp_masks.specs.Statements.{returned};
 ghost use Rattle.isp_masks.specs.Written.{Writes, function_at};
 
+use crate::keeping::{self, keep};
 use crate::masks::{Masks, Spot};
 use crate::reserved;
 use crate::seen::block_seen;
 use crate::statement::block;
+use crate::wanted::constants;
 use isp_base::Rate;
 use isp_code::{Instr, Register};
-use isp_lower::{Body, Emitter, MaskNumber, Reserve, Scope, Slot, scalar, vector};
+use isp_lower::{Body, Constant, Emitter, MaskNumber, Reserve, Scope, Slot, scalar, vector};
 use isp_typed::{TypedBlock, TypedFunction};
 use std::alloc::AllocError;
 
@@ -36,11 +40,14 @@ fn returned(on: &Scope) -> Option<Register>
     }
 }
 
-/// The code of a body. Mask 0 has those that called, masks 1 and 2 get those that continued and that returned.
-fn body(b: &mut Body, on: &Scope, x: &TypedBlock) -> Result<(), AllocError>
+/// The code of a body, behind that of the constants that it keeps. Mask 0 has those that called, masks 1 and 2 get those that continued and
+/// that returned.
+fn body(b: &mut Body, on: &Scope, kept: &[Constant], x: &TypedBlock) -> Result<(), AllocError>
+    requires kept { Each (λ k. (layout on.now).kept k.rate k.elem k.bits ≡ true) kept.now }
+    requires constants { Present on.now (constants_asks 3 kept.now) }
     requires body { Present on.now (block_asks on.now.answer (block_of x.now) 3) }
     requires result { Present on.now (result_asks on.now.answer) }
-    ensures { OnOk result (Writes b.old b.new (function_at on.now (block_of x.now))) }
+    ensures { OnOk result (Writes b.old b.new (function_at on.now kept.now (block_of x.now))) }
 {
     let masks = Masks {
         on: MaskNumber { number: 0 },
@@ -49,21 +56,25 @@ fn body(b: &mut Body, on: &Scope, x: &TypedBlock) -> Result<(), AllocError>
     };
     let slot = Slot { number: 3 };
     let seen = block_seen(*b.code.allocator(), x)?;
+    keeping::begin(b, on, kept, slot)?;
     block(b, on, x, seen.as_slice(), Spot { masks, slot })?;
     b.push(Instr::Return(returned(on)))?;
     Ok(())
 }
 
-/// Reserves the registers and masks that a function's body asks for besides those with which it begins.
-fn reserve(asked: &mut Reserve, f: &TypedFunction) -> Result<(), AllocError>
+/// Reserves the registers and masks that a function's body asks for, and that the code asks for that keeps constants, besides those with
+/// which it begins.
+fn reserve(asked: &mut Reserve, kept: &[Constant], f: &TypedFunction) -> Result<(), AllocError>
     requires first { rows_of asked.old.registers ≡ first_rows (function_of f.now).variables (function_of f.now).answer }
     requires own { BodyIsOwn (function_of f.now) }
     ensures rows { OnOk result (Grows asked.old.registers asked.new.registers) }
     ensures masks { OnOk result (asked.old.masks ≤ asked.new.masks) }
-    ensures body { OnOk result (Has asked.new (block_asks (function_of f.now).answer (function_of f.now).body 3)) }
+    ensures body { OnOk result (Has asked.new (Both (constants_asks 3 kept.now) (block_asks (function_of f.now).answer (function_of f.now).body 3))) }
     ensures result { OnOk result (Has asked.new (result_asks (function_of f.now).answer)) }
 {
-    reserved::block(asked, &f.body, f.result, Slot { number: 3 })
+    let slot = Slot { number: 3 };
+    keeping::reserved(asked, kept, slot)?;
+    reserved::block(asked, &f.body, f.result, slot)
 }
 
 /// Adds the routine of a function, which is at work afterwards, and the places in the source and the texts that its code
@@ -72,8 +83,10 @@ pub(crate) fn function(e: &mut Emitter, f: &TypedFunction) -> Result<(), AllocEr
     requires fine { IsFineFunction (function_of f.now) }
     ensures { OnOk result (AddsLowered (function_of f.now) (draft_of e.old) (draft_of e.new)) }
 {
+    let kept = constants(*e.body.code.allocator(), &f.body)?;
     e.begin(f)?;
-    reserve(&mut e.reserved, f)?;
+    reserve(&mut e.reserved, kept.as_slice(), f)?;
+    keep(&mut e.reserved.registers, kept.as_slice())?;
     let on = Scope {
         callees: e.callees,
         registers: &e.reserved.registers,
@@ -82,6 +95,6 @@ pub(crate) fn function(e: &mut Emitter, f: &TypedFunction) -> Result<(), AllocEr
         run: None,
         in_run: false,
     };
-    body(&mut e.body, &on, &f.body)?;
+    body(&mut e.body, &on, kept.as_slice(), &f.body)?;
     Ok(())
 }

@@ -1,23 +1,23 @@
 //! The code of statements. A mask has the lanes that run a statement, and afterwards those that went on; those that
 //! continued and those that returned are added to two others.
-ghost use Rattle.std.specs.Prelude.{◌≡◌, ◌<◌, ◌+◌, length, option_map, OnOk};
+ghost use Rattle.std.specs.Prelude.{◌≡◌, ◌<◌, ◌+◌, length, OnOk};
 ghost use Rattle.isp_base.specs.declared.types.Elem.TheVariants.{I64};
 ghost use Rattle.isp_base.specs.declared.types.Rate.TheVariants.{Uniform};
-ghost use Rattle.isp_typed.specs.Views.{block_of, expr_of, ranges_of, simple_of, stmt_of};
+ghost use Rattle.isp_typed.specs.Views.{block_of, expr_of, ranges_of, stmt_of};
 ghost use Rattle.isp_lower.specs.Asks.{Register as Ask, expr_asks};
 ghost use Rattle.isp_lower.specs.Emitted.{Present};
 ghost use Rattle.isp_lower.specs.Rows.{Variable};
 ghost use Rattle.isp_masks.specs.Asks.{block_asks, ranges_asks, step_asks, stmt_asks, test_part_asks, unique_asks};
 ghost use Rattle.isp_masks.specs.Ranges.{runs_slot};
 ghost use Rattle.isp_masks.specs.reader.Seen.{block_seen};
-ghost use Rattle.isp_masks.specs.Written.{Writes, active_at, block_at, do_at, for_turn_at, foreach_at, last_asks, last_range_at, outer_turn_at, passed_at, ranges_at, runs_at, stepped_at, stmt_at, sweep_asks, sweeps_asks, turn_at, turns_at, unique_at, unmasked_at, while_at, while_turn_at};
+ghost use Rattle.isp_masks.specs.Written.{Writes, active_at, block_at, do_at, entered_at, foreach_at, last_asks, last_range_at, outer_turn_at, passed_at, ranges_at, runs_at, step_in, stmt_at, sweep_asks, sweeps_asks, test_in, turn_at, turning_at, turns_at, unique_at, unmasked_at};
 
 use crate::asserting::asserts;
 use crate::awaited::{land_all, leave_room};
 use crate::branches::{Condition, if_alone, if_else};
 use crate::looping::{
-    ForTest, Loop, Test, back, clear_where, copy_mask, enter, inside, is_wide, is_wide_by,
-    land_sift, leave_loop, next, rejoin, sift,
+    Loop, Test, Turning, clear_where, copy_mask, enter, inside, is_wide, is_wide_by, land_sift,
+    leave_loop, next, rejoin, sift,
 };
 use crate::masks::{Masks, Spot};
 use crate::part::{Part, split};
@@ -30,13 +30,13 @@ use crate::returned::returns;
 use crate::rounds::{fill_mask, take_lane};
 use crate::seen::Seen;
 use crate::sets::jump;
-use crate::steps::{first_part, live_again, step_back};
+use crate::steps::{first_part, next_turn};
 use crate::unique::{Unique, keep_values, take_value};
 use isp_base::{Elem, Rate, Ty};
 use isp_code::{Instr, JumpTest};
 use isp_lower::{Body, Scope, Site, declared, expr, mask, scalar, simple};
 use isp_tree::Form;
-use isp_typed::{TypedBlock, TypedExpr, TypedRange, TypedSimple, TypedStmt};
+use isp_typed::{TypedBlock, TypedExpr, TypedRange, TypedStmt};
 use std::alloc::AllocError;
 
 /// The code of a statement.
@@ -86,7 +86,13 @@ pub(crate) fn stmt(b: &mut Body, on: &Scope, x: Part<'_>, spot: Spot) -> Result<
             test,
             body,
             ..
-        } => while_loop(b, on, *form, test, x.only(body), spot),
+        } => {
+            let by = Turning {
+                step: None,
+                test: Some(test),
+            };
+            turns(b, on, *form, by, x.only(body), spot)
+        }
         TypedStmt::Do {
             form,
             body,
@@ -102,8 +108,11 @@ pub(crate) fn stmt(b: &mut Body, on: &Scope, x: Part<'_>, spot: Spot) -> Result<
             ..
         } => {
             first_part(b, on, first, spot.site())?;
-            let by = ForTest { form: *form, test };
-            turns(b, on, by, step, x.only(body), spot)
+            let by = Turning {
+                step: step.as_ref(),
+                test: test.as_ref(),
+            };
+            turns(b, on, *form, by, x.only(body), spot)
         }
         TypedStmt::ForeachActive { index, body, .. } => {
             active_loop(b, on, *index, x.only(body), spot)
@@ -186,58 +195,24 @@ fn turn(b: &mut Body, on: &Scope, body: Part<'_>, it: Loop) -> Result<(), AllocE
     Ok(())
 }
 
-/// `while`.
+/// Turns from one on, with what stands behind each.
 #[cycle(stmt)]
-fn while_loop(
+fn turning(
     b: &mut Body,
     on: &Scope,
-    form: Form,
-    test: &TypedExpr,
-    body: Part<'_>,
-    spot: Spot,
-) -> Result<(), AllocError>
-    requires slots { spot.slot.number + 3 < 4294967296 }
-    requires test { Present on.now (expr_asks (expr_of test.now) (spot.slot.number + 3)) }
-    requires body { Present on.now (stmt_asks on.now.answer (stmt_of body.stmt.now) (spot.slot.number + 3)) }
-    ensures { OnOk result (Writes b.old b.new (while_at on.now form (expr_of test.now) (stmt_of body.entry.stmt.now) spot)) }
-{
-    let exits = body.exits();
-    enter(b, exits, spot.masks.on, spot.slot)?;
-    let it = Loop {
-        wide: is_wide(form, test.ty().rate),
-        exits,
-        slot: spot.slot,
-        top: next(b),
-    };
-    let tested = expr(b, on, test, inside(spot.slot))?;
-    let given = Test {
-        rate: test.ty().rate,
-        register: tested,
-    };
-    while_turn(b, on, given, body, it)?;
-    leave_loop(b, it, spot.masks)?;
-    Ok(())
-}
-
-/// A turn of a `while` for those that pass its test, and the jump back.
-#[cycle(stmt)]
-fn while_turn(
-    b: &mut Body,
-    on: &Scope,
-    test: Test,
+    by: Turning<'_>,
     body: Part<'_>,
     it: Loop,
 ) -> Result<(), AllocError>
     requires slots { it.slot.number + 3 < 4294967296 }
+    requires step { Present on.now (step_asks (step_in by) (it.slot.number + 3)) }
+    requires test { Present on.now (test_part_asks (test_in by) (it.slot.number + 3)) }
     requires body { Present on.now (stmt_asks on.now.answer (stmt_of body.stmt.now) (it.slot.number + 3)) }
-    ensures { OnOk result (Writes b.old b.new (while_turn_at on.now test (stmt_of body.entry.stmt.now) it)) }
+    ensures { OnOk result (Writes b.old b.new (turning_at on.now (test_in by.entry) (step_in by.entry) (stmt_of body.entry.stmt.now) it)) }
 {
-    sift(b, test, it.slot)?;
-    let at = b.code.len();
-    b.push(Instr::Jump { target: 0 })?;
+    let top = next(b);
     turn(b, on, body, it)?;
-    back(b, it)?;
-    land_sift(b, at, test, it.slot);
+    next_turn(b, on, by, it, top)?;
     Ok(())
 }
 
@@ -262,10 +237,12 @@ fn do_loop(
         wide: is_wide(form, test.ty().rate),
         exits,
         slot: spot.slot,
-        top: next(b),
     };
-    turn(b, on, body, it)?;
-    live_again(b, on, test, it)?;
+    let by = Turning {
+        step: None,
+        test: Some(test),
+    };
+    turning(b, on, by, body, it)?;
     leave_loop(b, it, spot.masks)?;
     Ok(())
 }
@@ -346,102 +323,84 @@ fn unique_loop(
     Ok(())
 }
 
-/// A `for` behind its first part.
+/// A `while`, and a `for` behind its first part.
 #[cycle(stmt)]
 fn turns(
     b: &mut Body,
     on: &Scope,
-    by: ForTest<'_>,
-    step: &Option<TypedSimple>,
+    form: Form,
+    by: Turning<'_>,
     body: Part<'_>,
     spot: Spot,
 ) -> Result<(), AllocError>
     requires slots { spot.slot.number + 3 < 4294967296 }
-    requires test { Present on.now (test_part_asks (option_map expr_of by.test.now) (spot.slot.number + 3)) }
-    requires step { Present on.now (step_asks (option_map simple_of step.now) (spot.slot.number + 3)) }
+    requires step { Present on.now (step_asks (step_in by) (spot.slot.number + 3)) }
+    requires test { Present on.now (test_part_asks (test_in by) (spot.slot.number + 3)) }
     requires body { Present on.now (stmt_asks on.now.answer (stmt_of body.stmt.now) (spot.slot.number + 3)) }
-    ensures { OnOk result (Writes b.old b.new (turns_at on.now by.entry.form (option_map expr_of by.entry.test.now) (option_map simple_of step.now) (stmt_of body.entry.stmt.now) spot)) }
+    ensures { OnOk result (Writes b.old b.new (turns_at on.now form (test_in by.entry) (step_in by.entry) (stmt_of body.entry.stmt.now) spot)) }
 {
     let exits = body.exits();
     enter(b, exits, spot.masks.on, spot.slot)?;
     let it = Loop {
-        wide: is_wide_by(by.form, by.test),
+        wide: is_wide_by(form, by.test),
         exits,
         slot: spot.slot,
-        top: next(b),
     };
     match by.test {
-        None => stepped_turn(b, on, step, body, it)?,
-        Some(test) => for_turn(b, on, test, step, body, it)?,
+        None => turning(b, on, by, body, it)?,
+        Some(test) => entered(b, on, test, by, body, it)?,
     }
     leave_loop(b, it, spot.masks)?;
     Ok(())
 }
 
-/// The test of a `for`, and a turn for those that pass it.
+/// A test, and turns for those that pass it.
 #[cycle(stmt)]
-fn for_turn(
+fn entered(
     b: &mut Body,
     on: &Scope,
     test: &TypedExpr,
-    step: &Option<TypedSimple>,
+    by: Turning<'_>,
     body: Part<'_>,
     it: Loop,
 ) -> Result<(), AllocError>
     requires slots { it.slot.number + 3 < 4294967296 }
-    requires test { Present on.now (expr_asks (expr_of test.now) (it.slot.number + 3)) }
-    requires step { Present on.now (step_asks (option_map simple_of step.now) (it.slot.number + 3)) }
+    requires first { Present on.now (expr_asks (expr_of test.now) (it.slot.number + 3)) }
+    requires step { Present on.now (step_asks (step_in by) (it.slot.number + 3)) }
+    requires test { Present on.now (test_part_asks (test_in by) (it.slot.number + 3)) }
     requires body { Present on.now (stmt_asks on.now.answer (stmt_of body.stmt.now) (it.slot.number + 3)) }
-    ensures { OnOk result (Writes b.old b.new (for_turn_at on.now (expr_of test.now) (option_map simple_of step.now) (stmt_of body.entry.stmt.now) it)) }
+    ensures { OnOk result (Writes b.old b.new (entered_at on.now (expr_of test.now) (test_in by.entry) (step_in by.entry) (stmt_of body.entry.stmt.now) it)) }
 {
     let tested = expr(b, on, test, inside(it.slot))?;
     let given = Test {
         rate: test.ty().rate,
         register: tested,
     };
-    passed_turn(b, on, given, step, body, it)?;
+    passed(b, on, given, by, body, it)?;
     Ok(())
 }
 
-/// A turn of a `for` for those that pass its test.
+/// Turns for those that pass a test.
 #[cycle(stmt)]
-fn passed_turn(
+fn passed(
     b: &mut Body,
     on: &Scope,
     test: Test,
-    step: &Option<TypedSimple>,
+    by: Turning<'_>,
     body: Part<'_>,
     it: Loop,
 ) -> Result<(), AllocError>
     requires slots { it.slot.number + 3 < 4294967296 }
-    requires step { Present on.now (step_asks (option_map simple_of step.now) (it.slot.number + 3)) }
+    requires step { Present on.now (step_asks (step_in by) (it.slot.number + 3)) }
+    requires test { Present on.now (test_part_asks (test_in by) (it.slot.number + 3)) }
     requires body { Present on.now (stmt_asks on.now.answer (stmt_of body.stmt.now) (it.slot.number + 3)) }
-    ensures { OnOk result (Writes b.old b.new (passed_at on.now test (option_map simple_of step.now) (stmt_of body.entry.stmt.now) it)) }
+    ensures { OnOk result (Writes b.old b.new (passed_at on.now test (test_in by.entry) (step_in by.entry) (stmt_of body.entry.stmt.now) it)) }
 {
     sift(b, test, it.slot)?;
     let at = b.code.len();
     b.push(Instr::Jump { target: 0 })?;
-    stepped_turn(b, on, step, body, it)?;
+    turning(b, on, by, body, it)?;
     land_sift(b, at, test, it.slot);
-    Ok(())
-}
-
-/// A turn of a `for`, its step, and the jump back.
-#[cycle(stmt)]
-fn stepped_turn(
-    b: &mut Body,
-    on: &Scope,
-    step: &Option<TypedSimple>,
-    body: Part<'_>,
-    it: Loop,
-) -> Result<(), AllocError>
-    requires slots { it.slot.number + 3 < 4294967296 }
-    requires step { Present on.now (step_asks (option_map simple_of step.now) (it.slot.number + 3)) }
-    requires body { Present on.now (stmt_asks on.now.answer (stmt_of body.stmt.now) (it.slot.number + 3)) }
-    ensures { OnOk result (Writes b.old b.new (stepped_at on.now (option_map simple_of step.now) (stmt_of body.entry.stmt.now) it)) }
-{
-    turn(b, on, body, it)?;
-    step_back(b, on, step, it)?;
     Ok(())
 }
 

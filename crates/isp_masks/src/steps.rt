@@ -1,14 +1,14 @@
-//! The code of a `for`'s first part and of its step, and that of a `do`'s test, each with the jump back.
-ghost use Rattle.std.specs.Prelude.{◌<◌, ◌+◌, option_map, true, false, OnOk};
+//! The code of a `for`'s first part, and what stands behind a turn of a loop: the step, the test and the jump back.
+ghost use Rattle.std.specs.Prelude.{◌<◌, ◌+◌, option_map, Some, false, OnOk};
 ghost use Rattle.isp_typed.specs.Views.{expr_of, first_of, simple_of};
 ghost use Rattle.isp_lower.specs.Asks.{expr_asks};
 ghost use Rattle.isp_lower.specs.Emitted.{Present};
 ghost use Rattle.isp_lower.specs.Written.{Writes as Adds};
-ghost use Rattle.isp_masks.specs.Asks.{first_asks, step_asks};
+ghost use Rattle.isp_masks.specs.Asks.{first_asks, step_asks, test_part_asks};
 ghost use Rattle.isp_masks.specs.Exits.{nobody_leaves};
-ghost use Rattle.isp_masks.specs.Written.{again_at, first_at, live_again_at, step_at, step_back_at};
+ghost use Rattle.isp_masks.specs.Written.{back_at, first_at, next_at, step_at, step_in, stepped_at, test_in};
 
-use crate::looping::{Loop, Test, again, inside};
+use crate::looping::{Loop, Test, Turning, again, inside};
 use isp_code::{Instr, JumpTest};
 use isp_lower::{Body, Scope, Site, Slot, declared, expr, mask, simple};
 use isp_typed::{TypedExpr, TypedFirst, TypedSimple};
@@ -31,118 +31,121 @@ pub(crate) fn first_part(
     }
 }
 
-/// The test of a `do` and the jump back, if somebody is live.
-pub(crate) fn live_again(
+/// What stands behind a turn that begins at instruction top, for the lanes that are live.
+pub(crate) fn next_turn(
     b: &mut Body,
     on: &Scope,
-    test: &TypedExpr,
+    by: Turning<'_>,
     it: Loop,
+    top: u32,
 ) -> Result<(), AllocError>
     requires slots { it.slot.number + 3 < 4294967296 }
-    requires test { Present on.now (expr_asks (expr_of test.now) (it.slot.number + 3)) }
-    ensures { OnOk result (Adds b.old b.new (live_again_at on.now (nobody_leaves it.exits) (expr_of test.now) it)) }
+    requires step { Present on.now (step_asks (step_in by) (it.slot.number + 3)) }
+    requires test { Present on.now (test_part_asks (test_in by) (it.slot.number + 3)) }
+    ensures { OnOk result (Adds b.old b.new (next_at on.now (nobody_leaves it.exits) (test_in by.entry) (step_in by.entry) it.slot.number top)) }
 {
     if it.exits.is_none() {
-        tested_again(b, on, test, it)
+        stepped(b, on, by, it.slot, top)
     } else {
-        some_again(b, on, test, it)
+        some_stepped(b, on, by, it.slot, top)
     }
 }
 
-/// The same, jumped over where nobody is live.
-fn some_again(b: &mut Body, on: &Scope, test: &TypedExpr, it: Loop) -> Result<(), AllocError>
-    requires slots { it.slot.number + 3 < 4294967296 }
-    requires test { Present on.now (expr_asks (expr_of test.now) (it.slot.number + 3)) }
-    ensures { OnOk result (Adds b.old b.new (live_again_at on.now false (expr_of test.now) it)) }
-{
-    let at = b.code.len();
-    b.push(Instr::JumpIf {
-        test: JumpTest::Off,
-        register: mask(it.slot.mask()),
-        target: 0,
-    })?;
-    tested_again(b, on, test, it)?;
-    b.land(at, JumpTest::Off, mask(it.slot.mask()));
-    Ok(())
-}
-
-fn tested_again(b: &mut Body, on: &Scope, test: &TypedExpr, it: Loop) -> Result<(), AllocError>
-    requires slots { it.slot.number + 3 < 4294967296 }
-    requires test { Present on.now (expr_asks (expr_of test.now) (it.slot.number + 3)) }
-    ensures { OnOk result (Adds b.old b.new (again_at on.now (expr_of test.now) it)) }
-{
-    let tested = expr(b, on, test, inside(it.slot))?;
-    let given = Test {
-        rate: test.ty().rate,
-        register: tested,
-    };
-    again(b, given, it)?;
-    Ok(())
-}
-
-/// The step and the jump back, if somebody is live.
-pub(crate) fn step_back(
-    b: &mut Body,
-    on: &Scope,
-    step: &Option<TypedSimple>,
-    it: Loop,
-) -> Result<(), AllocError>
-    requires slots { it.slot.number + 3 < 4294967296 }
-    requires step { Present on.now (step_asks (option_map simple_of step.now) (it.slot.number + 3)) }
-    ensures { OnOk result (Adds b.old b.new (step_back_at on.now (nobody_leaves it.exits) (option_map simple_of step.now) it)) }
-{
-    if it.exits.is_none() {
-        stepped(b, on, step, it)
-    } else {
-        some_stepped(b, on, step, it)
-    }
-}
-
-/// The same, jumped over where nobody is live.
+/// The same where some may have left the loop: jumped over where nobody is live.
 fn some_stepped(
     b: &mut Body,
     on: &Scope,
-    step: &Option<TypedSimple>,
-    it: Loop,
+    by: Turning<'_>,
+    slot: Slot,
+    top: u32,
 ) -> Result<(), AllocError>
-    requires slots { it.slot.number + 3 < 4294967296 }
-    requires step { Present on.now (step_asks (option_map simple_of step.now) (it.slot.number + 3)) }
-    ensures { OnOk result (Adds b.old b.new (step_back_at on.now false (option_map simple_of step.now) it)) }
+    requires slots { slot.number + 3 < 4294967296 }
+    requires step { Present on.now (step_asks (step_in by) (slot.number + 3)) }
+    requires test { Present on.now (test_part_asks (test_in by) (slot.number + 3)) }
+    ensures { OnOk result (Adds b.old b.new (next_at on.now false (test_in by.entry) (step_in by.entry) slot.number top)) }
 {
     let at = b.code.len();
     b.push(Instr::JumpIf {
         test: JumpTest::Off,
-        register: mask(it.slot.mask()),
+        register: mask(slot.mask()),
         target: 0,
     })?;
-    stepped(b, on, step, it)?;
-    b.land(at, JumpTest::Off, mask(it.slot.mask()));
+    stepped(b, on, by, slot, top)?;
+    b.land(at, JumpTest::Off, mask(slot.mask()));
     Ok(())
 }
 
-fn stepped(b: &mut Body, on: &Scope, step: &Option<TypedSimple>, it: Loop) -> Result<(), AllocError>
-    requires slots { it.slot.number + 3 < 4294967296 }
-    requires step { Present on.now (step_asks (option_map simple_of step.now) (it.slot.number + 3)) }
-    ensures { OnOk result (Adds b.old b.new (step_back_at on.now true (option_map simple_of step.now) it)) }
+fn stepped(
+    b: &mut Body,
+    on: &Scope,
+    by: Turning<'_>,
+    slot: Slot,
+    top: u32,
+) -> Result<(), AllocError>
+    requires slots { slot.number + 3 < 4294967296 }
+    requires step { Present on.now (step_asks (step_in by) (slot.number + 3)) }
+    requires test { Present on.now (test_part_asks (test_in by) (slot.number + 3)) }
+    ensures { OnOk result (Adds b.old b.new (stepped_at on.now (test_in by.entry) (step_in by.entry) slot.number top)) }
 {
-    step_part(b, on, step, it.slot)?;
-    b.push(Instr::Jump { target: it.top })?;
+    step_part(b, on, by.step, slot)?;
+    back(b, on, by.test, slot, top)?;
     Ok(())
 }
 
-/// The step of a `for`.
+/// The step.
 fn step_part(
     b: &mut Body,
     on: &Scope,
-    step: &Option<TypedSimple>,
+    step: Option<&TypedSimple>,
     slot: Slot,
 ) -> Result<(), AllocError>
     requires slots { slot.number + 3 < 4294967296 }
-    requires step { Present on.now (step_asks (option_map simple_of step.now) (slot.number + 3)) }
-    ensures { OnOk result (Adds b.old b.new (step_at on.now (option_map simple_of step.now) slot.number)) }
+    requires step { Present on.now (step_asks (option_map (λ x. simple_of x.now) step) (slot.number + 3)) }
+    ensures { OnOk result (Adds b.old b.new (step_at on.now (option_map (λ x. simple_of x.now) step.entry) slot.number)) }
 {
     match step {
         None => Ok(()),
         Some(x) => simple(b, on, x, inside(slot)),
     }
+}
+
+/// The test, where there is one, and the jump back.
+fn back(
+    b: &mut Body,
+    on: &Scope,
+    test: Option<&TypedExpr>,
+    slot: Slot,
+    top: u32,
+) -> Result<(), AllocError>
+    requires slots { slot.number + 3 < 4294967296 }
+    requires test { Present on.now (test_part_asks (option_map (λ x. expr_of x.now) test) (slot.number + 3)) }
+    ensures { OnOk result (Adds b.old b.new (back_at on.now (option_map (λ x. expr_of x.now) test.entry) slot.number top)) }
+{
+    match test {
+        None => {
+            b.push(Instr::Jump { target: top })?;
+            Ok(())
+        }
+        Some(test) => tested_again(b, on, test, slot, top),
+    }
+}
+
+fn tested_again(
+    b: &mut Body,
+    on: &Scope,
+    test: &TypedExpr,
+    slot: Slot,
+    top: u32,
+) -> Result<(), AllocError>
+    requires slots { slot.number + 3 < 4294967296 }
+    requires test { Present on.now (expr_asks (expr_of test.now) (slot.number + 3)) }
+    ensures { OnOk result (Adds b.old b.new (back_at on.now (Some (expr_of test.now)) slot.number top)) }
+{
+    let tested = expr(b, on, test, inside(slot))?;
+    let given = Test {
+        rate: test.ty().rate,
+        register: tested,
+    };
+    again(b, given, slot, top)?;
+    Ok(())
 }

@@ -5,7 +5,7 @@ ghost use Rattle.isp_base.specs.declared.types.Rate.TheVariants.{Varying};
 ghost use Rattle.isp_code.specs.declared.instr.Reduction.TheVariants as reduction;
 ghost use Rattle.isp_typed.specs.Typed.{elem_of};
 ghost use Rattle.isp_typed.specs.Views.{expr_of};
-ghost use Rattle.isp_lower.specs.Code.{compare};
+ghost use Rattle.isp_lower.specs.Instructions.{compare};
 ghost use Rattle.isp_lower.specs.Emitted.{Appends, Present, layout};
 ghost use Rattle.isp_lower.specs.Library.{reduce};
 ghost use Rattle.isp_lower.specs.Written.{Writes as Adds};

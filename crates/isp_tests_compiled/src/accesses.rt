@@ -98,7 +98,7 @@ const ROWS: [(&str, u32, u32); 16] = [
     ),
     (
         "export void f(uniform int a[]) { foreach (i = 0 ... 9) { if (i % 2 == 0) a[i]++; while (a[i] < 4) a[i] += 2; } }",
-        5,
+        6,
         0,
     ),
     (

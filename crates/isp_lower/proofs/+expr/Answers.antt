@@ -7,7 +7,11 @@ use Rattle.isp_typed.specs.Nodes.{arguments_nodes}
 use Rattle.isp_typed.specs.Typed.{t_arguments, t_exprs}
 use Rattle.isp_typed.specs.Views.{argument_of, arguments_of, expr_of, exprs_of}
 use Rattle.isp_lower.specs.Callees.{next_rate}
-use Rattle.isp_lower.specs.Code.{argument_code, argument_places, argument_register, argument_registers, arguments_code, arguments_places, calling, expr_code, expr_places, is_short, jump_off, jump_on, operand, operand_of, value_registers, values_code, values_places, variable_from}
+use Rattle.isp_lower.specs.Code.{argument_code, argument_register, argument_registers, arguments_code, calling, expr_code, value_registers, values_code, variable_from}
+use Rattle.isp_lower.specs.Found.{operand, operand_of}
+use Rattle.isp_lower.specs.Instructions.{jump_off, jump_on}
+use Rattle.isp_lower.specs.Spans.{argument_places, arguments_places, expr_places, values_places}
+use Rattle.isp_lower.specs.Stays.{is_short}
 use Rattle.isp_code.specs.declared.register.Register.{Register}
 use Rattle.std.specs.Prelude.{List}
 use Rattle.isp_lower.specs.Emitted.{Appends, Present, layout}

@@ -4,7 +4,8 @@ use Rattle.isp_typed.specs.Nodes.{typed_nodes, place_nodes, base_nodes, call_nod
 use Rattle.isp_typed.specs.Typed.{t_arguments, t_exprs}
 use Rattle.isp_typed.specs.Views.{argument_of, arguments_of, base_of, call_of, expr_of, exprs_of, place_of}
 use Rattle.isp_lower.specs.Asks.{arguments_asks, values_asks}
-use Rattle.isp_lower.specs.Code.{argument_registers, arguments_code, arguments_places, value_registers, values_code, values_places}
+use Rattle.isp_lower.specs.Code.{argument_registers, arguments_code, value_registers, values_code}
+use Rattle.isp_lower.specs.Spans.{arguments_places, values_places}
 use Rattle.isp_lower.specs.Emitted.{Appends, Present, layout}
 use Rattle.isp_lower.specs.Library.{library_rates}
 use Rattle.isp_lower.specs.Written.{numbers}
@@ -58,6 +59,9 @@ decreases-expression::compare_to l = 8 * (typed_nodes (expr_of l.left.now) + typ
 
 abbrev pub decreases-expression::convert_to : goal.decreases-expression::convert_to
 decreases-expression::convert_to l = 8 * typed_nodes (expr_of l.x.now) + 3
+
+abbrev pub decreases-expression::converted_to : goal.decreases-expression::converted_to
+decreases-expression::converted_to l = 8 * typed_nodes (expr_of l.x.now) + 4
 
 abbrev pub decreases-expression::whole : goal.decreases-expression::whole
 decreases-expression::whole l = 8 * typed_nodes (expr_of l.x.now) + 4

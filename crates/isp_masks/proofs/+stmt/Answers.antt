@@ -1,14 +1,17 @@
-use Rattle.std.proofs.Common.{◌≡◌, ◌≤◌, List, [], ◌∷◌, ◌++◌, length, sym, ap, subst, ◌∙◌, arith, false, not, suc, take, take_all, drop, ◌<◌, ◌+◌, ◌-◌, Bool}
+use Rattle.std.proofs.Common.{◌≡◌, ◌≤◌, List, [], ◌∷◌, ◌++◌, length, sym, ap, subst, ◌∙◌, arith, false, not, suc, take, take_all, drop, ◌<◌, ◌+◌, ◌-◌, Bool, Bor, Option}
 use Rattle.std.specs.Prelude.{option_map, slice_set}
 use Rattle.isp_code.specs.declared.instr.Instr.{Instr}
 use Rattle.isp_code.specs.declared.instr.JumpTest.TheVariants as jump
-use Rattle.isp_lower.specs.Code.{copy, guard, jump_off, jump_on, the_others, two, where_so}
+use Rattle.isp_lower.specs.Instructions.{copy, jump_off, jump_on, the_others, where_so}
+use Rattle.isp_lower.specs.Pieces.{guard, two}
 use Rattle.isp_lower.specs.Emitted.{Appends, Present, layout}
 use Rattle.isp_lower.specs.declared.sites.Site.{Site}
 use Rattle.isp_typed.specs.Nodes.{block_nodes, stmts_nodes, range_nodes, stmt_nodes, typed_nodes}
-use Rattle.isp_typed.specs.Typed.{TBlock, TStmt, elem_of, t_braces, t_if, t_if_else, t_while, t_for, t_stmts, t_foreach, t_foreach_unique}
+use Rattle.isp_typed.specs.Typed.{TBlock, TExpr, TSimple, TStmt, elem_of, t_braces, t_if, t_if_else, t_while, t_for, t_stmts, t_foreach, t_foreach_unique}
 use Rattle.isp_typed.specs.Views.{block_of, expr_of, first_of, simple_of, stmt_of, stmts_of, range_of, ranges_of}
+use Rattle.isp_typed.specs.declared.expr.TypedExpr.{TypedExpr}
 use Rattle.isp_typed.specs.declared.stmt.TypedRange.{TypedRange}
+use Rattle.isp_typed.specs.declared.stmt.TypedSimple.{TypedSimple}
 use Rattle.isp_typed.proofs.StmtViews.{if_view, if_else_view, while_view, for_view, foreach_view, unique_view}
 use Rattle.isp_tree.specs.Nodes.{nodes_of_all}
 use Rattle.std.proofs.lemmas.List.{drop_all, drop_more}
@@ -16,20 +19,20 @@ use Rattle.std.proofs.lemmas.Result.{on_ok_weaker}
 use Rattle.isp_masks.specs.Awaited.{AreBelow, Awaits, set_all}
 use Rattle.isp_masks.specs.Exits.{all_go_on, nobody_leaves}
 use Rattle.isp_masks.specs.Fors.{first_code, first_places}
-use Rattle.isp_masks.specs.Loops.{back_code, copy_mask, jump_all, sift_jump}
+use Rattle.isp_masks.specs.Loops.{copy_mask, jump_all, sift_jump}
 use Rattle.isp_masks.specs.Sets.{unite}
 use Rattle.isp_masks.specs.Rounds.{value_code, values_of}
 use Rattle.isp_masks.specs.Spots.{Numbers, next_of, own_spot, spot_of, widely}
 use Rattle.isp_masks.specs.Statements.{left_code, stmt_code, stmt_places, stmt_texts, stmts_code, stmts_places, stmts_texts, body_code, body_layout}
-use Rattle.isp_masks.specs.Written.{Piece, Writes, block_at, guarded_at, kept_at, stepped_at, stmt_at, turn_at, turns_at, first_sweep, index_codes, outer_turn_at, place_test, range_begin, range_step, ranges_at, runs_at, runs_begin, runs_next, step_back_at}
+use Rattle.isp_masks.specs.Written.{Piece, Writes, block_at, guarded_at, kept_at, next_at, step_in, stmt_at, test_in, turn_at, turning_at, turns_at, first_sweep, index_codes, outer_turn_at, place_test, range_begin, range_step, ranges_at, runs_at, runs_begin, runs_next}
 use Rattle.isp_masks.proofs.Awaiting.{awaits_end}
 use Rattle.isp_masks.proofs.Forms.{list_step, nodes_low, stmts_more}
 use Rattle.isp_masks.proofs.JumpsWritten.{left_written}
 use Rattle.isp_masks.proofs.WidelyWritten.{first_widely_written}
 use Rattle.isp_masks.proofs.Lists.{flat, flat_is}
 use Rattle.isp_masks.proofs.Splits.{seen_begins, seen_rest}
-use Rattle.isp_masks.proofs.Sifting.{for_written, sifted}
-use Rattle.isp_masks.proofs.Views.{block_view}
+use Rattle.isp_masks.proofs.Sifting.{for_written, sifted, turns_written}
+use Rattle.isp_masks.proofs.Views.{block_view, part_is}
 use Rattle.isp_masks.proofs.Writing.{chosen_of, landed_over, rounds_written, writes_adding, writes_back, writes_past}
 use Rattle.isp_base.specs.declared.types.Rate.TheVariants.{Uniform}
 use Rattle.isp_code.specs.declared.instr.Instr.TheVariants as instr
@@ -180,36 +183,27 @@ statement::block-returns t c =
 pub statement::stmt-returns-in-While : goal.statement::stmt-returns-in-While
 statement::stmt-returns-in-While t c =
     let a = c.args in
-    let l = layout a.on.now in
-    let h = a.on.now.answer in
     let e = c.in-While in
-    let so = λ (z : TStmt). Writes a.b.now c.while_loop.new.b (stmt_at a.on.now z a.spot) in
-    on_ok_weaker c.while_loop.result
+    let so = λ (z : TStmt). Writes a.b.now c.turns.new.b (stmt_at a.on.now z a.spot) in
+    on_ok_weaker c.turns.result
     (λ w. subst so (sym (ap stmt_of e.is ∙ while_view e.form e.before e.test e.body e.span)) (subst (λ y. so (t_while e.form e.before (expr_of e.test) (stmt_of y) e.span)) (c.only-in-While.ensures ∙ c.deref-in-While.ensures) w))
-    c.while_loop.ensures
+    c.turns.ensures
 
-pub statement::while_turn-returns : goal.statement::while_turn-returns
-statement::while_turn-returns t c =
+pub statement::turning-returns : goal.statement::turning-returns
+statement::turning-returns t c =
     let a = c.args in
-    let x = stmt_of a.body.stmt.now in
-    let n = a.it.slot.number in
-    let r = a.test.rate in
-    let d = a.test.register.number in
-    let turn = turn_at a.on.now x a.it in
-    let both = writes_back c.push.new.self c.turn.new.b c.back.new.b turn (λ pc p. back_code (nobody_leaves a.it.exits) n a.it.top ∷ []) c.in_ok-turn.ensures c.in_ok-back.ensures in
-    let whole : Piece = record { code = λ pc z. two pc (turn.code pc z) (λ pc1. back_code (nobody_leaves a.it.exits) n a.it.top ∷ []); places = turn.places; texts = turn.texts } in
-    sifted a.b.now c.sift.new.b c.land_sift.new.b r d n whole c.in_ok-sift.ensures
-    (landed_over c.sift.new.b c.push.new.self c.back.new.b c.land_sift.new.b c.len-at.result _ (sift_jump r d n) whole
-    (c.len-at.ensures ∙ c.sift.new.b.code.ok.0) c.in_ok-push.ensures both (cc) c.land_sift.ensures.places c.land_sift.ensures.texts)
+    let back = next_at a.on.now (nobody_leaves a.it.exits) (test_in a.by) (step_in a.by) a.it.slot.number c.next-top.result in
+    let all = writes_adding a.b.now c.turn.new.b c.next_turn.new.b (turn_at a.on.now (stmt_of a.body.stmt.now) a.it) back.code back.places c.in_ok-turn.ensures c.in_ok-next_turn.ensures in
+    turns_written a.on.now a.b.now c.next_turn.new.b (test_in a.by) (step_in a.by) (stmt_of a.body.stmt.now) a.it c.next-top.result c.next-top.ensures all
 
-pub statement::passed_turn-returns : goal.statement::passed_turn-returns
-statement::passed_turn-returns t c =
+pub statement::passed-returns : goal.statement::passed-returns
+statement::passed-returns t c =
     let a = c.args in
     let n = a.it.slot.number in
-    let turn = stepped_at a.on.now (option_map simple_of a.step.now) (stmt_of a.body.stmt.now) a.it in
-    sifted a.b.now c.sift.new.b c.land_sift.new.b a.test.rate a.test.register.number n turn c.in_ok-sift.ensures
-    (landed_over c.sift.new.b c.push.new.self c.stepped_turn.new.b c.land_sift.new.b c.len-at.result _ (sift_jump a.test.rate a.test.register.number n) turn
-    (c.len-at.ensures ∙ c.sift.new.b.code.ok.0) c.in_ok-push.ensures c.in_ok-stepped_turn.ensures (cc) c.land_sift.ensures.places c.land_sift.ensures.texts)
+    let turns = turning_at a.on.now (test_in a.by) (step_in a.by) (stmt_of a.body.stmt.now) a.it in
+    sifted a.b.now c.sift.new.b c.land_sift.new.b a.test.rate a.test.register.number n turns c.in_ok-sift.ensures
+    (landed_over c.sift.new.b c.push.new.self c.turning.new.b c.land_sift.new.b c.len-at.result _ (sift_jump a.test.rate a.test.register.number n) turns
+    (c.len-at.ensures ∙ c.sift.new.b.code.ok.0) c.in_ok-push.ensures c.in_ok-turning.ensures (cc) c.land_sift.ensures.places c.land_sift.ensures.texts)
 
 pub statement::stmt-returns-in_ok-first_part-in-For : goal.statement::stmt-returns-in_ok-first_part-in-For
 statement::stmt-returns-in_ok-first_part-in-For t c =
@@ -219,17 +213,20 @@ statement::stmt-returns-in_ok-first_part-in-For t c =
     let h = a.on.now.answer in
     let e = c.in-For in
     let first = option_map first_of e.first in
-    let o = option_map expr_of e.test in
-    let y = option_map simple_of e.step in
+    let o = option_map (λ (v : Bor TypedExpr). expr_of v.now) c.as_ref-in-For.result in
+    let y = option_map (λ (v : Bor TypedSimple). simple_of v.now) c.as_ref.result in
     let x = stmt_of c.only-in-For.result.stmt.now in
     let begun = subst (λ (z : Site). Appends a.b.now c.first_part.new.b (λ pc p. first_code l first pc p z.mask.number z.slot.number) (first_places l first)) c.site-in-For.ensures c.in_ok-first_part-in-For.ensures in
-    let so = λ (z : TStmt). Writes a.b.now c.turns.new.b (stmt_at a.on.now z a.spot) in
-    on_ok_weaker c.turns.result
+    let so = λ (z : TStmt). Writes a.b.now c.turns-in-For.new.b (stmt_at a.on.now z a.spot) in
+    let seen = λ (f : Option TExpr) (p : Option TSimple). so (t_for e.form e.before first f p e.inside (stmt_of e.body.value) e.span) in
+    on_ok_weaker c.turns-in-For.result
     (λ w. subst so (sym (ap stmt_of e.is ∙ for_view e.form e.before e.first e.test e.step e.inside e.body e.span))
+    (subst (λ f. seen f (option_map simple_of e.step)) (sym (part_is expr_of e.test c.as_ref-in-For.result c.as_ref-in-For.ensures.value))
+    (subst (λ p. seen o p) (sym (part_is simple_of e.step c.as_ref.result c.as_ref.ensures.value))
     (subst (λ z. so (t_for e.form e.before first o y e.inside (stmt_of z) e.span)) (c.only-in-For.ensures ∙ c.deref-in-For.ensures)
-    (for_written a.b.now c.turns.new.b l h e.form e.before first o y e.inside x e.span s
-    (writes_past a.b.now c.first_part.new.b c.turns.new.b (λ pc p. first_code l first pc p s.on s.slot) (first_places l first) (turns_at a.on.now e.form o y x a.spot) begun w))))
-    c.turns.ensures
+    (for_written a.b.now c.turns-in-For.new.b l h e.form e.before first o y e.inside x e.span s
+    (writes_past a.b.now c.first_part.new.b c.turns-in-For.new.b (λ pc p. first_code l first pc p s.on s.slot) (first_places l first) (turns_at a.on.now e.form o y x a.spot) begun w))))))
+    c.turns-in-For.ensures
 
 pub statement::stmt-foreach-requires : goal.statement::stmt-foreach-requires
 statement::stmt-foreach-requires t c =
@@ -356,12 +353,6 @@ statement::unique_loop-returns t c =
     let jumped = subst (λ r. Appends c.stmt.new.b c.push.new.self (λ pc p. instr.JumpIf jump.On r c.next-top.result ∷ []) []) left c.in_ok-push.ensures in
     rounds_written a.b.now c.keep_values.new.b c.take_value.new.b c.stmt.new.b c.push.new.self kept.code kept.places begin n c.next-top.result (stmt_at a.on.now x (own_spot (n + 1)))
     c.in_ok-keep_values.ensures c.next-top.ensures c.in_ok-take_value.ensures inside jumped
-
-pub statement::stepped_turn-returns : goal.statement::stepped_turn-returns
-statement::stepped_turn-returns t c =
-    let a = c.args in
-    let back = step_back_at a.on.now (nobody_leaves a.it.exits) (option_map simple_of a.step.now) a.it in
-    writes_adding a.b.now c.turn.new.b c.step_back.new.b (turn_at a.on.now (stmt_of a.body.stmt.now) a.it) back.code back.places c.in_ok-turn.ensures c.in_ok-step_back.ensures
 
 pub statement::ranges-returns-in-len1 : goal.statement::ranges-returns-in-len1
 statement::ranges-returns-in-len1 t c =

@@ -73,11 +73,8 @@ decreases-branches::others l = 8 * stmt_nodes (stmt_of l.x.stmt.now) + 2
 abbrev pub decreases-statement::turn : goal.decreases-statement::turn
 decreases-statement::turn l = 8 * stmt_nodes (stmt_of l.body.stmt.now) + 1
 
-abbrev pub decreases-statement::while_turn : goal.decreases-statement::while_turn
-decreases-statement::while_turn l = 8 * stmt_nodes (stmt_of l.body.stmt.now) + 2
-
-abbrev pub decreases-statement::while_loop : goal.decreases-statement::while_loop
-decreases-statement::while_loop l = 8 * stmt_nodes (stmt_of l.body.stmt.now) + 3
+abbrev pub decreases-statement::turning : goal.decreases-statement::turning
+decreases-statement::turning l = 8 * stmt_nodes (stmt_of l.body.stmt.now) + 2
 
 abbrev pub decreases-statement::do_loop : goal.decreases-statement::do_loop
 decreases-statement::do_loop l = 8 * stmt_nodes (stmt_of l.body.stmt.now) + 3
@@ -91,14 +88,11 @@ decreases-statement::active_loop l = 8 * stmt_nodes (stmt_of l.body.stmt.now) + 
 abbrev pub decreases-statement::unique_loop : goal.decreases-statement::unique_loop
 decreases-statement::unique_loop l = 8 * stmt_nodes (stmt_of l.body.stmt.now) + 1
 
-abbrev pub decreases-statement::stepped_turn : goal.decreases-statement::stepped_turn
-decreases-statement::stepped_turn l = 8 * stmt_nodes (stmt_of l.body.stmt.now) + 2
+abbrev pub decreases-statement::passed : goal.decreases-statement::passed
+decreases-statement::passed l = 8 * stmt_nodes (stmt_of l.body.stmt.now) + 3
 
-abbrev pub decreases-statement::passed_turn : goal.decreases-statement::passed_turn
-decreases-statement::passed_turn l = 8 * stmt_nodes (stmt_of l.body.stmt.now) + 3
-
-abbrev pub decreases-statement::for_turn : goal.decreases-statement::for_turn
-decreases-statement::for_turn l = 8 * stmt_nodes (stmt_of l.body.stmt.now) + 4
+abbrev pub decreases-statement::entered : goal.decreases-statement::entered
+decreases-statement::entered l = 8 * stmt_nodes (stmt_of l.body.stmt.now) + 4
 
 abbrev pub decreases-statement::turns : goal.decreases-statement::turns
 decreases-statement::turns l = 8 * stmt_nodes (stmt_of l.body.stmt.now) + 5

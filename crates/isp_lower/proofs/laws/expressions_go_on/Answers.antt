@@ -1,7 +1,8 @@
 use Rattle.std.proofs.Common.{◌≡◌, ◌+◌, arith, length, subst}
 use Rattle.isp_meaning.specs.Outcomes.{Stops}
 use Rattle.isp_typed.specs.Typed.{type_of}
-use Rattle.isp_lower.specs.Code.{expr_code, found}
+use Rattle.isp_lower.specs.Code.{expr_code}
+use Rattle.isp_lower.specs.Found.{found}
 use Rattle.isp_lower.specs.Runs.{Runs}
 use Rattle.isp_lower.specs.Setting.{Holds, with_turns}
 use Rattle.isp_lower.proofs.Exprs.{expr_runs}

@@ -6,5 +6,5 @@ use Rattle.isp_lower.proofs.laws.expressions_sound.Goals as goal
 pub returns : goal.returns
 returns c = record {
   part = λ fs vars code h l x n links fine rated has. value_sound fs code h l links x n (expr_tree fs vars x fine rated) has;
-  there = λ fs vars h l x n fine rated has. found_there fs h l x n (expr_tree fs vars x fine rated) has;
+  there = λ fs vars h l x n kept fine rated has. found_there fs h l kept x n (expr_tree fs vars x fine rated) has;
 }

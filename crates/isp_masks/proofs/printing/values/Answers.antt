@@ -3,7 +3,9 @@ use Rattle.isp_base.specs.declared.types.Ty.{Ty}
 use Rattle.isp_typed.specs.Typed.{type_of}
 use Rattle.isp_typed.specs.Views.{expr_of, exprs_of}
 use Rattle.isp_lower.specs.Asks.{operand_asks}
-use Rattle.isp_lower.specs.Code.{expr_code, expr_places, operand, operand_of}
+use Rattle.isp_lower.specs.Code.{expr_code}
+use Rattle.isp_lower.specs.Found.{operand, operand_of}
+use Rattle.isp_lower.specs.Spans.{expr_places}
 use Rattle.isp_lower.specs.Emitted.{Appends, Present, layout}
 use Rattle.isp_lower.specs.declared.numbered.Slot.{Slot}
 use Rattle.isp_masks.specs.Printed.{rates_of, registers_of}

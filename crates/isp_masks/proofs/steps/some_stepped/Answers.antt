@@ -1,24 +1,19 @@
-use Rattle.std.proofs.Common.{◌+◌, ◌++◌, ◌∷◌, [], ◌∙◌, ap, length}
-use Rattle.std.specs.Prelude.{option_map, slice_set}
+use Rattle.std.proofs.Common.{◌∙◌, ap, length}
+use Rattle.std.specs.Prelude.{slice_set}
 use Rattle.isp_code.specs.declared.instr.Instr.TheVariants as instr
 use Rattle.isp_code.specs.declared.instr.JumpTest.TheVariants as jump
-use Rattle.isp_lower.specs.Code.{jump_off}
-use Rattle.isp_lower.specs.Emitted.{layout}
+use Rattle.isp_lower.specs.Instructions.{jump_off}
 use Rattle.isp_lower.specs.Layout.{mask_register}
 use Rattle.isp_lower.specs.declared.numbered.MaskNumber.{MaskNumber}
 use Rattle.isp_lower.proofs.Lemmas.{landed}
-use Rattle.isp_typed.specs.Views.{simple_of}
-use Rattle.isp_masks.specs.Fors.{step_code, step_places}
+use Rattle.isp_masks.specs.Written.{step_in, stepped_at, test_in}
 use Rattle.isp_masks.proofs.steps.some_stepped.Goals as goal
 
 pub returns : goal.returns
 returns c =
     let a = c.args in
-    let l = layout a.on.now in
-    let x = option_map simple_of a.step.now in
-    let n = a.it.slot.number in
+    let part = stepped_at a.on.now (test_in a.by) (step_in a.by) a.slot.number a.top in
     let after = c.stepped.new.b.code.items in
     let code = ap (λ r. slice_set after c.len-at.result (instr.JumpIf jump.Off r (length after))) (c.mask-4.ensures ∙ ap (λ (k : MaskNumber). mask_register k.number) c.mask-3.ensures) in
-    landed a.b.now c.push.new.self c.stepped.new.b c.land.new.self c.len-at.result _ (jump_off n)
-    (λ pc p. step_code l x pc p n (n + 3) ++ instr.Jump a.it.top ∷ []) (step_places l x)
+    landed a.b.now c.push.new.self c.stepped.new.b c.land.new.self c.len-at.result _ (jump_off a.slot.number) part.code part.places
     (c.len-at.ensures ∙ a.b.now.code.ok.0) c.in_ok-push.ensures c.in_ok-stepped.ensures (c.land.ensures.code ∙ code) c.land.ensures.places c.land.ensures.texts

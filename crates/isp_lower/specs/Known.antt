@@ -1,0 +1,42 @@
+-- The constant that an expression is, if it is one, converted or not; and code that is left out where that constant is kept.
+use Rattle.std.specs.Prelude.{ℕ, [], List, Option, Some, None, Bool, true, false}
+use Rattle.isp_base.specs.declared.types.Elem.{Elem}
+use Rattle.isp_base.specs.declared.types.Value.{Value}
+use Rattle.isp_code.specs.declared.instr.Instr.{Instr}
+use Rattle.isp_typed.specs.Typed.{TExpr, t_constant, t_program_index, t_place, t_convert, t_cast, t_unary, t_binary, t_compare, t_logic, t_choose, t_call, t_library, t_packed_store, t_packed_load}
+use Rattle.isp_meaning.specs.Payloads.{converted}
+
+abbrev pub constant_of : TExpr → Option Value
+constant_of (t_constant v sp) = Some v
+constant_of (t_program_index sp) = None
+constant_of (t_place p) = None
+constant_of (t_convert e x) = None
+constant_of (t_cast x t sp) = None
+constant_of (t_unary o x t sp) = None
+constant_of (t_binary o x y t sp) = None
+constant_of (t_compare c x y r sp) = None
+constant_of (t_logic l x y r sp) = None
+constant_of (t_choose c x y t sp) = None
+constant_of (t_call c t) = None
+constant_of (t_library f e xs t sp) = None
+constant_of (t_packed_store b x sp) = None
+constant_of (t_packed_load b v sp) = None
+
+-- the constant that an expression is, converted or not
+abbrev pub known_as : Elem → Option Value → Option Value
+known_as e None = None
+known_as e (Some v) = Some (record { elem = e; bits = converted v.elem e v.bits })
+
+abbrev pub known : TExpr → Option Value
+known (t_constant v sp) = Some v
+known (t_convert e x) = known_as e (constant_of x)
+known x = None
+
+-- a constant as one of a type, and code that is left out where it is kept
+abbrev pub bits_as : Option Value → Elem → ℕ
+bits_as None e = 0
+bits_as (Some v) e = converted v.elem e v.bits
+
+abbrev pub unless_kept : Bool → List Instr → List Instr
+unless_kept true code = []
+unless_kept false code = code
