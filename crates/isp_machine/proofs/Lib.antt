@@ -9,6 +9,7 @@ pub mod Rewrites
 pub mod Written
 pub mod Alike
 pub mod Doing
+pub mod Quickly
 pub mod Strides
 pub mod Stays
 pub mod LocalArrays

@@ -3,6 +3,7 @@ pub mod Shapes
 pub mod Views
 pub mod Arrays
 pub mod Moves
+pub mod Quick
 pub mod Begun
 pub mod Receives
 pub mod Steps

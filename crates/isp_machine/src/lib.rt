@@ -17,6 +17,7 @@ mod operands;
 mod order;
 mod packed;
 mod passed;
+mod quick;
 mod returns;
 mod run;
 mod says;

@@ -9,7 +9,6 @@ use Rattle.isp_base.specs.Types.{gang_width}
 use Rattle.isp_base.specs.declared.signature.Argument.{Argument}
 use Rattle.isp_base.specs.declared.signature.Argument.TheVariants.{Value as AValue, Array as AnArray}
 use Rattle.isp_base.specs.declared.signature.Parameter.{Parameter}
-use Rattle.isp_base.specs.declared.types.Elem.{Elem}
 use Rattle.isp_base.specs.declared.types.Rate.{Rate}
 use Rattle.isp_base.specs.declared.types.Rate.TheVariants.{Uniform, Varying}
 use Rattle.isp_code.specs.Listing.{Listing, Routine}

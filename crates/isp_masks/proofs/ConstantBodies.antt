@@ -1,5 +1,5 @@
 -- A function's body behind the code that keeps its constants, which the body's own unit of work pays.
-use Rattle.std.proofs.Common.{◌≡◌, ◌≢◌, ◌<◌, ◌≤◌, ℕ, ◌+◌, ◌*◌, List, [], ◌∷◌, ◌++◌, length, true, refl, ap, ◌∙◌, subst, arith, length-append}
+use Rattle.std.proofs.Common.{◌≡◌, ◌≢◌, ◌≤◌, ℕ, ◌+◌, ◌*◌, List, [], ◌∷◌, ◌++◌, length, true, refl, ap, ◌∙◌, subst, arith, length-append}
 use Rattle.isp_base.specs.Sets.{Mask, any}
 use Rattle.isp_base.specs.declared.types.Elem.{Elem}
 use Rattle.isp_base.specs.declared.types.Rate.{Rate}
@@ -15,7 +15,7 @@ use Rattle.isp_lower.specs.Tables.{IsTyped}
 use Rattle.isp_lower.specs.Setting.{Setting, IsSettled, gang_of, calls_of, AreAt, At}
 use Rattle.isp_lower.proofs.Lemmas.{are_front, are_back}
 use Rattle.isp_lower.specs.declared.registers.Constant.{Constant}
-use Rattle.isp_masks.specs.Keeping.{Each, IsIn, KeepsThem, constants_code, keep_at, keep_code, keep_steps, steps_at}
+use Rattle.isp_masks.specs.Keeping.{Each, KeepsThem, constants_code, keep_at, keep_code, keep_steps, steps_at}
 use Rattle.isp_masks.specs.Named.{BlockNamed}
 use Rattle.isp_masks.specs.Spots.{Numbers, first_spot}
 use Rattle.isp_masks.specs.Statements.{block_code, stmts_code}

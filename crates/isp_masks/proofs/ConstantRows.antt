@@ -1,5 +1,5 @@
 -- Constants that are kept: their registers, what their code asks for, and that code, one constant after the other.
-use Rattle.std.proofs.Common.{◌≡◌, ◌⊎◌, inl, inr, ⊎_elim, ◌<◌, ◌≤◌, ℕ, ◌+◌, List, [], ◌∷◌, ◌++◌, length, drop, get_or, suc, Bool, true, false, refl, sym, ap, ◌∙◌, subst, arith, ne_eqb, true≢false}
+use Rattle.std.proofs.Common.{◌≡◌, inl, inr, ⊎_elim, ◌<◌, ◌≤◌, ℕ, ◌+◌, List, [], ◌∷◌, ◌++◌, length, drop, get_or, suc, Bool, true, false, refl, sym, ap, ◌∙◌, subst, arith, ne_eqb, true≢false}
 use Rattle.std.proofs.lemmas.Bool.{false≢true}
 use Rattle.std.proofs.lemmas.List.{drop_more, drop_all}
 use Rattle.isp_base.specs.declared.types.Elem.{Elem}
@@ -15,14 +15,13 @@ use Rattle.isp_lower.specs.Reserved.{IsOwn}
 use Rattle.isp_lower.specs.Rows.{Rows, keeps, layout_of, rows_at}
 use Rattle.isp_lower.specs.declared.registers.Constant.{Constant}
 use Rattle.isp_lower.specs.declared.registers.Registers.{Registers}
-use Rattle.isp_lower.specs.declared.reserve.Reserve.{Reserve}
 use Rattle.isp_code.specs.declared.instr.Instr.TheVariants as instr
 use Rattle.isp_typed.specs.Typed.{TBlock}
 use Rattle.isp_lower.specs.Pieces.{two}
 use Rattle.isp_lower.specs.declared.types.Body.{Body}
 use Rattle.isp_lower.specs.declared.types.Scope.{Scope}
 use Rattle.isp_lower.proofs.Lemmas.{appends_self, appends_then, kept_same, longer_keeps, longer_self, longer_then, none_kept}
-use Rattle.isp_masks.specs.Keeping.{IsIn, KeepsAll, KeepsThem, constants_asks, constants_code, keep_code, keep_steps, steps_at}
+use Rattle.isp_masks.specs.Keeping.{KeepsAll, KeepsThem, constants_asks, constants_code, keep_code, keep_steps, steps_at}
 use Rattle.isp_masks.specs.Rounds.{fill_mask}
 use Rattle.isp_masks.specs.Spots.{first_spot}
 use Rattle.isp_masks.specs.Statements.{block_code, block_places, block_texts, returned}

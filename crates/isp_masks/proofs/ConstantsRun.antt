@@ -1,5 +1,5 @@
 -- The code with which a function begins leaves each constant that is kept in its register, and all else as it was.
-use Rattle.std.proofs.Common.{◌≡◌, ◌≢◌, ◌<◌, ℕ, ◌+◌, ◌%◌, ◌^◌, ◌⊎◌, inl, inr, List, [], ◌∷◌, ◌++◌, length, Some, None, Bool, true, false, refl, sym, ap, ◌∙◌, subst, arith, length-append, eqb-true}
+use Rattle.std.proofs.Common.{◌≡◌, ◌≢◌, ◌<◌, ℕ, ◌+◌, ◌%◌, ◌^◌, inl, inr, List, [], ◌∷◌, ◌++◌, length, Some, None, Bool, true, false, refl, sym, ap, ◌∙◌, subst, arith, length-append, eqb-true}
 use Rattle.std.specs.Prelude.{slice_get, nat_eq, nat_lt, if◌then◌else◌}
 use Rattle.std.proofs.Math.Path.{fun_ext}
 use Rattle.isp_base.specs.Maps.{Lanes, on, or_old, over, put}
@@ -9,13 +9,10 @@ use Rattle.isp_base.specs.declared.types.Elem.{Elem}
 use Rattle.isp_base.specs.declared.types.Rate.{Rate}
 use Rattle.isp_base.specs.declared.types.Rate.TheVariants.{Uniform, Varying}
 use Rattle.isp_code.specs.Conf.{Conf, Go}
-use Rattle.isp_code.specs.Lines.{act}
-use Rattle.isp_code.specs.Registers.{elem_of}
 use Rattle.isp_meaning.specs.Payloads.{Payload, One, Each, spread}
 use Rattle.isp_meaning.specs.State.{State}
 use Rattle.isp_lower.specs.Held.{HasBits, everywhere}
 use Rattle.isp_lower.specs.Instructions.{constant, splat}
-use Rattle.isp_lower.specs.Layout.{register}
 use Rattle.isp_lower.specs.Runs.{Comes}
 use Rattle.isp_lower.specs.Setting.{Setting, IsSettled, StandsFor, Stands, gang_of, AreAt, At, Spares}
 use Rattle.isp_lower.specs.Tables.{IsTyped}

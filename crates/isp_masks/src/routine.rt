@@ -83,10 +83,11 @@ pub(crate) fn function(e: &mut Emitter, f: &TypedFunction) -> Result<(), AllocEr
     requires fine { IsFineFunction (function_of f.now) }
     ensures { OnOk result (AddsLowered (function_of f.now) (draft_of e.old) (draft_of e.new)) }
 {
-    let kept = constants(*e.body.code.allocator(), &f.body)?;
+    let found = constants(*e.body.code.allocator(), &f.body)?;
+    let kept = found.as_slice();
     e.begin(f)?;
-    reserve(&mut e.reserved, kept.as_slice(), f)?;
-    keep(&mut e.reserved.registers, kept.as_slice())?;
+    reserve(&mut e.reserved, kept, f)?;
+    keep(&mut e.reserved.registers, kept)?;
     let on = Scope {
         callees: e.callees,
         registers: &e.reserved.registers,
@@ -95,6 +96,6 @@ pub(crate) fn function(e: &mut Emitter, f: &TypedFunction) -> Result<(), AllocEr
         run: None,
         in_run: false,
     };
-    body(&mut e.body, &on, kept.as_slice(), &f.body)?;
+    body(&mut e.body, &on, kept, &f.body)?;
     Ok(())
 }

@@ -2,7 +2,7 @@
 //! answers to each kind of request.
 ghost use Rattle.std.specs.Prelude.{◌≡◌, false};
 
-use crate::fakes::{Count, Page, Shelf};
+use crate::fakes::{Count, Full, Page, Shelf};
 use isp_asm::{read, write};
 use isp_engine::command;
 use std::alloc::{AllocError, Global};
@@ -134,6 +134,27 @@ fn sink_that_fails(rt: HostRuntime) -> Result<(), Fail> {
         err: "isp: cannot write\n",
     };
     run(&rt, rt.alloc(), &case, 7)
+}
+
+// A standard output that takes no more bytes, and says so by 0: 6, as where a write fails.
+#[test]
+fn sink_that_takes_no_byte(rt: HostRuntime) -> Result<(), Fail> {
+    let alloc = rt.alloc();
+    let words = words(alloc, "isp run double.ispc f four.json")?;
+    for room in 0..ANSWER.len() {
+        let mut out = Full {
+            bytes: Vec::new(alloc),
+            room,
+            has_failed: false,
+        };
+        let mut err = page(alloc, 10_000);
+        let files = Shelf { files: &FILES };
+        let status = command(alloc, words.as_slice(), &files, &mut out, &mut err);
+        assert_eq!(rt; status, 6);
+        assert!(rt; out.bytes.as_slice() == &ANSWER.as_bytes()[..room]);
+        assert!(rt; err.bytes.as_slice() == b"isp: cannot write\n".as_slice());
+    }
+    Ok(())
 }
 
 // A program that prints for ever: what it printed goes out though it does not end, more with a greater budget.

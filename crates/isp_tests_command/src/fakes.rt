@@ -67,6 +67,38 @@ impl Sink for Page {
     }
 }
 
+/// Takes so many bytes, and then none: it answers 0, and no fault.
+#[derive(Drop)]
+pub(crate) struct Full {
+    pub bytes: Vec<u8>,
+    pub room: usize,
+    pub has_failed: bool,
+}
+
+impl Sink for Full {
+    ghost written = { λ f. Some f.bytes.items };
+
+    ghost has_failed = { λ f. f.has_failed };
+
+    fn write(&mut self, bytes: &[u8]) -> Result<usize, SinkFault> {
+        let count = bytes.len().min(self.room);
+        if count == 0 && !bytes.is_empty() {
+            self.has_failed = true;
+            return Ok(0);
+        }
+        if self.bytes.extend_from_slice(&bytes[..count]).is_err() {
+            self.has_failed = true;
+            return Err(SinkFault);
+        }
+        self.room -= count;
+        Ok(count)
+    }
+
+    fn failed(&self) -> bool {
+        self.has_failed
+    }
+}
+
 /// Counts what it takes, and needs no memory.
 #[derive(Drop)]
 pub(crate) struct Count {

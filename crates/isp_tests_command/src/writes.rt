@@ -1,5 +1,5 @@
 //! Runs whose output goes to a sink while they run: what went out, and how they end, where it takes little or fails.
-use crate::fakes::Page;
+use crate::fakes::{Full, Page};
 use isp_base::{Gang, Span, Trap, TrapKind};
 use isp_engine::{Ending, Image, Report, RunFault, Sink, compile, load_code, run_to};
 use std::alloc::Global;
@@ -118,6 +118,56 @@ fn failing_behind_each_byte(rt: HostRuntime) -> Result<(), Fail> {
 fn source_failing_behind_each_byte(rt: HostRuntime) -> Result<(), Fail> {
     let image = compiled(rt.alloc(), SHORT_SOURCE)?;
     fails_behind_each_byte(&rt, rt.alloc(), &image)
+}
+
+// A sink that takes k bytes and then answers that it took none: 81 too, with the first k bytes.
+fn full_behind_each_byte(rt: &impl Abort, alloc: Global, image: &Image) -> Result<(), Fail> {
+    let sent = SENT.as_bytes();
+    for room in 0..sent.len() {
+        let mut out = Full {
+            bytes: Vec::new(alloc),
+            room,
+            has_failed: false,
+        };
+        match run_to(alloc, image, "f", "{}", 1000, &mut out) {
+            Ok(_) => return Err(Fail::from("it took what it has no room for")),
+            Err(fault) => assert_eq!(rt; fault, RunFault::WriteFailed),
+        }
+        assert!(rt; out.failed());
+        assert!(rt;
+            out.bytes.as_slice() == &sent[..room],
+            "with room for {room}"
+        );
+    }
+    Ok(())
+}
+
+#[test]
+fn taking_no_byte_behind_each_byte(rt: HostRuntime) -> Result<(), Fail> {
+    let image = image(rt.alloc(), SHORT)?;
+    full_behind_each_byte(&rt, rt.alloc(), &image)
+}
+
+// A program that prints for ever ends where the sink takes no byte, whatever the budget.
+#[test]
+fn endless_into_a_full_sink(rt: HostRuntime) -> Result<(), Fail> {
+    let alloc = rt.alloc();
+    let image = image(alloc, ENDLESS)?;
+    for room in [0, 10, 5_000] {
+        let mut out = Full {
+            bytes: Vec::new(alloc),
+            room,
+            has_failed: false,
+        };
+        match run_to(alloc, &image, "f", "{}", u64::MAX, &mut out) {
+            Ok(_) => return Err(Fail::from("it took what it has no room for")),
+            Err(fault) => assert_eq!(&rt; fault, RunFault::WriteFailed),
+        }
+        assert!(&rt; out.failed());
+        assert_eq!(&rt; out.bytes.len(), room);
+        assert!(&rt; out.bytes.iter().all(|byte| *byte == b'x'));
+    }
+    Ok(())
 }
 
 // No answer goes out behind a trap, and the report has none.

@@ -1,6 +1,6 @@
 //! Runs that are cut at each of their instructions, where loops, calls, output, stores and a trap follow one another.
 use crate::listing::{Called, Line, Routine, verified};
-use crate::registers::{A0, M0, S0, S1, S2, S3, S4, S5, V0};
+use crate::registers::{A0, M0, S0, S1, S2, S3, S4, S5, V0, V1};
 use crate::runs::{Given, Seen, Wanted, goes_in_parts};
 use isp_base::{Compare, Elem, Gang, TrapKind};
 use isp_code::{JumpTest, ParamKind, Plain, Returns, ScalarInstr, VectorInstr};
@@ -204,6 +204,72 @@ fn lanes_in_parts(rt: HostRuntime) -> Result<(), Fail> {
     }
     all.push(seen(Wanted::Running, "[6,6,6,6]", &[]))?;
     all.push(seen(Wanted::Ended, "[6,6,6,6]", &[]))?;
+    assert!(rt; goes_in_parts(alloc, &code, &[], all.as_slice())?);
+    Ok(())
+}
+
+// f() jumps to a `jz` that a comparison stands before, and is led there again from the comparison: then 300 is converted, and written.
+static ENTERED: [Routine<'static>; 1] = [Routine {
+    name: "f",
+    exported: true,
+    returns: Returns::Nothing,
+    params: &[],
+    locals: &[],
+    scalars: &[Elem::I32, Elem::I32, Elem::Bool],
+    vectors: &[Elem::I32, Elem::U8],
+    masks: 1,
+    code: &[
+        Line::Scalar(S0, ScalarInstr::Constant(300)),
+        Line::Scalar(S2, ScalarInstr::Constant(1)),
+        Line::Jump(4),
+        Line::Scalar(
+            S2,
+            ScalarInstr::Compare {
+                op: Compare::Less,
+                left: S0,
+                right: S1,
+            },
+        ),
+        Line::JumpIf(JumpTest::False, S2, 7),
+        Line::Scalar(
+            S1,
+            ScalarInstr::Binary {
+                op: Plain::Add,
+                left: S1,
+                right: S1,
+            },
+        ),
+        Line::Jump(3),
+        Line::Vector(
+            V0,
+            VectorInstr::Splat {
+                value: S0,
+                mask: M0,
+            },
+        ),
+        Line::Vector(
+            V1,
+            VectorInstr::Convert {
+                value: V0,
+                mask: M0,
+            },
+        ),
+        Line::PrintVector(V1, M0),
+        Line::Return(None),
+    ],
+}];
+
+// Three instructions; the `jz` that is not taken, the sum and the jump; the comparison and the `jz` that is taken; two vectors; the text.
+#[test]
+fn entered_in_parts(rt: HostRuntime) -> Result<(), Fail> {
+    let alloc = rt.alloc();
+    let code = verified(alloc, Gang::W4, &ENTERED)?;
+    let mut all = Vec::new(alloc);
+    for _ in 0..11u32 {
+        all.push(seen(Wanted::Running, "", &[]))?;
+    }
+    all.push(seen(Wanted::Running, "[44,44,44,44]", &[]))?;
+    all.push(seen(Wanted::Ended, "[44,44,44,44]", &[]))?;
     assert!(rt; goes_in_parts(alloc, &code, &[], all.as_slice())?);
     Ok(())
 }

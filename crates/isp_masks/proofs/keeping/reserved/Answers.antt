@@ -1,4 +1,4 @@
-use Rattle.std.proofs.Common.{◌+◌, drop, sym, ap, subst}
+use Rattle.std.proofs.Common.{sym, subst}
 use Rattle.isp_lower.specs.Reserved.{Gives}
 use Rattle.isp_lower.proofs.Lemmas.{both_given, gives_none}
 use Rattle.isp_masks.specs.Keeping.{constants_asks}

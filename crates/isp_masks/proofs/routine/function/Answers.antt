@@ -1,11 +1,10 @@
-use Rattle.std.proofs.Common.{refl, ap}
+use Rattle.std.proofs.Common.{◌≤◌, arith, refl, sym, ap, subst}
 use Rattle.isp_lower.specs.Drafts.{Draft, draft_of}
 use Rattle.isp_typed.specs.Views.{function_of}
 use Rattle.isp_lower.specs.Asks.{Both}
-use Rattle.isp_lower.specs.Callees.{rates_in}
 use Rattle.isp_lower.proofs.Lemmas.{longer_has, longer_then}
 use Rattle.isp_masks.specs.Asks.{block_asks, result_asks}
-use Rattle.isp_masks.specs.Keeping.{constants_asks}
+use Rattle.isp_masks.specs.Keeping.{constants_asks, keep_steps}
 use Rattle.isp_masks.proofs.ConstantRows.{keeps_them, longer_grown}
 use Rattle.isp_masks.proofs.Own.{body_own, heading_fits}
 use Rattle.isp_masks.proofs.Routines.{adds}
@@ -14,7 +13,7 @@ use Rattle.isp_masks.proofs.routine.function.Goals as goal
 pub returns : goal.returns
 returns c =
     let h = function_of c.args.f.now in
-    let ks = c.in_ok-constants.items in
+    let ks = c.as_slice-kept.result.now in
     let e = c.begin.new.self in
     let m = c.reserve.new.asked in
     let r = record m { registers = c.keep.new.registers } in
@@ -22,7 +21,7 @@ returns c =
     let keep = c.in_ok-keep.ensures in
     adds h ks (draft_of c.args.e.now) (draft_of e) e.reserved r e.body c.body.new.b c.in_ok-begin.ensures.begun refl refl refl refl refl
     (longer_then e.reserved.registers m.registers r.registers (longer_grown e.reserved.registers m.registers asked.rows) keep.rows) asked.masks
-    (keeps_them _ h.variables h.answer e.reserved.registers m.registers r.registers ks (ap (λ (d : Draft). d.rows) c.in_ok-begin.ensures.begun) asked.rows keep c.in_ok-constants.ensures)
+    (keeps_them _ h.variables h.answer e.reserved.registers m.registers r.registers ks (ap (λ (d : Draft). d.rows) c.in_ok-begin.ensures.begun) asked.rows keep (subst (λ zs. keep_steps zs ≤ 24) (sym c.as_slice-kept.ensures.value) c.in_ok-found.ensures))
     (longer_has m r keep.rows (omega arith) (Both (constants_asks 3 ks) (block_asks h.answer h.body 3)) asked.body)
     c.in_ok-body.ensures c.requires.fine.0 c.requires.fine.1
 
@@ -39,13 +38,13 @@ pub body-requires-clause-constants : goal.body-requires-clause-constants
 body-requires-clause-constants c =
     let h = function_of c.args.f.now in
     let m = c.reserve.new.asked in
-    (longer_has m (record m { registers = c.keep.new.registers }) c.in_ok-keep.ensures.rows (omega arith) (Both (constants_asks 3 c.in_ok-constants.items) (block_asks h.answer h.body 3)) c.in_ok-reserve.ensures.body).0
+    (longer_has m (record m { registers = c.keep.new.registers }) c.in_ok-keep.ensures.rows (omega arith) (Both (constants_asks 3 c.as_slice-kept.result.now) (block_asks h.answer h.body 3)) c.in_ok-reserve.ensures.body).0
 
 pub body-requires-clause-body : goal.body-requires-clause-body
 body-requires-clause-body c =
     let h = function_of c.args.f.now in
     let m = c.reserve.new.asked in
-    (longer_has m (record m { registers = c.keep.new.registers }) c.in_ok-keep.ensures.rows (omega arith) (Both (constants_asks 3 c.in_ok-constants.items) (block_asks h.answer h.body 3)) c.in_ok-reserve.ensures.body).1
+    (longer_has m (record m { registers = c.keep.new.registers }) c.in_ok-keep.ensures.rows (omega arith) (Both (constants_asks 3 c.as_slice-kept.result.now) (block_asks h.answer h.body 3)) c.in_ok-reserve.ensures.body).1
 
 pub body-requires-clause-result : goal.body-requires-clause-result
 body-requires-clause-result c =

@@ -1,4 +1,4 @@
-use Rattle.std.proofs.Common.{◌+◌, arith}
+use Rattle.std.proofs.Common.{arith}
 use Rattle.isp_base.specs.declared.types.Rate.TheVariants.{Uniform, Varying}
 use Rattle.isp_masks.proofs.ConstantRows.{counted_more}
 use Rattle.isp_masks.proofs.wanted.Found.add.Goals as goal
