@@ -10,3 +10,4 @@ mod Members
 mod Pushed
 mod Items
 mod Found
+mod Told
