@@ -132,7 +132,8 @@ texts_follow hs [] s j l = routines_follow hs s j.1
 texts_follow hs (t ∷ ts) s j l =
     (j.0, room s.texts (length ts) l, texts_follow hs ts (after_kind s kind.Text) (refl, (refl, refl)) (omega (arith, l)))
 
-places_follow : (hs : List Routine) (ts : List (List ℕ)) (ps : List Span) (s : Seen) → BeforePlaces s.last → s.places + length ps ≤ 2 ^ 32 → s.texts + length ts ≤ 2 ^ 32 → Follows s (map place_line ps ++ (map text_line ts ++ flat_map routine_lines hs))
+places_follow : (hs : List Routine) (ts : List (List ℕ)) (ps : List Span) (s : Seen) → BeforePlaces s.last → s.places + length ps ≤ 2 ^ 32
+    → s.texts + length ts ≤ 2 ^ 32 → Follows s (map place_line ps ++ (map text_line ts ++ flat_map routine_lines hs))
 places_follow hs ts [] s j l k = texts_follow hs ts s j.1 k
 places_follow hs ts (p ∷ ps) s j l k =
     (j.0, room s.places (length ps) l, places_follow hs ts ps (after_kind s kind.Place) (refl, (refl, (refl, refl))) (omega (arith, l)) k)

@@ -119,7 +119,17 @@ module _ (c : Listing) where
 
     loc_behind : (l : Local) → NoScalars h → lines_of c ++ front_lines (record h { locals = h.locals ++ l ∷ [] }) ≡ (lines_of c ++ front_lines h) ++ says.Loc l ∷ []
     loc_behind l n =
-        rw (append_assoc (lines_of c) (front_lines h) (says.Loc l ∷ []), n.0, n.1.0, append-nil (map local_line h.locals), append-nil (map local_line (h.locals ++ l ∷ [])), map-append local_line h.locals (l ∷ []), append_assoc (map param_line h.params) (map local_line h.locals) (says.Loc l ∷ [])) refl
+        rw (
+          append_assoc (lines_of c) (front_lines h) (says.Loc l ∷ []),
+          n.0,
+          n.1.0,
+          append-nil (map local_line h.locals),
+          append-nil
+              (map local_line (h.locals ++ l ∷ [])),
+          map-append local_line h.locals (l ∷ []),
+          append_assoc (map param_line h.params)
+              (map local_line h.locals) (says.Loc l ∷ []),
+        ) refl
 
     scalars_behind : (t : Elem) (ts : List Elem) → NoScalars h → lines_of c ++ front_lines (record h { scalars = t ∷ ts }) ≡ (lines_of c ++ front_lines h) ++ says.Scalars (t ∷ ts) ∷ []
     scalars_behind t ts n =
@@ -128,7 +138,15 @@ module _ (c : Listing) where
     vectors_behind : (t : Elem) (ts : List Elem) → NoVectors h → lines_of c ++ front_lines (record h { vectors = t ∷ ts }) ≡ (lines_of c ++ front_lines h) ++ says.Vectors (t ∷ ts) ∷ []
     vectors_behind t ts n =
         let l = says.Vectors (t ∷ ts) ∷ [] in
-        rw (append_assoc (lines_of c) (front_lines h) l, n.0, append-nil (if_any scalars_line h.scalars), append_assoc (map param_line h.params) (map local_line h.locals ++ if_any scalars_line h.scalars) l, append_assoc (map local_line h.locals) (if_any scalars_line h.scalars) l) refl
+        rw (
+          append_assoc (lines_of c) (front_lines h) l,
+          n.0,
+          append-nil (if_any scalars_line h.scalars),
+          append_assoc (map param_line h.params)
+              (map local_line h.locals ++ if_any scalars_line h.scalars) l,
+          append_assoc (map local_line h.locals) (if_any scalars_line h.scalars) l,
+        )
+        refl
 
     masks_behind : (n : ℕ) → h.code ≡ [] → lines_of c ++ body_lines (record h { masks = n }) ≡ (lines_of c ++ front_lines h) ++ says.Masks n ∷ []
     masks_behind n e = rw (append_assoc (lines_of c) (front_lines h) (says.Masks n ∷ []), e) refl

@@ -50,7 +50,9 @@ version_goes W32 = refl
 number_of : (n : ℕ) (w : List ℕ) → decimal n ≡ w → n < 2 ^ 64 → digits_value 10 w ≡ n
 number_of n w e l = ap (λ v. digits_value 10 v) (sym e) ∙ digits_value-decimal own n l
 
-pub header_read : (a b d : List ℕ) (v : ℕ) (g : Gang) → decimal v ≡ a → decimal (gang_width g) ≡ d → is_version v ≡ true → word_fault (NumberIn is_version) a ≡ None → word_fault (OneOf (codes "gang" ∷ [])) b ≡ None → word_fault (NumberIn is_gang) d ≡ None → behind_fault head.Isp (a ∷ b ∷ d ∷ []) ≡ (if v == version_of g then None else Some BadOperand)
+pub header_read : (a b d : List ℕ) (v : ℕ) (g : Gang) → decimal v ≡ a → decimal (gang_width g) ≡ d → is_version v ≡ true
+    → word_fault (NumberIn is_version) a ≡ None → word_fault (OneOf (codes "gang" ∷ [])) b ≡ None → word_fault (NumberIn is_gang) d ≡ None
+    → behind_fault head.Isp (a ∷ b ∷ d ∷ []) ≡ (if v == version_of g then None else Some BadOperand)
 header_read a b d v g ea ed f na nb nd =
     rw (na, nb, nd, number_of v a ea (version_below v f), number_of (gang_width g) d ed (width_below g), goes_alone g v) refl
 

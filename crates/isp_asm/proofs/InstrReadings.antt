@@ -82,7 +82,9 @@ module _ (o : Op) (front back : List (List ℕ)) (count : length back ≡ length
       ∙ words_fault-append (replicate (length front) register) (ending_forms (shape_of o).ending) front back (match_registers front)
 
 -- what is made of the words has these words
-pub instr_spelled : (o : Op) (rs : List Register) (t : Tail) (front back : List (List ℕ)) → ending_of t ≡ (shape_of o).ending → has_registers (shape_of o) (length rs) ≡ true → map register_word rs ≡ front → tail_words t ≡ back → instr_words (made o rs t) ≡ op_word o ∷ (front ++ back)
+pub instr_spelled : (o : Op) (rs : List Register) (t : Tail) (front back : List (List ℕ)) → ending_of t ≡ (shape_of o).ending
+    → has_registers (shape_of o) (length rs) ≡ true → map register_word rs ≡ front → tail_words t ≡ back
+    → instr_words (made o rs t) ≡ op_word o ∷ (front ++ back)
 instr_spelled o rs t front back e h f b = ap row_words (made_row o rs t e h) ∙ (rw (f, b) refl)
 
 -- the same of words as the reader has them

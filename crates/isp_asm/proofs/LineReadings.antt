@@ -84,7 +84,8 @@ abbrev ended : Op → Ending → List (List ℕ) → Instr
 ended o ending.Nothing ws = made o (map register_back ws) tail.Nothing
 ended o e ws = made o (map register_back (front_of ws)) (tail_back e (last_of ws))
 
-with_tail : (o : Op) (rs : List Register) (w : List ℕ) (e : Ending) (t : Tail) → list_all register_fits rs ≡ true → tail_back e w ≡ t → made o (map register_back (front_of (map register_word rs ++ w ∷ []))) (tail_back e (last_of (map register_word rs ++ w ∷ []))) ≡ made o rs t
+with_tail : (o : Op) (rs : List Register) (w : List ℕ) (e : Ending) (t : Tail) → list_all register_fits rs ≡ true → tail_back e w ≡ t
+    → made o (map register_back (front_of (map register_word rs ++ w ∷ []))) (tail_back e (last_of (map register_word rs ++ w ∷ []))) ≡ made o rs t
 with_tail o rs w e t h k = rw (front_push (map register_word rs) w, last_push (map register_word rs) w, registers_kept rs h, k) refl
 
 ended_kept : (o : Op) (rs : List Register) (t : Tail) → list_all register_fits rs ≡ true → tail_fits t ≡ true → ended o (ending_of t) (map register_word rs ++ tail_words t) ≡ made o rs t

@@ -184,7 +184,13 @@ row_right (line o rs t) h k =
     record {
       operands = map register_word rs ++ tail_words t;
       is = refl;
-      fine = record { forms = map one_register rs ++ ending_forms (ending_of t); known = k; right = right-append (map one_register rs) (ending_forms (ending_of t)) (map register_word rs) (tail_words t) (rows_right rs q.0) (tail_right t q.1); whole = refl };
+      fine = record {
+        forms = map one_register rs ++ ending_forms (ending_of t);
+        known = k;
+        right = right-append (map one_register rs)
+            (ending_forms (ending_of t)) (map register_word rs) (tail_words t) (rows_right rs q.0) (tail_right t q.1);
+        whole = refl;
+      };
     }
 row_right (call c) h k = record { operands = row_operands (call c); is = refl; fine = call_right c h }
 

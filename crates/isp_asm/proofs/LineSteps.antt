@@ -65,7 +65,8 @@ line_stands s ws h l stands words fits =
     let q = and_parts (may_follow s.last (kind_of h)) (has_room s (kind_of h)) stands in
     record { fits = fits; follows = rw i q.0; room = rw i q.1 }
 
-pub ok_stands : (s : Seen) (ws : List (List ℕ)) (h : Head) (r : Result read.Line LineFault) → takes s (kind_of h) ≡ true → IfOk r (λ l. line_words (said l) ≡ head_word h ∷ ws) → IfOk r (λ l. line_fits (said l) ≡ true) → IfOk r (λ l. Stands s (said l))
+pub ok_stands : (s : Seen) (ws : List (List ℕ)) (h : Head) (r : Result read.Line LineFault) → takes s (kind_of h) ≡ true
+    → IfOk r (λ l. line_words (said l) ≡ head_word h ∷ ws) → IfOk r (λ l. line_fits (said l) ≡ true) → IfOk r (λ l. Stands s (said l))
 ok_stands s ws h (Ok l) stands words fits = line_stands s ws h (said l) stands words fits
 ok_stands s ws h (Err e) stands words fits = tt
 
@@ -93,7 +94,9 @@ no_feed (x ∷ xs) h =
     rw (ne_eqb x 10 (h 0 (omega arith)), no_feed xs k) refl
 
 -- where the text is cut at its first line feed
-pub feed_split : (rest : List ℕ) (r : Option (Bor (List ℕ) × Bor (List ℕ))) → IsSplitOnceResult 10 rest r → MatchOption r (slice_split is_feed rest ≡ rest ∷ []) (λ x. (rest ≡ x.0.now ++ (10 ∷ x.1.now)) × (slice_split is_feed rest ≡ x.0.now ∷ slice_split is_feed x.1.now))
+pub feed_split : (rest : List ℕ) (r : Option (Bor (List ℕ) × Bor (List ℕ))) → IsSplitOnceResult 10 rest r
+    → MatchOption r (slice_split is_feed rest ≡ rest ∷ [])
+    (λ x. (rest ≡ x.0.now ++ (10 ∷ x.1.now)) × (slice_split is_feed rest ≡ x.0.now ∷ slice_split is_feed x.1.now))
 feed_split rest None e =
     let p = split_parts 10 rest None e (omega arith) in
     ap (slice_split is_feed) (sym (append-nil rest)) ∙ split_none is_feed rest (no_feed rest p)
@@ -102,7 +105,9 @@ feed_split rest (Some x) e =
     (p.0, ap (slice_split is_feed) p.0 ∙ split_at is_feed x.0.now 10 x.1.now (no_feed x.0.now p.1) refl)
 
 -- a line without a fault leaves the fault to those behind it
-pub line_step : (s : Seen) (n : ℕ) (rest line behind : List ℕ) (f : Option Fault) → slice_split is_feed rest ≡ line ∷ slice_split is_feed behind → line_fault s line ≡ None → fault_from s n (slice_split is_feed rest) ≡ f → fault_from (after_line s line) (n + 1) (slice_split is_feed behind) ≡ f
+pub line_step : (s : Seen) (n : ℕ) (rest line behind : List ℕ) (f : Option Fault) → slice_split is_feed rest ≡ line ∷ slice_split is_feed behind
+    → line_fault s line ≡ None → fault_from s n (slice_split is_feed rest) ≡ f
+    → fault_from (after_line s line) (n + 1) (slice_split is_feed behind) ≡ f
 line_step s n rest line behind f e none h =
     ap (λ m. fault_from (after_line s line) m (slice_split is_feed behind)) (add-one n)
     ∙ ap (λ (r : Option Rule). at n r (fault_from (after_line s line) (suc n) (slice_split is_feed behind))) (sym none)
@@ -111,7 +116,9 @@ line_step s n rest line behind f e none h =
     ∙ h
 
 -- a line with a fault is the text's
-pub line_wrong : (s : Seen) (n : ℕ) (rest line behind : List ℕ) (f : Option Fault) (r : Rule) → slice_split is_feed rest ≡ line ∷ slice_split is_feed behind → line_fault s line ≡ Some r → fault_from s n (slice_split is_feed rest) ≡ f → f ≡ Some (record { rule = r; line = n })
+pub line_wrong : (s : Seen) (n : ℕ) (rest line behind : List ℕ) (f : Option Fault) (r : Rule)
+    → slice_split is_feed rest ≡ line ∷ slice_split is_feed behind → line_fault s line ≡ Some r → fault_from s n (slice_split is_feed rest) ≡ f
+    → f ≡ Some (record { rule = r; line = n })
 line_wrong s n rest line behind f r e wrong h =
     sym h
     ∙ ap (fault_from s n) e
@@ -159,7 +166,9 @@ number_step n k line behind rest r h =
     let l : length rest ≡ length line + suc (length behind) = ap length r ∙ length-append line (10 ∷ behind) in
     omega (arith, l, h)
 
-pub at_refused : (s : Seen) (n : ℕ) (rest line behind : List ℕ) (g : Option Fault) (e : LineFault) (a : AsmFault) → slice_split is_feed rest ≡ line ∷ slice_split is_feed behind → fault_from s n (slice_split is_feed rest) ≡ g → ((r : Rule) → e ≡ bad.Refused r → line_fault s line ≡ Some r) → a ≡ fault_at n e → (f : Fault) → a ≡ Refused f → g ≡ Some f
+pub at_refused : (s : Seen) (n : ℕ) (rest line behind : List ℕ) (g : Option Fault) (e : LineFault) (a : AsmFault)
+    → slice_split is_feed rest ≡ line ∷ slice_split is_feed behind → fault_from s n (slice_split is_feed rest) ≡ g
+    → ((r : Rule) → e ≡ bad.Refused r → line_fault s line ≡ Some r) → a ≡ fault_at n e → (f : Fault) → a ≡ Refused f → g ≡ Some f
 at_refused s n rest line behind g bad.Memory a split h wrong is f e = let none : ⊥ = cc in absurd none
 at_refused s n rest line behind g (bad.Refused r) a split h wrong is f e =
     let i : record { rule = r; line = n } ≡ f = cc in
@@ -180,7 +189,9 @@ pub more_left : (rest : List ℕ) (k : Kind) → rest ≢ [] → (is_empty rest 
 more_left [] k h = absurd (h refl)
 more_left (b ∷ bs) k h = refl
 
-pub end_refused : (s : Seen) (n : ℕ) (rest : List ℕ) (g : Option Fault) → slice_split is_feed rest ≡ rest ∷ [] → (is_empty rest && may_end s.last) ≡ false → fault_from s n (slice_split is_feed rest) ≡ g → (f : Fault) → Refused (record { rule = BadLine; line = n }) ≡ Refused f → g ≡ Some f
+pub end_refused : (s : Seen) (n : ℕ) (rest : List ℕ) (g : Option Fault) → slice_split is_feed rest ≡ rest ∷ []
+    → (is_empty rest && may_end s.last) ≡ false → fault_from s n (slice_split is_feed rest) ≡ g → (f : Fault)
+    → Refused (record { rule = BadLine; line = n }) ≡ Refused f → g ≡ Some f
 end_refused s n rest g e t h f i =
     let j : record { rule = BadLine; line = n } ≡ f = cc in
     end_wrong s n rest g e t h ∙ ap (λ (f : Fault). Some f) j

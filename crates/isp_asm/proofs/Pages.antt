@@ -38,21 +38,29 @@ module _ (h : Routine) where
   body_text : lines_text (says.Masks h.masks ∷ (map instr_line h.code ++ says.End ∷ [])) ≡ masks_text ++ (lines_text (map instr_line h.code) ++ (end_text ++ []))
   body_text = ap (λ t. masks_text ++ t) (lines-append (map instr_line h.code) (says.End ∷ []))
 
-  routine_text : lines_text (routine_lines h) ≡ func_text ++ ((lines_text (map param_line h.params) ++ (lines_text (map local_line h.locals) ++ (lines_text (if_any scalars_line h.scalars) ++ lines_text (if_any vectors_line h.vectors)))) ++ (masks_text ++ (lines_text (map instr_line h.code) ++ (end_text ++ []))))
+  routine_text : lines_text (routine_lines h) ≡ func_text
+      ++ ((lines_text (map param_line h.params) ++ (lines_text (map local_line h.locals)
+      ++ (lines_text (if_any scalars_line h.scalars) ++ lines_text (if_any vectors_line h.vectors))))
+      ++ (masks_text ++ (lines_text (map instr_line h.code) ++ (end_text ++ []))))
   routine_text =
       ap (λ t. func_text ++ t)
       (lines-append (head_lines h) (says.Masks h.masks ∷ (map instr_line h.code ++ says.End ∷ []))
       ∙ ap (λ t. t ++ lines_text (says.Masks h.masks ∷ (map instr_line h.code ++ says.End ∷ []))) head_text
       ∙ ap (λ t. (lines_text (map param_line h.params) ++ (lines_text (map local_line h.locals) ++ (lines_text (if_any scalars_line h.scalars) ++ lines_text (if_any vectors_line h.vectors)))) ++ t) body_text)
 
-  pub routine_written : (o a b c d e f g : List ℕ) → a ≡ o ++ func_text → b ≡ a ++ lines_text (map param_line h.params) → c ≡ b ++ lines_text (map local_line h.locals) → d ≡ c ++ lines_text (if_any scalars_line h.scalars) → e ≡ d ++ lines_text (if_any vectors_line h.vectors) → f ≡ e ++ masks_text → g ≡ f ++ lines_text (map instr_line h.code) → g ++ end_text ≡ o ++ lines_text (routine_lines h)
+  pub routine_written : (o a b c d e f g : List ℕ) → a ≡ o ++ func_text → b ≡ a ++ lines_text (map param_line h.params)
+      → c ≡ b ++ lines_text (map local_line h.locals) → d ≡ c ++ lines_text (if_any scalars_line h.scalars)
+      → e ≡ d ++ lines_text (if_any vectors_line h.vectors) → f ≡ e ++ masks_text → g ≡ f ++ lines_text (map instr_line h.code)
+      → g ++ end_text ≡ o ++ lines_text (routine_lines h)
   routine_written o a b c d e f g i j k l m n p =
       rw (p, n, m, l, k, j, i)
-      (regroup o func_text (lines_text (map param_line h.params)) (lines_text (map local_line h.locals)) (lines_text (if_any scalars_line h.scalars)) (lines_text (if_any vectors_line h.vectors)) masks_text (lines_text (map instr_line h.code)) end_text
+      (regroup o func_text (lines_text (map param_line h.params)) (lines_text (map local_line h.locals)) (lines_text (if_any scalars_line h.scalars))
+      (lines_text (if_any vectors_line h.vectors)) masks_text (lines_text (map instr_line h.code)) end_text
       ∙ ap (λ t. o ++ t) (sym routine_text))
 
 -- code, by its parts
-pub listing_written : (c : Listing) (a b d e : List ℕ) → a ≡ line_text (header_words c.gang) → b ≡ a ++ lines_text (map place_line c.places) → d ≡ b ++ lines_text (map text_line c.texts) → e ≡ d ++ lines_text (flat_map routine_lines c.routines) → e ≡ text_of c
+pub listing_written : (c : Listing) (a b d e : List ℕ) → a ≡ line_text (header_words c.gang) → b ≡ a ++ lines_text (map place_line c.places)
+    → d ≡ b ++ lines_text (map text_line c.texts) → e ≡ d ++ lines_text (flat_map routine_lines c.routines) → e ≡ text_of c
 listing_written c a b d e j k l m =
     m ∙ (rw (l, k, j)
     (append_assoc (line_text (header_words c.gang) ++ lines_text (map place_line c.places)) (lines_text (map text_line c.texts)) (lines_text (flat_map routine_lines c.routines))
@@ -72,6 +80,7 @@ from_number xs n x e =
 words_grouped : (o a b c d e : List ℕ) → ((((o ++ a) ++ b) ++ c) ++ d) ++ e ≡ o ++ (a ++ ((b ++ (c ++ (d ++ []))) ++ e))
 words_grouped o a b c d e = simp (append_assoc, append-nil)
 
-pub header_written : (g : Gang) (v n : ℕ) (o a b c d : List ℕ) → v ≡ version_of g → n ≡ gang_width g → a ≡ o ++ codes "isp" → b ≡ a ++ spaced (decimal v) → c ≡ b ++ spaced (codes "gang") → d ≡ c ++ spaced (decimal n) → d ++ 10 ∷ [] ≡ o ++ line_text (header_words g)
+pub header_written : (g : Gang) (v n : ℕ) (o a b c d : List ℕ) → v ≡ version_of g → n ≡ gang_width g → a ≡ o ++ codes "isp"
+    → b ≡ a ++ spaced (decimal v) → c ≡ b ++ spaced (codes "gang") → d ≡ c ++ spaced (decimal n) → d ++ 10 ∷ [] ≡ o ++ line_text (header_words g)
 header_written g v n o a b c d e f i j k l =
     rw (l, k, j, i, e, f) (words_grouped o (codes "isp") (spaced (decimal (version_of g))) (spaced (codes "gang")) (spaced (decimal (gang_width g))) (10 ∷ []))

@@ -15,7 +15,9 @@ use Rattle.isp_asm.proofs.Numerals.{own, number_lt}
 value_of : (n : ℕ) (w : List ℕ) → decimal n ≡ w → number_fits n ≡ true → digits_value 10 w ≡ n
 value_of n w e f = ap (λ v. digits_value 10 v) (sym e) ∙ digits_value-decimal own n (number_lt n f)
 
-pub place_read : (ws : List (List ℕ)) (a b : List ℕ) (s e : ℕ) → ws ≡ a ∷ b ∷ [] → decimal s ≡ a → decimal e ≡ b → number_fits s ≡ true → number_fits e ≡ true → digits_fault BadOperand number_fits a ≡ None → digits_fault BadOperand number_fits b ≡ None → behind_fault head.Place ws ≡ (if place_fits (record { start = s; end = e }) then None else Some BadOperand)
+pub place_read : (ws : List (List ℕ)) (a b : List ℕ) (s e : ℕ) → ws ≡ a ∷ b ∷ [] → decimal s ≡ a → decimal e ≡ b → number_fits s ≡ true
+    → number_fits e ≡ true → digits_fault BadOperand number_fits a ≡ None → digits_fault BadOperand number_fits b ≡ None
+    → behind_fault head.Place ws ≡ (if place_fits (record { start = s; end = e }) then None else Some BadOperand)
 place_read ws a b s e w ea eb fs fe na nb =
     ap (λ vs. behind_fault head.Place vs) w ∙ (rw (na, nb, value_of s a ea fs, value_of e b eb fe) refl)
 

@@ -1,5 +1,6 @@
 -- What a word of 64 bits computes for an operator, at bits that fit their element type.
-use Rattle.std.proofs.Common.{◌≡◌, refl, sym, ap, ap₂, ◌∙◌, ℕ, ◌+◌, ◌-◌, ◌*◌, ◌/◌, ◌%◌, ◌^◌, ◌<◌, ◌≤◌, Bool, true, false, cond, ℤ, pos, negsuc, ◌+ℤ◌, ◌-ℤ◌, ◌*ℤ◌, nat_lt, arith, lit≤, mod-eq_of_lt, bit_and, bit_or, bit_xor, int_div, int_rem, div-le_self, ltb-true, int_lt, ◌==◌}
+use Rattle.std.proofs.Common.{◌≡◌, refl, sym, ap, ap₂, ◌∙◌, ℕ, ◌+◌, ◌-◌, ◌*◌, ◌/◌, ◌%◌, ◌^◌, ◌<◌, ◌≤◌, Bool, true, false, cond, ℤ, pos, negsuc, ◌+ℤ◌, ◌-ℤ◌, ◌*ℤ◌, nat_lt}
+use Rattle.std.proofs.Common.{arith, lit≤, mod-eq_of_lt, bit_and, bit_or, bit_xor, int_div, int_rem, div-le_self, ltb-true, int_lt, ◌==◌}
 use Rattle.std.specs.Ordering.{int_eq}
 use Rattle.std.proofs.lemmas.Bool.Decides.{Decides-int_eq, Decides-eqb}
 use Rattle.std.proofs.Math.Pow.{mod-mod-pow}
@@ -175,12 +176,16 @@ module _ (t : Elem) (x y : ℕ) (p : x < 2 ^ width t) (q : y < 2 ^ width t) wher
   rest_lt : magnitude (width t) (greatest t) x % magnitude (width t) (greatest t) y < 2 ^ width t
   rest_lt = omega (arith, mod-le (magnitude (width t) (greatest t) x) (magnitude (width t) (greatest t) y), magnitude_lt t x p)
 
-  pub word_div : 0 < y → cond (differ (nat_lt (greatest t) x) (nat_lt (greatest t) y)) ((2 ^ width t - magnitude (width t) (greatest t) x / magnitude (width t) (greatest t) y) % 2 ^ width t) (magnitude (width t) (greatest t) x / magnitude (width t) (greatest t) y) ≡ op_bits Div t x y
+  pub word_div : 0 < y → cond (differ (nat_lt (greatest t) x) (nat_lt (greatest t) y))
+      ((2 ^ width t - magnitude (width t) (greatest t) x / magnitude (width t) (greatest t) y) % 2 ^ width t)
+      (magnitude (width t) (greatest t) x / magnitude (width t) (greatest t) y) ≡ op_bits Div t x y
   word_div h =
       ap (cond (differ (nat_lt (greatest t) x) (nat_lt (greatest t) y)) _) (sym (mod-eq_of_lt quotient_lt))
       ∙ sym (plain t x y p q int_div ∙ div_is (width t) (greatest t) x y p q h)
 
-  pub word_rem : 0 < y → cond (nat_lt (greatest t) x) ((2 ^ width t - magnitude (width t) (greatest t) x % magnitude (width t) (greatest t) y) % 2 ^ width t) (magnitude (width t) (greatest t) x % magnitude (width t) (greatest t) y) ≡ op_bits Rem t x y
+  pub word_rem : 0 < y → cond (nat_lt (greatest t) x)
+      ((2 ^ width t - magnitude (width t) (greatest t) x % magnitude (width t) (greatest t) y) % 2 ^ width t)
+      (magnitude (width t) (greatest t) x % magnitude (width t) (greatest t) y) ≡ op_bits Rem t x y
   word_rem h =
       ap (cond (nat_lt (greatest t) x) _) (sym (mod-eq_of_lt rest_lt))
       ∙ sym (plain t x y p q int_rem ∙ rem_is (width t) (greatest t) x y p q h)

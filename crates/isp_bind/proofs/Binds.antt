@@ -19,7 +19,8 @@ use Rattle.isp_base.specs.declared.signature.Argument.TheVariants.{Value as AVal
 use Rattle.isp_bind.specs.declared.fault.BindFault.{BindFault}
 use Rattle.isp_bind.specs.declared.fault.BindFault.TheVariants.{WrongKind, OutOfRange, TooLong, Extra}
 use Rattle.isp_bind.specs.Bounds.{HasValues, AreBound}
-use Rattle.isp_bind.specs.Binding.{then_of, is_bool, whole_bits, numeral_bits, element_bits, elements_bits, items_count, longest, array_argument, value_argument, found_argument, argument_of, arguments_of, has_extra, members_arguments, read_arguments, bound_of}
+use Rattle.isp_bind.specs.Binding.{then_of, is_bool, whole_bits, numeral_bits, element_bits, elements_bits, items_count, longest, array_argument, value_argument}
+use Rattle.isp_bind.specs.Binding.{found_argument, argument_of, arguments_of, has_extra, members_arguments, read_arguments, bound_of}
 use Rattle.isp_base.proofs.Wraps.{wrap_to-lt}
 
 -- ---- what was done where the whole is Ok

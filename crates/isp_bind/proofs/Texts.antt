@@ -32,7 +32,9 @@ truth_text t b e = rw e refl
 
 -- ---- an array, once all elements are written
 
-pub array_closed : (t : Elem) (bits : List ℕ) (place : ℕ) (later : Bool) (old first text new : List ℕ) → length bits ≤ place → first ≡ old ++ 91 ∷ [] → text ++ items_text later (items_of (map (shown_bits t) (drop place bits))) ≡ first ++ items_text false (items_of (map (shown_bits t) bits)) → new ≡ text ++ 93 ∷ [] → new ≡ old ++ compact_text (shown_array (record { elem = t; bits = bits }))
+pub array_closed : (t : Elem) (bits : List ℕ) (place : ℕ) (later : Bool) (old first text new : List ℕ) → length bits ≤ place → first ≡ old ++ 91 ∷ []
+    → text ++ items_text later (items_of (map (shown_bits t) (drop place bits))) ≡ first ++ items_text false (items_of (map (shown_bits t) bits))
+    → new ≡ text ++ 93 ∷ [] → new ≡ old ++ compact_text (shown_array (record { elem = t; bits = bits }))
 array_closed t bits place later old first text new long begun so_far end =
     let all : List ℕ = items_text false (items_of (map (shown_bits t) bits)) in
     end
@@ -57,7 +59,9 @@ entries_put (e ∷ es) k v = entries_choice (slice_cmp nat_cmp k.now e.0.now) _ 
 
 -- ---- the whole
 
-pub whole_answer : (arrays : Members) (result : Data) (t0 t1 t2 t3 t4 : List ℕ) → t0 ≡ codes "{\"arrays\":{" → t1 ≡ t0 ++ members_text false arrays → t2 ≡ t1 ++ codes ",\"result\":" → t3 ≡ t2 ++ compact_text result → t4 ≡ t3 ++ codes "}" → t4 ≡ compact_text (object (member (codes "arrays") (object arrays) (member (codes "result") result no_members)))
+pub whole_answer : (arrays : Members) (result : Data) (t0 t1 t2 t3 t4 : List ℕ) → t0 ≡ codes "{\"arrays\":{" → t1 ≡ t0 ++ members_text false arrays
+    → t2 ≡ t1 ++ codes ",\"result\":" → t3 ≡ t2 ++ compact_text result → t4 ≡ t3 ++ codes "}"
+    → t4 ≡ compact_text (object (member (codes "arrays") (object arrays) (member (codes "result") result no_members)))
 unfolding serde_json_on_literals
 whole_answer arrays result t0 t1 t2 t3 t4 e0 e1 e2 e3 e4 =
     let a : List ℕ = members_text false arrays in

@@ -20,7 +20,8 @@ use Rattle.isp_cross.proofs.Places.{lifted}
 abbrev Picks : (ℕ → ℕ → Type 0) → ℕ → ℕ → ℕ → Type 0
 Picks good r a b = ((r ≡ a) × good a b) ⊎ ((r ≡ b) × good b a)
 
-module _ (good : ℕ → ℕ → Type 0) (same_good : (a : ℕ) → good a a) (joined : (a b c : ℕ) → good a b → good b c → good a c) (fits : ℕ → Type 0) (f : ℕ → ℕ → ℕ) (picks : (a b : ℕ) → fits a → fits b → Picks good (f a b) a b) (x : Map) (all_fit : (p b : ℕ) → x p ≡ Some b → fits b) where
+module _ (good : ℕ → ℕ → Type 0) (same_good : (a : ℕ) → good a a) (joined : (a b c : ℕ) → good a b → good b c → good a c) (fits : ℕ → Type 0)
+    (f : ℕ → ℕ → ℕ) (picks : (a b : ℕ) → fits a → fits b → Picks good (f a b) a b) (x : Map) (all_fit : (p b : ℕ) → x p ≡ Some b → fits b) where
   -- the best of the first n, if there is one
   abbrev SoFar : ℕ → Option ℕ → Type 0
   SoFar n None = (p : ℕ) → p < n → x p ≡ None

@@ -1,5 +1,6 @@
 -- The number of a lane modulo their count, and lanes that are found at another place.
-use Rattle.std.proofs.Common.{◌≡◌, refl, sym, ap, ap₂, ◌∙◌, Some, ℕ, suc, ◌+◌, ◌-◌, ◌*◌, ◌%◌, ◌^◌, ◌<◌, ◌≤◌, Bool, true, false, cond, arith, List, ◌++◌, [], length, get_or, nat_lt, nat_eq, set, lt-ltb, le-ltb, ltb-true, ltb-false, mod-eq_of_lt, ℤ, pos, negsuc, ◌+ℤ◌, ◌-ℤ◌, unsigned_abs}
+use Rattle.std.proofs.Common.{◌≡◌, refl, sym, ap, ap₂, ◌∙◌, Some, ℕ, suc, ◌+◌, ◌-◌, ◌*◌, ◌%◌, ◌^◌, ◌<◌, ◌≤◌, Bool, true, false, cond, arith, List, ◌++◌, [], length, get_or}
+use Rattle.std.proofs.Common.{nat_lt, nat_eq, set, lt-ltb, le-ltb, ltb-true, ltb-false, mod-eq_of_lt, ℤ, pos, negsuc, ◌+ℤ◌, ◌-ℤ◌, unsigned_abs}
 use Rattle.std.proofs.lemmas.Int.{ints, int_rem_euclid_is}
 use Rattle.std.proofs.lemmas.List.{get_or_past, get_or_append_left, get_or-append_right, get_or-set_same, get_or-set_other, append-nil}
 use Rattle.std.proofs.lemmas.Bool.Decides.{nat_tests}

@@ -1,5 +1,6 @@
 -- Tests of the lanes of a mask.
-use Rattle.std.proofs.Common.{◌≡◌, refl, sym, ap, ap₂, ◌∙◌, ⊎_elim, subst, ℕ, zero, suc, ◌<◌, ◌≤◌, Bool, true, false, cond, not, ◌&&◌, ◌||◌, ◌==◌, add-one, arith, List, length, get_or, take, replicate, nat_lt, ◌^◌, ltb-true, ltb-false, Option, Some, None, unwrap_or}
+use Rattle.std.proofs.Common.{◌≡◌, refl, sym, ap, ap₂, ◌∙◌, ⊎_elim, subst, ℕ, zero, suc, ◌<◌, ◌≤◌, Bool, true, false, cond, not, ◌&&◌, ◌||◌, ◌==◌, add-one, arith, List}
+use Rattle.std.proofs.Common.{length, get_or, take, replicate, nat_lt, ◌^◌, ltb-true, ltb-false, Option, Some, None, unwrap_or}
 use Rattle.std.specs.List.{list_any, position, position_or_len}
 use Rattle.std.proofs.lemmas.Bool.{cases_eq}
 use Rattle.std.proofs.lemmas.List.{take_all, length-replicate, get_or-replicate}

@@ -28,7 +28,8 @@ scalars_first [] vs v = record { rest = types_of (value_rows Uniform v vs); is =
 scalars_first (p ∷ ps) [] v = record { rest = []; is = refl }
 scalars_first (p ∷ ps) (x ∷ vs) v = go x.holds (scalars_first ps vs (suc v))
   where
-    go : (y : Holds) → StartsWith (param_elems class.Scalar (params_of ps vs)) (types_of (value_rows Uniform (suc v) vs)) → StartsWith (param_elems class.Scalar (param_of p y ∷ params_of ps vs)) (types_of (value_row Uniform y v (value_rows Uniform (suc v) vs)))
+    go : (y : Holds) → StartsWith (param_elems class.Scalar (params_of ps vs)) (types_of (value_rows Uniform (suc v) vs))
+        → StartsWith (param_elems class.Scalar (param_of p y ∷ params_of ps vs)) (types_of (value_row Uniform y v (value_rows Uniform (suc v) vs)))
     go (holds.Value t) later = at t.rate
       where
         at : (r : Rate) → StartsWith (if_class (same_class (class_of (value_kind r)) class.Scalar) t.elem (param_elems class.Scalar (params_of ps vs))) (types_of (row_where (same_rate Uniform r) (row_at v t.elem) (value_rows Uniform (suc v) vs)))
@@ -42,7 +43,8 @@ vectors_first [] vs v = record { rest = types_of (value_rows Varying v vs); is =
 vectors_first (p ∷ ps) [] v = record { rest = []; is = refl }
 vectors_first (p ∷ ps) (x ∷ vs) v = go x.holds (vectors_first ps vs (suc v))
   where
-    go : (y : Holds) → StartsWith (param_elems class.Vector (params_of ps vs)) (types_of (value_rows Varying (suc v) vs)) → StartsWith (param_elems class.Vector (param_of p y ∷ params_of ps vs)) (types_of (value_row Varying y v (value_rows Varying (suc v) vs)))
+    go : (y : Holds) → StartsWith (param_elems class.Vector (params_of ps vs)) (types_of (value_rows Varying (suc v) vs))
+        → StartsWith (param_elems class.Vector (param_of p y ∷ params_of ps vs)) (types_of (value_row Varying y v (value_rows Varying (suc v) vs)))
     go (holds.Value t) later = at t.rate
       where
         at : (r : Rate) → StartsWith (if_class (same_class (class_of (value_kind r)) class.Vector) t.elem (param_elems class.Vector (params_of ps vs))) (types_of (row_where (same_rate Varying r) (row_at v t.elem) (value_rows Varying (suc v) vs)))
@@ -71,7 +73,9 @@ longer : (front : List Elem) (a b rows : List Row) → StartsWith front (types_o
 longer front a b rows s begins =
     record {
       rest = s.rest ++ (types_of b ++ types_of begins.more);
-      is = ap types begins.is ∙ types_both (a ++ b) begins.more ∙ ap (λ ts. ts ++ types_of begins.more) (types_both a b) ∙ append_assoc (types_of a) (types_of b) (types_of begins.more) ∙ ap (λ ts. ts ++ (types_of b ++ types_of begins.more)) s.is ∙ append_assoc front s.rest (types_of b ++ types_of begins.more);
+      is = ap types begins.is ∙ types_both (a ++ b) begins.more ∙ ap (λ ts. ts ++ types_of begins.more) (types_both a b)
+          ∙ append_assoc (types_of a) (types_of b) (types_of begins.more) ∙ ap (λ ts. ts ++ (types_of b ++ types_of begins.more)) s.is
+          ∙ append_assoc front s.rest (types_of b ++ types_of begins.more);
     }
   where
     types : List Row → List Elem
@@ -103,13 +107,17 @@ module _ (w : Setting) (d : Draft) (settled : IsSettled w) (runs : RunsDraft w d
   scalars_are =
       let ps = params_of w.function.parameters w.function.variables in
       let front = param_elems class.Scalar ps in
-      ap scalars_of routine_is ∙ put_back front (types_of d.rows.scalars) (longer front (value_rows Uniform 0 w.function.variables) (result_rows Uniform w.function.answer) d.rows.scalars (scalars_first w.function.parameters w.function.variables 0) runs.begun.scalars)
+      ap scalars_of routine_is ∙ put_back front (types_of d.rows.scalars)
+      (longer front (value_rows Uniform 0 w.function.variables) (result_rows Uniform w.function.answer) d.rows.scalars
+      (scalars_first w.function.parameters w.function.variables 0) runs.begun.scalars)
 
   vectors_are : vectors_of w.routine ≡ types_of d.rows.vectors
   vectors_are =
       let ps = params_of w.function.parameters w.function.variables in
       let front = param_elems class.Vector ps in
-      ap vectors_of routine_is ∙ put_back front (types_of d.rows.vectors) (longer front (value_rows Varying 0 w.function.variables) (result_rows Varying w.function.answer) d.rows.vectors (vectors_first w.function.parameters w.function.variables 0) runs.begun.vectors)
+      ap vectors_of routine_is ∙ put_back front (types_of d.rows.vectors)
+      (longer front (value_rows Varying 0 w.function.variables) (result_rows Varying w.function.answer) d.rows.vectors
+      (vectors_first w.function.parameters w.function.variables 0) runs.begun.vectors)
 
   all_of : (front types : List Elem) → types ≡ front → StartsWith front types
   all_of front types e = record { rest = []; is = e ∙ sym (append-nil front) }

@@ -186,7 +186,9 @@ module _ (l m : Layout) (alike : Alike l m) where
   pub operand_of_same : (r : Rate) (x : TExpr) (k n : ℕ) (c c' : List Instr) → SameIn l m (taken r x n (expr_asks x n)) → c ≡ c' → operand_of l r x k n c ≡ operand_of m r x k n c'
   operand_of_same r x k n c c' f e =
       ap (λ z. unless_kept z (c ++ lift_code l r (type_of x).rate (type_of x).elem (found l x n) k n)) (in_vector_same r (known x))
-      ∙ ap (unless_kept (in_vector m r (known x))) (joined_same c c' (lift_code l r (type_of x).rate (type_of x).elem (found l x n) k n) (lift_code m r (type_of x).rate (type_of x).elem (found m x n) k n) e (lift_same r (type_of x).rate (type_of x).elem (found l x n) (found m x n) k n (found_same x n f.1) f.0))
+      ∙ ap (unless_kept (in_vector m r (known x))) (joined_same c c' (lift_code l r (type_of x).rate (type_of x).elem (found l x n) k n)
+      (lift_code m r (type_of x).rate (type_of x).elem (found m x n) k n) e
+      (lift_same r (type_of x).rate (type_of x).elem (found l x n) (found m x n) k n (found_same x n f.1) f.0))
 
   -- an argument is asked for at a varying rate, whatever rate its parameter has
   pub argument_found : (r : Rate) (x : TExpr) (n : ℕ) → SameIn l m (taken Varying x n (expr_asks x n)) → operand l r x n ≡ operand m r x n
@@ -216,7 +218,9 @@ module _ (l m : Layout) (alike : Alike l m) where
   pub index_of_same : (r : Rate) (i : TExpr) (k n : ℕ) (c c' : List Instr) → SameIn l m (index_asks r i n (expr_asks i n)) → c ≡ c' → index_of l r i k n c ≡ index_of m r i k n c'
   index_of_same r i k n c c' f e =
       let b = is_whole (type_of i).elem in
-      joined_same (whole_of l b i k n c) (whole_of m b i k n c') (lift_code l r (type_of i).rate I64 (whole l b i n) k n) (lift_code m r (type_of i).rate I64 (whole m b i n) k n) (whole_of_same b i k n c c' f.1 e) (lift_same r (type_of i).rate I64 (whole l b i n) (whole m b i n) k n (whole_same b i n f.1) f.0)
+      joined_same (whole_of l b i k n c) (whole_of m b i k n c') (lift_code l r (type_of i).rate I64 (whole l b i n) k n)
+      (lift_code m r (type_of i).rate I64 (whole m b i n) k n) (whole_of_same b i k n c c' f.1 e)
+      (lift_same r (type_of i).rate I64 (whole l b i n) (whole m b i n) k n (whole_same b i n f.1) f.0)
 
   pub run_same : (g : Rate) (i : TExpr) → is_run l g i ≡ is_run m g i
   run_same Uniform i = counts_lane l alike.first i ∙ sym (counts_lane m alike.second i)

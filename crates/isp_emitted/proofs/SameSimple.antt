@@ -5,7 +5,8 @@ use Rattle.isp_base.specs.declared.operators.BinOp.{BinOp}
 use Rattle.isp_base.specs.declared.types.Elem.{Elem}
 use Rattle.isp_base.specs.declared.types.Rate.{Rate}
 use Rattle.isp_base.specs.declared.types.Rate.TheVariants.{Uniform, Varying}
-use Rattle.isp_typed.specs.Typed.{TExpr, t_constant, t_program_index, t_place, t_convert, t_cast, t_unary, t_binary, t_compare, t_logic, t_choose, t_call, t_library, t_packed_store, t_packed_load, TPlace, t_variable, t_element, TSimple, t_value, t_run, t_assign, t_update, t_step, place_type, type_of}
+use Rattle.isp_typed.specs.Typed.{TExpr, t_constant, t_program_index, t_place, t_convert, t_cast, t_unary, t_binary, t_compare, t_logic, t_choose, t_call, t_library, t_packed_store}
+use Rattle.isp_typed.specs.Typed.{t_packed_load, TPlace, t_variable, t_element, TSimple, t_value, t_run, t_assign, t_update, t_step, place_type, type_of}
 use Rattle.isp_lower.specs.Asks.{beyond, taken, work_asks, change_asks, one_asks, assign_asks, update_asks, step_asks, expr_asks, target_asks, simple_asks}
 use Rattle.isp_lower.specs.Code.{expr_to, expr_code, index_code, variable_from, variable_code}
 use Rattle.isp_lower.specs.Elements.{index_by, is_run}
@@ -87,14 +88,22 @@ module _ (l m : Layout) (alike : Alike l m) where
       let ei = ap (λ s. p + length s) (places_same l m i) in
       let ex = ap₂ (λ z s. z + length s) ei (places_same l m x) in
       two_same pc (index_code l (t_element b i t sp) pc p k n) (index_code m (t_element b i t sp) pc p k n)
-      (λ q. operand_of l t.rate x k (n + 1) (expr_code l x q (p + length (expr_places l i)) k (n + 1)) ++ write_by (is_run l b.ty.rate i) t.rate (l.array b.number) (index_by l (is_run l b.ty.rate i) t.rate i n) (operand l t.rate x (n + 1)) k (p + length (expr_places l i) + length (expr_places l x)) ∷ [])
-      (λ q. operand_of m t.rate x k (n + 1) (expr_code m x q (p + length (expr_places m i)) k (n + 1)) ++ write_by (is_run m b.ty.rate i) t.rate (m.array b.number) (index_by m (is_run m b.ty.rate i) t.rate i n) (operand m t.rate x (n + 1)) k (p + length (expr_places m i) + length (expr_places m x)) ∷ [])
+      (λ q. operand_of l t.rate x k (n + 1) (expr_code l x q (p + length (expr_places l i)) k (n + 1))
+      ++ write_by (is_run l b.ty.rate i) t.rate (l.array b.number) (index_by l (is_run l b.ty.rate i) t.rate i n) (operand l t.rate x (n + 1)) k
+      (p + length (expr_places l i) + length (expr_places l x)) ∷ [])
+      (λ q. operand_of m t.rate x k (n + 1) (expr_code m x q (p + length (expr_places m i)) k (n + 1))
+      ++ write_by (is_run m b.ty.rate i) t.rate (m.array b.number) (index_by m (is_run m b.ty.rate i) t.rate i n) (operand m t.rate x (n + 1)) k
+      (p + length (expr_places m i) + length (expr_places m x)) ∷ [])
       (target_same l m alike (t_element b i t sp) pc p p k n refl f.0)
       (λ q. joined_same (operand_of l t.rate x k (n + 1) (expr_code l x q (p + length (expr_places l i)) k (n + 1))) (operand_of m t.rate x k (n + 1) (expr_code m x q (p + length (expr_places m i)) k (n + 1)))
       (write_by (is_run l b.ty.rate i) t.rate (l.array b.number) (index_by l (is_run l b.ty.rate i) t.rate i n) (operand l t.rate x (n + 1)) k (p + length (expr_places l i) + length (expr_places l x)) ∷ [])
       (write_by (is_run m b.ty.rate i) t.rate (m.array b.number) (index_by m (is_run m b.ty.rate i) t.rate i n) (operand m t.rate x (n + 1)) k (p + length (expr_places m i) + length (expr_places m x)) ∷ [])
       (taken_same l m alike t.rate x q (p + length (expr_places l i)) (p + length (expr_places m i)) k (n + 1) ei f.1.1)
-      (ap (λ z. z ∷ []) (write_same (is_run l b.ty.rate i) (is_run m b.ty.rate i) t.rate (l.array b.number) (m.array b.number) (index_by l (is_run l b.ty.rate i) t.rate i n) (index_by m (is_run m b.ty.rate i) t.rate i n) (operand l t.rate x (n + 1)) (operand m t.rate x (n + 1)) k (p + length (expr_places l i) + length (expr_places l x)) (p + length (expr_places m i) + length (expr_places m x)) (run_same l m alike b.ty.rate i) f.0.0 (by_same l m alike b.ty.rate t.rate i n f.0.1) (operand_same l m alike t.rate x (n + 1) f.1.1) ex)))
+      (ap (λ z. z ∷ []) (write_same (is_run l b.ty.rate i) (is_run m b.ty.rate i) t.rate (l.array b.number) (m.array b.number)
+      (index_by l (is_run l b.ty.rate i) t.rate i n) (index_by m (is_run m b.ty.rate i) t.rate i n) (operand l t.rate x (n + 1))
+      (operand m t.rate x (n + 1)) k (p + length (expr_places l i) + length (expr_places l x))
+      (p + length (expr_places m i) + length (expr_places m x)) (run_same l m alike b.ty.rate i) f.0.0
+      (by_same l m alike b.ty.rate t.rate i n f.0.1) (operand_same l m alike t.rate x (n + 1) f.1.1) ex)))
 
   -- ---- a place is changed
 
@@ -119,7 +128,8 @@ module _ (l m : Layout) (alike : Alike l m) where
       let ez = run_same l m alike b.ty.rate j in
       let ex = by_same l m alike b.ty.rate u.rate j n f.1 in
       ap₂ (λ a s. a ∷ s) (read_by_same z w u.rate c d (l.array b.number) (m.array b.number) x v k p ez g.1 f.0 ex ∙ ap (read_by w u.rate d (m.array b.number) v k) ep)
-      (joined_same (update_to l (same_elem u.elem t) o t u.rate c c y k i (p + 1)) (update_to m (same_elem u.elem t) o t u.rate d d y' k i (p' + 1)) (write_by z u.rate (l.array b.number) x c k p ∷ []) (write_by w u.rate (m.array b.number) v d k p' ∷ [])
+      (joined_same (update_to l (same_elem u.elem t) o t u.rate c c y k i (p + 1)) (update_to m (same_elem u.elem t) o t u.rate d d y' k i (p' + 1))
+      (write_by z u.rate (l.array b.number) x c k p ∷ []) (write_by w u.rate (m.array b.number) v d k p' ∷ [])
       (update_same (same_elem u.elem t) o t u.rate c d c d y y' k i (p + 1) (p' + 1) g.1 g.1 ey (ap (λ a. a + 1) ep) g.0)
       (ap (λ a. a ∷ []) (write_same z w u.rate (l.array b.number) (m.array b.number) x v c d k p p' ez f.0 ex g.1 ep)))
 
@@ -133,7 +143,10 @@ module _ (l m : Layout) (alike : Alike l m) where
       (λ q. operand_of l r x k i (expr_code l x q (p + length (index_places l z)) k i) ++ change_code l o t z (operand l r x i) (p + length (index_places l z) + length (expr_places l x)) k n (i + 1))
       (λ q. operand_of m r x k i (expr_code m x q (p + length (index_places m z)) k i) ++ change_code m o t z (operand m r x i) (p + length (index_places m z) + length (expr_places m x)) k n (i + 1))
       (target_same l m alike z pc p p k n refl f.0)
-      (λ q. joined_same (operand_of l r x k i (expr_code l x q (p + length (index_places l z)) k i)) (operand_of m r x k i (expr_code m x q (p + length (index_places m z)) k i)) (change_code l o t z (operand l r x i) (p + length (index_places l z) + length (expr_places l x)) k n (i + 1)) (change_code m o t z (operand m r x i) (p + length (index_places m z) + length (expr_places m x)) k n (i + 1))
+      (λ q. joined_same (operand_of l r x k i (expr_code l x q (p + length (index_places l z)) k i))
+      (operand_of m r x k i (expr_code m x q (p + length (index_places m z)) k i))
+      (change_code l o t z (operand l r x i) (p + length (index_places l z) + length (expr_places l x)) k n (i + 1))
+      (change_code m o t z (operand m r x i) (p + length (index_places m z) + length (expr_places m x)) k n (i + 1))
       (taken_same l m alike r x q (p + length (index_places l z)) (p + length (index_places m z)) k i ez f.1.1.0)
       (change_same o t z (operand l r x i) (operand m r x i) (p + length (index_places l z) + length (expr_places l x)) (p + length (index_places m z) + length (expr_places m x)) k n (i + 1) (operand_same l m alike r x i f.1.1.0) ex f.0 f.1.1.1))
 
@@ -149,7 +162,9 @@ module _ (l m : Layout) (alike : Alike l m) where
       let r = (place_type z).rate in
       let i = beyond z n in
       let ez = ap (λ s. p + length s) (index_places_same l m z) in
-      joined_same (index_code l z pc p k n) (index_code m z pc p k n) (one_code l r t k i ++ change_code l o t z (one_in l r t i) (p + length (index_places l z)) k n (i + 1)) (one_code m r t k i ++ change_code m o t z (one_in m r t i) (p + length (index_places m z)) k n (i + 1))
+      joined_same (index_code l z pc p k n) (index_code m z pc p k n)
+      (one_code l r t k i ++ change_code l o t z (one_in l r t i) (p + length (index_places l z)) k n (i + 1))
+      (one_code m r t k i ++ change_code m o t z (one_in m r t i) (p + length (index_places m z)) k n (i + 1))
       (target_same l m alike z pc p p k n refl f.0)
       (joined_same (one_code l r t k i) (one_code m r t k i) (change_code l o t z (one_in l r t i) (p + length (index_places l z)) k n (i + 1)) (change_code m o t z (one_in m r t i) (p + length (index_places m z)) k n (i + 1))
       (one_code_same r t k i f.1.1.0)

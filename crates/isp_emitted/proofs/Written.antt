@@ -184,7 +184,10 @@ module _ (w : Setting) (old new last : Emitter) (piece : Piece) (asks : Ask) (h 
 
 module _ (apart : LayoutsAreApart) where
   module _ (run : ExprRuns) where
-    expr_runs : (w : Setting) → IsSettled w → (old new last : Emitter) (x : TExpr) (at : Site) (q : ℕ) (a : Mask) (s : State) (c : Conf) → AcceptsExpr w x → HasExpr w old new last x at → Enters w (length (draft_of old).code) at.mask.number at.slot.number a s c q → Runs w c (length (draft_of new).code) at.slot.number (4 + q) (Holds (type_of x).rate a (found (layout_in new) x at.slot.number)) (value (gang_of w) w.frame (calls_of w) x a s)
+    expr_runs : (w : Setting) → IsSettled w → (old new last : Emitter) (x : TExpr) (at : Site) (q : ℕ) (a : Mask) (s : State) (c : Conf)
+        → AcceptsExpr w x → HasExpr w old new last x at → Enters w (length (draft_of old).code) at.mask.number at.slot.number a s c q
+        → Runs w c (length (draft_of new).code) at.slot.number (4 + q) (Holds (type_of x).rate a (found (layout_in new) x at.slot.number))
+        (value (gang_of w) w.frame (calls_of w) x a s)
     expr_runs w settled old new last x at q a s c accepts h enters =
         let u = then_in w new in
         let n = at.slot.number in
@@ -192,13 +195,18 @@ module _ (apart : LayoutsAreApart) where
         let now = registers w old new last piece (expr_asks x n) h in
         let there = lies_then w old new last piece (expr_asks x n) h in
         let sure = settled_then w old new last piece (expr_asks x n) h apart settled in
-        let runs = run u sure x (length old.body.code.items) (length old.body.places.items) at.mask.number n q a s c (expr_fits u sure.rates old new now x at accepts there) (expr_stands u sure.rates old new now x at accepts there) (expr_places_stand u sure.rates old new now x at accepts there) (enters_with w (loaded_then new) (length old.body.code.items) at.mask.number n a s c q enters) in
+        let runs = run u sure x (length old.body.code.items) (length old.body.places.items) at.mask.number n q a s c
+        (expr_fits u sure.rates old new now x at accepts there) (expr_stands u sure.rates old new now x at accepts there)
+        (expr_places_stand u sure.rates old new now x at accepts there)
+        (enters_with w (loaded_then new) (length old.body.code.items) at.mask.number n a s c q enters) in
         runs_back w (loaded_then new) c (length new.body.code.items) n (4 + q) (Holds (type_of x).rate a (found (layout_in new) x n)) (value (gang_of w) w.frame (calls_of w) x a s)
         (subst (λ d. Runs u c (length new.body.code.items) n (4 + q) (Holds (type_of x).rate a d) (value (gang_of w) w.frame (calls_of w) x a s)) (found_is u sure.rates old new now x at accepts there)
         (subst (λ e. Runs u c e n (4 + q) (Holds (type_of x).rate a (found u.layout x n)) (value (gang_of w) w.frame (calls_of w) x a s)) (expr_ends u sure.rates old new now x at accepts there) runs))
 
   module _ (run : SimpleRuns) where
-    simple_runs : (w : Setting) → IsSettled w → (old new last : Emitter) (x : TSimple) (at : Site) (q : ℕ) (a : Mask) (s : State) (c : Conf) → AcceptsSimple w x → HasSimple w old new last x at → Enters w (length (draft_of old).code) at.mask.number at.slot.number a s c q → DoneRuns w c (length (draft_of new).code) at.slot.number q (simple (gang_of w) w.frame (calls_of w) x a s)
+    simple_runs : (w : Setting) → IsSettled w → (old new last : Emitter) (x : TSimple) (at : Site) (q : ℕ) (a : Mask) (s : State) (c : Conf)
+        → AcceptsSimple w x → HasSimple w old new last x at → Enters w (length (draft_of old).code) at.mask.number at.slot.number a s c q
+        → DoneRuns w c (length (draft_of new).code) at.slot.number q (simple (gang_of w) w.frame (calls_of w) x a s)
     simple_runs w settled old new last x at q a s c accepts h enters =
         let u = then_in w new in
         let n = at.slot.number in
@@ -206,12 +214,18 @@ module _ (apart : LayoutsAreApart) where
         let now = registers w old new last piece (simple_asks x n) h in
         let there = lies_then w old new last piece (simple_asks x n) h in
         let sure = settled_then w old new last piece (simple_asks x n) h apart settled in
-        let runs = run u sure x (length old.body.code.items) (length old.body.places.items) at.mask.number n q a s c (simple_fits u sure.rates old new now x at accepts there) (simple_stands u sure.rates old new now x at accepts there) (simple_places_stand u sure.rates old new now x at accepts there) (enters_with w (loaded_then new) (length old.body.code.items) at.mask.number n a s c q enters) in
+        let runs = run u sure x (length old.body.code.items) (length old.body.places.items) at.mask.number n q a s c
+        (simple_fits u sure.rates old new now x at accepts there) (simple_stands u sure.rates old new now x at accepts there)
+        (simple_places_stand u sure.rates old new now x at accepts there)
+        (enters_with w (loaded_then new) (length old.body.code.items) at.mask.number n a s c q enters) in
         done_back w (loaded_then new) c (length new.body.code.items) n q (simple (gang_of w) w.frame (calls_of w) x a s)
         (subst (λ e. DoneRuns u c e n q (simple (gang_of w) w.frame (calls_of w) x a s)) (simple_ends u sure.rates old new now x at accepts there) runs)
 
   module _ (go : ExprGoesOn) where
-    expr_goes_on : (w : Setting) → ((m : ℕ) → IsSettled (with_turns w m)) → (old new last : Emitter) (x : TExpr) (at : Site) (q : ℕ) (a : Mask) (s : State) (c : Conf) (cuts : ℕ → State) → AcceptsExpr w x → HasExpr w old new last x at → Enters w (length (draft_of old).code) at.mask.number at.slot.number a s c q → ((m : ℕ) → value (gang_of w) w.frame (calls_of (with_turns w m)) x a s ≡ Stops (cuts m)) → GoesOn w.code c cuts
+    expr_goes_on : (w : Setting) → ((m : ℕ) → IsSettled (with_turns w m))
+        → (old new last : Emitter) (x : TExpr) (at : Site) (q : ℕ) (a : Mask) (s : State) (c : Conf) (cuts : ℕ → State) → AcceptsExpr w x
+        → HasExpr w old new last x at → Enters w (length (draft_of old).code) at.mask.number at.slot.number a s c q
+        → ((m : ℕ) → value (gang_of w) w.frame (calls_of (with_turns w m)) x a s ≡ Stops (cuts m)) → GoesOn w.code c cuts
     expr_goes_on w settled old new last x at q a s c cuts accepts h enters cut =
         let u = then_in w new in
         let n = at.slot.number in
@@ -222,10 +236,16 @@ module _ (apart : LayoutsAreApart) where
         let own : IsApart u.layout = subst IsApart (sym (layout_is w old new last piece (expr_asks x n) h)) (apart w.layout.rates (rows_of now)) in
         let sure : ((m : ℕ) → IsSettled (with_turns u m)) = λ m. settled_with (with_turns w m) (loaded_then new) none own (settled m) in
         let rates = (sure 0).rates in
-        go u sure x (length old.body.code.items) (length old.body.places.items) at.mask.number n q a s c cuts (expr_fits u rates old new now x at accepts there) (expr_stands u rates old new now x at accepts there) (expr_places_stand u rates old new now x at accepts there) (enters_with w (loaded_then new) (length old.body.code.items) at.mask.number n a s c q enters) cut
+        go u sure x (length old.body.code.items) (length old.body.places.items) at.mask.number n q a s c cuts
+        (expr_fits u rates old new now x at accepts there) (expr_stands u rates old new now x at accepts there)
+        (expr_places_stand u rates old new now x at accepts there)
+        (enters_with w (loaded_then new) (length old.body.code.items) at.mask.number n a s c q enters) cut
 
   module _ (go : SimpleGoesOn) where
-    simple_goes_on : (w : Setting) → ((m : ℕ) → IsSettled (with_turns w m)) → (old new last : Emitter) (x : TSimple) (at : Site) (q : ℕ) (a : Mask) (s : State) (c : Conf) (cuts : ℕ → State) → AcceptsSimple w x → HasSimple w old new last x at → Enters w (length (draft_of old).code) at.mask.number at.slot.number a s c q → ((m : ℕ) → simple (gang_of w) w.frame (calls_of (with_turns w m)) x a s ≡ Stops (cuts m)) → GoesOn w.code c cuts
+    simple_goes_on : (w : Setting) → ((m : ℕ) → IsSettled (with_turns w m))
+        → (old new last : Emitter) (x : TSimple) (at : Site) (q : ℕ) (a : Mask) (s : State) (c : Conf) (cuts : ℕ → State) → AcceptsSimple w x
+        → HasSimple w old new last x at → Enters w (length (draft_of old).code) at.mask.number at.slot.number a s c q
+        → ((m : ℕ) → simple (gang_of w) w.frame (calls_of (with_turns w m)) x a s ≡ Stops (cuts m)) → GoesOn w.code c cuts
     simple_goes_on w settled old new last x at q a s c cuts accepts h enters cut =
         let u = then_in w new in
         let n = at.slot.number in
@@ -236,7 +256,10 @@ module _ (apart : LayoutsAreApart) where
         let own : IsApart u.layout = subst IsApart (sym (layout_is w old new last piece (simple_asks x n) h)) (apart w.layout.rates (rows_of now)) in
         let sure : ((m : ℕ) → IsSettled (with_turns u m)) = λ m. settled_with (with_turns w m) (loaded_then new) none own (settled m) in
         let rates = (sure 0).rates in
-        go u sure x (length old.body.code.items) (length old.body.places.items) at.mask.number n q a s c cuts (simple_fits u rates old new now x at accepts there) (simple_stands u rates old new now x at accepts there) (simple_places_stand u rates old new now x at accepts there) (enters_with w (loaded_then new) (length old.body.code.items) at.mask.number n a s c q enters) cut
+        go u sure x (length old.body.code.items) (length old.body.places.items) at.mask.number n q a s c cuts
+        (simple_fits u rates old new now x at accepts there) (simple_stands u rates old new now x at accepts there)
+        (simple_places_stand u rates old new now x at accepts there)
+        (enters_with w (loaded_then new) (length old.body.code.items) at.mask.number n a s c q enters) cut
 
 pub written_runs : LayoutsAreApart → ExprRuns → SimpleRuns → WrittenRuns
 written_runs apart exprs simples = record { exprs = expr_runs apart exprs; simples = simple_runs apart simples }

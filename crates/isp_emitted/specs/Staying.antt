@@ -31,6 +31,11 @@ pub record KeepsPlaces (old new : Registers) : Type 0 where
 
 -- the code is the same where registers lie as they did when it was written and where they lie now; so is the register of a value
 pub record CodeStays : Type 0 where
-  pub exprs : (rates : ℕ → List Rate) (old new : Reserve) (x : TExpr) (pc p k n : ℕ) → KeepsPlaces old.registers new.registers → Has old (expr_asks x n) → expr_code (layout_of rates (rows_of new.registers)) x pc p k n ≡ expr_code (layout_of rates (rows_of old.registers)) x pc p k n
-  pub simples : (rates : ℕ → List Rate) (old new : Reserve) (x : TSimple) (pc p k n : ℕ) → KeepsPlaces old.registers new.registers → Has old (simple_asks x n) → simple_code (layout_of rates (rows_of new.registers)) x pc p k n ≡ simple_code (layout_of rates (rows_of old.registers)) x pc p k n
-  pub values : (rates : ℕ → List Rate) (old new : Reserve) (x : TExpr) (n : ℕ) → KeepsPlaces old.registers new.registers → Has old (expr_asks x n) → found (layout_of rates (rows_of new.registers)) x n ≡ found (layout_of rates (rows_of old.registers)) x n
+  pub exprs : (rates : ℕ → List Rate) (old new : Reserve) (x : TExpr) (pc p k n : ℕ) → KeepsPlaces old.registers new.registers
+      → Has old (expr_asks x n) → expr_code (layout_of rates (rows_of new.registers)) x pc p k n
+      ≡ expr_code (layout_of rates (rows_of old.registers)) x pc p k n
+  pub simples : (rates : ℕ → List Rate) (old new : Reserve) (x : TSimple) (pc p k n : ℕ) → KeepsPlaces old.registers new.registers
+      → Has old (simple_asks x n) → simple_code (layout_of rates (rows_of new.registers)) x pc p k n
+      ≡ simple_code (layout_of rates (rows_of old.registers)) x pc p k n
+  pub values : (rates : ℕ → List Rate) (old new : Reserve) (x : TExpr) (n : ℕ) → KeepsPlaces old.registers new.registers → Has old (expr_asks x n)
+      → found (layout_of rates (rows_of new.registers)) x n ≡ found (layout_of rates (rows_of old.registers)) x n

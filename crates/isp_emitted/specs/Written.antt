@@ -51,10 +51,21 @@ AcceptsSimple w x = FineSimple w.program.functions w.function.variables x × Sim
 -- The instructions from the old number to the new one give the value in the register that `expr` named, trap as it traps, or go on where it is
 -- cut; those of an assignment leave registers that stand for the state after it.
 pub record WrittenRuns : Type 0 where
-  pub exprs : (w : Setting) → IsSettled w → (old new last : Emitter) (x : TExpr) (at : Site) (q : ℕ) (a : Mask) (s : State) (c : Conf) → AcceptsExpr w x → HasExpr w old new last x at → Enters w (length (draft_of old).code) at.mask.number at.slot.number a s c q → Runs w c (length (draft_of new).code) at.slot.number (4 + q) (Holds (type_of x).rate a (found (layout_in new) x at.slot.number)) (value (gang_of w) w.frame (calls_of w) x a s)
-  pub simples : (w : Setting) → IsSettled w → (old new last : Emitter) (x : TSimple) (at : Site) (q : ℕ) (a : Mask) (s : State) (c : Conf) → AcceptsSimple w x → HasSimple w old new last x at → Enters w (length (draft_of old).code) at.mask.number at.slot.number a s c q → DoneRuns w c (length (draft_of new).code) at.slot.number q (simple (gang_of w) w.frame (calls_of w) x a s)
+  pub exprs : (w : Setting) → IsSettled w → (old new last : Emitter) (x : TExpr) (at : Site) (q : ℕ) (a : Mask) (s : State) (c : Conf)
+      → AcceptsExpr w x → HasExpr w old new last x at → Enters w (length (draft_of old).code) at.mask.number at.slot.number a s c q
+      → Runs w c (length (draft_of new).code) at.slot.number (4 + q) (Holds (type_of x).rate a (found (layout_in new) x at.slot.number))
+      (value (gang_of w) w.frame (calls_of w) x a s)
+  pub simples : (w : Setting) → IsSettled w → (old new last : Emitter) (x : TSimple) (at : Site) (q : ℕ) (a : Mask) (s : State) (c : Conf)
+      → AcceptsSimple w x → HasSimple w old new last x at → Enters w (length (draft_of old).code) at.mask.number at.slot.number a s c q
+      → DoneRuns w c (length (draft_of new).code) at.slot.number q (simple (gang_of w) w.frame (calls_of w) x a s)
 
 -- where the meaning is cut for each number of turns they go on without end, and the two outputs are beginnings of each other's
 pub record WrittenGoesOn : Type 0 where
-  pub exprs : (w : Setting) → ((m : ℕ) → IsSettled (with_turns w m)) → (old new last : Emitter) (x : TExpr) (at : Site) (q : ℕ) (a : Mask) (s : State) (c : Conf) (cuts : ℕ → State) → AcceptsExpr w x → HasExpr w old new last x at → Enters w (length (draft_of old).code) at.mask.number at.slot.number a s c q → ((m : ℕ) → value (gang_of w) w.frame (calls_of (with_turns w m)) x a s ≡ Stops (cuts m)) → GoesOn w.code c cuts
-  pub simples : (w : Setting) → ((m : ℕ) → IsSettled (with_turns w m)) → (old new last : Emitter) (x : TSimple) (at : Site) (q : ℕ) (a : Mask) (s : State) (c : Conf) (cuts : ℕ → State) → AcceptsSimple w x → HasSimple w old new last x at → Enters w (length (draft_of old).code) at.mask.number at.slot.number a s c q → ((m : ℕ) → simple (gang_of w) w.frame (calls_of (with_turns w m)) x a s ≡ Stops (cuts m)) → GoesOn w.code c cuts
+  pub exprs : (w : Setting) → ((m : ℕ) → IsSettled (with_turns w m))
+      → (old new last : Emitter) (x : TExpr) (at : Site) (q : ℕ) (a : Mask) (s : State) (c : Conf) (cuts : ℕ → State) → AcceptsExpr w x
+      → HasExpr w old new last x at → Enters w (length (draft_of old).code) at.mask.number at.slot.number a s c q
+      → ((m : ℕ) → value (gang_of w) w.frame (calls_of (with_turns w m)) x a s ≡ Stops (cuts m)) → GoesOn w.code c cuts
+  pub simples : (w : Setting) → ((m : ℕ) → IsSettled (with_turns w m))
+      → (old new last : Emitter) (x : TSimple) (at : Site) (q : ℕ) (a : Mask) (s : State) (c : Conf) (cuts : ℕ → State) → AcceptsSimple w x
+      → HasSimple w old new last x at → Enters w (length (draft_of old).code) at.mask.number at.slot.number a s c q
+      → ((m : ℕ) → simple (gang_of w) w.frame (calls_of (with_turns w m)) x a s ≡ Stops (cuts m)) → GoesOn w.code c cuts

@@ -44,7 +44,10 @@ err_refused (Err z) x P h g = λ f is. g f (sym h ∙ is)
 abbrev pub Checked : Type 0
 Checked = rust_program.Program
 
-pub tree_only : (text : List ℕ) (tokens : TokenList) (r : Result Tree SourceFault) → ((ts : List Token) → Lexes 0 text ts [] → length text ≤ longest_text → tokens.items ≡ ts) → ((fs : List Read) → IsTree tokens.items fs → depth_of_functions fs ≤ deepest_tree → GivesTree r fs) → (tree : List Read) → HasTree text tree → MatchResult r (λ t. tree_of t ≡ tree) (λ e. e ≡ Memory)
+pub tree_only : (text : List ℕ) (tokens : TokenList) (r : Result Tree SourceFault)
+    → ((ts : List Token) → Lexes 0 text ts [] → length text ≤ longest_text → tokens.items ≡ ts)
+    → ((fs : List Read) → IsTree tokens.items fs → depth_of_functions fs ≤ deepest_tree → GivesTree r fs) → (tree : List Read) → HasTree text tree
+    → MatchResult r (λ t. tree_of t ≡ tree) (λ e. e ≡ Memory)
 tree_only text tokens r lexes trees tree h = at r (trees tree (subst (λ z. IsTree z tree) (sym same) h.is) h.shallow)
   where
     same : tokens.items ≡ h.tokens.items
@@ -67,7 +70,9 @@ no_program gang tree f p (inl r) c = r.nothing p c.typed.is
 no_program gang tree f p (inr (q, a, l)) c = c.sound f (subst (λ z. ProgramBreach z f) (c.typed.only q a.is) l.by.0)
 
 -- a fault of rates is one of the program that the tree is
-pub rate_fault : (gang : Gang) (tree : List Read) (p : Program) (r : Result Checked SourceFault) → Accepts (IsProgram gang tree) (Breach gang tree) p → IfErr r (λ e. (f : Fault) → e ≡ Refused f → Least (Some f) (ProgramBreach p)) → IfErr r (λ e. (f : Fault) → e ≡ Refused f → IsUnsound gang tree f)
+pub rate_fault : (gang : Gang) (tree : List Read) (p : Program) (r : Result Checked SourceFault) → Accepts (IsProgram gang tree) (Breach gang tree) p
+    → IfErr r (λ e. (f : Fault) → e ≡ Refused f → Least (Some f) (ProgramBreach p))
+    → IfErr r (λ e. (f : Fault) → e ≡ Refused f → IsUnsound gang tree f)
 rate_fault gang tree p (Ok c) a h = tt
 rate_fault gang tree p (Err e) a h = λ f is. inr (p, a, h f is)
 
@@ -77,11 +82,14 @@ pub judged : (gang : Gang) (text : List ℕ) (tree : List Read) (r : Result Chec
 judged gang text tree (Ok c) h a = record { tree = tree; has = h; checked = a }
 judged gang text tree (Err e) h a = tt
 
-pub unsound : (gang : Gang) (text : List ℕ) (tree : List Read) (r : Result Checked SourceFault) → HasTree text tree → IfErr r (λ e. (f : Fault) → e ≡ Refused f → IsUnsound gang tree f) → IfErr r (λ e. (f : Fault) → e ≡ Refused f → IsFaulty gang text f)
+pub unsound : (gang : Gang) (text : List ℕ) (tree : List Read) (r : Result Checked SourceFault) → HasTree text tree
+    → IfErr r (λ e. (f : Fault) → e ≡ Refused f → IsUnsound gang tree f) → IfErr r (λ e. (f : Fault) → e ≡ Refused f → IsFaulty gang text f)
 unsound gang text tree (Ok c) h a = tt
 unsound gang text tree (Err e) h a = λ f is. inr (tree, h, a f is)
 
-pub only : (gang : Gang) (text : List ℕ) (tree : List Read) (r : Result Checked SourceFault) → IfOk r (λ c. IsChecked gang tree (program_of c)) → IfErr r (λ e. (f : Fault) → e ≡ Refused f → IsUnsound gang tree f) → (program : Program) (s : IsSource gang text program) → tree ≡ s.tree → MatchResult r (λ c. program_of c ≡ program) (λ e. e ≡ Memory)
+pub only : (gang : Gang) (text : List ℕ) (tree : List Read) (r : Result Checked SourceFault) → IfOk r (λ c. IsChecked gang tree (program_of c))
+    → IfErr r (λ e. (f : Fault) → e ≡ Refused f → IsUnsound gang tree f) → (program : Program) (s : IsSource gang text program) → tree ≡ s.tree
+    → MatchResult r (λ c. program_of c ≡ program) (λ e. e ≡ Memory)
 only gang text tree r a b program s same = at r a b
   where
     is : IsChecked gang tree program

@@ -42,6 +42,8 @@ module _ (text : List ℕ) (code : Listing) (is : text_of code ≡ text) where
   no_fault (Text f) h k n = absurd (k f refl)
   no_fault (Code f) h k n = let some : code_fault code ≡ Some f = h f refl in absurd cc
 
-  pub loads_only : (r : Result Listing CodeFault) → IfOk r (λ i. (i ≡ code) × (code_fault code ≡ None)) → IfErr r (λ e. (f : CodeRefusal) → e ≡ Code f → code_fault code ≡ Some f) → IfErr r (λ e. (f : TextFault) → e ≢ Text f) → (c : Listing) → code ≡ c → code_fault c ≡ None → MatchResult r (λ i. i ≡ c) (λ e. e ≡ Memory)
+  pub loads_only : (r : Result Listing CodeFault) → IfOk r (λ i. (i ≡ code) × (code_fault code ≡ None))
+      → IfErr r (λ e. (f : CodeRefusal) → e ≡ Code f → code_fault code ≡ Some f) → IfErr r (λ e. (f : TextFault) → e ≢ Text f) → (c : Listing)
+      → code ≡ c → code_fault c ≡ None → MatchResult r (λ i. i ≡ c) (λ e. e ≡ Memory)
   loads_only (Ok i) h a b c same n = h.0 ∙ same
   loads_only (Err e) h a b c same n = no_fault e a b (ap code_fault same ∙ n)

@@ -39,7 +39,9 @@ report_over ps (GoesOn out) r h ne = ne h.0
 
 -- ---- one function
 
-module _ (program : Program) (code : Listing) (f : ℕ) (h : TFunction) (g : Routine) (xs : List Argument) (accepted : IsAccepted program) (name : List ℕ) (entry : IsEntry program name xs f h) (agree : RunsAgree program code f g xs) (budget : ℕ) (says : Outcome → Type 0) (over : Type 0) (out : List ℕ)
+module _ (program : Program) (code : Listing) (f : ℕ) (h : TFunction) (g : Routine) (xs : List Argument) (accepted : IsAccepted program)
+    (name : List ℕ) (entry : IsEntry program name xs f h) (agree : RunsAgree program code f g xs) (budget : ℕ) (says : Outcome → Type 0)
+    (over : Type 0) (out : List ℕ)
     (said : says (outcome_after code f g xs budget)) (is_over : over → IsOver (outcome_after code f g xs budget)) (out_is : out ≡ out_of (outcome_after code f g xs budget)) where
   abbrev came : ℕ → Outcome
   came m = outcome_after code f g xs m
@@ -88,7 +90,9 @@ module _ (program : Program) (code : Listing) (f : ℕ) (h : TFunction) (g : Rou
 
 -- ---- the function of a name
 
-means_of : (program : Program) (code : Listing) (name : List ℕ) (f : ℕ) (h : TFunction) (g : Routine) → IsAccepted program → IsExport program name f h → EntryAgrees program code f h g → (json : List ℕ) (budget : ℕ) (answer : Result Report RunFault) → Runs code f g json budget answer → MeansOf program f h json budget answer
+means_of : (program : Program) (code : Listing) (name : List ℕ) (f : ℕ) (h : TFunction) (g : Routine) → IsAccepted program → IsExport program name f h
+    → EntryAgrees program code f h g → (json : List ℕ) (budget : ℕ) (answer : Result Report RunFault) → Runs code f g json budget answer
+    → MeansOf program f h json budget answer
 means_of program code name f h g accepted e k json budget (Err z) x = λ ne.
     let y = x ne in
     (y.0, subst (λ ps. bound_of ps json ≡ Err y.0) k.parameters y.1, y.2)

@@ -21,10 +21,16 @@ regrouped k a s d e b i n = simp append_assoc
 ruled : (r s m a f b i n : List ℕ) → r ++ (s ++ (m ++ (a ++ (f ++ (b ++ (i ++ n)))))) ≡ ((r ++ (s ++ m)) ++ a ++ f ++ b ++ i) ++ n
 ruled r s m a f b i n = simp append_assoc
 
-pub source_line : (f : Fault) (number name start end : List ℕ) → number ≡ decimal (lex.number_of f.rule) → name ≡ lex.name_of f.rule → start ≡ decimal f.span.start → end ≡ decimal f.span.end → codes "isp: " ++ (number ++ (codes " " ++ (name ++ (codes " at " ++ (start ++ (codes ".." ++ (end ++ (codes "\n" ++ [])))))))) ≡ failure_line (Source f)
+pub source_line : (f : Fault) (number name start end : List ℕ) → number ≡ decimal (lex.number_of f.rule) → name ≡ lex.name_of f.rule
+    → start ≡ decimal f.span.start → end ≡ decimal f.span.end
+    → codes "isp: " ++ (number ++ (codes " " ++ (name ++ (codes " at " ++ (start ++ (codes ".." ++ (end ++ (codes "\n" ++ []))))))))
+    ≡ failure_line (Source f)
 source_line f number name start end a b c d = rw (a, b, c, d) (simp append_assoc)
 
-pub trap_line : (t : Trap) (kind start end instance : List ℕ) → kind ≡ kind_text t.kind → start ≡ decimal t.place.start → end ≡ decimal t.place.end → instance ≡ decimal t.instance → codes "isp: trap " ++ (kind ++ (codes " at " ++ (start ++ (codes ".." ++ (end ++ (codes ", instance " ++ (instance ++ (codes "\n" ++ [])))))))) ≡ failure_line (Trapped t)
+pub trap_line : (t : Trap) (kind start end instance : List ℕ) → kind ≡ kind_text t.kind → start ≡ decimal t.place.start → end ≡ decimal t.place.end
+    → instance ≡ decimal t.instance → codes "isp: trap "
+    ++ (kind ++ (codes " at " ++ (start ++ (codes ".." ++ (end ++ (codes ", instance " ++ (instance ++ (codes "\n" ++ []))))))))
+    ≡ failure_line (Trapped t)
 trap_line t kind start end instance a b c d =
     rw (a, b, c, d)
     (ap (λ z. codes "isp: trap " ++ z) (regrouped (kind_text t.kind) (codes " at ") (decimal t.place.start) (codes "..") (decimal t.place.end) (codes ", instance ") (decimal t.instance) (codes "\n")))
@@ -32,7 +38,11 @@ trap_line t kind start end instance a b c d =
 pub text_line : (f : TextFault) (rule line : List ℕ) → rule ≡ rule_text f.rule → line ≡ decimal f.line → codes "isp: " ++ (rule ++ (codes " at line " ++ (line ++ (codes "\n" ++ [])))) ≡ failure_line (Code (code_fault.Text f))
 text_line f rule line a b = rw (a, b) (simp append_assoc)
 
-pub code_line : (f : CodeRefusal) (number name function instruction : List ℕ) → number ≡ decimal (verify.number_of f.rule) → name ≡ verify.name_of f.rule → function ≡ decimal f.function → instruction ≡ decimal f.instruction → codes "isp: " ++ (number ++ (codes " " ++ (name ++ (codes " in function " ++ (function ++ (codes ", instruction " ++ (instruction ++ (codes "\n" ++ [])))))))) ≡ failure_line (Code (code_fault.Code f))
+pub code_line : (f : CodeRefusal) (number name function instruction : List ℕ) → number ≡ decimal (verify.number_of f.rule)
+    → name ≡ verify.name_of f.rule → function ≡ decimal f.function → instruction ≡ decimal f.instruction
+    → codes "isp: " ++ (number ++ (codes " " ++ (name
+    ++ (codes " in function " ++ (function ++ (codes ", instruction " ++ (instruction ++ (codes "\n" ++ []))))))))
+    ≡ failure_line (Code (code_fault.Code f))
 code_line f number name function instruction a b c d =
     rw (a, b, c, d)
     (ap (λ z. codes "isp: " ++ z) (ruled (decimal (verify.number_of f.rule)) (codes " ") (verify.name_of f.rule) (codes " in function ") (decimal f.function) (codes ", instruction ") (decimal f.instruction) (codes "\n")))
@@ -40,7 +50,9 @@ code_line f number name function instruction a b c d =
 pub turns_line : (p : ℕ) (instance : List ℕ) → instance ≡ decimal p → codes "isp: turns used, instance " ++ (instance ++ (codes "\n" ++ [])) ≡ failure_line (TurnsUsed p)
 turns_line p instance a = rw a (simp append_assoc)
 
-pub dependence_line : (d : Dependence) (rule start end : List ℕ) → rule ≡ decimal (number_of d.rule) → start ≡ decimal d.span.start → end ≡ decimal d.span.end → codes "isp: rule " ++ (rule ++ (codes " at " ++ (start ++ (codes ".." ++ (end ++ (codes "\n" ++ [])))))) ≡ failure_line (NotIndependent d)
+pub dependence_line : (d : Dependence) (rule start end : List ℕ) → rule ≡ decimal (number_of d.rule) → start ≡ decimal d.span.start
+    → end ≡ decimal d.span.end → codes "isp: rule " ++ (rule ++ (codes " at " ++ (start ++ (codes ".." ++ (end ++ (codes "\n" ++ []))))))
+    ≡ failure_line (NotIndependent d)
 dependence_line d rule start end a b c = rw (a, b, c) (ap (λ z. codes "isp: rule " ++ z) (simp append_assoc))
 
 pub clash_line_is : (name : List ℕ) (e : ℕ) (element : List ℕ) → element ≡ decimal e → codes "isp: not apart: " ++ (name ++ (codes " " ++ (element ++ (codes "\n" ++ [])))) ≡ clash_line name e

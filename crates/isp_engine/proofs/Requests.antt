@@ -77,5 +77,6 @@ module _ (holds : Holds) where
   no_code job files (NotApart n i) h = (files, h (λ e. let none : ⊥ = cc in none))
 
   -- a run whose files gave what it ran
-  pub run_ends : (job : Job) (code : Listing) (json read : List ℕ) (old new : Option (List ℕ)) (failed : Bool) (end : Result ⊤ Failure) → read ≡ json → Given holds job code json → Ran code job.entry.now read job.budget old new failed end → RunEnds holds job old new failed end
+  pub run_ends : (job : Job) (code : Listing) (json read : List ℕ) (old new : Option (List ℕ)) (failed : Bool) (end : Result ⊤ Failure) → read ≡ json
+      → Given holds job code json → Ran code job.entry.now read job.budget old new failed end → RunEnds holds job old new failed end
   run_ends job code json read old new failed end e g r = inl (record { code = code; json = read; given = subst (Given holds job code) (sym e) g; ran = r })

@@ -119,7 +119,9 @@ module _ (code : Listing) (entry : List ℕ) (xs : List Argument) (b : ℕ) (old
 
 -- ---- the function that is exported under a name, from the arguments that a text binds
 
-module _ (code : Listing) (fine : NeverStuck code) (entry json : List ℕ) (b : ℕ) (f : ℕ) (g : Routine) (x : IsExport code entry f g) (ps : List Parameter) (is : ps ≡ parameters_of g) (xs : List Argument) (bound : bound_of ps json ≡ Ok xs) (old new : Option (List ℕ)) (failed : Bool) where
+module _ (code : Listing) (fine : NeverStuck code) (entry json : List ℕ) (b : ℕ) (f : ℕ) (g : Routine) (x : IsExport code entry f g)
+    (ps : List Parameter) (is : ps ≡ parameters_of g) (xs : List Argument) (bound : bound_of ps json ≡ Ok xs) (old new : Option (List ℕ))
+    (failed : Bool) where
   some_sent : SendsFirst code ps f g xs b old new → SentSome code entry json b old new
   some_sent h = record {
     function = f;

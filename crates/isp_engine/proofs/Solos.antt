@@ -178,7 +178,8 @@ module _ (p : rust_program.Program) (entry json : List ℕ) (turns : ℕ) where
       absurd (h g.number (function_of g.function, record { export = g.export; fits = fits (function_of g.function).parameters json xs b.binds }))
   unreported s g xs e (eval_fault.NotIndependent d) h = (function_of g.function, xs, entered s (Ok xs) g e, h)
 
-  pub told : (s : Signature) (g : Signed p entry s) (xs : List Argument) → bound_of s.params.items json ≡ Ok xs → (r : SoloReport) → IsSoloReport program entry xs turns r → (x : Result (List ℕ) Failure) → Tells s.params.items r x → IsTold program entry json turns x
+  pub told : (s : Signature) (g : Signed p entry s) (xs : List Argument) → bound_of s.params.items json ≡ Ok xs → (r : SoloReport)
+      → IsSoloReport program entry xs turns r → (x : Result (List ℕ) Failure) → Tells s.params.items r x → IsTold program entry json turns x
   told s g xs e r is x t = record {
     function = function_of g.function;
     bound = xs;
@@ -205,11 +206,15 @@ module _ (p : rust_program.Program) (entry json : List ℕ) (turns : ℕ) where
   not_answered (NotApart n i) h = h (λ e. let z : ⊥ = cc in z)
 
   -- what is told of the report is told of the entry
-  pub ok_told : (s : Signature) (g : Signed p entry s) (xs : List Argument) → bound_of s.params.items json ≡ Ok xs → (r : SoloReport) → IsSoloReport program entry xs turns r → (x : Result (String Global) Failure) → IfOk x (λ t. Tells s.params.items r (Ok (string_bytes t))) → IfOk x (λ t. IsTold program entry json turns (Ok (string_bytes t)))
+  pub ok_told : (s : Signature) (g : Signed p entry s) (xs : List Argument) → bound_of s.params.items json ≡ Ok xs → (r : SoloReport)
+      → IsSoloReport program entry xs turns r → (x : Result (String Global) Failure) → IfOk x (λ t. Tells s.params.items r (Ok (string_bytes t)))
+      → IfOk x (λ t. IsTold program entry json turns (Ok (string_bytes t)))
   ok_told s g xs e r is (Ok t) h = told s g xs e r is (Ok (string_bytes t)) h
   ok_told s g xs e r is (Err f) h = tt
 
-  pub err_told : (s : Signature) (g : Signed p entry s) (xs : List Argument) → bound_of s.params.items json ≡ Ok xs → (r : SoloReport) → IsSoloReport program entry xs turns r → (x : Result (String Global) Failure) → IfErr x (λ f. f ≢ Memory → Tells s.params.items r (Err f)) → IfErr x (IsUnanswered program entry json turns)
+  pub err_told : (s : Signature) (g : Signed p entry s) (xs : List Argument) → bound_of s.params.items json ≡ Ok xs → (r : SoloReport)
+      → IsSoloReport program entry xs turns r → (x : Result (String Global) Failure) → IfErr x (λ f. f ≢ Memory → Tells s.params.items r (Err f))
+      → IfErr x (IsUnanswered program entry json turns)
   err_told s g xs e r is (Ok t) h = tt
   err_told s g xs e r is (Err f) h = not_answered f (λ n. told s g xs e r is (Err f) (h n))
 

@@ -120,7 +120,8 @@ told_within n old now stop g =
     omega (arith, length-append (out_now old) p.0)
 
 -- what it adds is what is written, be it in whole or in part
-pub wrote : (n : ℕ) (old now : Kept) (stop : Stop) → RunGives n old now stop → (told output : List ℕ) → told ≡ out_now old → output ≡ out_now now → (such : List ℕ → Type 0) → such (take (length output - length told) (drop (length told) output)) → Adds old now such
+pub wrote : (n : ℕ) (old now : Kept) (stop : Stop) → RunGives n old now stop → (told output : List ℕ) → told ≡ out_now old → output ≡ out_now now
+    → (such : List ℕ → Type 0) → such (take (length output - length told) (drop (length told) output)) → Adds old now such
 wrote n old now stop g told output was is such h =
     let p : IsPrefix (out_now old) (out_now now) = output_grows n old now (some_made n old now stop g) in
     let e : drop (length told) output ≡ p.0 = ap (λ z. drop (length z) output) was ∙ ap (drop (length (out_now old))) (is ∙ sym p.1) ∙ behind (out_now old) p.0 in

@@ -32,7 +32,8 @@ use Rattle.isp_gang_values.specs.Seen.{payload_of}
 use Rattle.isp_gang_values.specs.declared.computed.Computed.{Computed}
 use Rattle.isp_gang_values.specs.declared.computed.Computed.TheVariants as computed
 use Rattle.isp_gang_run.specs.Seen.{frame_seen, state_seen, answer_in}
-use Rattle.isp_gang_run.specs.Tasks.{Store, Parts, Goes, On, Trapped, First, Changes, Halts, refused, trapped, cut, go, given, ran, done, does, rest, Comes, store_seen, parts_seen, all_parts, left_as, value_at, calls_in, block_at, blocks, run_in, perhaps_run, tested_in, turns_in, tests_on, turns_on, go_with, gather}
+use Rattle.isp_gang_run.specs.Tasks.{Store, Parts, Goes, On, Trapped, First, Changes, Halts, refused, trapped, cut, go, given, ran, done, does, rest, Comes, store_seen, parts_seen, all_parts}
+use Rattle.isp_gang_run.specs.Tasks.{left_as, value_at, calls_in, block_at, blocks, run_in, perhaps_run, tested_in, turns_in, tests_on, turns_on, go_with, gather}
 use Rattle.isp_gang_run.specs.Arms.{declares_all, all_does, chooses, unmasks, jumps, gives, claims, looping, first_in, firsts, enters, enters_by_turn, shows, prints, prints_all}
 use Rattle.isp_gang_run.specs.declared.loops.Turning.{Turning}
 use Rattle.isp_gang_run.specs.declared.counting.Work.{Work}
@@ -138,9 +139,13 @@ module _ (old new : Evaluator) (work : Work) (one : Adds old work 1) where
       ticked old new (λ fr l s. all_go (flag_of set) (items (gang_width old.program.now.gang) fr (calls_at (program_of old.program.now) old.turns l) (items_of xs.now) (flag_of set) s)) work one
       (done_first (record old { work = work }) new (task.Items xs set) set (λ r. items (gang_width old.program.now.gang) r.frame (calls_at (program_of old.program.now) old.turns r.left) (items_of xs.now) (flag_of set) r.state) (λ r. refl) g)
 
-  pub chosen : (b : Box Branches Global) (x : Bor TypedExpr) (y : Bor TypedStmt) (z : Option (Bor TypedStmt)) (set : List Bool) → b.value ≡ record { then = y; otherwise = z; set = set } → First (record old { work = work }) new (task.Value x set) (task.Branch b) → Comes old new (chooses old (expr_of x.now) y z (flag_of set))
+  pub chosen : (b : Box Branches Global) (x : Bor TypedExpr) (y : Bor TypedStmt) (z : Option (Bor TypedStmt)) (set : List Bool)
+      → b.value ≡ record { then = y; otherwise = z; set = set } → First (record old { work = work }) new (task.Value x set) (task.Branch b)
+      → Comes old new (chooses old (expr_of x.now) y z (flag_of set))
   chosen b x y z set is g =
-      let k = λ (c : Branches) (fr : Frame) (l : ℕ). branches (gang_width old.program.now.gang) (flag_of c.set) (run_in (program_of old.program.now) old.turns fr l (stmt_of c.then.now)) (perhaps_run (program_of old.program.now) old.turns fr l (option_map (λ (v : Bor TypedStmt). stmt_of v.now) c.otherwise)) in
+      let k = λ (c : Branches) (fr : Frame) (l : ℕ). branches (gang_width old.program.now.gang) (flag_of c.set)
+      (run_in (program_of old.program.now) old.turns fr l (stmt_of c.then.now))
+      (perhaps_run (program_of old.program.now) old.turns fr l (option_map (λ (v : Bor TypedStmt). stmt_of v.now) c.otherwise)) in
       ticked old new (λ fr l s. with_value (value_at_in fr l x set s) (k (record { then = y; otherwise = z; set = set }) fr l)) work one
       (subst (λ (c : Branches). Comes (record old { work = work }) new (λ r. ran r (with_value (value_at_in r.frame r.left x set r.state) (k c r.frame r.left)))) is
       (value_first (record old { work = work }) new x set (task.Branch b) (k b.value) (λ q. refl) g))
@@ -156,12 +161,15 @@ module _ (old new : Evaluator) (work : Work) (one : Adds old work 1) where
       value_in : Frame → ℕ → Bor TypedExpr → List Bool → State → Val Payload
       value_in fr l x set s = value_at (program_of old.program.now) old.turns (record { frame = fr; left = l; state = s; value = One 0; parts = all_parts nobody }) (expr_of x.now) (flag_of set) s
 
-  pub jumped_away : (j : Jump) (set : List Bool) (sets : Sets) → ((s : State) → left_as (parts_seen sets) s ≡ jumped j (flag_of set) s) → new ≡ record old { work = work; value = computed.One 0; sets = sets } → Comes old new (jumps old j (flag_of set))
+  pub jumped_away : (j : Jump) (set : List Bool) (sets : Sets) → ((s : State) → left_as (parts_seen sets) s ≡ jumped j (flag_of set) s)
+      → new ≡ record old { work = work; value = computed.One 0; sets = sets } → Comes old new (jumps old j (flag_of set))
   jumped_away j set sets is left =
       ticked old new (λ fr l s. jumped j (flag_of set) s) work one
       (leaves (record old { work = work }) new (λ r. ran r (jumped j (flag_of set) r.state)) sets (parts_seen sets) left refl (λ w. ap (ran (store_seen old w)) (sym (is (state_seen old w)))))
 
-  pub gave_nothing : (x : Option (Bor TypedExpr)) (set : List Bool) (sets : Sets) → x ≡ None → parts_seen sets ≡ record { went = nobody; broke = nobody; continued = nobody; returned = flag_of set } → new ≡ record old { work = work; value = computed.One 0; sets = sets } → Comes old new (gives old x (flag_of set))
+  pub gave_nothing : (x : Option (Bor TypedExpr)) (set : List Bool) (sets : Sets) → x ≡ None
+      → parts_seen sets ≡ record { went = nobody; broke = nobody; continued = nobody; returned = flag_of set }
+      → new ≡ record old { work = work; value = computed.One 0; sets = sets } → Comes old new (gives old x (flag_of set))
   gave_nothing x set sets none is left =
       subst (λ y. Comes old new (gives old y (flag_of set))) (sym none)
       (ticked old new (λ fr l s. Went s nobody nobody nobody (flag_of set)) work one
@@ -181,7 +189,9 @@ all_did old new x set g =
     done_first old new (task.Simple x set) set (λ r. simple (gang_width old.program.now.gang) r.frame (calls_in (program_of old.program.now) old.turns r) (simple_of x.now) (flag_of set) r.state) (λ r. refl) g
 
 -- a block over all instances, and then those that came
-pub unmasked : (old late new : Evaluator) (work : Work) (one : Adds old work 1) (b : Bor TypedBlock) (all set : List Bool) → late.tasks.items ≡ old.tasks.items ++ task.Went set ∷ [] → late ≡ record old { work = work; tasks = late.tasks } → flag_of all ≡ everyone (gang_width old.program.now.gang)
+pub unmasked : (old late new : Evaluator) (work : Work) (one : Adds old work 1) (b : Bor TypedBlock) (all set : List Bool)
+    → late.tasks.items ≡ old.tasks.items ++ task.Went set ∷ [] → late ≡ record old { work = work; tasks = late.tasks }
+    → flag_of all ≡ everyone (gang_width old.program.now.gang)
     → Comes late new (blocks late (block_of b.now) (flag_of all)) → Comes old new (unmasks old (block_of b.now) (flag_of set))
 unmasked old late new work one b all set i s is c =
     let mid = record old { work = work } in
@@ -189,13 +199,17 @@ unmasked old late new work one b all set i s is c =
     (record {
       by = λ w.
           let r = store_seen old w in
-          let d = comes_then mid late new (task.Went set) (λ e. blocks e (block_of b.now) (everyone (gang_width old.program.now.gang))) i s (ap (λ (e : Evaluator). blocks e (block_of b.now) (everyone (gang_width old.program.now.gang))) s) (subst (λ a. Comes late new (blocks late (block_of b.now) a)) is c) in (
+          let d = comes_then mid late new (task.Went set) (λ e. blocks e (block_of b.now) (everyone (gang_width old.program.now.gang))) i s
+          (ap (λ (e : Evaluator). blocks e (block_of b.now) (everyone (gang_width old.program.now.gang))) s)
+          (subst (λ a. Comes late new (blocks late (block_of b.now) a)) is c) in (
             (d.by w).0,
             then_ran r (block_in r.frame r.left r.state) (λ fr l s2 p. went_all (flag_of set) s2) (rest old)
                 ∙ sym (go_assoc (blocks old (block_of b.now) (everyone (gang_width old.program.now.gang)) r) (does old (task.Went set)) (rest old))
                 ∙ (d.by w).1,
           );
-      counts = (comes_then mid late new (task.Went set) (λ e. blocks e (block_of b.now) (everyone (gang_width old.program.now.gang))) i s (ap (λ (e : Evaluator). blocks e (block_of b.now) (everyone (gang_width old.program.now.gang))) s) (subst (λ a. Comes late new (blocks late (block_of b.now) a)) is c)).counts;
+      counts = (comes_then mid late new (task.Went set) (λ e. blocks e (block_of b.now) (everyone (gang_width old.program.now.gang))) i s
+          (ap (λ (e : Evaluator). blocks e (block_of b.now) (everyone (gang_width old.program.now.gang))) s)
+          (subst (λ a. Comes late new (blocks late (block_of b.now) a)) is c)).counts;
     })
   where
     block_in : Frame → ℕ → State → Res
@@ -212,7 +226,9 @@ pub printed : (old new : Evaluator) (work : Work) (one : Adds old work 1) (text 
 printed old new work one text xs ms set none c =
     ticked old new shown_in work one
     (comes_same (record old { work = work }) new (λ r. ran r (shown_in r.frame r.left r.state)) (gather (program_of old.program.now) old.turns (gathering.Print text xs) (exprs_of xs.now) [] (flag_of set))
-    (λ w. let r = store_seen old w in sym (with_then r (values (gang_width old.program.now.gang) r.frame (calls_at (program_of old.program.now) old.turns r.left) (t_exprs (exprs_of xs.now)) (flag_of set) r.state) (λ ms s. shows old text.now (exprs_of xs.now) (flag_of set) ms s)))
+    (λ w. let r = store_seen old w in sym (with_then r
+    (values (gang_width old.program.now.gang) r.frame (calls_at (program_of old.program.now) old.turns r.left) (t_exprs (exprs_of xs.now))
+    (flag_of set) r.state) (λ ms s. shows old text.now (exprs_of xs.now) (flag_of set) ms s)))
     (subst (λ (ys : List Computed). Comes (record old { work = work }) new (gather (program_of old.program.now) old.turns (gathering.Print text xs) (exprs_of xs.now) (map payload_of ys) (flag_of set))) none c))
   where
     shown_in : Frame → ℕ → State → Res
@@ -251,14 +267,18 @@ module _ (old new : Evaluator) (work : Work) (one : Adds old work 1) (set : List
   pub enters_turns : step ≡ None → Comes (record old { work = work }) new (turns_on old t) → Comes old new (enters_by_turn old test body (flag_of set))
   enters_turns isnt c =
       comes_same old new (enters_by_turn old test body (flag_of set)) (λ r. ran r (turns_now r.frame r.left (tick r.state)))
-      (λ w. ap (λ (k : Option (Bor TypedSimple)). ran (store_seen old w) (turns_in (program_of old.program.now) old.turns (store_seen old w).frame (store_seen old w).left (looping test k body) (flag_of set) old.turns (flag_of set) nobody (state_seen old (w + 1)))) (sym isnt))
+      (λ w. ap (λ (k : Option (Bor TypedSimple)). ran (store_seen old w)
+      (turns_in (program_of old.program.now) old.turns (store_seen old w).frame (store_seen old w).left (looping test k body) (flag_of set)
+      old.turns (flag_of set) nobody (state_seen old (w + 1)))) (sym isnt))
       (ticked old new turns_now work one
       (comes_same (record old { work = work }) new (λ r. ran r (turns_now r.frame r.left r.state)) (turns_on old t) (λ w. sym (as_turns (store_seen old w))) c))
 
   pub enters_turns_halts : step ≡ None → (e : Stop) → Halts (record old { work = work }) new (turns_on old t) e → Halts old new (enters_by_turn old test body (flag_of set)) e
   enters_turns_halts isnt e h =
       halts_same old new (enters_by_turn old test body (flag_of set)) (λ r. ran r (turns_now r.frame r.left (tick r.state))) e
-      (λ w. ap (λ (k : Option (Bor TypedSimple)). ran (store_seen old w) (turns_in (program_of old.program.now) old.turns (store_seen old w).frame (store_seen old w).left (looping test k body) (flag_of set) old.turns (flag_of set) nobody (state_seen old (w + 1)))) (sym isnt))
+      (λ w. ap (λ (k : Option (Bor TypedSimple)). ran (store_seen old w)
+      (turns_in (program_of old.program.now) old.turns (store_seen old w).frame (store_seen old w).left (looping test k body) (flag_of set)
+      old.turns (flag_of set) nobody (state_seen old (w + 1)))) (sym isnt))
       (ticked_halts old new turns_now work one e
       (halts_same (record old { work = work }) new (λ r. ran r (turns_now r.frame r.left r.state)) (turns_on old t) e (λ w. sym (as_turns (store_seen old w))) h))
 
@@ -302,7 +322,9 @@ module _ (old : Evaluator) (set : List Bool) where
       subst (λ y. Comes old new (firsts old y (flag_of set))) (sym none)
       (record { by = λ w. (w, sym (ap (λ (k : Evaluator). rest k (store_seen k w)) same)); counts = λ w k. counts_same old new w (ap work_of same) k })
 
-  pub first_simple : (new : Evaluator) (y : Bor TypedFirst) (p : Bor TypedSimple) → y.now ≡ first.Simple p.now → new.tasks.items ≡ old.tasks.items ++ task.Simple p set ∷ [] → new ≡ record old { tasks = new.tasks } → Comes old new (firsts old (Some y) (flag_of set))
+  pub first_simple : (new : Evaluator) (y : Bor TypedFirst) (p : Bor TypedSimple) → y.now ≡ first.Simple p.now
+      → new.tasks.items ≡ old.tasks.items ++ task.Simple p set ∷ [] → new ≡ record old { tasks = new.tasks }
+      → Comes old new (firsts old (Some y) (flag_of set))
   first_simple new y p is i s =
       (comes_same old new (firsts old (Some y) (flag_of set)) (does old (task.Simple p set)) (λ w. ap (λ (f : TypedFirst). part f w) is) (pushes old new (task.Simple p set) i s))
     where
@@ -319,7 +341,9 @@ module _ (old : Evaluator) (set : List Bool) where
               (c.by (w + 1)).0,
               ap (λ (f : TypedFirst). go (part f w) (rest old)) is
                   ∙ ap (λ (ys : List TypedItem). go (done r (items (gang_width old.program.now.gang) r.frame (calls_at (program_of old.program.now) old.turns r.left) (items_of ys) (flag_of set) (state_seen old (w + 1)))) (rest old)) (sym all)
-                  ∙ ap (λ g. go g (rest old)) (sym (redone r (state_seen old (w + 1)) r.value (items (gang_width old.program.now.gang) r.frame (calls_at (program_of old.program.now) old.turns r.left) (items_of xs.now) (flag_of set) (state_seen old (w + 1)))))
+                  ∙ ap (λ g. go g (rest old)) (sym (redone r (state_seen old (w + 1)) r.value
+                  (items (gang_width old.program.now.gang) r.frame (calls_at (program_of old.program.now) old.turns r.left) (items_of xs.now)
+                  (flag_of set) (state_seen old (w + 1)))))
                   ∙ (c.by (w + 1)).1,
             );
         counts = λ w k. (pushes (record old { work = work }) new (task.Items xs set) i s).counts (w + 1) (counts_more old work 1 w one k);
@@ -363,7 +387,10 @@ module _ (old : Evaluator) (set : List Bool) (o : Option Ty) (found : o ≡ answ
         same = refl;
       })
 
-  pub each_answer : (t : Ty) (xs : List ℕ) → o ≡ Some t → t.rate ≡ Varying → lane_of xs ≡ over (spread (flag_of set) (payload_of old.value)) (lane_of old.here.results) → Changes old (record old { here = record old.here { results = xs } }) (answered (frame_seen old.here).answer (flag_of set) (payload_of old.value))
+  pub each_answer : (t : Ty) (xs : List ℕ) → o ≡ Some t → t.rate ≡ Varying
+      → lane_of xs ≡ over (spread (flag_of set) (payload_of old.value)) (lane_of old.here.results)
+      → Changes old (record old { here = record old.here { results = xs } })
+      (answered (frame_seen old.here).answer (flag_of set) (payload_of old.value))
   each_answer t xs some rate is =
       subst (λ k. Changes old (record old { here = record old.here { results = xs } }) (answered k (flag_of set) (payload_of old.value))) (sym some ∙ found)
       (record {
@@ -401,7 +428,9 @@ pub part_is : {T U : Type 0} (f : T → U) (s : Option T) (o : Option (Bor T)) �
 part_is f s o e = sym (ap (option_map f) e) ∙ copied_map f o
 
 pub return_is : (old : Evaluator) (set : List Bool) (k sp : Span) (o : Option (Bor TypedExpr)) (w : ℕ)
-    → ran (store_seen old w) (run_in (program_of old.program.now) old.turns (store_seen old w).frame (store_seen old w).left (t_return k (option_map (λ (v : Bor TypedExpr). expr_of v.now) o) sp) (flag_of set) (state_seen old w)) ≡ gives old o (flag_of set) (store_seen old w)
+    → ran (store_seen old w) (run_in (program_of old.program.now) old.turns (store_seen old w).frame (store_seen old w).left
+    (t_return k (option_map (λ (v : Bor TypedExpr). expr_of v.now) o) sp) (flag_of set) (state_seen old w))
+    ≡ gives old o (flag_of set) (store_seen old w)
 return_is old set k sp None w = refl
 return_is old set k sp (Some x) w = refl
 

@@ -58,7 +58,9 @@ changed_does old mid t f c is =
 
 module _ (old : Evaluator) (q : rust_place.Place) (sp : Span) (set : List Bool) where
   assigns : (w : ℕ) (o : Option ℕ) → outside (gang_width old.program.now.gang) (frame_seen old.here) (place_seen q) (flag_of set) ≡ o
-      → does old (task.Assign q sp set) (store_seen old w) ≡ done (store_seen old w) (bind (checked o Index sp (state_seen old w) (payload_of old.value)) (λ n s. Gives tt (kept (gang_width old.program.now.gang) (frame_seen old.here) (place_seen q) (flag_of set) n s)))
+      → does old (task.Assign q sp set) (store_seen old w)
+      ≡ done (store_seen old w) (bind (checked o Index sp (state_seen old w) (payload_of old.value))
+      (λ n s. Gives tt (kept (gang_width old.program.now.gang) (frame_seen old.here) (place_seen q) (flag_of set) n s)))
   assigns w o e =
       ap (λ k. done (store_seen old w) (bind (checked k Index sp (state_seen old w) (payload_of old.value)) (λ n s. Gives tt (kept (gang_width old.program.now.gang) (frame_seen old.here) (place_seen q) (flag_of set) n s)))) e
 
@@ -66,7 +68,9 @@ module _ (old : Evaluator) (q : rust_place.Place) (sp : Span) (set : List Bool) 
       → Changes old mid (kept (gang_width old.program.now.gang) (frame_seen old.here) (place_seen q) (flag_of set) (payload_of old.value)) → Does old (record mid { value = computed.One 0 }) (task.Assign q sp set)
   assign_does mid none c = changed_does old mid (task.Assign q sp set) _ c (λ w. assigns w None none)
 
-  pub assign_halts : (new : Evaluator) (e : Stop) (p : ℕ) → outside (gang_width old.program.now.gang) (frame_seen old.here) (place_seen q) (flag_of set) ≡ Some p → new ≡ old → e ≡ stop.Trapped (trap Index sp p) → Halts old new (does old (task.Assign q sp set)) e
+  pub assign_halts : (new : Evaluator) (e : Stop) (p : ℕ)
+      → outside (gang_width old.program.now.gang) (frame_seen old.here) (place_seen q) (flag_of set) ≡ Some p → new ≡ old
+      → e ≡ stop.Trapped (trap Index sp p) → Halts old new (does old (task.Assign q sp set)) e
   assign_halts new e p some same is =
       trapped (trap Index sp p) is (λ w. (w, assigns w (Some p) some ∙ sym (ap (λ (x : Evaluator). Trapped (trap Index sp p) (state_seen x w)) same)))
       (λ w k. counts_same old new w (ap work_of same) k)
@@ -77,25 +81,43 @@ module _ (old : Evaluator) (op : Operation) (q : rust_place.Place) (p : Bor Type
   updated : (w : ℕ) (o k : Option ℕ) (x : Payload) → outside (gang_width old.program.now.gang) (frame_seen old.here) (place_seen q) (flag_of set) ≡ o
       → offender (gang_width old.program.now.gang) (is_zero op.operator op.elem) (flag_of set) (payload_of old.value) ≡ k → x ≡ held (gang_width old.program.now.gang) (frame_seen old.here) (place_seen q) (flag_of set) (state_seen old w)
       → does old (task.Update op q p set) (store_seen old w)
-      ≡ done (store_seen old w) (bind (checked o Index (place_span (place_of p.now)) (state_seen old w) x) (λ x1 s1. bind (checked k Divide op.span s1 (joined (op_bits op.operator op.elem) (flag_of set) (mapped (converted (place_type (place_of p.now)).elem op.elem) x1) (payload_of old.value))) (λ z s2. Gives tt (kept (gang_width old.program.now.gang) (frame_seen old.here) (place_seen q) (flag_of set) (mapped (converted op.elem (place_type (place_of p.now)).elem) z) s2))))
+      ≡ done (store_seen old w) (bind (checked o Index (place_span (place_of p.now)) (state_seen old w) x)
+      (λ x1 s1. bind (checked k Divide op.span s1 (joined (op_bits op.operator op.elem) (flag_of set)
+      (mapped (converted (place_type (place_of p.now)).elem op.elem) x1) (payload_of old.value)))
+      (λ z s2. Gives tt (kept (gang_width old.program.now.gang) (frame_seen old.here) (place_seen q) (flag_of set)
+      (mapped (converted op.elem (place_type (place_of p.now)).elem) z) s2))))
   updated w o k x out off is =
-      ap (λ h. done (store_seen old w) (bind (checked h Index (place_span (place_of p.now)) (state_seen old w) (held (gang_width old.program.now.gang) (frame_seen old.here) (place_seen q) (flag_of set) (state_seen old w))) (λ x1 s1. bind (checked (offender (gang_width old.program.now.gang) (is_zero op.operator op.elem) (flag_of set) (payload_of old.value)) Divide op.span s1 (joined (op_bits op.operator op.elem) (flag_of set) (mapped (converted (place_type (place_of p.now)).elem op.elem) x1) (payload_of old.value))) (λ z s2. Gives tt (kept (gang_width old.program.now.gang) (frame_seen old.here) (place_seen q) (flag_of set) (mapped (converted op.elem (place_type (place_of p.now)).elem) z) s2))))) out
-      ∙ ap₂ (λ h y. done (store_seen old w) (bind (checked o Index (place_span (place_of p.now)) (state_seen old w) y) (λ x1 s1. bind (checked h Divide op.span s1 (joined (op_bits op.operator op.elem) (flag_of set) (mapped (converted (place_type (place_of p.now)).elem op.elem) x1) (payload_of old.value))) (λ z s2. Gives tt (kept (gang_width old.program.now.gang) (frame_seen old.here) (place_seen q) (flag_of set) (mapped (converted op.elem (place_type (place_of p.now)).elem) z) s2))))) off (sym is)
+      ap (λ h. done (store_seen old w) (bind (checked h Index (place_span (place_of p.now)) (state_seen old w)
+      (held (gang_width old.program.now.gang) (frame_seen old.here) (place_seen q) (flag_of set) (state_seen old w)))
+      (λ x1 s1. bind (checked (offender (gang_width old.program.now.gang) (is_zero op.operator op.elem) (flag_of set) (payload_of old.value))
+      Divide op.span s1 (joined (op_bits op.operator op.elem) (flag_of set) (mapped (converted (place_type (place_of p.now)).elem op.elem) x1)
+      (payload_of old.value))) (λ z s2. Gives tt (kept (gang_width old.program.now.gang) (frame_seen old.here) (place_seen q) (flag_of set)
+      (mapped (converted op.elem (place_type (place_of p.now)).elem) z) s2))))) out
+      ∙ ap₂ (λ h y. done (store_seen old w) (bind (checked o Index (place_span (place_of p.now)) (state_seen old w) y)
+      (λ x1 s1. bind (checked h Divide op.span s1 (joined (op_bits op.operator op.elem) (flag_of set)
+      (mapped (converted (place_type (place_of p.now)).elem op.elem) x1) (payload_of old.value)))
+      (λ z s2. Gives tt (kept (gang_width old.program.now.gang) (frame_seen old.here) (place_seen q) (flag_of set)
+      (mapped (converted op.elem (place_type (place_of p.now)).elem) z) s2))))) off (sym is)
 
   pub update_does : (mid : Evaluator) (x z : Payload) → outside (gang_width old.program.now.gang) (frame_seen old.here) (place_seen q) (flag_of set) ≡ None
-      → offender (gang_width old.program.now.gang) (is_zero op.operator op.elem) (flag_of set) (payload_of old.value) ≡ None → ((w : ℕ) → x ≡ held (gang_width old.program.now.gang) (frame_seen old.here) (place_seen q) (flag_of set) (state_seen old w))
+      → offender (gang_width old.program.now.gang) (is_zero op.operator op.elem) (flag_of set) (payload_of old.value) ≡ None
+      → ((w : ℕ) → x ≡ held (gang_width old.program.now.gang) (frame_seen old.here) (place_seen q) (flag_of set) (state_seen old w))
       → z ≡ mapped (converted op.elem (place_type (place_of p.now)).elem) (joined (op_bits op.operator op.elem) (flag_of set) (mapped (converted (place_type (place_of p.now)).elem op.elem) x) (payload_of old.value))
       → Changes old mid (kept (gang_width old.program.now.gang) (frame_seen old.here) (place_seen q) (flag_of set) z) → Does old (record mid { value = computed.One 0 }) (task.Update op q p set)
   update_does mid x z out off is e c =
       changed_does old mid (task.Update op q p set) _ c
       (λ w. updated w None None x out off (is w) ∙ ap (λ y. done (store_seen old w) (Gives tt (kept (gang_width old.program.now.gang) (frame_seen old.here) (place_seen q) (flag_of set) y (state_seen old w)))) (sym e))
 
-  pub update_halts_outside : (new : Evaluator) (e : Stop) (i : ℕ) → outside (gang_width old.program.now.gang) (frame_seen old.here) (place_seen q) (flag_of set) ≡ Some i → new ≡ old → e ≡ stop.Trapped (trap Index (place_span (place_of p.now)) i) → Halts old new (does old (task.Update op q p set)) e
+  pub update_halts_outside : (new : Evaluator) (e : Stop) (i : ℕ)
+      → outside (gang_width old.program.now.gang) (frame_seen old.here) (place_seen q) (flag_of set) ≡ Some i → new ≡ old
+      → e ≡ stop.Trapped (trap Index (place_span (place_of p.now)) i) → Halts old new (does old (task.Update op q p set)) e
   update_halts_outside new e i some same is =
       trapped (trap Index (place_span (place_of p.now)) i) is (λ w. (w, updated w (Some i) _ _ some refl refl ∙ sym (ap (λ (x : Evaluator). Trapped (trap Index (place_span (place_of p.now)) i) (state_seen x w)) same)))
       (λ w k. counts_same old new w (ap work_of same) k)
 
-  pub update_halts_zero : (new : Evaluator) (e : Stop) (i : ℕ) → outside (gang_width old.program.now.gang) (frame_seen old.here) (place_seen q) (flag_of set) ≡ None → offender (gang_width old.program.now.gang) (is_zero op.operator op.elem) (flag_of set) (payload_of old.value) ≡ Some i
+  pub update_halts_zero : (new : Evaluator) (e : Stop) (i : ℕ)
+      → outside (gang_width old.program.now.gang) (frame_seen old.here) (place_seen q) (flag_of set) ≡ None
+      → offender (gang_width old.program.now.gang) (is_zero op.operator op.elem) (flag_of set) (payload_of old.value) ≡ Some i
       → new ≡ old → e ≡ stop.Trapped (trap Divide op.span i) → Halts old new (does old (task.Update op q p set)) e
   update_halts_zero new e i out some same is =
       trapped (trap Divide op.span i) is (λ w. (w, updated w None (Some i) _ out some refl ∙ sym (ap (λ (x : Evaluator). Trapped (trap Divide op.span i) (state_seen x w)) same)))
@@ -105,13 +127,15 @@ module _ (old : Evaluator) (op : Operation) (q : rust_place.Place) (p : Bor Type
 
 module _ (old new : Evaluator) (p : Bor TypedPlace) (q : rust_place.Place) (set : List Bool) where
   assigned_next : (r : Store) (sp : Span) (v : Val Payload) (next : Store → Goes)
-      → go (done r (bind v (λ m s. bind (checked (outside (gang_width old.program.now.gang) r.frame (place_seen q) (flag_of set)) Index sp s m) (λ n s1. Gives tt (kept (gang_width old.program.now.gang) r.frame (place_seen q) (flag_of set) n s1))))) next
+      → go (done r (bind v (λ m s. bind (checked (outside (gang_width old.program.now.gang) r.frame (place_seen q) (flag_of set)) Index sp s m)
+      (λ n s1. Gives tt (kept (gang_width old.program.now.gang) r.frame (place_seen q) (flag_of set) n s1))))) next
       ≡ go (given r v) (λ k. go (does old (task.Assign q sp set) k) next)
   assigned_next r sp (Gives m s) next = refl
   assigned_next r sp (Fails t s) next = refl
   assigned_next r sp (Stops s) next = refl
 
-  pub placed_assign : (y : Bor TypedExpr) (sp : Span) (w : Writing) → w ≡ writing.Assign y → sp ≡ place_span (place_of p.now) → First old new (task.Value y set) (task.Assign q sp set) → Comes old new (writes old w (place_of p.now) (place_seen q) (flag_of set))
+  pub placed_assign : (y : Bor TypedExpr) (sp : Span) (w : Writing) → w ≡ writing.Assign y → sp ≡ place_span (place_of p.now)
+      → First old new (task.Value y set) (task.Assign q sp set) → Comes old new (writes old w (place_of p.now) (place_seen q) (flag_of set))
   placed_assign y sp w is e f =
       subst (λ k. Comes old new (writes old k (place_of p.now) (place_seen q) (flag_of set))) (sym is)
       (record {
@@ -133,13 +157,23 @@ module _ (old new : Evaluator) (p : Bor TypedPlace) (q : rust_place.Place) (set 
   pub placed_update : (op : Operation) (y : Bor TypedExpr) (w : Writing) → w ≡ writing.Update op y → First old new (task.Value y set) (task.Update op q p set) → Comes old new (writes old w (place_of p.now) (place_seen q) (flag_of set))
   placed_update op y w is f =
       subst (λ k. Comes old new (writes old k (place_of p.now) (place_seen q) (flag_of set))) (sym is)
-      (record { by = λ n. (n, updated_next (store_seen old n) op (value_at (program_of old.program.now) old.turns (store_seen old n) (expr_of y.now) (flag_of set) (state_seen old n)) (rest old) ∙ sym (f.by n)); counts = λ n k. counts_same old new n f.work k })
+      (record {
+        by = λ n. (
+          n,
+          updated_next (store_seen old n) op
+              (value_at (program_of old.program.now) old.turns (store_seen old n) (expr_of y.now) (flag_of set) (state_seen old n)) (rest old)
+              ∙ sym (f.by n),
+        );
+        counts = λ n k. counts_same old new n f.work k;
+      })
 
   pub placed_step : (op : Operation) (w : Writing) → w ≡ writing.Step op → Does (record old { value = computed.One 1 }) new (task.Update op q p set) → Comes old new (writes old w (place_of p.now) (place_seen q) (flag_of set))
   placed_step op w is d =
       subst (λ k. Comes old new (writes old k (place_of p.now) (place_seen q) (flag_of set))) (sym is) (record { by = λ n. d.by n; counts = λ n k. d.counts n k })
 
-  pub placed_step_halts : (op : Operation) (w : Writing) (e : Stop) → w ≡ writing.Step op → Halts (record old { value = computed.One 1 }) new (does old (task.Update op q p set)) e → Halts old new (writes old w (place_of p.now) (place_seen q) (flag_of set)) e
+  pub placed_step_halts : (op : Operation) (w : Writing) (e : Stop) → w ≡ writing.Step op
+      → Halts (record old { value = computed.One 1 }) new (does old (task.Update op q p set)) e
+      → Halts old new (writes old w (place_of p.now) (place_seen q) (flag_of set)) e
   placed_step_halts op w e is h = subst (λ k. Halts old new (writes old k (place_of p.now) (place_seen q) (flag_of set)) e) (sym is) (by h)
     where
       by : Halts (record old { value = computed.One 1 }) new (does old (task.Update op q p set)) e → Halts old new (writes old (writing.Step op) (place_of p.now) (place_seen q) (flag_of set)) e
@@ -150,29 +184,41 @@ module _ (old new : Evaluator) (p : Bor TypedPlace) (q : rust_place.Place) (set 
 -- ---- the place that is written: its index comes first
 
 -- the registers are not looked at
-write_in : (old : Evaluator) (w : Writing) (p : TPlace) (q : Place) (a : Mask) (r : Store) (t : State) (m : Payload) (s : State) → write (program_of old.program.now) old.turns w p q a r s ≡ write (program_of old.program.now) old.turns w p q a (record r { state = t; value = m }) s
+write_in : (old : Evaluator) (w : Writing) (p : TPlace) (q : Place) (a : Mask) (r : Store) (t : State) (m : Payload) (s : State)
+    → write (program_of old.program.now) old.turns w p q a r s
+    ≡ write (program_of old.program.now) old.turns w p q a (record r { state = t; value = m }) s
 write_in old (writing.Assign x) p q a r t m s = refl
 write_in old (writing.Update op x) p q a r t m s = refl
 write_in old (writing.Step op) p q a r t m s = refl
 
-pub target_variable : (old new : Evaluator) (work : Work) (one : Adds old work 1) (p : Bor TypedPlace) (set : List Bool) (w : Writing) (v : ℕ) (t : Ty) (sp : Span) → place_of p.now ≡ t_variable v t sp → Comes (record old { work = work }) new (writes old w (place_of p.now) (Variable v t) (flag_of set)) → Comes old new (targets old w (place_of p.now) (flag_of set))
+pub target_variable : (old new : Evaluator) (work : Work) (one : Adds old work 1) (p : Bor TypedPlace) (set : List Bool) (w : Writing) (v : ℕ)
+    (t : Ty) (sp : Span) → place_of p.now ≡ t_variable v t sp
+    → Comes (record old { work = work }) new (writes old w (place_of p.now) (Variable v t) (flag_of set))
+    → Comes old new (targets old w (place_of p.now) (flag_of set))
 target_variable old new work one p set w v t sp is c =
     record {
       by = λ n. (
         (c.by (n + 1)).0,
-        ap (λ k. go (done (store_seen old n) (bind (place (gang_width old.program.now.gang) (frame_seen old.here) (calls_in (program_of old.program.now) old.turns (store_seen old n)) k (flag_of set) (state_seen old n)) (λ q s. write (program_of old.program.now) old.turns w (place_of p.now) q (flag_of set) (store_seen old n) s))) (rest old)) is
+        ap (λ k. go (done (store_seen old n) (bind (place (gang_width old.program.now.gang) (frame_seen old.here)
+            (calls_in (program_of old.program.now) old.turns (store_seen old n)) k (flag_of set) (state_seen old n))
+            (λ q s. write (program_of old.program.now) old.turns w (place_of p.now) q (flag_of set) (store_seen old n) s))) (rest old)) is
             ∙ ap (λ u. go (done (store_seen old n) u) (rest old)) (write_in old w (place_of p.now) (Variable v t) (flag_of set) (store_seen old n) (state_seen old (n + 1)) (payload_of old.value) (state_seen old (n + 1)))
             ∙ (c.by (n + 1)).1,
       );
       counts = λ n k. c.counts (n + 1) (counts_more old work 1 n one k);
     }
 
-pub target_variable_halts : (old new : Evaluator) (work : Work) (one : Adds old work 1) (p : Bor TypedPlace) (set : List Bool) (w : Writing) (v : ℕ) (t : Ty) (sp : Span) (e : Stop) → place_of p.now ≡ t_variable v t sp → Halts (record old { work = work }) new (writes old w (place_of p.now) (Variable v t) (flag_of set)) e → Halts old new (targets old w (place_of p.now) (flag_of set)) e
+pub target_variable_halts : (old new : Evaluator) (work : Work) (one : Adds old work 1) (p : Bor TypedPlace) (set : List Bool) (w : Writing) (v : ℕ)
+    (t : Ty) (sp : Span) (e : Stop) → place_of p.now ≡ t_variable v t sp
+    → Halts (record old { work = work }) new (writes old w (place_of p.now) (Variable v t) (flag_of set)) e
+    → Halts old new (targets old w (place_of p.now) (flag_of set)) e
 target_variable_halts old new work one p set w v t sp e is h = by h
   where
     step : (n : ℕ) → targets old w (place_of p.now) (flag_of set) (store_seen old n) ≡ writes old w (place_of p.now) (Variable v t) (flag_of set) (store_seen old (n + 1))
     step n =
-        ap (λ k. done (store_seen old n) (bind (place (gang_width old.program.now.gang) (frame_seen old.here) (calls_in (program_of old.program.now) old.turns (store_seen old n)) k (flag_of set) (state_seen old n)) (λ q s. write (program_of old.program.now) old.turns w (place_of p.now) q (flag_of set) (store_seen old n) s))) is
+        ap (λ k. done (store_seen old n) (bind (place (gang_width old.program.now.gang) (frame_seen old.here)
+        (calls_in (program_of old.program.now) old.turns (store_seen old n)) k (flag_of set) (state_seen old n))
+        (λ q s. write (program_of old.program.now) old.turns w (place_of p.now) q (flag_of set) (store_seen old n) s))) is
         ∙ ap (done (store_seen old n)) (write_in old w (place_of p.now) (Variable v t) (flag_of set) (store_seen old n) (state_seen old (n + 1)) (payload_of old.value) (state_seen old (n + 1)))
 
     by : Halts (record old { work = work }) new (writes old w (place_of p.now) (Variable v t) (flag_of set)) e → Halts old new (targets old w (place_of p.now) (flag_of set)) e
@@ -185,30 +231,44 @@ element_next : (old : Evaluator) (p : Bor TypedPlace) (set : List Bool) (w : Wri
     ≡ go (given r v) (λ k. go (does old (task.Indexed p b e w set) k) next)
 element_next old p set w b e r (Gives m s) next = by w
   where
-    by : (w : Writing) → go (done r (write (program_of old.program.now) old.turns w (place_of p.now) (Element b e m) (flag_of set) r s)) next ≡ go (done (record r { state = s; value = m }) (write (program_of old.program.now) old.turns w (place_of p.now) (Element b e m) (flag_of set) (record r { state = s; value = m }) s)) next
+    by : (w : Writing) → go (done r (write (program_of old.program.now) old.turns w (place_of p.now) (Element b e m) (flag_of set) r s)) next
+        ≡ go (done (record r { state = s; value = m }) (write (program_of old.program.now) old.turns w (place_of p.now) (Element b e m) (flag_of set)
+        (record r { state = s; value = m }) s)) next
     by (writing.Assign x) = refl
     by (writing.Update op x) = refl
     by (writing.Step op) = refl
 element_next old p set w b e r (Fails x s) next = refl
 element_next old p set w b e r (Stops s) next = refl
 
-pub target_element : (old new : Evaluator) (work : Work) (one : Adds old work 1) (p : Bor TypedPlace) (y : Bor TypedExpr) (set : List Bool) (w : Writing) (b : ArrayVariable) (e : Elem) (t : Ty) (sp : Span) → e ≡ (type_of (expr_of y.now)).elem → place_of p.now ≡ t_element b (expr_of y.now) t sp → First (record old { work = work }) new (task.Value y set) (task.Indexed p b e w set) → Comes old new (targets old w (place_of p.now) (flag_of set))
+pub target_element : (old new : Evaluator) (work : Work) (one : Adds old work 1) (p : Bor TypedPlace) (y : Bor TypedExpr) (set : List Bool)
+    (w : Writing) (b : ArrayVariable) (e : Elem) (t : Ty) (sp : Span) → e ≡ (type_of (expr_of y.now)).elem
+    → place_of p.now ≡ t_element b (expr_of y.now) t sp → First (record old { work = work }) new (task.Value y set) (task.Indexed p b e w set)
+    → Comes old new (targets old w (place_of p.now) (flag_of set))
 target_element old new work one p y set w b e t sp typed is f =
     record {
       by = λ n. (
         n + 1,
-        ap (λ k. go (done (store_seen old n) (bind (place (gang_width old.program.now.gang) (frame_seen old.here) (calls_in (program_of old.program.now) old.turns (store_seen old n)) k (flag_of set) (state_seen old n)) (λ q s. write (program_of old.program.now) old.turns w (place_of p.now) q (flag_of set) (store_seen old n) s))) (rest old)) is
+        ap (λ k. go (done (store_seen old n) (bind (place (gang_width old.program.now.gang) (frame_seen old.here)
+            (calls_in (program_of old.program.now) old.turns (store_seen old n)) k (flag_of set) (state_seen old n))
+            (λ q s. write (program_of old.program.now) old.turns w (place_of p.now) q (flag_of set) (store_seen old n) s))) (rest old)) is
             ∙ by w n
             ∙ sym ((subst (λ k. First (record old { work = work }) new (task.Value y set) (task.Indexed p b k w set)) typed f).by (n + 1)),
       );
       counts = λ n k. counts_one old new work n one f.work k;
     }
   where
-    by : (w : Writing) (n : ℕ) → go (done (store_seen old n) (bind (place (gang_width old.program.now.gang) (frame_seen old.here) (calls_in (program_of old.program.now) old.turns (store_seen old n)) (t_element b (expr_of y.now) t sp) (flag_of set) (state_seen old n)) (λ q s. write (program_of old.program.now) old.turns w (place_of p.now) q (flag_of set) (store_seen old n) s))) (rest old)
-        ≡ go (given (store_seen old (n + 1)) (value_at (program_of old.program.now) old.turns (store_seen old (n + 1)) (expr_of y.now) (flag_of set) (state_seen old (n + 1)))) (λ k. go (does old (task.Indexed p b (type_of (expr_of y.now)).elem w set) k) (rest old))
-    by (writing.Assign x) n = element_next old p set (writing.Assign x) b (type_of (expr_of y.now)).elem (store_seen old (n + 1)) (value_at (program_of old.program.now) old.turns (store_seen old (n + 1)) (expr_of y.now) (flag_of set) (state_seen old (n + 1))) (rest old)
-    by (writing.Update op x) n = element_next old p set (writing.Update op x) b (type_of (expr_of y.now)).elem (store_seen old (n + 1)) (value_at (program_of old.program.now) old.turns (store_seen old (n + 1)) (expr_of y.now) (flag_of set) (state_seen old (n + 1))) (rest old)
-    by (writing.Step op) n = element_next old p set (writing.Step op) b (type_of (expr_of y.now)).elem (store_seen old (n + 1)) (value_at (program_of old.program.now) old.turns (store_seen old (n + 1)) (expr_of y.now) (flag_of set) (state_seen old (n + 1))) (rest old)
+    by : (w : Writing) (n : ℕ) → go (done (store_seen old n)
+        (bind (place (gang_width old.program.now.gang) (frame_seen old.here) (calls_in (program_of old.program.now) old.turns (store_seen old n))
+        (t_element b (expr_of y.now) t sp) (flag_of set) (state_seen old n))
+        (λ q s. write (program_of old.program.now) old.turns w (place_of p.now) q (flag_of set) (store_seen old n) s))) (rest old)
+        ≡ go (given (store_seen old (n + 1)) (value_at (program_of old.program.now) old.turns (store_seen old (n + 1)) (expr_of y.now) (flag_of set)
+        (state_seen old (n + 1)))) (λ k. go (does old (task.Indexed p b (type_of (expr_of y.now)).elem w set) k) (rest old))
+    by (writing.Assign x) n = element_next old p set (writing.Assign x) b (type_of (expr_of y.now)).elem (store_seen old (n + 1))
+        (value_at (program_of old.program.now) old.turns (store_seen old (n + 1)) (expr_of y.now) (flag_of set) (state_seen old (n + 1))) (rest old)
+    by (writing.Update op x) n = element_next old p set (writing.Update op x) b (type_of (expr_of y.now)).elem (store_seen old (n + 1))
+        (value_at (program_of old.program.now) old.turns (store_seen old (n + 1)) (expr_of y.now) (flag_of set) (state_seen old (n + 1))) (rest old)
+    by (writing.Step op) n = element_next old p set (writing.Step op) b (type_of (expr_of y.now)).elem (store_seen old (n + 1))
+        (value_at (program_of old.program.now) old.turns (store_seen old (n + 1)) (expr_of y.now) (flag_of set) (state_seen old (n + 1))) (rest old)
 
 -- ---- what stands before a semicolon
 
@@ -245,14 +305,20 @@ module _ (old new : Evaluator) (work : Work) (one : Adds old work 1) (x : Bor Ty
         counts = λ w k. counts_one old new work w one f.work k;
       }
 
-  targeted : (p : TPlace) (w : Writing) (n : TSimple) → simple_of x.now ≡ n → ((k : ℕ) → simply n k ≡ targets old w p (flag_of set) (store_seen old (k + 1))) → (k : ℕ) → does old (task.Simple x set) (store_seen old k) ≡ targets old w p (flag_of set) (store_seen old (k + 1))
+  targeted : (p : TPlace) (w : Writing) (n : TSimple) → simple_of x.now ≡ n
+      → ((k : ℕ) → simply n k ≡ targets old w p (flag_of set) (store_seen old (k + 1))) → (k : ℕ)
+      → does old (task.Simple x set) (store_seen old k) ≡ targets old w p (flag_of set) (store_seen old (k + 1))
   targeted p w n is whole k = ap (λ m. simply m k) is ∙ whole k
 
-  pub simple_target : (p : TPlace) (w : Writing) (n : TSimple) → simple_of x.now ≡ n → ((k : ℕ) → simply n k ≡ targets old w p (flag_of set) (store_seen old (k + 1))) → Comes (record old { work = work }) new (targets old w p (flag_of set)) → Does old new (task.Simple x set)
+  pub simple_target : (p : TPlace) (w : Writing) (n : TSimple) → simple_of x.now ≡ n
+      → ((k : ℕ) → simply n k ≡ targets old w p (flag_of set) (store_seen old (k + 1)))
+      → Comes (record old { work = work }) new (targets old w p (flag_of set)) → Does old new (task.Simple x set)
   simple_target p w n is whole c =
       record { by = λ k. ((c.by (k + 1)).0, ap (λ g. go g (rest old)) (targeted p w n is whole k) ∙ (c.by (k + 1)).1); counts = λ k m. c.counts (k + 1) (counts_more old work 1 k one m) }
 
-  pub simple_target_halts : (p : TPlace) (w : Writing) (n : TSimple) (e : Stop) → simple_of x.now ≡ n → ((k : ℕ) → simply n k ≡ targets old w p (flag_of set) (store_seen old (k + 1))) → Halts (record old { work = work }) new (targets old w p (flag_of set)) e → Halts old new (does old (task.Simple x set)) e
+  pub simple_target_halts : (p : TPlace) (w : Writing) (n : TSimple) (e : Stop) → simple_of x.now ≡ n
+      → ((k : ℕ) → simply n k ≡ targets old w p (flag_of set) (store_seen old (k + 1)))
+      → Halts (record old { work = work }) new (targets old w p (flag_of set)) e → Halts old new (does old (task.Simple x set)) e
   simple_target_halts p w n e is whole h = by h
     where
       by : Halts (record old { work = work }) new (targets old w p (flag_of set)) e → Halts old new (does old (task.Simple x set)) e
@@ -267,7 +333,15 @@ declared_does old mid v t set c = changed_does old mid (task.Declared v t set) _
 
 pub no_items : (old : Evaluator) (xs : Bor (List TypedItem)) (set : List Bool) → xs.now ≡ [] → Does old (record old { value = computed.One 0 }) (task.Items xs set)
 no_items old xs set is =
-    record { by = λ w. (w, ap (λ ys. go (done (store_seen old w) (items (gang_width old.program.now.gang) (frame_seen old.here) (calls_in (program_of old.program.now) old.turns (store_seen old w)) (items_of ys) (flag_of set) (state_seen old w))) (rest old)) is); counts = λ w k. k }
+    record {
+      by = λ w. (
+        w,
+        ap (λ ys. go (done (store_seen old w)
+            (items (gang_width old.program.now.gang) (frame_seen old.here) (calls_in (program_of old.program.now) old.turns (store_seen old w))
+            (items_of ys) (flag_of set) (state_seen old w))) (rest old)) is,
+      );
+      counts = λ w k. k;
+    }
 
 items_next : (old : Evaluator) (ys : Bor (List TypedItem)) (set : List Bool) (r : Store) (v : Val Done) (next : Store → Goes)
     → go (done r (bind v (λ _ s. items (gang_width old.program.now.gang) r.frame (calls_in (program_of old.program.now) old.turns r) (items_of ys.now) (flag_of set) s))) next ≡ go (done r v) (λ k. go (does old (task.Items ys set) k) next)
@@ -275,7 +349,8 @@ items_next old ys set r (Gives x s) next = refl
 items_next old ys set r (Fails t s) next = refl
 items_next old ys set r (Stops s) next = refl
 
-pub one_item : (old mid new : Evaluator) (xs ys : Bor (List TypedItem)) (x : TypedItem) (set : List Bool) → xs.now ≡ x ∷ ys.now → Later old mid (task.Items ys set) → Comes mid new (declares mid (item_of x) (flag_of set)) → Does old new (task.Items xs set)
+pub one_item : (old mid new : Evaluator) (xs ys : Bor (List TypedItem)) (x : TypedItem) (set : List Bool) → xs.now ≡ x ∷ ys.now
+    → Later old mid (task.Items ys set) → Comes mid new (declares mid (item_of x) (flag_of set)) → Does old new (task.Items xs set)
 one_item old mid new xs ys x set is l c =
     record {
       by = λ w. (
@@ -304,12 +379,16 @@ module _ (old : Evaluator) (work : Work) (one : Adds old work 1) (x : TypedItem)
         counts = λ w k. counts_one old new work w one (ap work_of c.same) k;
       }
 
-item_valued : (old : Evaluator) (v : ℕ) (t : Ty) (set : List Bool) (r : Store) (m : Val Payload) (next : Store → Goes) → go (done r (bind m (λ x s. Gives tt (written t.rate v (flag_of set) x s)))) next ≡ go (given r m) (λ k. go (does old (task.Declared v t set) k) next)
+item_valued : (old : Evaluator) (v : ℕ) (t : Ty) (set : List Bool) (r : Store) (m : Val Payload) (next : Store → Goes)
+    → go (done r (bind m (λ x s. Gives tt (written t.rate v (flag_of set) x s)))) next
+    ≡ go (given r m) (λ k. go (does old (task.Declared v t set) k) next)
 item_valued old v t set r (Gives x s) next = refl
 item_valued old v t set r (Fails x s) next = refl
 item_valued old v t set r (Stops s) next = refl
 
-pub item_with_value : (old new : Evaluator) (work : Work) (one : Adds old work 1) (x : TypedItem) (y : Bor TypedExpr) (set : List Bool) (v : ℕ) (t : Ty) (sp : Span) → item_of x ≡ t_with_value v t (expr_of y.now) sp → First (record old { work = work }) new (task.Value y set) (task.Declared v t set) → Comes old new (declares old (item_of x) (flag_of set))
+pub item_with_value : (old new : Evaluator) (work : Work) (one : Adds old work 1) (x : TypedItem) (y : Bor TypedExpr) (set : List Bool) (v : ℕ)
+    (t : Ty) (sp : Span) → item_of x ≡ t_with_value v t (expr_of y.now) sp
+    → First (record old { work = work }) new (task.Value y set) (task.Declared v t set) → Comes old new (declares old (item_of x) (flag_of set))
 item_with_value old new work one x y set v t sp is f =
     record {
       by = λ w. (

@@ -103,10 +103,12 @@ pub record Opening (vs : List Variable) (ps : List Passed) (start sizes names : 
 pub opening_begins : (vs : List Variable) (ps : List Passed) (start : List ℕ) → Opening vs ps start start [] 0
 opening_begins vs ps start = record { sized = sym (append-nil start); named = listed_none (λ x. x) 0 (named_at vs ps (length start)) }
 
-pub opening_next : (vs : List Variable) (ps : List Passed) (start sizes more names : List ℕ) (x i : ℕ) → Opening vs ps start sizes names i → x ≡ store_or (slice_get ps i) (length sizes) → more ≡ sizes ++ opened_by (slice_get vs i) → Opening vs ps start more (names ++ x ∷ []) (i + 1)
+pub opening_next : (vs : List Variable) (ps : List Passed) (start sizes more names : List ℕ) (x i : ℕ) → Opening vs ps start sizes names i
+    → x ≡ store_or (slice_get ps i) (length sizes) → more ≡ sizes ++ opened_by (slice_get vs i) → Opening vs ps start more (names ++ x ∷ []) (i + 1)
 opening_next vs ps start sizes more names x i o is e =
     record {
-      sized = e ∙ ap (λ xs. xs ++ opened_by (slice_get vs i)) o.sized ∙ append_assoc start (shared_sizes (take i vs)) (opened_by (slice_get vs i)) ∙ ap (λ xs. start ++ xs) (sym (shared_next vs i)) ∙ (let e : suc i ≡ i + 1 = omega arith in ap (λ k. start ++ shared_sizes (take k vs)) e);
+      sized = e ∙ ap (λ xs. xs ++ opened_by (slice_get vs i)) o.sized ∙ append_assoc start (shared_sizes (take i vs)) (opened_by (slice_get vs i))
+          ∙ ap (λ xs. start ++ xs) (sym (shared_next vs i)) ∙ (let e : suc i ≡ i + 1 = omega arith in ap (λ k. start ++ shared_sizes (take k vs)) e);
       named = listed_more (λ x. x) 0 (named_at vs ps (length start)) names x i o.named (is ∙ ap (store_or (slice_get ps i)) (ap length o.sized ∙ length-append start (shared_sizes (take i vs))));
     }
 
@@ -179,7 +181,9 @@ frame_begun g ps caller vs start names sizes ev es sized named =
 abbrev pub state_with : (ℕ → ℕ) → (ℕ → Lanes) → (ℕ → ℕ → Lanes) → Lanes → (ℕ → ℕ → ℕ) → State → State
 state_with u v o z b s = record { uniforms = u; varying = v; own = o; result = 0; results = z; arrays = b; out = s.out; work = s.work }
 
-pub state_begun : (g : TypedFunction) (ps : List Passed) (caller : Activation) (a : Mask) (s : State) (vs : List Variable) (us : List ℕ) (ls : List (List ℕ)) (os : List (Vec (List ℕ) Global)) → vs ≡ g.variables.items → values_of us ≡ one_at vs ps → lanes_of ls ≡ each_at vs ps a → os ≡ []
+pub state_begun : (g : TypedFunction) (ps : List Passed) (caller : Activation) (a : Mask) (s : State) (vs : List Variable) (us : List ℕ)
+    (ls : List (List ℕ)) (os : List (Vec (List ℕ) Global)) → vs ≡ g.variables.items → values_of us ≡ one_at vs ps → lanes_of ls ≡ each_at vs ps a
+    → os ≡ []
     → state_with (values_of us) (lanes_of ls) (own_of os) (lane_of (replicate widest 0)) (below (length caller.sizes.items) s.arrays) s ≡ begun (function_of g) ps (frame_seen caller) a s
 state_begun g ps caller a s vs us ls os ev eu el eo =
     let b = below (length caller.sizes.items) s.arrays in

@@ -41,7 +41,9 @@ one_more x e d f m is = union_assoc e d m ∙ ap (λ (z : Mask). union z m) (sym
 
 pub both_left : (e d f : Exits) → Both e d f → (v : Res) → go_on (go_on v (left_too d)) (left_too e) ≡ go_on v (left_too f)
 both_left e d f h (Went s g b c q) =
-    went_same s g _ _ _ _ _ _ (one_more b (flag_of e.broke) (flag_of d.broke) (flag_of f.broke) b h.broke) (one_more c (flag_of e.continued) (flag_of d.continued) (flag_of f.continued) c h.continued) (one_more q (flag_of e.returned) (flag_of d.returned) (flag_of f.returned) q h.returned)
+    went_same s g _ _ _ _ _ _ (one_more b (flag_of e.broke) (flag_of d.broke) (flag_of f.broke) b h.broke)
+    (one_more c (flag_of e.continued) (flag_of d.continued) (flag_of f.continued) c h.continued)
+    (one_more q (flag_of e.returned) (flag_of d.returned) (flag_of f.returned) q h.returned)
 both_left e d f h (Outcomes.Trapped t s) = refl
 both_left e d f h (Outcomes.Cut s) = refl
 
@@ -65,13 +67,16 @@ next_law r e (Outcomes.Cut s) h = refl
 
 module _ (old new : Evaluator) where
   -- nothing is left of a block
-  pub block_ends : (xs : List TypedStmt) (before : Exits) (set : List Bool) (sets : Sets) → xs ≡ [] → sets ≡ record { went = set; exits = before } → new ≡ record old { value = computed.One 0; sets = sets } → Comes old new (runs_all old xs before (flag_of set))
+  pub block_ends : (xs : List TypedStmt) (before : Exits) (set : List Bool) (sets : Sets) → xs ≡ [] → sets ≡ record { went = set; exits = before }
+      → new ≡ record old { value = computed.One 0; sets = sets } → Comes old new (runs_all old xs before (flag_of set))
   block_ends xs before set sets none is same =
       subst (λ (ys : List TypedStmt). Comes old new (runs_all old ys before (flag_of set))) (sym none)
       (leaves old new (runs_all old [] before (flag_of set)) sets (parts_seen (record { went = set; exits = before })) same (ap parts_seen is) (λ w. ap (ran (store_seen old w)) (all_and_left before (flag_of set) (state_seen old w))))
 
   -- the next statement, and then the others
-  pub block_goes : (xs ys : List TypedStmt) (x : Bor TypedStmt) (b : Box Statements Global) (before : Exits) (set : List Bool) → xs ≡ x.now ∷ ys → b.value.rest.now ≡ ys → b.value.before ≡ before → First old new (task.Run x set) (task.Statements b) → Comes old new (runs_all old xs before (flag_of set))
+  pub block_goes : (xs ys : List TypedStmt) (x : Bor TypedStmt) (b : Box Statements Global) (before : Exits) (set : List Bool) → xs ≡ x.now ∷ ys
+      → b.value.rest.now ≡ ys → b.value.before ≡ before → First old new (task.Run x set) (task.Statements b)
+      → Comes old new (runs_all old xs before (flag_of set))
   block_goes xs ys x b before set is others sofar f =
       subst (λ (zs : List TypedStmt). Comes old new (runs_all old zs before (flag_of set))) (sym is)
       (subst (λ (e : Exits). Comes old new (runs_all old (x.now ∷ ys) e (flag_of set))) sofar
@@ -79,7 +84,10 @@ module _ (old new : Evaluator) where
       (record {
         by = λ w. (
           w,
-          ap (λ g. go g (rest old)) (next_law (store_seen old w) b.value.before (run_in (program_of old.program.now) old.turns (store_seen old w).frame (store_seen old w).left (stmt_of x.now) (flag_of set) (state_seen old w)) (λ fr l g s. unless_empty (gang_width old.program.now.gang) g s (all_in (program_of old.program.now) old.turns fr l (stmts_of b.value.rest.now))))
+          ap (λ g. go g (rest old)) (next_law (store_seen old w) b.value.before
+              (run_in (program_of old.program.now) old.turns (store_seen old w).frame (store_seen old w).left (stmt_of x.now) (flag_of set)
+              (state_seen old w)) (λ fr l g s. unless_empty (gang_width old.program.now.gang) g s
+              (all_in (program_of old.program.now) old.turns fr l (stmts_of b.value.rest.now))))
               ∙ go_twice (ran (store_seen old w) (run_in (program_of old.program.now) old.turns (store_seen old w).frame (store_seen old w).left (stmt_of x.now) (flag_of set) (state_seen old w))) (does old (task.Statements b)) (rest old)
               ∙ sym (f.by w),
         );
@@ -101,7 +109,9 @@ module _ (old new : Evaluator) where
       ∙ ap (ran r) (both_left b.value.before old.sets.exits e (subst (λ (z : Statements). Both z.before old.sets.exits e) ex both) (f (flag_of old.sets.went) r.state)))
       (subst (λ (z : Statements). Comes old new (runs_all old z.rest.now e (flag_of old.sets.went))) ey c)
 
-  pub nobody_went_on : (b : Box Statements Global) (x : Statements) (sets : Sets) (e : Exits) → x ≡ b.value → any (gang_width old.program.now.gang) (flag_of old.sets.went) ≡ false → Both x.before old.sets.exits e → sets ≡ record { went = old.sets.went; exits = e }
+  pub nobody_went_on : (b : Box Statements Global) (x : Statements) (sets : Sets) (e : Exits) → x ≡ b.value
+      → any (gang_width old.program.now.gang) (flag_of old.sets.went) ≡ false → Both x.before old.sets.exits e
+      → sets ≡ record { went = old.sets.went; exits = e }
       → new ≡ record old { value = computed.One 0; sets = sets } → Comes old new (does old (task.Statements b))
   nobody_went_on b x sets e ex none both is same =
       leaves old new (does old (task.Statements b)) sets (parts_seen (record { went = old.sets.went; exits = e })) same (ap parts_seen is)
@@ -114,7 +124,8 @@ module _ (old new : Evaluator) where
 block_view : (b : TypedBlock) → block_of b ≡ t_braces (t_stmts (stmts_of b.statements.items)) b.span
 block_view b = fold_out-TypedBlock TStmt TBlock stmt_step block_step b
 
-pub block_comes : (old new : Evaluator) (work : Work) (one : Adds old work 1) (b : Bor TypedBlock) (set : List Bool) (xs : List TypedStmt) (e : Exits) → xs ≡ b.now.statements.items → flag_of e.broke ≡ nobody → flag_of e.continued ≡ nobody → flag_of e.returned ≡ nobody
+pub block_comes : (old new : Evaluator) (work : Work) (one : Adds old work 1) (b : Bor TypedBlock) (set : List Bool) (xs : List TypedStmt) (e : Exits)
+    → xs ≡ b.now.statements.items → flag_of e.broke ≡ nobody → flag_of e.continued ≡ nobody → flag_of e.returned ≡ nobody
     → Comes (record old { work = work }) new (runs_all old xs e (flag_of set)) → Comes old new (blocks old (block_of b.now) (flag_of set))
 block_comes old new work one b set xs e all eb ec eq c =
     record {

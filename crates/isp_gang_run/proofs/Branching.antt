@@ -75,14 +75,18 @@ module _ (old mid new : Evaluator) where
       → Comes mid new (runs mid x (flag_of set)) → Comes old new (runs_then old x (flag_of set) t)
   some_then x set t is i s c =
       comes_same old new (runs_then old x (flag_of set) t) (λ r. go (runs old x (flag_of set) r) (does old t))
-      (λ w. ap (λ b. go (ran (store_seen old w) (if_so b (perhaps_run (program_of old.program.now) old.turns (store_seen old w).frame (store_seen old w).left (option_map (λ y. stmt_of y.now) x) (flag_of set)) (went_all (flag_of set)) (state_seen old w))) (does old t)) is)
+      (λ w. ap (λ b. go (ran (store_seen old w) (if_so b
+      (perhaps_run (program_of old.program.now) old.turns (store_seen old w).frame (store_seen old w).left (option_map (λ y. stmt_of y.now) x)
+      (flag_of set)) (went_all (flag_of set)) (state_seen old w))) (does old t)) is)
       (comes_then t (λ e. runs e x (flag_of set)) i s (ap (λ e. runs e x (flag_of set)) s) c)
 
   pub none_then : (x : Option (Bor TypedStmt)) (set : List Bool) (sets : Sets) (t : Task) → any (gang_width old.program.now.gang) (flag_of set) ≡ false → mid.tasks.items ≡ old.tasks.items ++ t ∷ [] → mid ≡ record old { tasks = mid.tasks }
       → parts_seen sets ≡ all_parts (flag_of set) → new ≡ record mid { value = computed.One 0; sets = sets } → Comes old new (runs_then old x (flag_of set) t)
   none_then x set sets t isnt i s e same =
       comes_same old new (runs_then old x (flag_of set) t) (λ r. go (runs old None (flag_of set) r) (does old t))
-      (λ w. ap (λ b. go (ran (store_seen old w) (if_so b (perhaps_run (program_of old.program.now) old.turns (store_seen old w).frame (store_seen old w).left (option_map (λ y. stmt_of y.now) x) (flag_of set)) (went_all (flag_of set)) (state_seen old w))) (does old t)) isnt)
+      (λ w. ap (λ b. go (ran (store_seen old w) (if_so b
+      (perhaps_run (program_of old.program.now) old.turns (store_seen old w).frame (store_seen old w).left (option_map (λ y. stmt_of y.now) x)
+      (flag_of set)) (went_all (flag_of set)) (state_seen old w))) (does old t)) isnt)
       (comes_then t (λ e. runs e None (flag_of set)) i s (ap (λ e. runs e None (flag_of set)) s) (all_go_on mid new set sets None refl e same))
 
 -- ---- both branches
@@ -113,18 +117,27 @@ module _ (old new : Evaluator) where
   pub second_branch : (b : Box Branches Global) → Comes old new (runs_then old b.value.otherwise (flag_of b.value.set) (task.Unite old.sets)) → Comes old new (does old (task.Second b))
   second_branch b c =
       comes_same old new (does old (task.Second b)) (runs_then old b.value.otherwise (flag_of b.value.set) (task.Unite old.sets))
-      (λ w. unite_law (store_seen old w) (parts_seen old.sets) (unless_empty (gang_width old.program.now.gang) (flag_of b.value.set) (state_seen old w) (perhaps_run (program_of old.program.now) old.turns (store_seen old w).frame (store_seen old w).left (option_map (λ y. stmt_of y.now) b.value.otherwise)))) c
+      (λ w. unite_law (store_seen old w) (parts_seen old.sets)
+      (unless_empty (gang_width old.program.now.gang) (flag_of b.value.set) (state_seen old w)
+      (perhaps_run (program_of old.program.now) old.turns (store_seen old w).frame (store_seen old w).left
+      (option_map (λ y. stmt_of y.now) b.value.otherwise)))) c
 
   -- a branch in the meaning's words
   abbrev chosen : (b : Box Branches Global) (w : ℕ) → Payload → Goes
   chosen b w m =
-      ran (store_seen old w) (branches (gang_width old.program.now.gang) (flag_of b.value.set) (run_in (program_of old.program.now) old.turns (store_seen old w).frame (store_seen old w).left (stmt_of b.value.then.now)) (perhaps_run (program_of old.program.now) old.turns (store_seen old w).frame (store_seen old w).left (option_map (λ y. stmt_of y.now) b.value.otherwise)) m (state_seen old w))
+      ran (store_seen old w) (branches (gang_width old.program.now.gang) (flag_of b.value.set)
+      (run_in (program_of old.program.now) old.turns (store_seen old w).frame (store_seen old w).left (stmt_of b.value.then.now))
+      (perhaps_run (program_of old.program.now) old.turns (store_seen old w).frame (store_seen old w).left
+      (option_map (λ y. stmt_of y.now) b.value.otherwise)) m (state_seen old w))
 
   pub true_branch : (b : Box Branches Global) (x y : Branches) (bits : ℕ) → x ≡ b.value → y ≡ b.value → old.value ≡ computed.One bits → bits ≢ 0 → Comes old new (runs old (Some y.then) (flag_of x.set)) → Comes old new (does old (task.Branch b))
   true_branch b x y bits ex ey is ne c =
       comes_same old new (does old (task.Branch b)) (runs old (Some b.value.then) (flag_of b.value.set))
       (λ w. ap (λ v. chosen b w (payload_of v)) is
-      ∙ ap (λ t. ran (store_seen old w) (if_so (not t) (run_in (program_of old.program.now) old.turns (store_seen old w).frame (store_seen old w).left (stmt_of b.value.then.now) (flag_of b.value.set)) (perhaps_run (program_of old.program.now) old.turns (store_seen old w).frame (store_seen old w).left (option_map (λ y. stmt_of y.now) b.value.otherwise) (flag_of b.value.set)) (state_seen old w))) (ne_eqb bits 0 ne))
+      ∙ ap (λ t. ran (store_seen old w) (if_so (not t)
+      (run_in (program_of old.program.now) old.turns (store_seen old w).frame (store_seen old w).left (stmt_of b.value.then.now)
+      (flag_of b.value.set)) (perhaps_run (program_of old.program.now) old.turns (store_seen old w).frame (store_seen old w).left
+      (option_map (λ y. stmt_of y.now) b.value.otherwise) (flag_of b.value.set)) (state_seen old w))) (ne_eqb bits 0 ne))
       (subst (λ (z : Branches). Comes old new (runs old (Some z.then) (flag_of b.value.set))) ey (subst (λ (z : Branches). Comes old new (runs old (Some y.then) (flag_of z.set))) ex c))
 
   pub false_branch : (b : Box Branches Global) (x y : Branches) (bits : ℕ) → x ≡ b.value → y ≡ b.value → old.value ≡ computed.One bits → bits ≡ 0 → Comes old new (runs old y.otherwise (flag_of x.set)) → Comes old new (does old (task.Branch b))
@@ -133,7 +146,8 @@ module _ (old new : Evaluator) where
       (λ w. ap (λ v. chosen b w (payload_of v)) (is ∙ ap computed.One zero))
       (subst (λ (z : Branches). Comes old new (runs old z.otherwise (flag_of b.value.set))) ey (subst (λ (z : Branches). Comes old new (runs old y.otherwise (flag_of z.set))) ex c))
 
-  pub first_branch : (b b' : Box Branches Global) (x y : Branches) (row : List (Option ℕ)) (kept : List Bool) → x ≡ b.value → y ≡ b.value → old.value ≡ computed.Each row → flag_of kept ≡ where_true is_true (map_of row) → b'.value.otherwise ≡ b.value.otherwise
+  pub first_branch : (b b' : Box Branches Global) (x y : Branches) (row : List (Option ℕ)) (kept : List Bool) → x ≡ b.value → y ≡ b.value
+      → old.value ≡ computed.Each row → flag_of kept ≡ where_true is_true (map_of row) → b'.value.otherwise ≡ b.value.otherwise
       → flag_of b'.value.set ≡ without (flag_of x.set) (flag_of kept) → Comes old new (runs_then old (Some y.then) (flag_of kept) (task.Second b')) → Comes old new (does old (task.Branch b))
   first_branch b b' x y row kept ex ey is k other others c =
       comes_same old new (does old (task.Branch b)) (runs_then old (Some b.value.then) (flag_of kept) (task.Second b'))
@@ -141,7 +155,15 @@ module _ (old new : Evaluator) where
       let r = store_seen old w in
       let f = run_in (program_of old.program.now) old.turns r.frame r.left (stmt_of b.value.then.now) in
       ap (λ v. chosen b w (payload_of v)) is
-      ∙ ap (λ (a : Mask). ran r (both_sides (unless_empty (gang_width old.program.now.gang) a r.state f) (λ s1. unless_empty (gang_width old.program.now.gang) (without (flag_of b.value.set) a) s1 (perhaps_run (program_of old.program.now) old.turns r.frame r.left (option_map (λ y. stmt_of y.now) b.value.otherwise))))) (sym k)
-      ∙ second_law r (unless_empty (gang_width old.program.now.gang) (flag_of kept) r.state f) (λ fr l s1. unless_empty (gang_width old.program.now.gang) (without (flag_of b.value.set) (flag_of kept)) s1 (perhaps_run (program_of old.program.now) old.turns fr l (option_map (λ y. stmt_of y.now) b.value.otherwise)))
-      ∙ ap₂ (λ (o : Option (Bor TypedStmt)) (a : Mask). go (ran r (unless_empty (gang_width old.program.now.gang) (flag_of kept) r.state f)) (λ q. ran q (both_sides (left_as q.parts q.state) (λ s1. unless_empty (gang_width old.program.now.gang) a s1 (perhaps_run (program_of old.program.now) old.turns q.frame q.left (option_map (λ y. stmt_of y.now) o)))))) (sym other) (ap (λ (z : Branches). without (flag_of z.set) (flag_of kept)) (sym ex) ∙ sym others))
+      ∙ ap (λ (a : Mask). ran r (both_sides (unless_empty (gang_width old.program.now.gang) a r.state f)
+      (λ s1. unless_empty (gang_width old.program.now.gang) (without (flag_of b.value.set) a) s1
+      (perhaps_run (program_of old.program.now) old.turns r.frame r.left (option_map (λ y. stmt_of y.now) b.value.otherwise))))) (sym k)
+      ∙ second_law r (unless_empty (gang_width old.program.now.gang) (flag_of kept) r.state f)
+      (λ fr l s1. unless_empty (gang_width old.program.now.gang) (without (flag_of b.value.set) (flag_of kept)) s1
+      (perhaps_run (program_of old.program.now) old.turns fr l (option_map (λ y. stmt_of y.now) b.value.otherwise)))
+      ∙ ap₂ (λ (o : Option (Bor TypedStmt)) (a : Mask). go (ran r (unless_empty (gang_width old.program.now.gang) (flag_of kept) r.state f))
+      (λ q. ran q (both_sides (left_as q.parts q.state)
+      (λ s1. unless_empty (gang_width old.program.now.gang) a s1
+      (perhaps_run (program_of old.program.now) old.turns q.frame q.left (option_map (λ y. stmt_of y.now) o)))))) (sym other)
+      (ap (λ (z : Branches). without (flag_of z.set) (flag_of kept)) (sym ex) ∙ sym others))
       (subst (λ (z : Branches). Comes old new (runs_then old (Some z.then) (flag_of kept) (task.Second b'))) ey c)

@@ -36,7 +36,8 @@ module _ (old : Evaluator) where
         same = same ∙ sym (ap (λ (t : Evaluator). record old { here = t.here; stores = new.stores }) same);
       }
 
-  pub own_changed : (v : Vec (Vec (List ℕ) Global) Global) (f : State → State) (k : ℕ → ℕ → Lanes) → own_of v.items ≡ k → ((w : ℕ) → f (state_seen old w) ≡ record (state_seen old w) { own = k }) → Changes old (record old { here = record old.here { own = v } }) f
+  pub own_changed : (v : Vec (Vec (List ℕ) Global) Global) (f : State → State) (k : ℕ → ℕ → Lanes) → own_of v.items ≡ k
+      → ((w : ℕ) → f (state_seen old w) ≡ record (state_seen old w) { own = k }) → Changes old (record old { here = record old.here { own = v } }) f
   own_changed v f k e is =
       record { state = λ w. ap (λ u. record (state_seen old w) { own = u }) e ∙ sym (is w); frame = refl; same = refl }
 

@@ -77,7 +77,9 @@ module _ (old : Evaluator) (b : Box Members Global) (index : ℕ) (body : Bor Ty
   members_are r =
       ap (λ (m : Members). ran r (rounds (run_in (program_of old.program.now) old.turns r.frame r.left (stmt_of m.body.now)) (flag_of m.set) (active_rounds (gang_width old.program.now.gang) m.index (flag_of m.left)) r.state)) is
 
-  pub no_member : (new : Evaluator) (sets : Sets) → lowest (gang_width old.program.now.gang) (flag_of left) ≡ None → parts_seen sets ≡ all_parts (flag_of set) → new ≡ record old { value = computed.One 0; sets = sets } → Comes old new (does old (task.Members b))
+  pub no_member : (new : Evaluator) (sets : Sets) → lowest (gang_width old.program.now.gang) (flag_of left) ≡ None
+      → parts_seen sets ≡ all_parts (flag_of set) → new ≡ record old { value = computed.One 0; sets = sets }
+      → Comes old new (does old (task.Members b))
   no_member new sets none e same =
       leaves old new (does old (task.Members b)) sets (all_parts (flag_of set)) same e
       (λ w.
@@ -86,7 +88,9 @@ module _ (old : Evaluator) (b : Box Members Global) (index : ℕ) (body : Bor Ty
       ∙ ap (λ ps. ran r (rounds (run_in (program_of old.program.now) old.turns r.frame r.left (stmt_of body.now)) (flag_of set) (map (round_of_one index) ps) r.state)) (none_listed (gang_width old.program.now.gang) (flag_of left) none))
 
   pub member_goes : (mid new : Evaluator) (work : Work) (one : Adds old work 1) (p : ℕ) (set1 left1 : List Bool) (d : Box Members Global) → lowest (gang_width old.program.now.gang) (flag_of left) ≡ Some p → flag_of set1 ≡ lone (Some p)
-      → flag_of left1 ≡ without (flag_of left) (flag_of set1) → d.value ≡ record { index = index; body = body; left = left1; set = set } → Changes (record old { work = work }) mid (written Uniform index (flag_of set1) (One p)) → First mid new (task.Run body set1) (task.Members d)
+      → flag_of left1 ≡ without (flag_of left) (flag_of set1) → d.value ≡ record { index = index; body = body; left = left1; set = set }
+      → Changes (record old { work = work }) mid (written Uniform index (flag_of set1) (One p))
+      → First mid new (task.Run body set1) (task.Members d)
       → Comes old new (does old (task.Members b))
   member_goes mid new work one p set1 left1 d some alone others held c g =
       comes_same old new (does old (task.Members b)) (λ r. ran r (turn r.frame r.left (tick r.state)))
@@ -94,8 +98,10 @@ module _ (old : Evaluator) (b : Box Members Global) (index : ℕ) (body : Bor Ty
       let r = store_seen old w in
       members_are r
       ∙ ap (λ ps. ran r (rounds (run_in (program_of old.program.now) old.turns r.frame r.left (stmt_of body.now)) (flag_of set) (map (round_of_one index) ps) r.state)) (lowest_first (gang_width old.program.now.gang) (flag_of left) p some)
-      ∙ ap (λ (a : Mask). ran r (go_on (run_in (program_of old.program.now) old.turns r.frame r.left (stmt_of body.now) a (written Uniform index a (One p) (tick r.state))) (λ s g b c q. actives_in (without (flag_of left) a) r.frame r.left s))) (sym alone)
-      ∙ ap (λ (a : Mask). ran r (go_on (run_in (program_of old.program.now) old.turns r.frame r.left (stmt_of body.now) (flag_of set1) (written Uniform index (flag_of set1) (One p) (tick r.state))) (λ s g b c q. actives_in a r.frame r.left s))) (sym others))
+      ∙ ap (λ (a : Mask). ran r (go_on (run_in (program_of old.program.now) old.turns r.frame r.left (stmt_of body.now) a
+      (written Uniform index a (One p) (tick r.state))) (λ s g b c q. actives_in (without (flag_of left) a) r.frame r.left s))) (sym alone)
+      ∙ ap (λ (a : Mask). ran r (go_on (run_in (program_of old.program.now) old.turns r.frame r.left (stmt_of body.now) (flag_of set1)
+      (written Uniform index (flag_of set1) (One p) (tick r.state))) (λ s g b c q. actives_in a r.frame r.left s))) (sym others))
       (ticked old new turn work one
       (round_goes (record old { work = work }) mid new (written Uniform index (flag_of set1) (One p)) body set1 (task.Members d) (actives_in (flag_of left1)) c
       (λ r. ap (λ (m : Members). ran r (rounds (run_in (program_of old.program.now) old.turns r.frame r.left (stmt_of m.body.now)) (flag_of m.set) (active_rounds (gang_width old.program.now.gang) m.index (flag_of m.left)) r.state)) held) g))
@@ -131,7 +137,9 @@ one_more (Fails t s) x before k = refl
 one_more (Stops s) x before k = refl
 
 module _ (old new : Evaluator) (body : Bor TypedStmt) (set : List Bool) where
-  pub foreach_comes : (work : Work) (one : Adds old work 1) (rs : List TRange) (done : List Range) → done ≡ [] → Comes (record old { work = work }) new (bounds_from old rs (map range_seen done) body (flag_of set)) → Comes old new (foreaches old rs body (flag_of set))
+  pub foreach_comes : (work : Work) (one : Adds old work 1) (rs : List TRange) (done : List Range) → done ≡ []
+      → Comes (record old { work = work }) new (bounds_from old rs (map range_seen done) body (flag_of set))
+      → Comes old new (foreaches old rs body (flag_of set))
   foreach_comes work one rs done none c =
       ticked old new (bounds_in old rs [] body (flag_of set)) work one
       (subst (λ (ds : List Range). Comes (record old { work = work }) new (bounds_from old rs (map range_seen ds) body (flag_of set))) none c)
@@ -141,7 +149,8 @@ module _ (old new : Evaluator) (body : Bor TypedStmt) (set : List Bool) where
       subst (λ ys. Comes old new (bounds_from old ys before body (flag_of set))) (sym none)
       (subst (λ ys. Comes old new (begins old ys body (flag_of set))) (sym (no_more before)) c)
 
-  pub bounds_next : (rs : List TypedRange) (x : Bor TypedRange) (xs : Bor (List TypedRange)) (done : Vec Range Global) (b : Box Bounds Global) (y : Bor TypedExpr) → rs ≡ x.now ∷ xs.now → b.value ≡ record { range = x; rest = xs; done = done; body = body; set = set } → y.now ≡ x.now.start
+  pub bounds_next : (rs : List TypedRange) (x : Bor TypedRange) (xs : Bor (List TypedRange)) (done : Vec Range Global) (b : Box Bounds Global)
+      (y : Bor TypedExpr) → rs ≡ x.now ∷ xs.now → b.value ≡ record { range = x; rest = xs; done = done; body = body; set = set } → y.now ≡ x.now.start
       → First old new (task.Value y set) (task.Start b) → Comes old new (bounds_from old (ranges_of rs) (map range_seen done.items) body (flag_of set))
   bounds_next rs x xs done b y is held at g =
       subst (λ (ys : List TypedRange). Comes old new (bounds_from old (ranges_of ys) (map range_seen done.items) body (flag_of set))) (sym is)
@@ -150,7 +159,10 @@ module _ (old new : Evaluator) (body : Bor TypedStmt) (set : List Bool) where
       (λ r. ran r (with_value (value_at (program_of old.program.now) old.turns r (expr_of y.now) (flag_of set) r.state) (then_end r.frame r.left)))
       (λ w.
       let r = store_seen old w in
-      ap (ran r) (with_bind (value_in r.frame r.left (expr_of b.value.range.now.start) (flag_of b.value.set) r.state) (λ m s1. bind (value_in r.frame r.left (expr_of b.value.range.now.end) (flag_of b.value.set) s1) (ended (program_of old.program.now) old.turns b.value.range.now.index (number I32 (sole m)) (ranges_of b.value.rest.now) (flag_of b.value.set) r.frame r.left)) (found (program_of old.program.now) old.turns b.value r.frame r.left))
+      ap (ran r) (with_bind (value_in r.frame r.left (expr_of b.value.range.now.start) (flag_of b.value.set) r.state)
+      (λ m s1. bind (value_in r.frame r.left (expr_of b.value.range.now.end) (flag_of b.value.set) s1)
+      (ended (program_of old.program.now) old.turns b.value.range.now.index (number I32 (sole m)) (ranges_of b.value.rest.now)
+      (flag_of b.value.set) r.frame r.left)) (found (program_of old.program.now) old.turns b.value r.frame r.left))
       ∙ ap₂ (λ (z : TypedExpr) (a : Mask). ran r (with_value (value_in r.frame r.left (expr_of z) a r.state) (then_end r.frame r.left))) (ap (λ (d : Bounds). d.range.now.start) held ∙ sym at) (ap (λ (d : Bounds). flag_of d.set) held))
       (value_first old new y set (task.Start b) then_end (λ q. refl) g)))
     where
@@ -159,16 +171,23 @@ module _ (old new : Evaluator) (body : Bor TypedStmt) (set : List Bool) where
 
       then_end : Frame → ℕ → Payload → State → Res
       then_end fr l m s =
-          with_value (bind (value_in fr l (expr_of b.value.range.now.end) (flag_of b.value.set) s) (ended (program_of old.program.now) old.turns b.value.range.now.index (number I32 (sole m)) (ranges_of b.value.rest.now) (flag_of b.value.set) fr l)) (found (program_of old.program.now) old.turns b.value fr l)
+          with_value (bind (value_in fr l (expr_of b.value.range.now.end) (flag_of b.value.set) s)
+          (ended (program_of old.program.now) old.turns b.value.range.now.index (number I32 (sole m)) (ranges_of b.value.rest.now)
+          (flag_of b.value.set) fr l)) (found (program_of old.program.now) old.turns b.value fr l)
 
 module _ (old new : Evaluator) (b : Box Bounds Global) where
-  pub start_goes : (start : ℕ) (y : Bor TypedExpr) (set : List Bool) → start ≡ sole (payload_of old.value) → y.now ≡ b.value.range.now.end → set ≡ b.value.set → First old new (task.Value y set) (task.End start b) → Comes old new (does old (task.Start b))
+  pub start_goes : (start : ℕ) (y : Bor TypedExpr) (set : List Bool) → start ≡ sole (payload_of old.value) → y.now ≡ b.value.range.now.end
+      → set ≡ b.value.set → First old new (task.Value y set) (task.End start b) → Comes old new (does old (task.Start b))
   start_goes start y set is at all g =
       comes_same old new (does old (task.Start b)) (λ r. ran r (with_value (value_at (program_of old.program.now) old.turns r (expr_of y.now) (flag_of set) r.state) (then_found r.frame r.left)))
       (λ w.
       let r = store_seen old w in
-      ap (λ z. ran r (with_value (bind (value_in r.frame r.left (expr_of b.value.range.now.end) (flag_of b.value.set) r.state) (ended (program_of old.program.now) old.turns b.value.range.now.index (number I32 z) (ranges_of b.value.rest.now) (flag_of b.value.set) r.frame r.left)) (found (program_of old.program.now) old.turns b.value r.frame r.left))) (sym is)
-      ∙ ap (ran r) (with_bind (value_in r.frame r.left (expr_of b.value.range.now.end) (flag_of b.value.set) r.state) (ended (program_of old.program.now) old.turns b.value.range.now.index (number I32 start) (ranges_of b.value.rest.now) (flag_of b.value.set) r.frame r.left) (found (program_of old.program.now) old.turns b.value r.frame r.left))
+      ap (λ z. ran r (with_value (bind (value_in r.frame r.left (expr_of b.value.range.now.end) (flag_of b.value.set) r.state)
+      (ended (program_of old.program.now) old.turns b.value.range.now.index (number I32 z) (ranges_of b.value.rest.now) (flag_of b.value.set)
+      r.frame r.left)) (found (program_of old.program.now) old.turns b.value r.frame r.left))) (sym is)
+      ∙ ap (ran r) (with_bind (value_in r.frame r.left (expr_of b.value.range.now.end) (flag_of b.value.set) r.state)
+      (ended (program_of old.program.now) old.turns b.value.range.now.index (number I32 start) (ranges_of b.value.rest.now) (flag_of b.value.set)
+      r.frame r.left) (found (program_of old.program.now) old.turns b.value r.frame r.left))
       ∙ ap₂ (λ (z : TypedExpr) (a : List Bool). ran r (with_value (value_in r.frame r.left (expr_of z) (flag_of a) r.state) (then_found r.frame r.left))) (sym at) (sym all))
       (value_first old new y set (task.End start b) then_found (λ q. refl) g)
     where
@@ -185,10 +204,15 @@ module _ (old new : Evaluator) (b : Box Bounds Global) where
       comes_same old new (does old (task.End start b)) (bounds_from old (ranges_of d.rest.now) (map range_seen done) d.body (flag_of d.set))
       (λ w.
       let r = store_seen old w in
-      let k = λ (u : Bounds) (z : Meaning.Range). ran r (with_value (bind (ranges (gang_width old.program.now.gang) r.frame (calls_at (program_of old.program.now) old.turns r.left) (ranges_of u.rest.now) (flag_of u.set) r.state) (λ xs s1. Gives (z ∷ xs) s1)) (found (program_of old.program.now) old.turns u r.frame r.left)) in
+      let k = λ (u : Bounds) (z : Meaning.Range). ran r
+      (with_value (bind (ranges (gang_width old.program.now.gang) r.frame (calls_at (program_of old.program.now) old.turns r.left)
+      (ranges_of u.rest.now) (flag_of u.set) r.state) (λ xs s1. Gives (z ∷ xs) s1))
+      (found (program_of old.program.now) old.turns u r.frame r.left)) in
       ap (λ (u : Bounds). k u (record { index = u.range.now.index; start = number I32 start; end = number I32 (sole (payload_of old.value)) })) (sym held)
       ∙ ap (k d) (sym is)
-      ∙ ap (ran r) (one_more (ranges (gang_width old.program.now.gang) r.frame (calls_at (program_of old.program.now) old.turns r.left) (ranges_of d.rest.now) (flag_of d.set) r.state) (range_seen x) (map range_seen d.done.items) (rounds_from (program_of old.program.now) old.turns r.frame r.left (stmt_of d.body.now) (flag_of d.set)))
+      ∙ ap (ran r) (one_more (ranges (gang_width old.program.now.gang) r.frame (calls_at (program_of old.program.now) old.turns r.left)
+      (ranges_of d.rest.now) (flag_of d.set) r.state) (range_seen x) (map range_seen d.done.items)
+      (rounds_from (program_of old.program.now) old.turns r.frame r.left (stmt_of d.body.now) (flag_of d.set)))
       ∙ ap (λ ys. bounds_from old (ranges_of d.rest.now) ys d.body (flag_of d.set) r) (sym (seen_more d.done.items x) ∙ ap (map range_seen) (sym more))) c
 
 -- ---- the runs of a foreach
@@ -220,7 +244,9 @@ module _ (old new : Evaluator) (b : Box Rounds Global) where
       sym (ap (λ ys. ran r (runs_in (map round_of_run ys) d.value.body d.value.set old r.frame r.left r.state)) er
       ∙ ap₂ (λ (y : Bor TypedStmt) (a : List Bool). ran r (runs_in (map round_of_run (runs_left (gang_width old.program.now.gang) b.value.ranges.items)) y a old r.frame r.left r.state)) eb es)) c
 
-  pub no_round : (sets : Sets) → runs_left (gang_width old.program.now.gang) b.value.ranges.items ≡ [] → parts_seen sets ≡ all_parts (flag_of b.value.set) → new ≡ record old { value = computed.One 0; sets = sets } → Comes old new (does old (task.Rounds b))
+  pub no_round : (sets : Sets) → runs_left (gang_width old.program.now.gang) b.value.ranges.items ≡ []
+      → parts_seen sets ≡ all_parts (flag_of b.value.set) → new ≡ record old { value = computed.One 0; sets = sets }
+      → Comes old new (does old (task.Rounds b))
   no_round sets none e same =
       leaves old new (does old (task.Rounds b)) sets (all_parts (flag_of b.value.set)) same e
       (λ w. let r = store_seen old w in ap (λ ys. ran r (runs_in (map round_of_run ys) b.value.body b.value.set old r.frame r.left r.state)) none)
@@ -230,7 +256,9 @@ module _ (old new : Evaluator) (b : Box Rounds Global) where
       → (y : Bor TypedStmt) → y ≡ b.value.body → First mid new (task.Run y set1) (task.Rounds d) → Comes old new (does old (task.Rounds b))
   one_round mid set1 d ready on c eb es er y ey h =
       let g = subst (λ (z : Bor TypedStmt). First mid new (task.Run z set1) (task.Rounds d)) ey h in
-      comes_same old new (does old (task.Rounds b)) (λ r. ran r (go_on (run_in (program_of old.program.now) old.turns r.frame r.left (stmt_of b.value.body.now) (flag_of set1) (set_indices (flag_of set1) (indices_now rs) r.state)) (λ s g1 b1 c1 q1. others r.frame r.left s)))
+      comes_same old new (does old (task.Rounds b)) (λ r. ran r
+      (go_on (run_in (program_of old.program.now) old.turns r.frame r.left (stmt_of b.value.body.now) (flag_of set1)
+      (set_indices (flag_of set1) (indices_now rs) r.state)) (λ s g1 b1 c1 q1. others r.frame r.left s)))
       (λ w.
       let r = store_seen old w in
       ap (λ ys. ran r (runs_in (map round_of_run ys) b.value.body b.value.set old r.frame r.left r.state)) (next_run old.program.now.gang rs ready)

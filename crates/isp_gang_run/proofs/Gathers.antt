@@ -59,20 +59,26 @@ module _ (old new : Evaluator) where
       comes_same old new (gathers old g (exprs_of xs) ms a) (gathers_all old g a ms)
       (λ w. ap (λ ys. gathers old g (exprs_of ys) ms a (store_seen old w)) none ∙ ap (λ ns. gathers_all old g a ns (store_seen old w)) (append-nil ms)) c
 
-  pub one_value : (g : Gathering) (xs : List TypedExpr) (ys : Bor (List TypedExpr)) (x : Bor TypedExpr) (before : Vec Computed Global) (set : List Bool) → xs ≡ x.now ∷ ys.now → First old new (task.Value x set) (task.Values g ys before set) → Comes old new (gathers old g (exprs_of xs) (map payload_of before.items) (flag_of set))
+  pub one_value : (g : Gathering) (xs : List TypedExpr) (ys : Bor (List TypedExpr)) (x : Bor TypedExpr) (before : Vec Computed Global)
+      (set : List Bool) → xs ≡ x.now ∷ ys.now → First old new (task.Value x set) (task.Values g ys before set)
+      → Comes old new (gathers old g (exprs_of xs) (map payload_of before.items) (flag_of set))
   one_value g xs ys x before set is f =
       record {
         by = λ w. (
           w,
           ap (λ zs. go (gathers old g (exprs_of zs) (map payload_of before.items) (flag_of set) (store_seen old w)) (rest old)) is
-              ∙ gather_next (program_of old.program.now) old.turns g (expr_of x.now) (exprs_of ys.now) (map payload_of before.items) (flag_of set) (store_seen old w) (rest old) (value_at (program_of old.program.now) old.turns (store_seen old w) (expr_of x.now) (flag_of set) (state_seen old w))
+              ∙ gather_next (program_of old.program.now) old.turns g (expr_of x.now) (exprs_of ys.now) (map payload_of before.items) (flag_of set)
+              (store_seen old w) (rest old) (value_at (program_of old.program.now) old.turns (store_seen old w) (expr_of x.now) (flag_of set)
+              (state_seen old w))
               ∙ sym (f.by w),
         );
         counts = λ w k. counts_same old new w f.work k;
       }
 
   -- one more value was found
-  pub more_does : (g : Gathering) (ys : Bor (List TypedExpr)) (before after : Vec Computed Global) (set : List Bool) → after.items ≡ before.items ++ old.value ∷ [] → Comes old new (gathers old g (exprs_of ys.now) (map payload_of after.items) (flag_of set)) → Does old new (task.Values g ys before set)
+  pub more_does : (g : Gathering) (ys : Bor (List TypedExpr)) (before after : Vec Computed Global) (set : List Bool)
+      → after.items ≡ before.items ++ old.value ∷ [] → Comes old new (gathers old g (exprs_of ys.now) (map payload_of after.items) (flag_of set))
+      → Does old new (task.Values g ys before set)
   more_does g ys before after set is c =
       record {
         by = λ w. (
@@ -84,7 +90,9 @@ module _ (old new : Evaluator) where
       }
 
   -- the library has given its value
-  pub library_comes : (f : Library) (e : Elem) (a : Mask) (ms : List Payload) (g : Gathering) → g ≡ gathering.Library f e → new ≡ record old { value = new.value } → payload_of new.value ≡ library_value (gang_width old.program.now.gang) e a f (argument ms 0) (argument ms 1) (argument ms 2) → Comes old new (gathers_all old g a ms)
+  pub library_comes : (f : Library) (e : Elem) (a : Mask) (ms : List Payload) (g : Gathering) → g ≡ gathering.Library f e
+      → new ≡ record old { value = new.value } → payload_of new.value
+      ≡ library_value (gang_width old.program.now.gang) e a f (argument ms 0) (argument ms 1) (argument ms 2) → Comes old new (gathers_all old g a ms)
   library_comes f e a ms g is same given_is =
       subst (λ k. Comes old new (gathers_all old k a ms)) (sym is) (record { by = λ w. (w, valued old new same _ given_is w); counts = λ w k. counts_same old new w (ap work_of same) k })
 
@@ -98,21 +106,26 @@ library_found program most f e a r t (Gives ms s) = refl
 library_found program most f e a r t (Fails x s) = refl
 library_found program most f e a r t (Stops s) = refl
 
-pub library_node : (old new : Evaluator) (work : Work) (one : Adds old work 1) (x : Bor TypedExpr) (set : List Bool) (f : Library) (e : Elem) (xs : List TypedExpr) (done : Vec Computed Global) (t : Ty) (sp : Span) → expr_of x.now ≡ t_library f e (t_exprs (exprs_of xs)) t sp → done.items ≡ []
+pub library_node : (old new : Evaluator) (work : Work) (one : Adds old work 1) (x : Bor TypedExpr) (set : List Bool) (f : Library) (e : Elem)
+    (xs : List TypedExpr) (done : Vec Computed Global) (t : Ty) (sp : Span) → expr_of x.now ≡ t_library f e (t_exprs (exprs_of xs)) t sp
+    → done.items ≡ []
     → Comes (record old { work = work }) new (gathers old (gathering.Library f e) (exprs_of xs) (map payload_of done.items) (flag_of set)) → Does old new (task.Value x set)
 library_node old new work one x set f e xs done t sp is none c =
     record {
       by = λ w. (
         (c.by (w + 1)).0,
         ap (λ n. go (given (store_seen old w) (value_at (program_of old.program.now) old.turns (store_seen old w) n (flag_of set) (state_seen old w))) (rest old)) is
-            ∙ ap (λ g. go g (rest old)) (library_found (program_of old.program.now) old.turns f e (flag_of set) (store_seen old w) (state_seen old (w + 1)) (values (gang_width old.program.now.gang) (store_seen old w).frame (calls_in (program_of old.program.now) old.turns (store_seen old w)) (t_exprs (exprs_of xs)) (flag_of set) (state_seen old (w + 1))))
+            ∙ ap (λ g. go g (rest old)) (library_found (program_of old.program.now) old.turns f e (flag_of set) (store_seen old w)
+            (state_seen old (w + 1)) (values (gang_width old.program.now.gang) (store_seen old w).frame
+            (calls_in (program_of old.program.now) old.turns (store_seen old w)) (t_exprs (exprs_of xs)) (flag_of set) (state_seen old (w + 1))))
             ∙ sym (ap (λ ys. go (gathers old (gathering.Library f e) (exprs_of xs) (map payload_of ys) (flag_of set) (store_seen old (w + 1))) (rest old)) none)
             ∙ (c.by (w + 1)).1,
       );
       counts = λ w k. c.counts (w + 1) (counts_more old work 1 w one k);
     }
 
-pub call_node : (old new : Evaluator) (x : Bor TypedExpr) (c : Bor TypedCall) (set : List Bool) (t : Ty) → expr_of x.now ≡ t_call (call_of c.now) t → new.tasks.items ≡ old.tasks.items ++ task.Call c set ∷ [] → new ≡ record old { tasks = new.tasks } → Does old new (task.Value x set)
+pub call_node : (old new : Evaluator) (x : Bor TypedExpr) (c : Bor TypedCall) (set : List Bool) (t : Ty) → expr_of x.now ≡ t_call (call_of c.now) t
+    → new.tasks.items ≡ old.tasks.items ++ task.Call c set ∷ [] → new ≡ record old { tasks = new.tasks } → Does old new (task.Value x set)
 call_node old new x c set t is i s =
     let k = pushes old new (task.Call c set) i s in
     record { by = λ w. ((k.by w).0, ap (λ n. go (given (store_seen old w) (value_at (program_of old.program.now) old.turns (store_seen old w) n (flag_of set) (state_seen old w))) (rest old)) is ∙ (k.by w).1); counts = k.counts }

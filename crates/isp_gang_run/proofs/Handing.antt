@@ -69,7 +69,9 @@ module _ (program : Program) (most : ℕ) where
   handed f span ps p a r m t (Stops s) = refl
 
   hand_next : (f : ℕ) (span : Span) (xs : List TArgument) (ps : List Passed) (a : Mask) (r : Store) (next : Store → Goes) (v : Val Payload)
-      → go (given r (bind (bind (bind v (λ m s1. Gives (Values m) s1)) (λ p s1. bind (arguments (gang_of program most) r.frame (calls_in program most r) (t_arguments xs) a s1) (λ qs s2. Gives (p ∷ qs) s2))) (λ qs s. calls_in program most r f span a (ps ++ qs) r.frame s))) next
+      → go (given r (bind (bind (bind v (λ m s1. Gives (Values m) s1))
+      (λ p s1. bind (arguments (gang_of program most) r.frame (calls_in program most r) (t_arguments xs) a s1) (λ qs s2. Gives (p ∷ qs) s2)))
+      (λ qs s. calls_in program most r f span a (ps ++ qs) r.frame s))) next
       ≡ go (given r v) (λ q. go (handing f span xs (ps ++ Values q.value ∷ []) a q) next)
   hand_next f span xs ps a r next (Gives m s) = ap (λ g. go g next) (handed f span ps (Values m) a r m s (arguments (gang_of program most) r.frame (calls_in program most r) (t_arguments xs) a s))
   hand_next f span xs ps a r next (Fails x s) = refl
@@ -87,7 +89,10 @@ module _ (old : Evaluator) (c : Bor TypedCall) (set : List Bool) where
             let a = flag_of set in (
               (k.by (w + 1)).0,
               ap (λ n. go (given r (call (gang_width old.program.now.gang) r.frame (calls_in (program_of old.program.now) old.turns r) n a r.state)) (rest old)) (call_view c.now)
-                  ∙ ap (λ g. go g (rest old)) (sym (regiven r r.value (state_seen old (w + 1)) (bind (arguments (gang_width old.program.now.gang) r.frame (calls_in (program_of old.program.now) old.turns r) (t_arguments (arguments_of c.now.arguments.items)) a (state_seen old (w + 1))) (λ ps s1. calls_in (program_of old.program.now) old.turns r c.now.function c.now.span a ps r.frame s1))))
+                  ∙ ap (λ g. go g (rest old)) (sym (regiven r r.value (state_seen old (w + 1))
+                  (bind (arguments (gang_width old.program.now.gang) r.frame (calls_in (program_of old.program.now) old.turns r)
+                  (t_arguments (arguments_of c.now.arguments.items)) a (state_seen old (w + 1)))
+                  (λ ps s1. calls_in (program_of old.program.now) old.turns r c.now.function c.now.span a ps r.frame s1))))
                   ∙ sym (ap (λ g. go g (rest old)) (hand_is (program_of old.program.now) old.turns c.now (arguments_of c.now.arguments.items) [] a r'))
                   ∙ sym (ap₂ (λ (xs : List TypedArgument) (ds : List rust_passed_type.Passed). go (hand (program_of old.program.now) old.turns (call_of c.now) (arguments_of xs) (map passed_seen ds) a r') (rest old)) all none)
                   ∙ (k.by (w + 1)).1,
@@ -108,11 +113,15 @@ module _ (old : Evaluator) (c : Bor TypedCall) (set : List Bool) where
         let h = comes_same old new (does old (task.Arguments c ys done set)) (goes_in old c.now.function c.now.span (flag_of set) (map passed_seen xs)) (enters xs none is) k in
         record { by = λ w. h.by w; counts = λ w n. h.counts w n }
 
-    pub no_argument_halts : (xs : List rust_passed_type.Passed) (e : Stop) → ys.now ≡ [] → xs ≡ done.items → Halts old new (goes_in old c.now.function c.now.span (flag_of set) (map passed_seen xs)) e → Halts old new (does old (task.Arguments c ys done set)) e
+    pub no_argument_halts : (xs : List rust_passed_type.Passed) (e : Stop) → ys.now ≡ [] → xs ≡ done.items
+        → Halts old new (goes_in old c.now.function c.now.span (flag_of set) (map passed_seen xs)) e
+        → Halts old new (does old (task.Arguments c ys done set)) e
     no_argument_halts xs e none is h = halts_same old new (does old (task.Arguments c ys done set)) (goes_in old c.now.function c.now.span (flag_of set) (map passed_seen xs)) e (enters xs none is) h
 
     -- the next argument is a value
-    pub one_argument : (zs : Bor (List TypedArgument)) (y : TypedArgument) (x : Bor TypedExpr) → ys.now ≡ y ∷ zs.now → argument_of y ≡ t_by_value (expr_of x.now) → First old new (task.Value x set) (task.Argument c zs done set) → Does old new (task.Arguments c ys done set)
+    pub one_argument : (zs : Bor (List TypedArgument)) (y : TypedArgument) (x : Bor TypedExpr) → ys.now ≡ y ∷ zs.now
+        → argument_of y ≡ t_by_value (expr_of x.now) → First old new (task.Value x set) (task.Argument c zs done set)
+        → Does old new (task.Arguments c ys done set)
     one_argument zs y x is seen f =
         record {
           by = λ w.
@@ -131,8 +140,11 @@ module _ (old : Evaluator) (c : Bor TypedCall) (set : List Bool) where
         }
 
     -- the next argument is an array: it counts, and is its store
-    pub named_argument : (work : Work) (one : Adds old work 1) (zs : Bor (List TypedArgument)) (y : TypedArgument) (b : ArrayVariable) (sp : Span) (n : ℕ) (after : Vec rust_passed_type.Passed Global) → ys.now ≡ y ∷ zs.now → argument_of y ≡ t_by_name b sp
-        → n ≡ (frame_seen old.here).named b.number → after.items ≡ done.items ++ rust_passed.Store n ∷ [] → new.tasks.items ≡ old.tasks.items ++ task.Arguments c zs after set ∷ [] → new ≡ record old { work = work; tasks = new.tasks } → Does old new (task.Arguments c ys done set)
+    pub named_argument : (work : Work) (one : Adds old work 1) (zs : Bor (List TypedArgument)) (y : TypedArgument) (b : ArrayVariable) (sp : Span)
+        (n : ℕ) (after : Vec rust_passed_type.Passed Global) → ys.now ≡ y ∷ zs.now → argument_of y ≡ t_by_name b sp
+        → n ≡ (frame_seen old.here).named b.number → after.items ≡ done.items ++ rust_passed.Store n ∷ []
+        → new.tasks.items ≡ old.tasks.items ++ task.Arguments c zs after set ∷ [] → new ≡ record old { work = work; tasks = new.tasks }
+        → Does old new (task.Arguments c ys done set)
     named_argument work one zs y b sp n after is seen store more i s =
         let k = pushes (record old { work = work }) new (task.Arguments c zs after set) i s in
         record {
@@ -145,22 +157,30 @@ module _ (old : Evaluator) (c : Bor TypedCall) (set : List Bool) where
                 ap (λ us. go (hand (program_of old.program.now) old.turns (call_of c.now) (arguments_of us) ps a r) (rest old)) is
                     ∙ ap (λ u. go (hand (program_of old.program.now) old.turns (call_of c.now) (u ∷ arguments_of zs.now) ps a r) (rest old)) seen
                     ∙ ap (λ g. go g (rest old)) (hand_is (program_of old.program.now) old.turns c.now (t_by_name b sp ∷ arguments_of zs.now) ps a r)
-                    ∙ ap (λ g. go g (rest old)) (handed (program_of old.program.now) old.turns c.now.function c.now.span ps (PassedStore ((frame_seen old.here).named b.number)) a r r.value (state_seen old (w + 1)) (arguments (gang_width old.program.now.gang) r.frame (calls_in (program_of old.program.now) old.turns r) (t_arguments (arguments_of zs.now)) a (state_seen old (w + 1))))
+                    ∙ ap (λ g. go g (rest old)) (handed (program_of old.program.now) old.turns c.now.function c.now.span ps
+                    (PassedStore ((frame_seen old.here).named b.number)) a r r.value (state_seen old (w + 1))
+                    (arguments (gang_width old.program.now.gang) r.frame (calls_in (program_of old.program.now) old.turns r)
+                    (t_arguments (arguments_of zs.now)) a (state_seen old (w + 1))))
                     ∙ sym (ap (λ g. go g (rest old)) (hand_is (program_of old.program.now) old.turns c.now (arguments_of zs.now) (ps ++ PassedStore ((frame_seen old.here).named b.number) ∷ []) a r'))
-                    ∙ ap (λ (qs : List Passed). go (hand (program_of old.program.now) old.turns (call_of c.now) (arguments_of zs.now) qs a r') (rest old)) (ap (λ j. ps ++ PassedStore j ∷ []) (sym store) ∙ sym (ap (map passed_seen) more ∙ map-append passed_seen done.items (rust_passed.Store n ∷ [])))
+                    ∙ ap (λ (qs : List Passed). go (hand (program_of old.program.now) old.turns (call_of c.now) (arguments_of zs.now) qs a r')
+                    (rest old)) (ap (λ j. ps ++ PassedStore j ∷ []) (sym store)
+                    ∙ sym (ap (map passed_seen) more ∙ map-append passed_seen done.items (rust_passed.Store n ∷ [])))
                     ∙ (k.by (w + 1)).1,
               );
           counts = λ w m. k.counts (w + 1) (counts_more old work 1 w one m);
         }
 
     -- an argument was found
-    pub argument_does : (after : Vec rust_passed_type.Passed Global) → after.items ≡ done.items ++ rust_passed.Value old.value ∷ [] → new.tasks.items ≡ old.tasks.items ++ task.Arguments c ys after set ∷ [] → new ≡ record old { tasks = new.tasks } → Does old new (task.Argument c ys done set)
+    pub argument_does : (after : Vec rust_passed_type.Passed Global) → after.items ≡ done.items ++ rust_passed.Value old.value ∷ []
+        → new.tasks.items ≡ old.tasks.items ++ task.Arguments c ys after set ∷ [] → new ≡ record old { tasks = new.tasks }
+        → Does old new (task.Argument c ys done set)
     argument_does after more i s =
         let k = pushes old new (task.Arguments c ys after set) i s in
         record {
           by = λ w. (
             (k.by w).0,
-            ap (λ ps. go (hand (program_of old.program.now) old.turns (call_of c.now) (arguments_of ys.now) ps (flag_of set) (store_seen old w)) (rest old)) (sym (ap (map passed_seen) more ∙ map-append passed_seen done.items (rust_passed.Value old.value ∷ [])))
+            ap (λ ps. go (hand (program_of old.program.now) old.turns (call_of c.now) (arguments_of ys.now) ps (flag_of set) (store_seen old w))
+                (rest old)) (sym (ap (map passed_seen) more ∙ map-append passed_seen done.items (rust_passed.Value old.value ∷ [])))
                 ∙ (k.by w).1,
           );
           counts = k.counts;
@@ -180,21 +200,33 @@ module _ (old : Evaluator) (f : ℕ) (span : Span) (set : List Bool) (ps : List 
       (λ w. (w, ap (λ n. given (store_seen old w) (calls_at (program_of old.program.now) old.turns n f span (flag_of set) ps (frame_seen old.here) (state_seen old w))) none)) (λ w k. k)
 
   found : (n : ℕ) (o : Option TypedFunction) → old.left ≡ suc n → slice_get old.program.now.functions.items f ≡ o → (w : ℕ)
-      → goes_in old f span (flag_of set) ps (store_seen old w) ≡ given (store_seen old w) (called (program_of old.program.now) old.turns (calls_at (program_of old.program.now) old.turns n) (option_map function_of o) (flag_of set) ps (frame_seen old.here) (state_seen old w))
+      → goes_in old f span (flag_of set) ps (store_seen old w)
+      ≡ given (store_seen old w) (called (program_of old.program.now) old.turns (calls_at (program_of old.program.now) old.turns n)
+      (option_map function_of o) (flag_of set) ps (frame_seen old.here) (state_seen old w))
   found n o more is w =
       ap (λ k. given (store_seen old w) (calls_at (program_of old.program.now) old.turns k f span (flag_of set) ps (frame_seen old.here) (state_seen old w))) more
-      ∙ ap (λ q. given (store_seen old w) (called (program_of old.program.now) old.turns (calls_at (program_of old.program.now) old.turns n) q (flag_of set) ps (frame_seen old.here) (state_seen old w))) (got old.program.now.functions.items f ∙ ap (option_map function_of) is)
+      ∙ ap (λ q. given (store_seen old w) (called (program_of old.program.now) old.turns (calls_at (program_of old.program.now) old.turns n) q
+      (flag_of set) ps (frame_seen old.here) (state_seen old w))) (got old.program.now.functions.items f ∙ ap (option_map function_of) is)
 
   pub no_function : (n : ℕ) → old.left ≡ suc n → slice_get old.program.now.functions.items f ≡ None → Halts old old (goes_in old f span (flag_of set) ps) stop.Cut
   no_function n more none = cut refl (λ w. (w, found n None more none w)) (λ w k. k)
 
-  pub function_enters : (new : Evaluator) (n : ℕ) (g : TypedFunction) → old.left ≡ suc n → slice_get old.program.now.functions.items f ≡ Some g → Comes old new (does_call old n (function_of g) (flag_of set) ps) → Comes old new (goes_in old f span (flag_of set) ps)
+  pub function_enters : (new : Evaluator) (n : ℕ) (g : TypedFunction) → old.left ≡ suc n → slice_get old.program.now.functions.items f ≡ Some g
+      → Comes old new (does_call old n (function_of g) (flag_of set) ps) → Comes old new (goes_in old f span (flag_of set) ps)
   function_enters new n g more is k = comes_same old new (goes_in old f span (flag_of set) ps) (does_call old n (function_of g) (flag_of set) ps) (found n (Some g) more is) k
 
 -- ---- the body, and then the caller
 
 -- what a body came to goes back to the caller
-returned : (e : Evaluator) (b : Box Activation Global) (sets : Sets) (set : List Bool) (r q : Store) (next : Store → Goes) (w : ℕ) (l : ℕ) (v : Res) → r ≡ record { frame = frame_seen b.value; left = l; state = variables_seen b.value (stores_of e.stores.items) e.output.items w; value = payload_of e.value; parts = parts_seen sets }
+returned : (e : Evaluator) (b : Box Activation Global) (sets : Sets) (set : List Bool) (r q : Store) (next : Store → Goes) (w : ℕ) (l : ℕ) (v : Res)
+    → r ≡ record {
+      frame = frame_seen b.value;
+      left = l;
+      state = variables_seen b.value (stores_of e.stores.items) e.output.items w;
+      value =
+          payload_of e.value;
+      parts = parts_seen sets;
+    }
     → go (given r (ended q.frame.answer (frame_seen b.value) (flag_of set) r.state v)) next ≡ go (ran q v) (λ k. go (does e (task.Return b l sets set) k) next)
 returned e b sets set r q next w l (Went s g x y z) is =
     ap (λ (u : Store). go (given u (ended q.frame.answer (frame_seen b.value) (flag_of set) u.state (Went s g x y z))) next) is
@@ -213,22 +245,40 @@ begin_comes old p new f ps set b h l st i s own cutoff fr state k =
           let a = flag_of set in
           let g = gang_width old.program.now.gang in
           let calls = calls_at (program_of old.program.now) old.turns l in
-          let q : Store = record { frame = frame_of (function_of f.now) ps (frame_seen old.here); left = l; state = begun (function_of f.now) ps (frame_seen old.here) a (state_seen old w); value = payload_of old.value; parts = parts_seen old.sets } in
+          let q : Store = record {
+            frame = frame_of (function_of f.now) ps (frame_seen old.here);
+            left = l;
+            state = begun (function_of f.now) ps
+                (frame_seen old.here) a (state_seen old w);
+            value = payload_of old.value;
+            parts = parts_seen old.sets;
+          } in
           let after = task.Return b old.left old.sets set in
           let seen : store_seen p w ≡ q =
           ap (λ (e : Evaluator). store_seen e w) s
-          ∙ ap₂ (λ (u : Frame) (x : State). record q { frame = u; state = x }) fr (ap (λ (t : ℕ → ℕ → ℕ). variables_seen h t old.output.items w) (ap stores_of cutoff ∙ below_taken (λ v. values_of v.items) (length old.here.sizes.items) old.stores.items) ∙ state (state_seen old w)) in (
+          ∙ ap₂ (λ (u : Frame) (x : State). record q { frame = u; state = x }) fr
+          (ap (λ (t : ℕ → ℕ → ℕ). variables_seen h t old.output.items w)
+          (ap stores_of cutoff ∙ below_taken (λ v. values_of v.items) (length old.here.sizes.items) old.stores.items) ∙ state (state_seen old w))
+          in (
             (k.by w).0,
             ap (λ (z : Frame). go (given r (ended (function_of f.now).answer z a r.state (block g q.frame calls old.turns (function_of f.now).body a q.state))) (rest old)) (ap frame_seen (sym own))
-                ∙ returned old b old.sets set r q (rest old) w old.left (block g q.frame calls old.turns (function_of f.now).body a q.state) (ap (λ (z : Activation). record r { frame = frame_seen z; state = variables_seen z (stores_of old.stores.items) old.output.items w }) (sym own))
-                ∙ ap₂ (λ (x : Store) (n : Store → Goes). go (blocks old (block_of f.now.body) a x) n) (sym seen) (sym (ap (λ ts. finish (program_of old.program.now) old.turns ts) i ∙ fun_ext (λ z. pushed (program_of old.program.now) old.turns old.tasks.items after z)))
+                ∙ returned old b old.sets set r q (rest old) w old.left (block g q.frame calls old.turns (function_of f.now).body a q.state)
+                (ap (λ (z : Activation). record r {
+                  frame = frame_seen z;
+                  state = variables_seen z (stores_of old.stores.items) old.output.items w;
+                }) (sym own))
+                ∙ ap₂ (λ (x : Store) (n : Store → Goes). go (blocks old (block_of f.now.body) a x) n) (sym seen)
+                (sym (ap (λ ts. finish (program_of old.program.now) old.turns ts) i
+                ∙ fun_ext (λ z. pushed (program_of old.program.now) old.turns old.tasks.items after z)))
                 ∙ sym (ap (λ (e : Evaluator). go (blocks e (block_of f.now.body) a (store_seen p w)) (finish (program_of e.program.now) e.turns p.tasks.items)) s)
                 ∙ (k.by w).1,
           );
       counts = λ w n. k.counts w (counts_same old p w (ap work_of s) n);
     }
 
-pub resume_does : (old : Evaluator) (caller : Box Activation Global) (left : ℕ) (sets : Sets) (set : List Bool) (v : Computed) (h : Activation) (st : Vec (Vec ℕ Global) Global) → h ≡ caller.value → ((w : ℕ) → payload_of v ≡ answer_of (answer_in old.here.function) (flag_of set) (state_seen old w))
+pub resume_does : (old : Evaluator) (caller : Box Activation Global) (left : ℕ) (sets : Sets) (set : List Bool) (v : Computed) (h : Activation)
+    (st : Vec (Vec ℕ Global) Global) → h ≡ caller.value
+    → ((w : ℕ) → payload_of v ≡ answer_of (answer_in old.here.function) (flag_of set) (state_seen old w))
     → st.items ≡ take (length h.sizes.items) old.stores.items → Does old (record old { value = v; sets = sets; here = h; stores = st; left = left }) (task.Return caller left sets set)
 resume_does old caller left sets set v h st own answer cutoff =
     record {

@@ -59,11 +59,15 @@ at_once old work one v n set m whole e =
       counts = λ w k. counts_more old work 1 w one k;
     }
 
-pub constant_node : (old : Evaluator) (work : Work) (one : Adds old work 1) (v : ℕ) (x : Bor TypedExpr) (set : List Bool) (c : Value) (sp : Span) → expr_of x.now ≡ t_constant c sp → v ≡ c.bits % 2 ^ width c.elem → Does old (record old { work = work; value = computed.One v }) (task.Value x set)
+pub constant_node : (old : Evaluator) (work : Work) (one : Adds old work 1) (v : ℕ) (x : Bor TypedExpr) (set : List Bool) (c : Value) (sp : Span)
+    → expr_of x.now ≡ t_constant c sp → v ≡ c.bits % 2 ^ width c.elem
+    → Does old (record old { work = work; value = computed.One v }) (task.Value x set)
 constant_node old work one v x set c sp is e =
     found_does old _ x set (t_constant c sp) is (at_once old work one (computed.One v) (t_constant c sp) set (λ w. One (c.bits % 2 ^ width c.elem)) (λ w. refl) (λ w. ap One e))
 
-pub index_node : (old : Evaluator) (work : Work) (one : Adds old work 1) (v : Computed) (x : Bor TypedExpr) (set : List Bool) (sp : Span) → expr_of x.now ≡ t_program_index sp → payload_of v ≡ Each (on (flag_of set) (λ p. p)) → Does old (record old { work = work; value = v }) (task.Value x set)
+pub index_node : (old : Evaluator) (work : Work) (one : Adds old work 1) (v : Computed) (x : Bor TypedExpr) (set : List Bool) (sp : Span)
+    → expr_of x.now ≡ t_program_index sp → payload_of v ≡ Each (on (flag_of set) (λ p. p))
+    → Does old (record old { work = work; value = v }) (task.Value x set)
 index_node old work one v x set sp is e =
     found_does old _ x set (t_program_index sp) is (at_once old work one v (t_program_index sp) set (λ w. Each (on (flag_of set) (λ p. p))) (λ w. refl) (λ w. e))
 
@@ -122,7 +126,8 @@ load_traps old new b e sp set p some same =
 
 -- ---- conversions, casts and brackets
 
-pub convert_node : (old new : Evaluator) (x y : Bor TypedExpr) (set : List Bool) (from to : Elem) → from ≡ (type_of (expr_of y.now)).elem → expr_of x.now ≡ t_convert to (expr_of y.now) → First old new (task.Value y set) (task.Convert from to) → Does old new (task.Value x set)
+pub convert_node : (old new : Evaluator) (x y : Bor TypedExpr) (set : List Bool) (from to : Elem) → from ≡ (type_of (expr_of y.now)).elem
+    → expr_of x.now ≡ t_convert to (expr_of y.now) → First old new (task.Value y set) (task.Convert from to) → Does old new (task.Value x set)
 convert_node old new x y set from to typed is first =
     record {
       by = λ w. (
@@ -135,7 +140,8 @@ convert_node old new x y set from to typed is first =
       counts = λ w k. counts_same old new w first.work k;
     }
 
-pub cast_node : (old new : Evaluator) (work : Work) (one : Adds old work 1) (x y : Bor TypedExpr) (set : List Bool) (t : Ty) (sp : Span) → expr_of x.now ≡ t_cast (expr_of y.now) t sp → Later (record old { work = work }) new (task.Value y set) → Does old new (task.Value x set)
+pub cast_node : (old new : Evaluator) (work : Work) (one : Adds old work 1) (x y : Bor TypedExpr) (set : List Bool) (t : Ty) (sp : Span)
+    → expr_of x.now ≡ t_cast (expr_of y.now) t sp → Later (record old { work = work }) new (task.Value y set) → Does old new (task.Value x set)
 cast_node old new work one x y set t sp is l =
     record {
       by = λ w. (

@@ -45,7 +45,9 @@ counted [] = refl
 counted (r ∷ rs) = ap suc (counted rs)
 
 pub starts : (p : Bor Program) (turns : ℕ) (xs : List Argument) (e : Evaluator) (vs : List (Vec ℕ Global)) (ns : List ℕ) → map (λ (v : Vec ℕ Global). v.items) vs ≡ map (λ (r : Row). r.bits) (rows xs) → ns ≡ map (λ (r : Row). length r.bits) (rows xs)
-    → e.program ≡ p → e.turns ≡ turns → e.left ≡ 256 → frame_seen e.here ≡ record (frame_seen e.here) { sizes = values_of ns; opened = length ns; own_sizes = λ v. 0; answer = None } → state_seen e 0 ≡ nothing_written (stores_of vs) → e.tasks.items ≡ [] → e.work.count ≡ 0
+    → e.program ≡ p → e.turns ≡ turns → e.left ≡ 256
+    → frame_seen e.here ≡ record (frame_seen e.here) { sizes = values_of ns; opened = length ns; own_sizes = λ v. 0; answer = None }
+    → state_seen e 0 ≡ nothing_written (stores_of vs) → e.tasks.items ≡ [] → e.work.count ≡ 0
     → Starts (program_of p.now) turns xs e
 starts p turns xs e vs ns vi ni ep et el ef es en ew =
     record {

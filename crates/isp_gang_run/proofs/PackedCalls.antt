@@ -87,7 +87,9 @@ from_none = refl
 
 module _ (old new : Evaluator) (work : Work) (one : Adds old work 1) (p : Packing) (b : TypedBase) (span : Span) (set : List Bool) where
   -- the whole array: from the first element on
-  whole_is : (v : ArrayVariable) (sp : Span) → base_of b ≡ t_whole v sp → (w : ℕ) → packs old p (base_of b) span (flag_of set) (store_seen old w) ≡ does (record old { value = computed.One 0 }) (task.Packed p v I32 span set) (store_seen (record old { value = computed.One 0 }) (w + 1))
+  whole_is : (v : ArrayVariable) (sp : Span) → base_of b ≡ t_whole v sp → (w : ℕ)
+      → packs old p (base_of b) span (flag_of set) (store_seen old w)
+      ≡ does (record old { value = computed.One 0 }) (task.Packed p v I32 span set) (store_seen (record old { value = computed.One 0 }) (w + 1))
   whole_is v sp is w =
       ap (λ k. packs old p k span (flag_of set) (store_seen old w)) is
       ∙ ap (λ z. given (store_seen old w) (pack (program_of old.program.now) old.turns p v z span (flag_of set) (frame_seen old.here) old.left (state_seen old (w + 1)))) (sym from_none)
@@ -104,7 +106,9 @@ module _ (old new : Evaluator) (work : Work) (one : Adds old work 1) (p : Packin
         counts = λ w k. d.counts (w + 1) (counts_more old work 1 w one k);
       }
 
-  pub whole_halts : (v : ArrayVariable) (sp : Span) (e : Stop) → base_of b ≡ t_whole v sp → Halts (record old { work = work; value = computed.One 0 }) new (does (record old { value = computed.One 0 }) (task.Packed p v I32 span set)) e → Halts old new (packs old p (base_of b) span (flag_of set)) e
+  pub whole_halts : (v : ArrayVariable) (sp : Span) (e : Stop) → base_of b ≡ t_whole v sp
+      → Halts (record old { work = work; value = computed.One 0 }) new (does (record old { value = computed.One 0 }) (task.Packed p v I32 span set)) e
+      → Halts old new (packs old p (base_of b) span (flag_of set)) e
   whole_halts v sp e is h = by h
     where
       by : Halts (record old { work = work; value = computed.One 0 }) new (does (record old { value = computed.One 0 }) (task.Packed p v I32 span set)) e → Halts old new (packs old p (base_of b) span (flag_of set)) e
@@ -120,13 +124,18 @@ module _ (old new : Evaluator) (work : Work) (one : Adds old work 1) (p : Packin
   from_next v t r s (Fails x s1) next = refl
   from_next v t r s (Stops s1) next = refl
 
-  pub from_comes : (v : ArrayVariable) (y : Bor TypedExpr) (t : Elem) (sp : Span) → t ≡ (type_of (expr_of y.now)).elem → base_of b ≡ t_from v (expr_of y.now) sp → First (record old { work = work }) new (task.Value y set) (task.Packed p v t span set) → Comes old new (packs old p (base_of b) span (flag_of set))
+  pub from_comes : (v : ArrayVariable) (y : Bor TypedExpr) (t : Elem) (sp : Span) → t ≡ (type_of (expr_of y.now)).elem
+      → base_of b ≡ t_from v (expr_of y.now) sp → First (record old { work = work }) new (task.Value y set) (task.Packed p v t span set)
+      → Comes old new (packs old p (base_of b) span (flag_of set))
   from_comes v y t sp typed is f =
       record {
         by = λ w. (
           w + 1,
           ap (λ k. go (packs old p k span (flag_of set) (store_seen old w)) (rest old)) is
-              ∙ ap (λ e. go (given (store_seen old w) (bind (bind (value_at (program_of old.program.now) old.turns (store_seen old w) (expr_of y.now) (flag_of set) (state_seen old (w + 1))) (λ m s1. Gives (number e (sole m)) s1)) (λ z s2. pack (program_of old.program.now) old.turns p v z span (flag_of set) (frame_seen old.here) old.left s2))) (rest old)) (sym typed)
+              ∙ ap (λ e. go (given (store_seen old w) (bind (bind
+              (value_at (program_of old.program.now) old.turns (store_seen old w) (expr_of y.now) (flag_of set) (state_seen old (w + 1)))
+              (λ m s1. Gives (number e (sole m)) s1)) (λ z s2. pack (program_of old.program.now) old.turns p v z span (flag_of set)
+              (frame_seen old.here) old.left s2))) (rest old)) (sym typed)
               ∙ from_next v t (store_seen old w) (state_seen old (w + 1)) (value_at (program_of old.program.now) old.turns (store_seen old w) (expr_of y.now) (flag_of set) (state_seen old (w + 1))) (rest old)
               ∙ sym (f.by (w + 1)),
         );
@@ -135,7 +144,10 @@ module _ (old new : Evaluator) (work : Work) (one : Adds old work 1) (p : Packin
 
 -- ---- the first index was found
 
-pub store_next : (old new : Evaluator) (y : Bor TypedExpr) (v : ArrayVariable) (t : Elem) (n : ℕ) (span : Span) (set : List Bool) (p : Packing) → p ≡ packing.Store y → n ≡ sole (payload_of old.value) → First old new (task.Value y set) (task.PackedStore (record { array = v; elem = t; first = n }) span set) → Does old new (task.Packed p v t span set)
+pub store_next : (old new : Evaluator) (y : Bor TypedExpr) (v : ArrayVariable) (t : Elem) (n : ℕ) (span : Span) (set : List Bool) (p : Packing)
+    → p ≡ packing.Store y → n ≡ sole (payload_of old.value)
+    → First old new (task.Value y set) (task.PackedStore (record { array = v; elem = t; first = n }) span set)
+    → Does old new (task.Packed p v t span set)
 store_next old new y v t n span set p is e f =
     subst (λ k. Does old new (task.Packed k v t span set)) (sym is)
     (record {
@@ -143,20 +155,28 @@ store_next old new y v t n span set p is e f =
         w,
         ap (λ k. go (given (store_seen old w) (pack (program_of old.program.now) old.turns (packing.Store y) v (number t k) span (flag_of set) (frame_seen old.here) old.left (state_seen old w))) (rest old)) (sym e)
             ∙ then_given_in (store_seen old w) (value_at (program_of old.program.now) old.turns (store_seen old w) (expr_of y.now) (flag_of set) (state_seen old w))
-            (λ fr l m s. bind (checked (lowest (gang_width old.program.now.gang) (packed_outside (extent fr v) (number t n) (flag_of set))) Index span s m) (λ k s1. Gives (One (rank (flag_of set) (gang_width old.program.now.gang))) (packed_kept (gang_width old.program.now.gang) (fr.named v.number) (number t n) (flag_of set) k s1))) (rest old)
+            (λ fr l m s. bind (checked (lowest (gang_width old.program.now.gang) (packed_outside (extent fr v) (number t n) (flag_of set))) Index span
+            s m) (λ k s1. Gives (One (rank (flag_of set) (gang_width old.program.now.gang)))
+            (packed_kept (gang_width old.program.now.gang) (fr.named v.number) (number t n) (flag_of set) k s1))) (rest old)
             ∙ sym (f.by w),
       );
       counts = λ w k. counts_same old new w f.work k;
     })
 
-load_is : (old : Evaluator) (v n : ℕ) (b : ArrayVariable) (t : Elem) (span : Span) (set : List Bool) (p : Packing) → p ≡ packing.Load v → n ≡ sole (payload_of old.value) → (w : ℕ) → does old (task.Packed p b t span set) (store_seen old w) ≡ packs_from old (packing.Load v) b (number t n) span (flag_of set) (store_seen old w)
+load_is : (old : Evaluator) (v n : ℕ) (b : ArrayVariable) (t : Elem) (span : Span) (set : List Bool) (p : Packing) → p ≡ packing.Load v
+    → n ≡ sole (payload_of old.value) → (w : ℕ) → does old (task.Packed p b t span set) (store_seen old w)
+    ≡ packs_from old (packing.Load v) b (number t n) span (flag_of set) (store_seen old w)
 load_is old v n b t span set p is e w =
     ap₂ (λ (q : Packing) (k : ℕ). given (store_seen old w) (pack (program_of old.program.now) old.turns q b (number t k) span (flag_of set) (frame_seen old.here) old.left (state_seen old w))) is (sym e)
 
-pub load_next : (old new : Evaluator) (v n : ℕ) (b : ArrayVariable) (t : Elem) (span : Span) (set : List Bool) (p : Packing) → p ≡ packing.Load v → n ≡ sole (payload_of old.value) → Comes old new (packs_from old (packing.Load v) b (number t n) span (flag_of set)) → Does old new (task.Packed p b t span set)
+pub load_next : (old new : Evaluator) (v n : ℕ) (b : ArrayVariable) (t : Elem) (span : Span) (set : List Bool) (p : Packing) → p ≡ packing.Load v
+    → n ≡ sole (payload_of old.value) → Comes old new (packs_from old (packing.Load v) b (number t n) span (flag_of set))
+    → Does old new (task.Packed p b t span set)
 load_next old new v n b t span set p is e c = record { by = λ w. ((c.by w).0, ap (λ g. go g (rest old)) (load_is old v n b t span set p is e w) ∙ (c.by w).1); counts = c.counts }
 
-pub load_next_halts : (old new : Evaluator) (v n : ℕ) (b : ArrayVariable) (t : Elem) (span : Span) (set : List Bool) (p : Packing) (e : Stop) → p ≡ packing.Load v → n ≡ sole (payload_of old.value) → Halts old new (packs_from old (packing.Load v) b (number t n) span (flag_of set)) e → Halts old new (does old (task.Packed p b t span set)) e
+pub load_next_halts : (old new : Evaluator) (v n : ℕ) (b : ArrayVariable) (t : Elem) (span : Span) (set : List Bool) (p : Packing) (e : Stop)
+    → p ≡ packing.Load v → n ≡ sole (payload_of old.value) → Halts old new (packs_from old (packing.Load v) b (number t n) span (flag_of set)) e
+    → Halts old new (does old (task.Packed p b t span set)) e
 load_next_halts old new v n b t span set p e is eq h = halts_same old new (does old (task.Packed p b t span set)) (packs_from old (packing.Load v) b (number t n) span (flag_of set)) e (load_is old v n b t span set p is eq) h
 
 -- ---- the access
@@ -166,35 +186,53 @@ module _ (old : Evaluator) (es : Elements) (span : Span) (set : List Bool) where
   offending = lowest (gang_width old.program.now.gang) (packed_outside (extent (frame_seen old.here) es.array) (number es.elem es.first) (flag_of set))
 
   loads : (v : ℕ) (o : Option ℕ) → offending ≡ o → (w : ℕ) → packs_from old (packing.Load v) es.array (number es.elem es.first) span (flag_of set) (store_seen old w)
-      ≡ given (store_seen old w) (bind (checked o Index span (state_seen old (w + 1)) (packed_held ((frame_seen old.here).named es.array.number) (number es.elem es.first) (flag_of set) (state_seen old w))) (λ m s. Gives (One (rank (flag_of set) (gang_width old.program.now.gang))) (written Varying v (flag_of set) m s)))
+      ≡ given (store_seen old w) (bind (checked o Index span (state_seen old (w + 1))
+      (packed_held ((frame_seen old.here).named es.array.number) (number es.elem es.first) (flag_of set) (state_seen old w)))
+      (λ m s. Gives (One (rank (flag_of set) (gang_width old.program.now.gang))) (written Varying v (flag_of set) m s)))
   loads v o e w =
-      ap (λ k. given (store_seen old w) (bind (checked k Index span (state_seen old (w + 1)) (packed_held ((frame_seen old.here).named es.array.number) (number es.elem es.first) (flag_of set) (state_seen old w))) (λ m s. Gives (One (rank (flag_of set) (gang_width old.program.now.gang))) (written Varying v (flag_of set) m s)))) e
+      ap (λ k. given (store_seen old w) (bind (checked k Index span (state_seen old (w + 1))
+      (packed_held ((frame_seen old.here).named es.array.number) (number es.elem es.first) (flag_of set) (state_seen old w)))
+      (λ m s. Gives (One (rank (flag_of set) (gang_width old.program.now.gang))) (written Varying v (flag_of set) m s)))) e
 
   -- into a variable
-  pub load_comes : (work : Work) (one : Adds old work 1) (v : ℕ) (new : Evaluator) (m : Payload) (c : Computed) → offending ≡ None → ((w : ℕ) → m ≡ packed_held ((frame_seen old.here).named es.array.number) (number es.elem es.first) (flag_of set) (state_seen old w))
-      → Changes (record old { work = work }) new (written Varying v (flag_of set) m) → payload_of c ≡ One (rank (flag_of set) (gang_width old.program.now.gang)) → Comes old (record new { value = c }) (packs_from old (packing.Load v) es.array (number es.elem es.first) span (flag_of set))
+  pub load_comes : (work : Work) (one : Adds old work 1) (v : ℕ) (new : Evaluator) (m : Payload) (c : Computed) → offending ≡ None
+      → ((w : ℕ) → m ≡ packed_held ((frame_seen old.here).named es.array.number) (number es.elem es.first) (flag_of set) (state_seen old w))
+      → Changes (record old { work = work }) new (written Varying v (flag_of set) m)
+      → payload_of c ≡ One (rank (flag_of set) (gang_width old.program.now.gang))
+      → Comes old (record new { value = c }) (packs_from old (packing.Load v) es.array (number es.elem es.first) span (flag_of set))
   load_comes work one v new m c none is ch e =
       record {
         by = λ w. (
           w + 1,
           ap (λ g. go g (rest old)) (loads v None none w)
               ∙ ap₂ (λ (x y : Payload). rest old (record (store_seen old w) { state = written Varying v (flag_of set) x (state_seen old (w + 1)); value = y })) (sym (is w)) (sym e)
-              ∙ sym (ap₂ (λ (h : Store → Goes) (r : Store). h (record r { value = payload_of c })) (changed_rest (record old { work = work }) new (written Varying v (flag_of set) m) ch) (changed_store (record old { work = work }) new (written Varying v (flag_of set) m) ch (w + 1))),
+              ∙ sym (ap₂ (λ (h : Store → Goes) (r : Store). h (record r { value = payload_of c }))
+              (changed_rest (record old { work = work }) new (written Varying v (flag_of set) m) ch)
+              (changed_store (record old { work = work }) new (written Varying v (flag_of set) m) ch (w + 1))),
         );
         counts = λ w k. counts_one old new work w one (ap work_of ch.same) k;
       }
 
-  pub load_halts : (work : Work) (one : Adds old work 1) (v : ℕ) (e : Stop) (i : ℕ) → offending ≡ Some i → e ≡ stop.Trapped (trap Index span i) → Halts old (record old { work = work }) (packs_from old (packing.Load v) es.array (number es.elem es.first) span (flag_of set)) e
+  pub load_halts : (work : Work) (one : Adds old work 1) (v : ℕ) (e : Stop) (i : ℕ) → offending ≡ Some i → e ≡ stop.Trapped (trap Index span i)
+      → Halts old (record old { work = work }) (packs_from old (packing.Load v) es.array (number es.elem es.first) span (flag_of set)) e
   load_halts work one v e i some is =
       trapped (trap Index span i) is (λ w. (w + 1, loads v (Some i) some w)) (λ w k. counts_more old work 1 w one k)
 
   stores : (o : Option ℕ) → offending ≡ o → (w : ℕ) → does old (task.PackedStore es span set) (store_seen old w)
-      ≡ given (store_seen old w) (bind (checked o Index span (state_seen old w) (payload_of old.value)) (λ m s. Gives (One (rank (flag_of set) (gang_width old.program.now.gang))) (packed_kept (gang_width old.program.now.gang) ((frame_seen old.here).named es.array.number) (number es.elem es.first) (flag_of set) m s)))
+      ≡ given (store_seen old w) (bind (checked o Index span (state_seen old w) (payload_of old.value))
+      (λ m s. Gives (One (rank (flag_of set) (gang_width old.program.now.gang)))
+      (packed_kept (gang_width old.program.now.gang) ((frame_seen old.here).named es.array.number) (number es.elem es.first) (flag_of set) m s)))
   stores o e w =
-      ap (λ k. given (store_seen old w) (bind (checked k Index span (state_seen old w) (payload_of old.value)) (λ m s. Gives (One (rank (flag_of set) (gang_width old.program.now.gang))) (packed_kept (gang_width old.program.now.gang) ((frame_seen old.here).named es.array.number) (number es.elem es.first) (flag_of set) m s)))) e
+      ap (λ k. given (store_seen old w) (bind (checked k Index span (state_seen old w) (payload_of old.value))
+      (λ m s. Gives (One (rank (flag_of set) (gang_width old.program.now.gang)))
+      (packed_kept (gang_width old.program.now.gang) ((frame_seen old.here).named es.array.number) (number es.elem es.first) (flag_of set) m s))))
+      e
 
   -- into a store
-  pub store_does : (st : Vec (Vec ℕ Global) Global) (c : Computed) (places values : Map) (k : ℕ) → offending ≡ None → k ≡ (frame_seen old.here).named es.array.number → places ≡ places_at (extent (frame_seen old.here) es.array) (number es.elem es.first) (flag_of set) → values ≡ spread (flag_of set) (payload_of old.value)
+  pub store_does : (st : Vec (Vec ℕ Global) Global) (c : Computed) (places values : Map) (k : ℕ) → offending ≡ None
+      → k ≡ (frame_seen old.here).named es.array.number
+      → places ≡ places_at (extent (frame_seen old.here) es.array) (number es.elem es.first) (flag_of set)
+      → values ≡ spread (flag_of set) (payload_of old.value)
       → stores_of st.items ≡ put (stores_of old.stores.items) k (scatter (gang_width old.program.now.gang) places values (stores_of old.stores.items k)) → payload_of c ≡ One (rank (flag_of set) (gang_width old.program.now.gang))
       → Does old (record old { stores = st; value = c }) (task.PackedStore es span set)
   store_does st c places values k none named ep ev put_is e =

@@ -97,17 +97,22 @@ module _ (x y : Map) (k : ℕ → Lanes) where
   own_some i place bits hx hy =
       let h = own_part i x y k in
       own_next i (put h place (put (h place) i bits))
-      (λ e p ne. ⊎_elim (λ (t : e ≡ place). ap (λ d. put h place (put (h place) i bits) d p) t ∙ ap (λ d. d p) (put_there h place (put (h place) i bits)) ∙ put_apart (h place) i bits p ne ∙ ap (λ d. h d p) (sym t)) (λ far. ap (λ d. d p) (put_apart h place (put (h place) i bits) e far)) (cases_eq e place))
+      (λ e p ne. ⊎_elim (λ (t : e ≡ place). ap (λ d. put h place (put (h place) i bits) d p) t
+      ∙ ap (λ d. d p) (put_there h place (put (h place) i bits)) ∙ put_apart (h place) i bits p ne ∙ ap (λ d. h d p) (sym t))
+      (λ far. ap (λ d. d p) (put_apart h place (put (h place) i bits) e far)) (cases_eq e place))
       (λ e. ⊎_elim
       (λ (t : e ≡ place). ap (λ d. put h place (put (h place) i bits) d i) t ∙ ap (λ d. d i) (put_there h place (put (h place) i bits)) ∙ put_there (h place) i bits
-      ∙ sym (ap (λ d. own_stored x y k d i) t ∙ ap (λ o. if holds (λ j. nat_eq j place) o then or_old (y i) (k place i) else k place i) hx ∙ ap (λ b. if b then or_old (y i) (k place i) else k place i) (eq-eqb place place refl) ∙ ap (λ o. or_old o (k place i)) hy))
+      ∙ sym (ap (λ d. own_stored x y k d i) t ∙ ap (λ o. if holds (λ j. nat_eq j place) o then or_old (y i) (k place i) else k place i) hx
+      ∙ ap (λ b. if b then or_old (y i) (k place i) else k place i) (eq-eqb place place refl) ∙ ap (λ o. or_old o (k place i)) hy))
       (λ far. ap (λ d. d i) (put_apart h place (put (h place) i bits) e far) ∙ own_before i e i (omega arith)
       ∙ sym (ap (λ o. if holds (λ j. nat_eq j e) o then or_old (y i) (k e i) else k e i) hx ∙ ap (λ b. if b then or_old (y i) (k e i) else k e i) (ne_eqb place e (λ t. far (sym t)))))
       (cases_eq e place))
 
 pub own_all : (xs : List (Option ℕ)) (y : Map) (k : ℕ → Lanes) → length xs ≡ widest → own_part widest (map_of xs) y k ≡ own_stored (map_of xs) y k
 own_all xs y k long =
-    fun_ext (λ e. fun_ext (λ p. ⊎_elim (λ (h : p < widest). own_after (map_of xs) y k widest e p h) (λ h. own_before (map_of xs) y k widest e p h ∙ sym (ap (λ o. if holds (λ j. nat_eq j e) o then or_old (y p) (k e p) else k e p) (past xs p None (omega (arith, long, h))))) (cases_lt p widest)))
+    fun_ext (λ e. fun_ext (λ p. ⊎_elim (λ (h : p < widest). own_after (map_of xs) y k widest e p h)
+    (λ h. own_before (map_of xs) y k widest e p h ∙ sym
+    (ap (λ o. if holds (λ j. nat_eq j e) o then or_old (y p) (k e p) else k e p) (past xs p None (omega (arith, long, h))))) (cases_lt p widest)))
 
 pub own_next_store : (f g r : ℕ → ℕ → Lanes) (n i : ℕ) (x y : Map) → g ≡ put f n (own_part i x y (f n)) → r ≡ put g n (put_own_at i (x i) (y i) (g n)) → r ≡ put f n (own_part (i + 1) x y (f n))
 own_next_store f g r n i x y e is = change_again f g r n (own_part i x y (f n)) (put_own_at i (x i) (y i)) e is ∙ ap (put f n) (by (x i) (y i) refl refl)
@@ -148,7 +153,9 @@ zeroed_all a ys xs n long m =
     (λ h. m.off e h ∙ at_past lane_of (λ p. 0) ys e (omega (arith, long, h)) ∙ sym (ap (with_zeros a) (at_past lane_of (λ p. 0) ys e (omega (arith, long, h))) ∙ fun_ext (λ p. sym (either (a p) 0)))) (cases_lt e n))
 
 pub lane_set : (xs : List ℕ) (i b : ℕ) → i < length xs → lane_of (slice_set xs i b) ≡ put (lane_of xs) i b
-lane_set xs i b lt = fun_ext (λ p. ⊎_elim (λ (h : p ≡ i). ap (lane_of (slice_set xs i b)) h ∙ get_or-set_same xs i b 0 lt ∙ sym (ap (put (lane_of xs) i b) h ∙ put_there (lane_of xs) i b)) (λ ne. get_or-set_other xs i p b 0 ne ∙ sym (put_apart (lane_of xs) i b p ne)) (cases_eq p i))
+lane_set xs i b lt = fun_ext (λ p. ⊎_elim (λ (h : p ≡ i). ap (lane_of (slice_set xs i b)) h ∙ get_or-set_same xs i b 0 lt
+    ∙ sym (ap (put (lane_of xs) i b) h ∙ put_there (lane_of xs) i b)) (λ ne. get_or-set_other xs i p b 0 ne ∙ sym (put_apart (lane_of xs) i b p ne))
+    (cases_eq p i))
 
 -- where there are zeros, zeros are written
 pub zeros_stay : (a : Mask) (f : ℕ → Lanes) → f ≡ (λ e p. 0) → (λ e. with_zeros a (f e)) ≡ f

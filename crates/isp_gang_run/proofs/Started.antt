@@ -67,7 +67,8 @@ one_size_more out new k xs x h e is = ap (λ ys. so_far sizes_in ys (k + 1) xs) 
 abbrev pub handed_from : List Passed → ℕ → ℕ → List Argument → List Passed
 handed_from out b k xs = out ++ handed b (drop k xs)
 
-pub one_hand_more : (out : List Passed) (b k : ℕ) (xs : List Argument) (x : Argument) (p : Passed) (c : ℕ) → k < length xs → x ≡ get_or xs k x → p ≡ one_handed b x → c ≡ next_after b x → handed_from (out ++ p ∷ []) c (k + 1) xs ≡ handed_from out b k xs
+pub one_hand_more : (out : List Passed) (b k : ℕ) (xs : List Argument) (x : Argument) (p : Passed) (c : ℕ) → k < length xs → x ≡ get_or xs k x
+    → p ≡ one_handed b x → c ≡ next_after b x → handed_from (out ++ p ∷ []) c (k + 1) xs ≡ handed_from out b k xs
 one_hand_more out b k xs x p c h e is at =
     let i : k + 1 ≡ suc k = omega arith in
     ap (λ (n : ℕ). handed_from (out ++ p ∷ []) c n xs) i

@@ -48,8 +48,14 @@ module _ (old new : Evaluator) where
             let r = store_seen old w in
             let v = b.value in (
               w,
-              ap (λ o. go (ran r (with_value (step_part (gang_width old.program.now.gang) r.frame (calls_at (program_of old.program.now) old.turns r.left) (option_map (λ (y : Bor TypedSimple). simple_of y.now) o) (flag_of v.live) r.state) (λ _ s1. tested_in (program_of old.program.now) old.turns r.frame r.left v.looping (flag_of v.all) v.left (flag_of v.live) (flag_of v.returned) s1))) (rest old)) some
-                  ∙ done_ran r (step_part (gang_width old.program.now.gang) r.frame (calls_at (program_of old.program.now) old.turns r.left) (Some (simple_of x.now)) (flag_of v.live) r.state) (λ fr l s1. tested_in (program_of old.program.now) old.turns fr l v.looping (flag_of v.all) v.left (flag_of v.live) (flag_of v.returned) s1) (rest old)
+              ap (λ o. go (ran r (with_value (step_part (gang_width old.program.now.gang) r.frame
+                  (calls_at (program_of old.program.now) old.turns r.left) (option_map (λ (y : Bor TypedSimple). simple_of y.now) o) (flag_of v.live)
+                  r.state) (λ _ s1. tested_in (program_of old.program.now) old.turns r.frame r.left v.looping (flag_of v.all) v.left (flag_of v.live)
+                  (flag_of v.returned) s1))) (rest old)) some
+                  ∙ done_ran r (step_part (gang_width old.program.now.gang) r.frame (calls_at (program_of old.program.now) old.turns r.left)
+                  (Some (simple_of x.now)) (flag_of v.live) r.state)
+                  (λ fr l s1. tested_in (program_of old.program.now) old.turns fr l v.looping (flag_of v.all) v.left (flag_of v.live)
+                  (flag_of v.returned) s1) (rest old)
                   ∙ sym (f.by w),
             );
         counts = λ w k. counts_same old new w f.work k;
@@ -62,7 +68,10 @@ module _ (old new : Evaluator) where
       (λ w.
       let r = store_seen old w in
       let v = b.value in
-      ap (λ o. ran r (with_value (step_part (gang_width old.program.now.gang) r.frame (calls_at (program_of old.program.now) old.turns r.left) (option_map (λ (y : Bor TypedSimple). simple_of y.now) o) (flag_of v.live) r.state) (λ _ s1. tested_in (program_of old.program.now) old.turns r.frame r.left v.looping (flag_of v.all) v.left (flag_of v.live) (flag_of v.returned) s1))) none) c) none
+      ap (λ o. ran r (with_value (step_part (gang_width old.program.now.gang) r.frame (calls_at (program_of old.program.now) old.turns r.left)
+      (option_map (λ (y : Bor TypedSimple). simple_of y.now) o) (flag_of v.live) r.state)
+      (λ _ s1. tested_in (program_of old.program.now) old.turns r.frame r.left v.looping (flag_of v.all) v.left (flag_of v.live)
+      (flag_of v.returned) s1))) none) c) none
 
   -- the body was run
   pub steps_again : (t : Turning) (live returned : List Bool) → flag_of live ≡ union (flag_of old.sets.went) (flag_of old.sets.exits.continued) → flag_of returned ≡ union (flag_of t.returned) (flag_of old.sets.exits.returned)
@@ -71,7 +80,9 @@ module _ (old new : Evaluator) where
       comes_same old new (turned_on old t) (steps_on old (record t { live = live; returned = returned }))
       (λ w.
       let r = store_seen old w in
-      let f = λ (a q : Mask) (b : Bool). ran r (if_so b (stepped_in (program_of old.program.now) old.turns r.frame r.left t.looping (flag_of t.all) t.left a q) (ends_in (program_of old.program.now) old.turns r.frame r.left t.looping (flag_of t.all) q) r.state) in
+      let f = λ (a q : Mask) (b : Bool). ran r (if_so b
+      (stepped_in (program_of old.program.now) old.turns r.frame r.left t.looping (flag_of t.all) t.left a q)
+      (ends_in (program_of old.program.now) old.turns r.frame r.left t.looping (flag_of t.all) q) r.state) in
       ap₂ (λ (a q : Mask). f a q (any (gang_width old.program.now.gang) a)) (sym el) (sym er) ∙ ap (f (flag_of live) (flag_of returned)) some) c
 
   pub no_more : (t : Turning) (live returned : List Bool) → flag_of live ≡ union (flag_of old.sets.went) (flag_of old.sets.exits.continued) → flag_of returned ≡ union (flag_of t.returned) (flag_of old.sets.exits.returned)
@@ -80,24 +91,36 @@ module _ (old new : Evaluator) where
       comes_same old new (turned_on old t) (ends_on old (record t { live = live; returned = returned }))
       (λ w.
       let r = store_seen old w in
-      let f = λ (a q : Mask) (b : Bool). ran r (if_so b (stepped_in (program_of old.program.now) old.turns r.frame r.left t.looping (flag_of t.all) t.left a q) (ends_in (program_of old.program.now) old.turns r.frame r.left t.looping (flag_of t.all) q) r.state) in
+      let f = λ (a q : Mask) (b : Bool). ran r (if_so b
+      (stepped_in (program_of old.program.now) old.turns r.frame r.left t.looping (flag_of t.all) t.left a q)
+      (ends_in (program_of old.program.now) old.turns r.frame r.left t.looping (flag_of t.all) q) r.state) in
       ap₂ (λ (a q : Mask). f a q (any (gang_width old.program.now.gang) a)) (sym el) (sym er) ∙ ap (f (flag_of live) (flag_of returned)) none) c
 
   -- the test was found
   kept_is : (t : Turning) (kept : List Bool) (b : Bool) → flag_of kept ≡ kept_by is_true (flag_of t.live) (payload_of old.value) → any (gang_width old.program.now.gang) (flag_of kept) ≡ b → (w : ℕ)
-      → keeps_on old t (store_seen old w) ≡ ran (store_seen old w) (if_so b (turns_in (program_of old.program.now) old.turns (store_seen old w).frame (store_seen old w).left t.looping (flag_of t.all) t.left (flag_of kept) (flag_of t.returned)) (ends_in (program_of old.program.now) old.turns (store_seen old w).frame (store_seen old w).left t.looping (flag_of t.all) (flag_of t.returned)) (state_seen old w))
+      → keeps_on old t (store_seen old w) ≡ ran (store_seen old w)
+      (if_so b (turns_in (program_of old.program.now) old.turns (store_seen old w).frame (store_seen old w).left t.looping (flag_of t.all) t.left
+      (flag_of kept) (flag_of t.returned)) (ends_in (program_of old.program.now) old.turns (store_seen old w).frame (store_seen old w).left
+      t.looping (flag_of t.all) (flag_of t.returned)) (state_seen old w))
   kept_is t kept b ek eb w =
       let r = store_seen old w in
-      let f = λ (a : Mask) (b : Bool). ran r (if_so b (turns_in (program_of old.program.now) old.turns r.frame r.left t.looping (flag_of t.all) t.left a (flag_of t.returned)) (ends_in (program_of old.program.now) old.turns r.frame r.left t.looping (flag_of t.all) (flag_of t.returned)) r.state) in
+      let f = λ (a : Mask) (b : Bool). ran r (if_so b (turns_in (program_of old.program.now) old.turns r.frame r.left t.looping (flag_of t.all) t.left
+      a (flag_of t.returned)) (ends_in (program_of old.program.now) old.turns r.frame r.left t.looping (flag_of t.all) (flag_of t.returned))
+      r.state) in
       ap (λ (a : Mask). f a (any (gang_width old.program.now.gang) a)) (sym ek) ∙ ap (f (flag_of kept)) eb
 
-  pub turns_again : (t : Turning) (kept : List Bool) → flag_of kept ≡ kept_by is_true (flag_of t.live) (payload_of old.value) → any (gang_width old.program.now.gang) (flag_of kept) ≡ true → Comes old new (turns_on old (record t { live = kept })) → Comes old new (keeps_on old t)
+  pub turns_again : (t : Turning) (kept : List Bool) → flag_of kept ≡ kept_by is_true (flag_of t.live) (payload_of old.value)
+      → any (gang_width old.program.now.gang) (flag_of kept) ≡ true → Comes old new (turns_on old (record t { live = kept }))
+      → Comes old new (keeps_on old t)
   turns_again t kept ek some c = comes_same old new (keeps_on old t) (turns_on old (record t { live = kept })) (kept_is t kept true ek some) c
 
-  pub turns_halt : (t : Turning) (kept : List Bool) (e : Stop) → flag_of kept ≡ kept_by is_true (flag_of t.live) (payload_of old.value) → any (gang_width old.program.now.gang) (flag_of kept) ≡ true → Halts old new (turns_on old (record t { live = kept })) e → Halts old new (keeps_on old t) e
+  pub turns_halt : (t : Turning) (kept : List Bool) (e : Stop) → flag_of kept ≡ kept_by is_true (flag_of t.live) (payload_of old.value)
+      → any (gang_width old.program.now.gang) (flag_of kept) ≡ true → Halts old new (turns_on old (record t { live = kept })) e
+      → Halts old new (keeps_on old t) e
   turns_halt t kept e ek some h = halts_same old new (keeps_on old t) (turns_on old (record t { live = kept })) e (kept_is t kept true ek some) h
 
-  pub nobody_kept : (t : Turning) (kept : List Bool) → flag_of kept ≡ kept_by is_true (flag_of t.live) (payload_of old.value) → any (gang_width old.program.now.gang) (flag_of kept) ≡ false → Comes old new (ends_on old t) → Comes old new (keeps_on old t)
+  pub nobody_kept : (t : Turning) (kept : List Bool) → flag_of kept ≡ kept_by is_true (flag_of t.live) (payload_of old.value)
+      → any (gang_width old.program.now.gang) (flag_of kept) ≡ false → Comes old new (ends_on old t) → Comes old new (keeps_on old t)
   nobody_kept t kept ek none c = comes_same old new (keeps_on old t) (ends_on old t) (kept_is t kept false ek none) c
 
   -- the test
@@ -109,9 +132,13 @@ module _ (old new : Evaluator) where
             let r = store_seen old w in
             let v = b.value in
             let g = λ (fr : Frame) (l : ℕ) (m : Payload) (s1 : State).
-            if_so (any (gang_width old.program.now.gang) (kept_by is_true (flag_of v.live) m)) (turns_in (program_of old.program.now) old.turns fr l v.looping (flag_of v.all) v.left (kept_by is_true (flag_of v.live) m) (flag_of v.returned)) (ends_in (program_of old.program.now) old.turns fr l v.looping (flag_of v.all) (flag_of v.returned)) s1 in (
+            if_so (any (gang_width old.program.now.gang) (kept_by is_true (flag_of v.live) m))
+            (turns_in (program_of old.program.now) old.turns fr l v.looping (flag_of v.all) v.left (kept_by is_true (flag_of v.live) m)
+            (flag_of v.returned)) (ends_in (program_of old.program.now) old.turns fr l v.looping (flag_of v.all) (flag_of v.returned)) s1 in (
               w,
-              ap (λ o. go (ran r (with_value (test_part (gang_width old.program.now.gang) r.frame (calls_at (program_of old.program.now) old.turns r.left) (option_map (λ (y : Bor TypedExpr). expr_of y.now) o) (flag_of v.live) r.state) (g r.frame r.left))) (rest old)) some
+              ap (λ o. go (ran r (with_value (test_part (gang_width old.program.now.gang) r.frame
+                  (calls_at (program_of old.program.now) old.turns r.left) (option_map (λ (y : Bor TypedExpr). expr_of y.now) o) (flag_of v.live)
+                  r.state) (g r.frame r.left))) (rest old)) some
                   ∙ value_ran r (test_part (gang_width old.program.now.gang) r.frame (calls_at (program_of old.program.now) old.turns r.left) (Some (expr_of x.now)) (flag_of v.live) r.state) g (rest old)
                   ∙ sym (f.by w),
             );
@@ -119,14 +146,19 @@ module _ (old new : Evaluator) where
       }) some f
 
   -- a turn
-  pub turn_goes : (work : Work) (one : Adds old work 1) (t : Turning) (b : Box Turning Global) (n : ℕ) → t.left ≡ suc n → b.value ≡ record t { left = n } → First (record old { work = work }) new (task.Run t.looping.body t.live) (task.Turned b) → Comes old new (turns_on old t)
+  pub turn_goes : (work : Work) (one : Adds old work 1) (t : Turning) (b : Box Turning Global) (n : ℕ) → t.left ≡ suc n
+      → b.value ≡ record t { left = n } → First (record old { work = work }) new (task.Run t.looping.body t.live) (task.Turned b)
+      → Comes old new (turns_on old t)
   turn_goes work one t b n more is f =
       record {
         by = λ w.
             let r = store_seen old w in
             let v = body_in (program_of old.program.now) old.turns r.frame r.left t.looping (flag_of t.live) (state_seen old (w + 1)) in
             let h = λ (fr : Frame) (l : ℕ) (s1 : State) (p : Parts).
-            if_so (any (gang_width old.program.now.gang) (union p.went p.continued)) (stepped_in (program_of old.program.now) old.turns fr l t.looping (flag_of t.all) n (union p.went p.continued) (union (flag_of t.returned) p.returned)) (ends_in (program_of old.program.now) old.turns fr l t.looping (flag_of t.all) (union (flag_of t.returned) p.returned)) s1 in (
+            if_so (any (gang_width old.program.now.gang) (union p.went p.continued))
+            (stepped_in (program_of old.program.now) old.turns fr l t.looping (flag_of t.all) n (union p.went p.continued)
+            (union (flag_of t.returned) p.returned)) (ends_in (program_of old.program.now) old.turns fr l t.looping (flag_of t.all)
+            (union (flag_of t.returned) p.returned)) s1 in (
               w + 1,
               ap (λ (k : ℕ). go (ran r (turns_in (program_of old.program.now) old.turns r.frame r.left t.looping (flag_of t.all) k (flag_of t.live) (flag_of t.returned) r.state)) (rest old)) more
                   ∙ then_ran r v h (rest old)
@@ -139,7 +171,13 @@ module _ (old new : Evaluator) where
 
   pub no_turn : (t : Turning) → new ≡ old → t.left ≡ 0 → Halts old new (turns_on old t) stop.Cut
   no_turn t same none =
-      cut refl (λ w. (w, ap (λ (k : ℕ). ran (store_seen old w) (turns_in (program_of old.program.now) old.turns (store_seen old w).frame (store_seen old w).left t.looping (flag_of t.all) k (flag_of t.live) (flag_of t.returned) (state_seen old w))) none ∙ ap (λ (x : Evaluator). Cut (state_seen x w)) (sym same))) (λ w k. counts_same old new w (ap work_of same) k)
+      cut refl (λ w. (
+        w,
+        ap (λ (k : ℕ). ran (store_seen old w)
+            (turns_in (program_of old.program.now) old.turns (store_seen old w).frame (store_seen old w).left t.looping (flag_of t.all) k
+            (flag_of t.live) (flag_of t.returned) (state_seen old w))) none ∙ ap (λ (x : Evaluator). Cut (state_seen x w)) (sym same),
+      ))
+      (λ w k. counts_same old new w (ap work_of same) k)
 
 -- with no test it is true
 module _ (old mid new : Evaluator) where
@@ -147,7 +185,9 @@ module _ (old mid new : Evaluator) where
   untested t same none w =
       let r = store_seen old w in
       let g = λ (m : Payload) (s1 : State).
-      if_so (any (gang_width old.program.now.gang) (kept_by is_true (flag_of t.live) m)) (turns_in (program_of old.program.now) old.turns r.frame r.left t.looping (flag_of t.all) t.left (kept_by is_true (flag_of t.live) m) (flag_of t.returned)) (ends_in (program_of old.program.now) old.turns r.frame r.left t.looping (flag_of t.all) (flag_of t.returned)) s1 in
+      if_so (any (gang_width old.program.now.gang) (kept_by is_true (flag_of t.live) m))
+      (turns_in (program_of old.program.now) old.turns r.frame r.left t.looping (flag_of t.all) t.left (kept_by is_true (flag_of t.live) m)
+      (flag_of t.returned)) (ends_in (program_of old.program.now) old.turns r.frame r.left t.looping (flag_of t.all) (flag_of t.returned)) s1 in
       ap (λ o. ran r (with_value (test_part (gang_width old.program.now.gang) r.frame (calls_at (program_of old.program.now) old.turns r.left) (option_map (λ (y : Bor TypedExpr). expr_of y.now) o) (flag_of t.live) r.state) g)) none
       ∙ sym (reran r r.state (One 1) r.parts (g (One 1) r.state))
       ∙ sym (ap (λ (x : Evaluator). keeps_on x t (store_seen x w)) same)

@@ -87,7 +87,9 @@ none_without g [] h = absurd (let k : ⊥ = cc in k)
 none_without g (r ∷ []) h = by (and_of (int_lt r.start r.end) true h)
   where
     by : (int_lt r.start r.end ≡ false) ⊎ (true ≡ false) → runs_of (gang_width g) (map range_seen (r ∷ [])) ≡ []
-    by (inl e) = ap (λ n. map (last_run (gang_width g) (range_seen r)) (from_on (gang_width g) (runs_for (gang_width g) n) r.start)) (zero_from r.start r.end e) ∙ ap (λ n. map (last_run (gang_width g) (range_seen r)) (from_on (gang_width g) n r.start)) (no_run (gang_width g) (some_width g))
+    by (inl e) = ap (λ n. map (last_run (gang_width g) (range_seen r)) (from_on (gang_width g) (runs_for (gang_width g) n) r.start))
+        (zero_from r.start r.end e) ∙ ap (λ n. map (last_run (gang_width g) (range_seen r)) (from_on (gang_width g) n r.start))
+        (no_run (gang_width g) (some_width g))
     by (inr e) = absurd (let k : ⊥ = cc in k)
 none_without g (r ∷ q ∷ rs) h = by (none_without g (q ∷ rs)) (and_of (int_lt r.start r.end) (have_numbers (q ∷ rs)) h)
   where
@@ -124,7 +126,9 @@ numbers_carried (suc k) (r ∷ rs) = ap (λ b. int_lt r.start r.end && b) (numbe
 
 -- the first has no number that is left
 spent : (g : Gang) (r : Range) (rs : List Range) → int_lt r.next r.end ≡ false → left_of (gang_width g) (r ∷ rs) ≡ []
-spent g r [] h = ap (λ n. map (last_run (gang_width g) (range_seen r)) (from_on (gang_width g) (runs_for (gang_width g) n) r.next)) (zero_from r.next r.end h) ∙ ap (λ n. map (last_run (gang_width g) (range_seen r)) (from_on (gang_width g) n r.next)) (no_run (gang_width g) (some_width g))
+spent g r [] h = ap (λ n. map (last_run (gang_width g) (range_seen r)) (from_on (gang_width g) (runs_for (gang_width g) n) r.next))
+    (zero_from r.next r.end h) ∙ ap (λ n. map (last_run (gang_width g) (range_seen r)) (from_on (gang_width g) n r.next))
+    (no_run (gang_width g) (some_width g))
 spent g r (q ∷ rs) h = ap (λ n. outer_left r.index r.next n (left_of (gang_width g) (q ∷ rs)) (runs_of (gang_width g) (map range_seen (q ∷ rs)))) (zero_from r.next r.end h)
 
 some_of : (rs : List Range) → 0 < length rs → some_range rs ≡ true
@@ -153,7 +157,8 @@ pub carry_left : (g : Gang) (k : ℕ) (rs : List Range) (q : Range) → suc k < 
 carry_left g k rs q h is end = ap₂ (λ b xs. cond b xs []) (numbers_carried k rs) (left_carried g k rs q h is end)
 
 -- what is written when numbers carry
-pub carry_is : (k : ℕ) (rs : List Range) (x y : Range) (z : ℤ) → k < length rs → x ≡ get_or (restarted (suc k) rs) k x → y ≡ get_or (restarted (suc k) rs) k y → z ≡ stepped x (pos 1) → set (restarted (suc k) rs) k (record y { next = z }) ≡ carried k rs
+pub carry_is : (k : ℕ) (rs : List Range) (x y : Range) (z : ℤ) → k < length rs → x ≡ get_or (restarted (suc k) rs) k x
+    → y ≡ get_or (restarted (suc k) rs) k y → z ≡ stepped x (pos 1) → set (restarted (suc k) rs) k (record y { next = z }) ≡ carried k rs
 carry_is k [] x y z h is at e = absurd (omega (arith, h))
 carry_is zero (r ∷ rs) x y z h is at e = ap₂ (λ (u : Range) (v : ℤ). record u { next = v } ∷ map at_start rs) at (e ∙ ap (λ (u : Range). stepped u (pos 1)) is)
 carry_is (suc k) (r ∷ rs) x y z h is at e = ap (λ ys. r ∷ ys) (carry_is k rs x y z (omega (arith, h)) is at e)
@@ -313,7 +318,8 @@ restarted_long zero zero (r ∷ rs) = refl
 restarted_long zero (suc n) (r ∷ rs) = ap suc (restarted_long zero n rs)
 restarted_long (suc f) n (r ∷ rs) = ap suc (restarted_long f n rs)
 
-pub one_restarted : (f n k : ℕ) (rs : List Range) (x y : Range) (z : ℤ) → k ≡ f + n → k < length rs → x ≡ get_or (restarted_to f n rs) k x → y ≡ get_or (restarted_to f n rs) k y → z ≡ x.start → set (restarted_to f n rs) k (record y { next = z }) ≡ restarted_to f (suc n) rs
+pub one_restarted : (f n k : ℕ) (rs : List Range) (x y : Range) (z : ℤ) → k ≡ f + n → k < length rs → x ≡ get_or (restarted_to f n rs) k x
+    → y ≡ get_or (restarted_to f n rs) k y → z ≡ x.start → set (restarted_to f n rs) k (record y { next = z }) ≡ restarted_to f (suc n) rs
 one_restarted f n k [] x y z e h is at m = absurd (omega (arith, h))
 one_restarted zero zero zero (r ∷ rs) x y z e h is at m =
     ap₂ (λ (u : Range) (v : ℤ). record u { next = v } ∷ rs) at (m ∙ ap (λ (u : Range). u.start) is) ∙ ap (λ (ys : List Range). at_start r ∷ ys) (sym (none_restarted zero rs))

@@ -30,7 +30,9 @@ module _ {A : Type 0} (d : A) (f : ℕ → A) where
   next xs i v m lt is =
       record {
         long = length-set xs i v ∙ m.long;
-        done = λ p h. ⊎_elim (λ (e : p ≡ i). subst (λ q. get_or (slice_set xs i v) q d ≡ f q) (sym e) (get_or-set_same xs i v d (omega (arith, m.long, lt)) ∙ is)) (λ ne. get_or-set_other xs i p v d ne ∙ m.done p (omega (arith, ne, h))) (cases_eq p i);
+        done = λ p h. ⊎_elim (λ (e : p ≡ i). subst (λ q. get_or (slice_set xs i v) q d ≡ f q) (sym e)
+            (get_or-set_same xs i v d (omega (arith, m.long, lt)) ∙ is)) (λ ne. get_or-set_other xs i p v d ne ∙ m.done p (omega (arith, ne, h)))
+            (cases_eq p i);
         off = λ p h. ⊎_elim (λ (e : p ≡ i). absurd (omega (arith, e, h))) (λ ne. get_or-set_other xs i p v d ne ∙ m.off p (omega (arith, h))) (cases_eq p i);
       }
 

@@ -19,7 +19,9 @@ pub everyone_made : (n : ℕ) (xs : List Bool) → Made false (everyone n) xs n 
 everyone_made n xs m = made false _ xs n m (λ p h. le-ltb p n h)
 
 pub alone_made : (i : ℕ) → i < widest → flag_of (slice_set (replicate widest false) i true) ≡ lone (Some i)
-alone_made i lt = fun_ext (λ p. ⊎_elim (λ (e : p ≡ i). ap (flag_of (slice_set (replicate widest false) i true)) e ∙ get_or-set_same (replicate widest false) i true false (omega (arith, length-replicate widest false, lt)) ∙ sym (eq-eqb p i e)) (λ ne. get_or-set_other (replicate widest false) i p true false ne ∙ repeated widest p false ∙ sym (ne_eqb p i ne)) (cases_eq p i))
+alone_made i lt = fun_ext (λ p. ⊎_elim (λ (e : p ≡ i). ap (flag_of (slice_set (replicate widest false) i true)) e
+    ∙ get_or-set_same (replicate widest false) i true false (omega (arith, length-replicate widest false, lt)) ∙ sym (eq-eqb p i e))
+    (λ ne. get_or-set_other (replicate widest false) i p true false ne ∙ repeated widest p false ∙ sym (ne_eqb p i ne)) (cases_eq p i))
 
 pub union_made : (xs ys zs : List Bool) → length xs ≡ widest → length ys ≡ widest → Made false (union (flag_of xs) (flag_of ys)) zs widest → flag_of zs ≡ union (flag_of xs) (flag_of ys)
 union_made xs ys zs long long' m = made false _ zs widest m (λ p h. ap₂ (λ a b. a || b) (past xs p false (omega (arith, long, h))) (past ys p false (omega (arith, long', h))))

@@ -9,10 +9,12 @@ use Rattle.isp_lex.specs.declared.token.TokenKind.{TokenKind}
 use Rattle.isp_lex.specs.declared.token.TokenKind.TheVariants as kind
 use Rattle.isp_lex.specs.declared.token.Token.{Token}
 use Rattle.isp_grammar.proofs.Basics.{token, none_some}
-use Rattle.isp_grammar.proofs.Choices.{nowhere, nameless, begins_same, Sign, Signs, sign_sound, sign_complete, sign_refused, Tail, Joins, tail_sound, tail_complete, tail_refused, Either, Parts, either_sound, either_complete, either_refused, Makes, makes_sound, makes_complete, makes_refused}
+use Rattle.isp_grammar.proofs.Choices.{nowhere, nameless, begins_same, Sign, Signs, sign_sound, sign_complete, sign_refused, Tail, Joins, tail_sound, tail_complete, tail_refused, Either}
+use Rattle.isp_grammar.proofs.Choices.{Parts, either_sound, either_complete, either_refused, Makes, makes_sound, makes_complete, makes_refused}
 use Rattle.isp_grammar.proofs.ExprLaws.{exprs_sound, exprs_complete, exprs_by_head, exprs_refused, expr_completes}
 use Rattle.isp_grammar.proofs.Exprs.{Exprs, closes_ends}
-use Rattle.isp_grammar.proofs.Forms.{Form, IsSound, IsComplete, Can, One, one_sound, one_complete, Named, named_sound, named_complete, Both, Free, Follows, follows, both_sound, both_complete, Behind, one_then, behind_is, is_behind, Before, then_one, before_is, is_before, EndsListed, Listed, listed_sound}
+use Rattle.isp_grammar.proofs.Forms.{Form, IsSound, IsComplete, Can, One, one_sound, one_complete, Named, named_sound, named_complete, Both, Free, Follows, follows, both_sound, both_complete}
+use Rattle.isp_grammar.proofs.Forms.{Behind, one_then, behind_is, is_behind, Before, then_one, before_is, is_before, EndsListed, Listed, listed_sound}
 use Rattle.isp_grammar.proofs.FormsComplete.{EndsByHead, one_by_head, named_by_head, TakesComma, listed_complete}
 use Rattle.isp_grammar.proofs.ListForms.{listed_by_head, listed_refused, listed_ends, listed_begins, deepest_same}
 use Rattle.isp_grammar.proofs.Refused.{IsRefused, one_refused, named_refused, both_refused}
@@ -179,8 +181,18 @@ item_makes_is ts (w, Some (inr v)) i =
 item_unmakes : {ts : List Token} {y : Item} → IsItem ts y → (p : Word × Option ItemTail) × ItemParts.is ts p × (item_from p.0 p.1 ≡ y)
 item_unmakes (is_plain w) = ((w, None), refl, refl)
 item_unmakes (is_with_value w e ts x i) = ((w, Some (inl (e, x))), (word w ∷ [], at mark.Assign e ∷ ts, refl, refl, is_behind mark.Assign (Exprs loosest) e ts x i), refl)
-item_unmakes (is_with_size w o c ts n i) =
-    ((w, Some (inr (o, (n, c)))), (word w ∷ [], at mark.BracketOpen o ∷ (ts ++ at mark.BracketClose c ∷ []), refl, refl, is_behind mark.BracketOpen ClosedSize o (ts ++ at mark.BracketClose c ∷ []) (n, c) (is_before Sized mark.BracketClose ts n c i)), refl)
+item_unmakes (is_with_size w o c ts n i) = (
+  (w, Some (inr (o, (n, c)))),
+  (
+    word w ∷ [],
+    at mark.BracketOpen o ∷ (ts ++ at mark.BracketClose c ∷ []),
+    refl,
+    refl,
+    is_behind mark.BracketOpen
+        ClosedSize o (ts ++ at mark.BracketClose c ∷ []) (n, c) (is_before Sized mark.BracketClose ts n c i),
+  ),
+  refl,
+)
 
 item_deep : (p : Word × Option ItemTail) → depth_of_item (item_from p.0 p.1) ≡ ItemParts.deep p
 item_deep (w, None) = refl

@@ -15,7 +15,8 @@ use Rattle.isp_tree.specs.Depth.{depth, depth_of_argument, depth_of_all}
 use Rattle.isp_grammar.specs.reader.Readers.{Read, Reader, ◌>>=◌, Fails, refusal, refuse, mark_at, both, at_limit, refusal_at_limit, is_word}
 use Rattle.isp_grammar.specs.reader.Choices.{begins_with, either_at}
 use Rattle.isp_grammar.specs.reader.Types.{begins_type, type_at}
-use Rattle.isp_grammar.specs.reader.Exprs.{start_of, is_start, atom_of, begins_expr, operator_at, place_at, bracket_of, cast_at, closed_at, bracket_at, operand_from, operand_at, joined, more_at, binary_at, choice_of, parts_at, choice_at, level_from, level_at, expr_at, target_at, argument_by, argument_at}
+use Rattle.isp_grammar.specs.reader.Exprs.{start_of, is_start, atom_of, begins_expr, operator_at, place_at, bracket_of, cast_at, closed_at, bracket_at, operand_from, operand_at, joined, more_at}
+use Rattle.isp_grammar.specs.reader.Exprs.{binary_at, choice_of, parts_at, choice_at, level_from, level_at, expr_at, target_at, argument_by, argument_at}
 use Rattle.isp_grammar.specs.Signs.{joined_level, loosest, first_span}
 use Rattle.isp_tree.specs.Tree.{Expr, number, truth, program_index, program_count, place, call, brackets, cast, prefix, binary, choose, Place, variable, element, span_of_place, Argument, by_value, by_reference}
 use Rattle.isp_tree.specs.Views.{argument_of, arguments_of}
@@ -133,7 +134,9 @@ pub choice_deep : (expr : Reader Expr) (n : ℕ) (x : Expr) (ts : List Token) �
 unfolding choice_at
 choice_deep expr n x ts s h = let b : ltb n (depth x) ≡ true = lt-ltb _ _ h in rw (s, b) refl
 
-pub choice_made : (expr : Reader Expr) (n : ℕ) (x : Expr) (ts : List Token) (p : Expr × (Span × Expr)) (after : List Token) → starts_with mark.Question ts ≡ true → depth x ≤ n → parts_at expr (drop 1 ts) ≡ Ok (p, after) → choice_at expr n x ts ≡ Ok (choice_of x p, after)
+pub choice_made : (expr : Reader Expr) (n : ℕ) (x : Expr) (ts : List Token) (p : Expr × (Span × Expr)) (after : List Token)
+    → starts_with mark.Question ts ≡ true → depth x ≤ n → parts_at expr (drop 1 ts) ≡ Ok (p, after)
+    → choice_at expr n x ts ≡ Ok (choice_of x p, after)
 unfolding choice_at
 choice_made expr n x ts p after s le r = let b : ltb n (depth x) ≡ false = le-ltb _ _ le in rw (s, b, r) refl
 
@@ -190,11 +193,15 @@ test_alone n ts x rest w s = let p = choice_stops (expr_at (n - 1) loosest) (n -
 pub test_deep : (n : ℕ) (ts : List Token) (x : Expr) (rest : List Token) → expr_at n joined_level ts ≡ Ok (x, rest) → starts_with mark.Question rest ≡ true → n ≤ depth x → expr_at n loosest ts ≡ refuse TooDeep rest
 test_deep n ts x rest w s le = let p = choice_deep (expr_at (n - 1) loosest) (n - 1) x rest s (omega (arith, depth_pos x)) in choice_step n ts ∙ rw (w, p) refl
 
-pub parts_fail : (e : Stop) (n : ℕ) (ts : List Token) (x : Expr) (rest : List Token) → expr_at n joined_level ts ≡ Ok (x, rest) → starts_with mark.Question rest ≡ true → depth x < n → Fails e (parts_at (expr_at (n - 1) loosest) (drop 1 rest)) → Fails e (expr_at n loosest ts)
+pub parts_fail : (e : Stop) (n : ℕ) (ts : List Token) (x : Expr) (rest : List Token) → expr_at n joined_level ts ≡ Ok (x, rest)
+    → starts_with mark.Question rest ≡ true → depth x < n → Fails e (parts_at (expr_at (n - 1) loosest) (drop 1 rest))
+    → Fails e (expr_at n loosest ts)
 parts_fail stops.Memory n ts x rest w s lt f = tt
 parts_fail (stops.Refused r) n ts x rest w s lt f = let p = choice_fails_later (expr_at (n - 1) loosest) (n - 1) x rest r s (omega arith) f in choice_step n ts ∙ rw (w, p) refl
 
-pub parts_made : (n : ℕ) (ts : List Token) (x : Expr) (rest : List Token) (q : Expr × (Span × Expr)) (after : List Token) → expr_at n joined_level ts ≡ Ok (x, rest) → starts_with mark.Question rest ≡ true → depth x < n → parts_at (expr_at (n - 1) loosest) (drop 1 rest) ≡ Ok (q, after)
+pub parts_made : (n : ℕ) (ts : List Token) (x : Expr) (rest : List Token) (q : Expr × (Span × Expr)) (after : List Token)
+    → expr_at n joined_level ts ≡ Ok (x, rest) → starts_with mark.Question rest ≡ true → depth x < n
+    → parts_at (expr_at (n - 1) loosest) (drop 1 rest) ≡ Ok (q, after)
     → expr_at n loosest ts ≡ Ok (choice_of x q, after)
 parts_made n ts x rest q after w s lt f = let p = choice_made (expr_at (n - 1) loosest) (n - 1) x rest q after s (omega arith) f in choice_step n ts ∙ rw (w, p) refl
 
@@ -263,7 +270,9 @@ expr_deep k u e = limit_deep begins_expr u e
 
 -- ---- an argument
 
-referred : (s : Span) (read : Read Place) → ◌≡◌ {A = Read Argument} (◌>>=◌ {B = ((Span × Place) ⊎ Expr) × List Token} (◌>>=◌ {B = (Span × Place) × List Token} read (λ y. Ok ((s, y.0), y.1))) (λ x. Ok (inl x.0, x.1)) >>= λ p. Ok (argument_by p.0, p.1))
+referred : (s : Span) (read : Read Place) → ◌≡◌ {A = Read Argument}
+    (◌>>=◌ {B = ((Span × Place) ⊎ Expr) × List Token} (◌>>=◌ {B = (Span × Place) × List Token} read (λ y. Ok ((s, y.0), y.1)))
+    (λ x. Ok (inl x.0, x.1)) >>= λ p. Ok (argument_by p.0, p.1))
     (read >>= λ x. Ok (by_reference x.0 (span_to s (span_of_place x.0)), x.1))
 referred s (Ok x) = refl
 referred s (Err e) = refl

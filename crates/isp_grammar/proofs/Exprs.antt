@@ -17,10 +17,12 @@ use Rattle.isp_grammar.proofs.Choices.{nowhere, nameless, Either, then_behind}
 use Rattle.isp_grammar.proofs.Forms.{Follows, Form, Found, IsSound, Can, One, Named, Both, Free, Behind, one_then, behind_is, NameThen, named_then, name_then_is, Before, then_one, before_is, Optional, deepest, AreListed, IsSeries, Series}
 use Rattle.isp_grammar.proofs.TypesRead.{Types, ends_type}
 use Rattle.isp_tree.specs.Depth.{depth, depth_of_place, depth_of_argument, depth_of_row}
-use Rattle.isp_grammar.specs.Grammar.{IsPlace, is_variable, is_element, IsExpr, is_number, is_place, is_call, is_brackets, is_cast, is_tighter, is_choose, IsArgument, is_value_argument, is_reference, IsArguments, is_no_argument, is_some_arguments, IsArgumentList, is_last_argument, is_more_arguments}
+use Rattle.isp_grammar.specs.Grammar.{IsPlace, is_variable, is_element, IsExpr, is_number, is_place, is_call, is_brackets, is_cast, is_tighter, is_choose, IsArgument, is_value_argument}
+use Rattle.isp_grammar.specs.Grammar.{is_reference, IsArguments, is_no_argument, is_some_arguments, IsArgumentList, is_last_argument, is_more_arguments}
 use Rattle.isp_grammar.specs.reader.Readers.{◌>>=◌}
 use Rattle.isp_grammar.specs.reader.Types.{begins_type}
-use Rattle.isp_grammar.specs.reader.Exprs.{start_of, atom_of, operator_of, of_level, operator_at, bracketed_at, index_at, place_by, place_at, argument_by, argument_at, arguments_at, Suffix, by_nothing, by_index, by_arguments, suffix_from, suffix_at, named, named_at, bracket_of, bracket_at, choice_of, parts_at, expr_at, target_at}
+use Rattle.isp_grammar.specs.reader.Exprs.{start_of, atom_of, operator_of, of_level, operator_at, bracketed_at, index_at, place_by, place_at, argument_by, argument_at, arguments_at, Suffix, by_nothing}
+use Rattle.isp_grammar.specs.reader.Exprs.{by_index, by_arguments, suffix_from, suffix_at, named, named_at, bracket_of, bracket_at, choice_of, parts_at, expr_at, target_at}
 use Rattle.isp_grammar.specs.Signs.{numeral, word, truth_mark, prefix_mark, sign, level, joined_level, loosest}
 use Rattle.isp_tree.specs.Tree.{TypeTree, Expr, number, truth, program_index, program_count, place, call, brackets, cast, prefix, binary, choose, listed, Place, variable, element, Argument, by_value, by_reference}
 use Rattle.isp_grammar.specs.declared.expr.Atom.{Atom}

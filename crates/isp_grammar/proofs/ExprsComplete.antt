@@ -13,16 +13,20 @@ use Rattle.isp_grammar.proofs.Basics.{starts_same}
 use Rattle.isp_grammar.proofs.Choices.{either_complete}
 use Rattle.isp_grammar.proofs.Forms.{IsComplete, One, one_complete, Named, named_complete, Free, both_complete, Behind, is_behind, is_name_then, is_before, made_complete, AreListed, IsSeries}
 use Rattle.isp_grammar.proofs.FormsComplete.{EndsByHead, optional_complete, TakesComma, StartsOff, series_complete}
-use Rattle.isp_grammar.proofs.Exprs.{Ends, Exprs, level_small, closes_ends, Bracketed, Index, Placed, Target, place_reads, place_then, bracket_then, ArgumentForm, Referring, Passed, ArgumentForms, Called, argument_reads, referring_then, called_then, row_deep, IsSuffix, deep_of_suffix, EndsSuffix, Suffixes, NamedForm, name_then, named_reads, Closed, Typed, Bracket, bracket_reads, closed_then, cast_then, typed_then, Parts, colon_then, parts_then, parts_read}
+use Rattle.isp_grammar.proofs.Exprs.{Ends, Exprs, level_small, closes_ends, Bracketed, Index, Placed, Target, place_reads, place_then, bracket_then, ArgumentForm, Referring, Passed, ArgumentForms}
+use Rattle.isp_grammar.proofs.Exprs.{Called, argument_reads, referring_then, called_then, row_deep, IsSuffix, deep_of_suffix, EndsSuffix, Suffixes, NamedForm, name_then, named_reads, Closed, Typed}
+use Rattle.isp_grammar.proofs.Exprs.{Bracket, bracket_reads, closed_then, cast_then, typed_then, Parts, colon_then, parts_then, parts_read}
 use Rattle.isp_grammar.proofs.ExprSteps.{depth_pos, at_level, at_choice, more_stop, more_step, choice_stops, choice_made}
 use Rattle.isp_grammar.proofs.Starts.{begins_off, starts_off}
 use Rattle.isp_grammar.proofs.TypesRead.{Types, types_complete, type_starts}
 use Rattle.isp_tree.specs.Depth.{depth, depth_of_place, depth_of_argument}
-use Rattle.isp_grammar.specs.Grammar.{IsPlace, is_variable, is_element, IsExpr, is_number, is_truth, is_program_index, is_program_count, is_place, is_call, is_brackets, is_cast, is_prefix, is_tighter, is_binary, is_choose, IsArgument, is_value_argument, is_reference, IsArguments, is_no_argument, is_some_arguments, IsArgumentList, is_last_argument, is_more_arguments}
+use Rattle.isp_grammar.specs.Grammar.{IsPlace, is_variable, is_element, IsExpr, is_number, is_truth, is_program_index, is_program_count, is_place, is_call, is_brackets, is_cast, is_prefix, is_tighter, is_binary, is_choose}
+use Rattle.isp_grammar.specs.Grammar.{IsArgument, is_value_argument, is_reference, IsArguments, is_no_argument, is_some_arguments, IsArgumentList, is_last_argument, is_more_arguments}
 use Rattle.isp_grammar.specs.reader.Readers.{◌>>=◌, head, on_head}
 use Rattle.isp_grammar.specs.reader.Choices.{begins_with}
 use Rattle.isp_grammar.specs.reader.Types.{begins_type}
-use Rattle.isp_grammar.specs.reader.Exprs.{start_of, begins_expr, operator_of, of_level, operator_at, place_by, argument_by, Suffix, by_nothing, by_index, by_arguments, suffix_at, named, named_at, bracket_of, bracket_at, operand_at, more_at, binary_at, choice_at, expr_at, target_at}
+use Rattle.isp_grammar.specs.reader.Exprs.{start_of, begins_expr, operator_of, of_level, operator_at, place_by, argument_by, Suffix, by_nothing, by_index, by_arguments, suffix_at}
+use Rattle.isp_grammar.specs.reader.Exprs.{named, named_at, bracket_of, bracket_at, operand_at, more_at, binary_at, choice_at, expr_at, target_at}
 use Rattle.isp_grammar.specs.Signs.{word, truth_mark, prefix_mark, sign, level, joined_level, loosest}
 use Rattle.isp_tree.specs.Tree.{TypeTree, Expr, place, Place, Argument, by_value, by_reference}
 use Rattle.isp_grammar.specs.declared.expr.Atom.TheVariants as atom
@@ -286,7 +290,9 @@ module _ (n : ℕ) (ih : (k : ℕ) → IsComplete (Exprs k) n) (target : IsCompl
       made_complete NamedForm (Exprs zero) (λ p. named p.0 p.1) [] n (named_at (expr_at n loosest) (target_at n)) (word w ∷ b) (w, s) rest (named_reads n (word w ∷ (b ++ rest))) names_complete
       (is_name_then Suffixes w b s i) (omega arith) h
 
-  bracket_read : (o : Span) (a : List Token) (p : (TypeTree × (Span × Expr)) ⊎ (Expr × Span)) (rest : List Token) → Bracket.is a p → Bracket.deep p ≤ n → Bracket.ends p rest → operand_at (expr_at n) (target_at n) (at mark.ParenOpen o ∷ (a ++ rest)) ≡ Ok (bracket_of o p, rest)
+  bracket_read : (o : Span) (a : List Token) (p : (TypeTree × (Span × Expr)) ⊎ (Expr × Span)) (rest : List Token) → Bracket.is a p
+      → Bracket.deep p ≤ n → Bracket.ends p rest → operand_at (expr_at n) (target_at n) (at mark.ParenOpen o ∷ (a ++ rest))
+      ≡ Ok (bracket_of o p, rest)
   unfolding operand_at
   bracket_read o a p rest i le h = made_complete Bracket (Exprs zero) (bracket_of o) [] n (bracket_at (expr_at n) o) a p rest (bracket_reads n o (a ++ rest)) brackets_complete i le h
 

@@ -15,7 +15,9 @@ use Rattle.isp_grammar.proofs.Choices.{nowhere, nameless, begins_same, either_re
 use Rattle.isp_grammar.proofs.Forms.{IsSound, IsComplete, Can, One, one_sound, one_complete, Named, named_sound, named_complete, Free, Behind, is_behind, series_sound}
 use Rattle.isp_grammar.proofs.FormsComplete.{EndsByHead, one_by_head, named_by_head, read_again, series_complete}
 use Rattle.isp_grammar.proofs.Refused.{Completes, Refused, lift, refused_here, raise, FailsForm, IsRefused, one_refused, named_refused, both_refused, made_err, made_fails, made_refused, optional_refused, series_refused}
-use Rattle.isp_grammar.proofs.Exprs.{Exprs, started, with_kind, operator_is, Bracketed, Index, Placed, Target, placed_makes, place_reads, place_then, bracket_then, ArgumentForm, Referring, Passed, ArgumentForms, Called, argument_reads, passed_makes, referring_then, called_then, Suffixes, NamedForm, name_then, named_reads, named_makes, Closed, Typed, Bracket, bracket_reads, bracket_makes, closed_then, cast_then, typed_then, zero_value, zero_tokens, number_at_level, zero_at, Parts, colon_then, parts_then, parts_read, choice_makes}
+use Rattle.isp_grammar.proofs.Exprs.{Exprs, started, with_kind, operator_is, Bracketed, Index, Placed, Target, placed_makes, place_reads, place_then, bracket_then, ArgumentForm, Referring, Passed, ArgumentForms, Called}
+use Rattle.isp_grammar.proofs.Exprs.{argument_reads, passed_makes, referring_then, called_then, Suffixes, NamedForm, name_then, named_reads, named_makes, Closed, Typed, Bracket, bracket_reads, bracket_makes, closed_then}
+use Rattle.isp_grammar.proofs.Exprs.{cast_then, typed_then, zero_value, zero_tokens, number_at_level, zero_at, Parts, colon_then, parts_then, parts_read, choice_makes}
 use Rattle.isp_grammar.proofs.ExprsSound.{argument_sound, expr_sound, target_sound, wider}
 use Rattle.isp_grammar.proofs.ExprsComplete.{operator_same, ends_same, argument_same, sign_at, argument_comma, argument_off, argument_complete, expr_complete, target_complete}
 use Rattle.isp_grammar.proofs.ExprSteps.{depth_pos, at_level, at_choice, more_deep, more_step, more_fails, choice_deep, choice_fails_later, target_none, binary_off, expr_off}
@@ -25,7 +27,8 @@ use Rattle.isp_grammar.specs.Grammar.{is_variable, IsExpr, is_number, is_truth, 
 use Rattle.isp_grammar.specs.reader.Readers.{Reader, ◌>>=◌, refusal, refuse, head, on_head, is_word}
 use Rattle.isp_grammar.specs.reader.Choices.{begins_with}
 use Rattle.isp_grammar.specs.reader.Types.{begins_type}
-use Rattle.isp_grammar.specs.reader.Exprs.{start_of, is_start, begins_expr, operator_at, place_by, argument_by, by_index, by_arguments, suffix_from, suffix_at, named, named_at, bracket_of, bracket_at, prefix_of, operand_from, operand_at, joined, step_at, more_at, binary_at, choice_of, parts_at, choice_from, choice_at, expr_at, target_at}
+use Rattle.isp_grammar.specs.reader.Exprs.{start_of, is_start, begins_expr, operator_at, place_by, argument_by, by_index, by_arguments, suffix_from, suffix_at, named, named_at, bracket_of, bracket_at, prefix_of}
+use Rattle.isp_grammar.specs.reader.Exprs.{operand_from, operand_at, joined, step_at, more_at, binary_at, choice_of, parts_at, choice_from, choice_at, expr_at, target_at}
 use Rattle.isp_grammar.specs.Signs.{word, prefix_mark, sign, joined_level, loosest}
 use Rattle.isp_tree.specs.Tree.{Expr, number, variable}
 use Rattle.isp_grammar.specs.declared.expr.Start.{Start}
@@ -63,7 +66,8 @@ unfolding binary_at
 operand_off m u e = binary_off (expr_at m) (target_at m) m zero u e
 
 -- the same for what follows, where a whole level fails
-level_fails : (k m : ℕ) (a : List Token) (x : Expr) (u : List Token) (d : Refusal) → binary_at (expr_at m) (target_at m) m k (a ++ u) ≡ Ok (x, u) → ((f : ℕ) → m < f + depth x → more_at (expr_at m k) m k f x u ≡ Err d) → FailsBinary (suc k) m (a ++ u) d
+level_fails : (k m : ℕ) (a : List Token) (x : Expr) (u : List Token) (d : Refusal) → binary_at (expr_at m) (target_at m) m k (a ++ u) ≡ Ok (x, u)
+    → ((f : ℕ) → m < f + depth x → more_at (expr_at m k) m k f x u ≡ Err d) → FailsBinary (suc k) m (a ++ u) d
 unfolding binary_at
 level_fails k m a x u d e f = rw e (f m (omega (arith, depth_pos x)))
 
@@ -108,7 +112,8 @@ module _ (n : ℕ) (ih : (k : ℕ) → IsRefused (Exprs k) n) (target : IsRefuse
       both_refused ArgumentForms (One mark.ParenClose) Free called_then n arguments_same (λ m. series_complete ArgumentForm mark.ParenClose argument_comma argument_off m (each_argument_complete m))
       (series_sound ArgumentForm mark.ParenClose n (each_argument_sound n)) (series_refused ArgumentForm n argument_same argument_comma each_argument_complete (each_argument_sound n) argument_refused mark.ParenClose) (one_refused mark.ParenClose n)
 
-  suffix_from_refused : (ts : List Token) (b c : Bool) (r : Refusal) → starts_with mark.BracketOpen ts ≡ b → starts_with mark.ParenOpen ts ≡ c → suffix_from (Bracketed.read n) (Called.read n) ts b c ≡ Err r → Refused (Can Suffixes) (FailsForm Suffixes) n ts r
+  suffix_from_refused : (ts : List Token) (b c : Bool) (r : Refusal) → starts_with mark.BracketOpen ts ≡ b → starts_with mark.ParenOpen ts ≡ c
+      → suffix_from (Bracketed.read n) (Called.read n) ts b c ≡ Err r → Refused (Can Suffixes) (FailsForm Suffixes) n ts r
   unfolding suffix_at
   suffix_from_refused ts true c r s t e =
       let o = starts_cons mark.BracketOpen ts s in
@@ -151,7 +156,9 @@ module _ (n : ℕ) (ih : (k : ℕ) → IsRefused (Exprs k) n) (target : IsRefuse
 
   bracket_refused : (s : Span) (ts : List Token) (r : Refusal) → bracket_at (expr_at n) s ts ≡ Err r → Refused (Can (Exprs zero)) FailsOperand n (at mark.ParenOpen s ∷ ts) r
   bracket_refused s ts r e =
-      made_refused Bracket (Exprs zero) (bracket_of s) (at mark.ParenOpen s ∷ []) FailsOperand n ts r (either_refused begins_type Typed Closed n typed_refused closed_refused) (made_err (bracket_of s) (Bracket.read n ts) r (sym (bracket_reads n s ts) ∙ e))
+      made_refused Bracket (Exprs zero) (bracket_of s) (at mark.ParenOpen s ∷ []) FailsOperand n ts r
+      (either_refused begins_type Typed Closed n typed_refused closed_refused)
+      (made_err (bracket_of s) (Bracket.read n ts) r (sym (bracket_reads n s ts) ∙ e))
       (λ a p i. bracket_makes s a p i) (λ m u d le h w. made_fails (bracket_of s) (Bracket.read m u) (operand_at (expr_at m) (target_at m) (at mark.ParenOpen s ∷ u)) d (operand_bracket m s u) w)
 
   prefix_refused : (p : Prefix) (s : Span) (ts : List Token) (r : Refusal) → operand_from (expr_at n) (target_at n) (by.Prefix p) (at (prefix_mark p) s) ts ≡ Err r → Refused (Can (Exprs zero)) FailsOperand n (at (prefix_mark p) s ∷ ts) r
@@ -164,7 +171,8 @@ module _ (n : ℕ) (ih : (k : ℕ) → IsRefused (Exprs k) n) (target : IsRefuse
       subst (λ (d : Refusal). Refused (Can (Exprs zero)) FailsOperand n ts d) (err_is (sym (operand_off n ts off) ∙ e))
       (refused_here (Can (Exprs zero)) FailsOperand n ts zero_tokens (zero_at zero) (λ m more le h. operand_off m more (sym (begins_same begins_expr ts more h) ∙ off)))
 
-  from_refused : (c : Start) (t : Token) (ts : List Token) (r : Refusal) → start_of t.kind ≡ c → operand_from (expr_at n) (target_at n) c t ts ≡ Err r → operand_at (expr_at n) (target_at n) (t ∷ ts) ≡ Err r → Refused (Can (Exprs zero)) FailsOperand n (t ∷ ts) r
+  from_refused : (c : Start) (t : Token) (ts : List Token) (r : Refusal) → start_of t.kind ≡ c → operand_from (expr_at n) (target_at n) c t ts ≡ Err r
+      → operand_at (expr_at n) (target_at n) (t ∷ ts) ≡ Err r → Refused (Can (Exprs zero)) FailsOperand n (t ∷ ts) r
   from_refused (by.Atom a) t ts r s e w = absurd (ok_err e)
   from_refused by.Word t ts r s e w =
       made_refused NamedForm (Exprs zero) (λ p. named p.0 p.1) [] FailsOperand n (t ∷ ts) r names_refused (made_err (λ p. named p.0 p.1) (NamedForm.read n (t ∷ ts)) r (sym (named_reads n (t ∷ ts)) ∙ e))
@@ -192,7 +200,10 @@ module _ (n : ℕ) (ih : (k : ℕ) → IsRefused (Exprs k) n) (target : IsRefuse
 
   -- the loop is refused: too deep at once, in the right side, or later
   step_err : (k : ℕ) (more : Expr → Reader Expr) (x : Expr) (ts : List Token) (o : Option Operator) (r : Refusal) → operator_at (suc k) ts ≡ o → step_at (expr_at n k) more n x ts o ≡ Err r
-      → (op : Operator) × (operator_at (suc k) ts ≡ Some op) × (((n < depth x) × (refusal TooDeep ts ≡ r)) ⊎ ((depth x ≤ n) × ((expr_at n k (drop 1 ts) ≡ Err r) ⊎ ((z : Expr) × (after : List Token) × (expr_at n k (drop 1 ts) ≡ Ok (z, after)) × (more (joined x op z) after ≡ Err r)))))
+      → (op : Operator) × (operator_at (suc k) ts ≡ Some op)
+      × (((n < depth x) × (refusal TooDeep ts ≡ r)) ⊎ ((depth x ≤ n)
+      × ((expr_at n k (drop 1 ts) ≡ Err r) ⊎ ((z : Expr) × (after : List Token) × (expr_at n k (drop 1 ts) ≡ Ok (z, after))
+      × (more (joined x op z) after ≡ Err r)))))
   step_err k more x ts None r s e = absurd (ok_err e)
   step_err k more x ts (Some op) r s e = (
     op,
@@ -223,7 +234,8 @@ module _ (n : ℕ) (ih : (k : ℕ) → IsRefused (Exprs k) n) (target : IsRefuse
         stays = λ m more a h f lt2. let e : n ≡ m = a in more_deep (expr_at m k) m k f x more op (sym (operator_same (suc k) mid more h) ∙ s) (omega arith);
       }
 
-  right_refused : (k : ℕ) (front mid : List Token) (x : Expr) (op : Operator) (r : Refusal) → IsExpr (suc k) front x → operator_at (suc k) mid ≡ Some op → depth x ≤ n → expr_at n k (drop 1 mid) ≡ Err r → Refused (IsRest k front) (FailsMore k x) n mid r
+  right_refused : (k : ℕ) (front mid : List Token) (x : Expr) (op : Operator) (r : Refusal) → IsExpr (suc k) front x
+      → operator_at (suc k) mid ≡ Some op → depth x ≤ n → expr_at n k (drop 1 mid) ≡ Err r → Refused (IsRest k front) (FailsMore k x) n mid r
   right_refused k front mid x op r i s le e =
       let o = operator_is (suc k) mid op s in
       subst (λ (l : List Token). Refused (IsRest k front) (FailsMore k x) n l r) (sym o.1.1)

@@ -10,14 +10,18 @@ use Rattle.isp_lex.specs.declared.token.Token.{Token}
 use Rattle.isp_grammar.proofs.Basics.{token, ok_is, err_ok, bind_ok, chosen, starts_cons}
 use Rattle.isp_grammar.proofs.Choices.{either_sound, limit_reads_none}
 use Rattle.isp_grammar.proofs.Forms.{Found, IsSound, One, one_sound, Named, named_sound, Free, both_sound, Behind, made_sound, optional_sound, series_sound}
-use Rattle.isp_grammar.proofs.Exprs.{Ends, Exprs, kind_of, started, with_kind, operator_is, over_none, atom_ends, name_ends, Bracketed, Index, Placed, Target, placed_makes, place_depth, place_ends, place_reads, place_then, bracket_then, ArgumentForm, Referring, Passed, ArgumentForms, Called, argument_reads, passed_makes, passed_depth, passed_ends, referring_then, called_then, Suffixes, NamedForm, name_then, named_reads, suffix_sound, named_makes, named_depth, named_ends, Closed, Typed, Bracket, bracket_reads, bracket_makes, bracket_depth, bracket_ends, closed_then, cast_then, typed_then, Parts, colon_then, parts_then, parts_read, choice_makes}
+use Rattle.isp_grammar.proofs.Exprs.{Ends, Exprs, kind_of, started, with_kind, operator_is, over_none, atom_ends, name_ends, Bracketed, Index, Placed, Target, placed_makes, place_depth, place_ends, place_reads}
+use Rattle.isp_grammar.proofs.Exprs.{place_then, bracket_then, ArgumentForm, Referring, Passed, ArgumentForms, Called, argument_reads, passed_makes, passed_depth, passed_ends, referring_then, called_then}
+use Rattle.isp_grammar.proofs.Exprs.{Suffixes, NamedForm, name_then, named_reads, suffix_sound, named_makes, named_depth, named_ends, Closed, Typed, Bracket, bracket_reads, bracket_makes, bracket_depth}
+use Rattle.isp_grammar.proofs.Exprs.{bracket_ends, closed_then, cast_then, typed_then, Parts, colon_then, parts_then, parts_read, choice_makes}
 use Rattle.isp_grammar.proofs.ExprSteps.{atom_depth, at_level, at_choice}
 use Rattle.isp_grammar.proofs.TypesRead.{Types, types_sound}
 use Rattle.isp_tree.specs.Depth.{depth}
 use Rattle.isp_grammar.specs.Grammar.{IsExpr, is_number, is_truth, is_program_index, is_program_count, is_prefix, is_tighter, is_binary}
 use Rattle.isp_grammar.specs.reader.Readers.{Reader, ◌>>=◌, refuse, is_word}
 use Rattle.isp_grammar.specs.reader.Types.{begins_type}
-use Rattle.isp_grammar.specs.reader.Exprs.{start_of, atom_of, begins_expr, operator_at, place_by, argument_by, named, named_at, bracket_of, bracket_at, prefix_of, operand_from, operand_at, joined, step_at, more_at, binary_at, choice_of, parts_at, choice_from, choice_at, expr_at, target_at}
+use Rattle.isp_grammar.specs.reader.Exprs.{start_of, atom_of, begins_expr, operator_at, place_by, argument_by, named, named_at, bracket_of, bracket_at, prefix_of, operand_from}
+use Rattle.isp_grammar.specs.reader.Exprs.{operand_at, joined, step_at, more_at, binary_at, choice_of, parts_at, choice_from, choice_at, expr_at, target_at}
 use Rattle.isp_grammar.specs.Signs.{prefix_mark, sign, joined_level, loosest}
 use Rattle.isp_tree.specs.Tree.{Expr}
 use Rattle.isp_grammar.specs.declared.expr.Atom.{Atom}
@@ -131,7 +135,8 @@ module _ (n : ℕ) (ih : (k : ℕ) → IsSound (Exprs k) n) (target : IsSound Ta
       )
 
   -- the loop, over what was read before
-  more_sound : (k f : ℕ) (front mid : List Token) (x y : Expr) (rest : List Token) → suc k ≤ joined_level → IsExpr (suc k) front x → depth x ≤ suc n → Ends k x mid → more_at (expr_at n k) n k f x mid ≡ Ok (y, rest) → Found (Exprs (suc k)) (suc n) (front ++ mid) y rest
+  more_sound : (k f : ℕ) (front mid : List Token) (x y : Expr) (rest : List Token) → suc k ≤ joined_level → IsExpr (suc k) front x → depth x ≤ suc n
+      → Ends k x mid → more_at (expr_at n k) n k f x mid ≡ Ok (y, rest) → Found (Exprs (suc k)) (suc n) (front ++ mid) y rest
   unfolding more_at
   more_sound k zero front mid x y rest lk i le h e =
       elim (step_ok k (λ _ ts. refuse TooDeep ts) x mid (operator_at (suc k) mid) y rest refl e) [
@@ -164,7 +169,8 @@ module _ (n : ℕ) (ih : (k : ℕ) → IsSound (Exprs k) n) (target : IsSound Ta
   parts_sound : IsSound Parts n
   parts_sound = both_sound (Exprs loosest) (Behind mark.Colon (Exprs loosest)) Free parts_then n (ih loosest) (both_sound (One mark.Colon) (Exprs loosest) Free colon_then n (one_sound mark.Colon n) (ih loosest))
 
-  choice_sound : (front mid : List Token) (x y : Expr) (rest : List Token) (b : Bool) → IsExpr joined_level front x → depth x ≤ suc n → Ends joined_level x mid → starts_with mark.Question mid ≡ b → choice_from (expr_at n loosest) n x mid b ≡ Ok (y, rest)
+  choice_sound : (front mid : List Token) (x y : Expr) (rest : List Token) (b : Bool) → IsExpr joined_level front x → depth x ≤ suc n
+      → Ends joined_level x mid → starts_with mark.Question mid ≡ b → choice_from (expr_at n loosest) n x mid b ≡ Ok (y, rest)
       → Found (Exprs loosest) (suc n) (front ++ mid) y rest
   choice_sound front mid x y rest false i le h s e =
       subst (λ (z : Expr × List Token). Found (Exprs loosest) (suc n) (front ++ mid) z.0 z.1) (ok_is e) (record {

@@ -15,7 +15,9 @@ abbrev pub EndsByHead : {A : Type 0} → Form A → Type 0
 EndsByHead {A} F = (x : A) (a b : List Token) → head a ≡ head b → F.ends x a → F.ends x b
 
 -- what was read is read again, with more depth left, whatever follows the next token
-pub read_again : {A : Type 0} (F : Form A) → EndsByHead F → ((m : ℕ) → IsComplete F m) → (n : ℕ) (ts : List Token) (x : A) (rest : List Token) (p : Found F n ts x rest) (m : ℕ) (u : List Token) → n ≤ m → head rest ≡ head u → F.read m (p.used ++ u) ≡ Ok (x, u)
+pub read_again : {A : Type 0} (F : Form A) → EndsByHead F → ((m : ℕ) → IsComplete F m)
+    → (n : ℕ) (ts : List Token) (x : A) (rest : List Token) (p : Found F n ts x rest) (m : ℕ) (u : List Token) → n ≤ m → head rest ≡ head u
+    → F.read m (p.used ++ u) ≡ Ok (x, u)
 read_again F by_head complete n ts x rest p m u le h = complete m p.used x u p.is (omega (arith, p.shallow)) (by_head x rest u h p.ends)
 
 pub one_by_head : (m : Mark) → EndsByHead (One m)
@@ -45,7 +47,8 @@ module _ {A : Type 0} (F : Form A) where
   abbrev pub TakesComma : Type 0
   TakesComma = (x : A) (s : Span) (rest : List Token) → F.ends x (at mark.Comma s ∷ rest)
 
-  pub list_complete : TakesComma → (n : ℕ) → IsComplete F n → (used : List Token) (xs : List A) → AreListed F used xs → (f : ℕ) (rest : List Token) → length xs ≤ f → deepest F xs ≤ n → EndsListed F xs rest → list_at (F.read n) f (used ++ rest) ≡ Ok (xs, rest)
+  pub list_complete : TakesComma → (n : ℕ) → IsComplete F n → (used : List Token) (xs : List A) → AreListed F used xs → (f : ℕ) (rest : List Token)
+      → length xs ≤ f → deepest F xs ≤ n → EndsListed F xs rest → list_at (F.read n) f (used ++ rest) ≡ Ok (xs, rest)
   unfolding list_at
   list_complete comma n complete used [] i f rest lf le h = absurd i
   list_complete comma n complete used (x ∷ []) i zero rest lf le h = absurd (omega arith)
@@ -105,7 +108,8 @@ module _ {A : Type 0} (F : Form A) where
       let e : b ++ rest ≡ i.0 ++ (i.1 ++ rest) = ap (λ (l : List Token). l ++ rest) i.2 ∙ append_assoc i.0 i.1 rest in
       subst (λ (l : List Token). F.ends x l) (sym e) (s.next x y i.0 (i.1 ++ rest) i.3)
 
-  all_complete : (m : Mark) → Stands m → (n : ℕ) → IsComplete F n → (used : List Token) (xs : List A) → AreAll F used xs → (f : ℕ) (rest : List Token) → length xs < f → deepest F xs ≤ n → starts_with m rest ≡ true → until_at m (F.read n) f (used ++ rest) ≡ Ok (xs, rest)
+  all_complete : (m : Mark) → Stands m → (n : ℕ) → IsComplete F n → (used : List Token) (xs : List A) → AreAll F used xs → (f : ℕ) (rest : List Token)
+      → length xs < f → deepest F xs ≤ n → starts_with m rest ≡ true → until_at m (F.read n) f (used ++ rest) ≡ Ok (xs, rest)
   unfolding until_at
   all_complete m s n complete used xs i zero rest lf le h = absurd (omega arith)
   all_complete m s n complete used [] i (suc f) rest lf le h = rw (i, h) refl

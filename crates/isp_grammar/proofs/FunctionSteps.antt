@@ -64,7 +64,8 @@ pub program_begins : (n : ℕ) (ts : List Token) → functions_then [] (function
 unfolding program_at
 program_begins n ts = functions_none (functions_at n (suc (length ts)) ts)
 
-pub program_fails : (s : Stop) (n f : ℕ) (front : List Function) (ts : List Token) (total : Result (List Function) Refusal) → length ts < f → 0 < length ts → Fails s (function_at n ts) → functions_then front (functions_at n f ts) ≡ total → Fails s total
+pub program_fails : (s : Stop) (n f : ℕ) (front : List Function) (ts : List Token) (total : Result (List Function) Refusal) → length ts < f
+    → 0 < length ts → Fails s (function_at n ts) → functions_then front (functions_at n f ts) ≡ total → Fails s total
 unfolding functions_at
 program_fails stops.Memory n f front ts total lt h w e = tt
 program_fails (stops.Refused r) n zero front ts total lt h w e = absurd (omega arith)

@@ -37,7 +37,8 @@ module _ {A : Type 0} (F : Form A) where
   listed_ends m c f (x ∷ y ∷ ys) s rest = listed_ends m c f (y ∷ ys) s rest
 
   -- a list begins as its first item
-  pub listed_begins : (f : TokenKind → Bool) (c : Bool) → ((a : List Token) (x : A) (rest : List Token) → F.is a x → begins_with f (a ++ rest) ≡ c) → (ts : List Token) (xs : List A) (rest : List Token) → AreListed F ts xs → begins_with f (ts ++ rest) ≡ c
+  pub listed_begins : (f : TokenKind → Bool) (c : Bool) → ((a : List Token) (x : A) (rest : List Token) → F.is a x → begins_with f (a ++ rest) ≡ c)
+      → (ts : List Token) (xs : List A) (rest : List Token) → AreListed F ts xs → begins_with f (ts ++ rest) ≡ c
   listed_begins f c one ts [] rest i = absurd i
   listed_begins f c one ts (x ∷ []) rest i = one ts x rest i
   listed_begins f c one ts (x ∷ y ∷ ys) rest i =
@@ -78,7 +79,9 @@ module _ {A B C D : Type 0} (g : A → B) (h : C → D) where
   pair_second x (Ok y) = refl
   pair_second x (Err d) = refl
 
-  pair_first : (s : Reader C) (t : Reader D) → Maps s t h → (p : Read A) → ◌≡◌ {A = Read (B × D)} (mapped g p >>= λ x. mapped {B = B × D} (λ y. (x.0, y)) (t x.1)) (mapped {A = A × C} {B = B × D} (λ z. (g z.0, h z.1)) (p >>= λ x. mapped {B = A × C} (λ y. (x.0, y)) (s x.1)))
+  pair_first : (s : Reader C) (t : Reader D) → Maps s t h → (p : Read A)
+      → ◌≡◌ {A = Read (B × D)} (mapped g p >>= λ x. mapped {B = B × D} (λ y. (x.0, y)) (t x.1))
+      (mapped {A = A × C} {B = B × D} (λ z. (g z.0, h z.1)) (p >>= λ x. mapped {B = A × C} (λ y. (x.0, y)) (s x.1)))
   pair_first s t e (Ok x) = rw (e x.1) (pair_second x.0 (s x.1))
   pair_first s t e (Err d) = refl
 

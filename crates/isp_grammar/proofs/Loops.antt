@@ -24,7 +24,9 @@ list_fails stops.Memory one f front ts total lt w e = tt
 list_fails (stops.Refused r) one zero front ts total lt w e = absurd (omega arith)
 list_fails (stops.Refused r) one (suc f) front ts total lt w e = let p : with_front front (list_at one (suc f) ts) ≡ Err r = rw w refl in sym e ∙ p
 
-pub list_last : {A : Type 0} (one : Reader A) (f : ℕ) (front : List A) (ts : List Token) (x : A) (after : List Token) (total : Read (List A)) → length ts < f → one ts ≡ Ok (x, after) → starts_with mark.Comma after ≡ false → with_front front (list_at one f ts) ≡ total → total ≡ Ok (front ++ x ∷ [], after)
+pub list_last : {A : Type 0} (one : Reader A) (f : ℕ) (front : List A) (ts : List Token) (x : A) (after : List Token) (total : Read (List A))
+    → length ts < f → one ts ≡ Ok (x, after) → starts_with mark.Comma after ≡ false → with_front front (list_at one f ts) ≡ total
+    → total ≡ Ok (front ++ x ∷ [], after)
 unfolding list_at
 list_last one zero front ts x after total lt w c e = absurd (omega arith)
 list_last one (suc f) front ts x after total lt w c e = let p : with_front front (list_at one (suc f) ts) ≡ Ok (front ++ x ∷ [], after) = rw (w, c) refl in sym e ∙ p
@@ -37,7 +39,8 @@ list_step one (suc f) front ts x after total lt le w c e =
     let p : with_front front (list_at one (suc f) ts) ≡ with_front front (list_at one f (drop 1 after) >>= λ xs. Ok (x ∷ xs.0, xs.1)) = rw (w, c) refl in
     (f, omega (arith, drop_shorter mark.Comma after c), sym (after_front front x (list_at one f (drop 1 after))) ∙ sym p ∙ e)
 
-pub until_fails : {A : Type 0} (m : Mark) (s : Stop) (one : Reader A) (f : ℕ) (front : List A) (ts : List Token) (total : Read (List A)) → length ts < f → starts_with m ts ≡ false → Fails s (one ts) → with_front front (until_at m one f ts) ≡ total → Fails s total
+pub until_fails : {A : Type 0} (m : Mark) (s : Stop) (one : Reader A) (f : ℕ) (front : List A) (ts : List Token) (total : Read (List A))
+    → length ts < f → starts_with m ts ≡ false → Fails s (one ts) → with_front front (until_at m one f ts) ≡ total → Fails s total
 unfolding until_at
 until_fails m stops.Memory one f front ts total lt c w e = tt
 until_fails m (stops.Refused r) one zero front ts total lt c w e = absurd (omega arith)

@@ -14,7 +14,8 @@ use Rattle.isp_grammar.proofs.Choices.{nowhere, nameless, begins_same, Sign, Sig
 use Rattle.isp_grammar.proofs.Declarations.{some_expr}
 use Rattle.isp_grammar.proofs.ExprLaws.{exprs_sound, exprs_complete, exprs_by_head, exprs_refused}
 use Rattle.isp_grammar.proofs.Exprs.{Exprs, closes_ends}
-use Rattle.isp_grammar.proofs.Forms.{Form, IsSound, IsComplete, Can, One, one_sound, one_complete, Named, named_sound, named_complete, Both, Free, Follows, follows, both_sound, both_complete, Behind, one_then, behind_is, is_behind, NameThen, named_then, name_then_is, is_name_then, Until, until_sound}
+use Rattle.isp_grammar.proofs.Forms.{Form, IsSound, IsComplete, Can, One, one_sound, one_complete, Named, named_sound, named_complete, Both, Free, Follows, follows, both_sound}
+use Rattle.isp_grammar.proofs.Forms.{both_complete, Behind, one_then, behind_is, is_behind, NameThen, named_then, name_then_is, is_name_then, Until, until_sound}
 use Rattle.isp_grammar.proofs.FormsComplete.{EndsByHead, one_by_head, named_by_head, Stands, until_complete}
 use Rattle.isp_grammar.proofs.Refused.{IsRefused, one_refused, named_refused, both_refused, until_refused}
 use Rattle.isp_grammar.proofs.Wrapped.{After, after_sound, after_complete, after_refused, some_after, Bracketed, bracketed_sound, bracketed_complete, bracketed_refused, some_bracketed}

@@ -28,12 +28,15 @@ abbrev Stepped : Type 0
 Stepped = ((Change × Span) × Expr) ⊎ (Expr × Option Ending)
 
 behind_sign : (s : Assignment × Span) (read : Read Expr)
-    → ◌≡◌ {A = Read (Option Ending)} (◌>>=◌ {B = Ending × List Token} (◌>>=◌ {B = ((Assignment × Span) × Expr) × List Token} read (λ y. Ok ((s, y.0), y.1))) (λ x. Ok (inl x.0, x.1)) >>= λ x. Ok (Some x.0, x.1)) (read >>= λ x. Ok (Some (inl (s, x.0)), x.1))
+    → ◌≡◌ {A = Read (Option Ending)} (◌>>=◌ {B = Ending × List Token}
+    (◌>>=◌ {B = ((Assignment × Span) × Expr) × List Token} read (λ y. Ok ((s, y.0), y.1))) (λ x. Ok (inl x.0, x.1)) >>= λ x. Ok (Some x.0, x.1))
+    (read >>= λ x. Ok (Some (inl (s, x.0)), x.1))
 behind_sign s (Ok x) = refl
 behind_sign s (Err e) = refl
 
 behind_step : (s : Change × Span) (read : Read Expr)
-    → ◌≡◌ {A = Read Simple} (◌>>=◌ {B = Stepped × List Token} (◌>>=◌ {B = ((Change × Span) × Expr) × List Token} read (λ y. Ok ((s, y.0), y.1))) (λ x. Ok (inl x.0, x.1)) >>= λ p. Ok (simple_from p.0, p.1)) (read >>= λ x. Ok (simple_from (inl (s, x.0)), x.1))
+    → ◌≡◌ {A = Read Simple} (◌>>=◌ {B = Stepped × List Token} (◌>>=◌ {B = ((Change × Span) × Expr) × List Token} read (λ y. Ok ((s, y.0), y.1)))
+    (λ x. Ok (inl x.0, x.1)) >>= λ p. Ok (simple_from p.0, p.1)) (read >>= λ x. Ok (simple_from (inl (s, x.0)), x.1))
 behind_step s (Ok x) = refl
 behind_step s (Err e) = refl
 

@@ -10,7 +10,8 @@ use Rattle.isp_lex.specs.declared.token.TokenKind.{TokenKind}
 use Rattle.isp_lex.specs.declared.token.TokenKind.TheVariants as kind
 use Rattle.isp_lex.specs.declared.token.Token.{Token}
 use Rattle.isp_grammar.proofs.Basics.{token}
-use Rattle.isp_grammar.proofs.Choices.{nowhere, nameless, Maybe, maybe_sound, maybe_complete, maybe_by_head, maybe_refused, Either, Parts, either_sound, either_complete, either_by_head, either_refused, Counted, Counts, counted_sound, counted_complete, counted_refused, then_behind}
+use Rattle.isp_grammar.proofs.Choices.{nowhere, nameless, Maybe, maybe_sound, maybe_complete, maybe_by_head, maybe_refused, Either, Parts, either_sound, either_complete}
+use Rattle.isp_grammar.proofs.Choices.{either_by_head, either_refused, Counted, Counts, counted_sound, counted_complete, counted_refused, then_behind}
 use Rattle.isp_grammar.proofs.Declarations.{some_expr, Declaring, declaration_sound, declaration_complete, declaration_refused, declaration_by_head, declaration_end}
 use Rattle.isp_grammar.proofs.ExprLaws.{exprs_sound, exprs_complete, exprs_by_head, exprs_refused, expr_completes}
 use Rattle.isp_grammar.proofs.ExprSteps.{expr_off}
@@ -453,7 +454,9 @@ unfolding step_part_at
 maps_step_part n = maps_counted simple_from begins_simple SimpleParts.read simple_at simple_reads n
 
 abbrev raw_head : ℕ → Reader (Span × (Option First × (Span × (Option Expr × (Span × (Option Simple × Span))))))
-raw_head n = both (mark_at mark.ParenOpen) (both (maybe_at mark.Semicolon (first_part_at n)) (both (mark_at mark.Semicolon) (both (maybe_at mark.Semicolon (expr_at n loosest)) (both (mark_at mark.Semicolon) (both (maybe_at mark.ParenClose (step_part_at n)) (mark_at mark.ParenClose))))))
+raw_head n = both (mark_at mark.ParenOpen) (both (maybe_at mark.Semicolon (first_part_at n))
+    (both (mark_at mark.Semicolon) (both (maybe_at mark.Semicolon (expr_at n loosest))
+    (both (mark_at mark.Semicolon) (both (maybe_at mark.ParenClose (step_part_at n)) (mark_at mark.ParenClose))))))
 
 abbrev raw_tree : Span × (Option FirstTree × (Span × (Option Expr × (Span × (Option SimpleTree × Span))))) → Span × (Option First × (Span × (Option Expr × (Span × (Option Simple × Span)))))
 raw_tree p = (p.0, (option_map first_tree p.1.0, (p.1.1.0, (p.1.1.1.0, (p.1.1.1.1.0, (option_map simple_from p.1.1.1.1.1.0, p.1.1.1.1.1.1))))))
@@ -461,18 +464,24 @@ raw_tree p = (p.0, (option_map first_tree p.1.0, (p.1.1.0, (p.1.1.1.0, (p.1.1.1.
 maps_raw : (n : ℕ) → Maps (HeadParts.read n) (raw_head n) raw_tree
 maps_raw n =
     maps_both (λ x. x) _ (mark_at mark.ParenOpen) (mark_at mark.ParenOpen) (HeadFirst.read n) _ (maps_id (mark_at mark.ParenOpen))
-    (maps_both (option_map first_tree) _ (MaybeFirst.read n) (maybe_at mark.Semicolon (first_part_at n)) (λ ts. both (mark_at mark.Semicolon) (HeadTest.read n) ts) _ (maps_maybe first_tree mark.Semicolon (FirstPart.read n) (first_part_at n) (maps_first_part n))
+    (maps_both (option_map first_tree) _ (MaybeFirst.read n) (maybe_at mark.Semicolon (first_part_at n))
+    (λ ts. both (mark_at mark.Semicolon) (HeadTest.read n) ts) _
+    (maps_maybe first_tree mark.Semicolon (FirstPart.read n) (first_part_at n) (maps_first_part n))
     (maps_both (λ x. x) _ (mark_at mark.Semicolon) (mark_at mark.Semicolon) (HeadTest.read n) _ (maps_id (mark_at mark.Semicolon))
     (maps_both (λ x. x) _ (MaybeTest.read n) (maybe_at mark.Semicolon (expr_at n loosest)) (λ ts. both (mark_at mark.Semicolon) (HeadStep.read n) ts) _ (maps_id (maybe_at mark.Semicolon (expr_at n loosest)))
     (maps_both (λ x. x) _ (mark_at mark.Semicolon) (mark_at mark.Semicolon) (HeadStep.read n) _ (maps_id (mark_at mark.Semicolon))
-    (maps_both (option_map simple_from) (λ x. x) (MaybeStep.read n) (maybe_at mark.ParenClose (step_part_at n)) (mark_at mark.ParenClose) (mark_at mark.ParenClose) (maps_maybe simple_from mark.ParenClose (StepPart.read n) (step_part_at n) (maps_step_part n)) (maps_id (mark_at mark.ParenClose)))))))
+    (maps_both (option_map simple_from) (λ x. x) (MaybeStep.read n) (maybe_at mark.ParenClose (step_part_at n)) (mark_at mark.ParenClose)
+    (mark_at mark.ParenClose) (maps_maybe simple_from mark.ParenClose (StepPart.read n) (step_part_at n) (maps_step_part n))
+    (maps_id (mark_at mark.ParenClose)))))))
 
 -- each part with the sign behind it
 abbrev grouped : Span × (Option First × (Span × (Option Expr × (Span × (Option Simple × Span))))) → Span × ((Option First × Span) × ((Option Expr × Span) × (Option Simple × Span)))
 grouped p = (p.0, ((p.1.0, p.1.1.0), ((p.1.1.1.0, p.1.1.1.1.0), p.1.1.1.1.1)))
 
 abbrev grouped_head : ℕ → Reader (Span × ((Option First × Span) × ((Option Expr × Span) × (Option Simple × Span))))
-grouped_head n = both (mark_at mark.ParenOpen) (both (both (maybe_at mark.Semicolon (first_part_at n)) (mark_at mark.Semicolon)) (both (both (maybe_at mark.Semicolon (expr_at n loosest)) (mark_at mark.Semicolon)) (both (maybe_at mark.ParenClose (step_part_at n)) (mark_at mark.ParenClose))))
+grouped_head n = both (mark_at mark.ParenOpen) (both (both (maybe_at mark.Semicolon (first_part_at n)) (mark_at mark.Semicolon))
+    (both (both (maybe_at mark.Semicolon (expr_at n loosest)) (mark_at mark.Semicolon))
+    (both (maybe_at mark.ParenClose (step_part_at n)) (mark_at mark.ParenClose))))
 
 maps_group : (n : ℕ) → Maps (raw_head n) (grouped_head n) grouped
 maps_group n =
@@ -481,7 +490,8 @@ maps_group n =
     let test = maybe_at mark.Semicolon (expr_at n loosest) in
     let first = maybe_at mark.Semicolon (first_part_at n) in
     maps_both (λ x. x) _ (mark_at mark.ParenOpen) (mark_at mark.ParenOpen) (both first (both semicolon (both test (both semicolon step)))) _ (maps_id (mark_at mark.ParenOpen))
-    (maps_twice (both first (both semicolon (both test (both semicolon step)))) (both (both first semicolon) (both test (both semicolon step))) (both (both first semicolon) (both (both test semicolon) step)) _ _ (maps_grouped first semicolon (both test (both semicolon step)))
+    (maps_twice (both first (both semicolon (both test (both semicolon step)))) (both (both first semicolon) (both test (both semicolon step)))
+    (both (both first semicolon) (both (both test semicolon) step)) _ _ (maps_grouped first semicolon (both test (both semicolon step)))
     (maps_both (λ x. x) _ (both first semicolon) (both first semicolon) (both test (both semicolon step)) (both (both test semicolon) step) (maps_id (both first semicolon)) (maps_grouped test semicolon step)))
 
 abbrev head_from : Span × ((Option First × Span) × ((Option Expr × Span) × (Option Simple × Span))) → Head

@@ -12,13 +12,18 @@ use Rattle.isp_grammar.proofs.ListForms.{Maps, mapped, maps_id, mapped_twice, ma
 use Rattle.isp_grammar.proofs.Refused.{Refused, IsRefused, made_refused, made_err, made_fails}
 use Rattle.isp_grammar.proofs.Simples.{SimpleParts, simple_reads}
 use Rattle.isp_grammar.proofs.StmtParts.{ClosedTest, HeadParts, head_tree, maps_head}
-use Rattle.isp_grammar.proofs.Stmts.{EndsStmt, Statement, Nothing, BraceEnd, braces_make, block_deep, braced_of, BlockForm, Conditional, if_of, if_makes, if_deep, if_ends, Looping, while_of, while_makes, Doing, do_of, do_makes, ForLoop, for_of, for_makes, for_deep, Spreading, foreach_of, foreach_makes, Activity, active_of, active_makes, Distinction, unique_of, unique_makes, unmasked_of, DeclareStmt, declare_of, SimpleStmt, simple_of, jump_of, Returning, return_of, return_makes, return_deep, Printing, print_of, print_makes, print_deep, Asserting, assert_of, assert_makes}
+use Rattle.isp_grammar.proofs.Stmts.{EndsStmt, Statement, Nothing, BraceEnd, braces_make, block_deep, braced_of, BlockForm, Conditional, if_of, if_makes, if_deep, if_ends, Looping, while_of}
+use Rattle.isp_grammar.proofs.Stmts.{while_makes, Doing, do_of, do_makes, ForLoop, for_of, for_makes, for_deep, Spreading, foreach_of, foreach_makes, Activity, active_of, active_makes}
+use Rattle.isp_grammar.proofs.Stmts.{Distinction, unique_of, unique_makes, unmasked_of, DeclareStmt, declare_of, SimpleStmt, simple_of, jump_of, Returning, return_of, return_makes, return_deep}
+use Rattle.isp_grammar.proofs.Stmts.{Printing, print_of, print_makes, print_deep, Asserting, assert_of, assert_makes}
 use Rattle.isp_tree.specs.Depth.{depth_of_stmt}
 use Rattle.isp_grammar.specs.Grammar.{IsStmt, is_block, is_empty, is_unmasked, is_jump}
 use Rattle.isp_grammar.specs.reader.Readers.{Read, ◌>>=◌, mark_at}
 use Rattle.isp_grammar.specs.reader.Choices.{maybe_closed_at}
 use Rattle.isp_grammar.specs.reader.Starts.{start_of}
-use Rattle.isp_grammar.specs.reader.Stmts.{Head, simple_at, closed_test_at, test_at, head_at, ranges_head_at, active_head_at, unique_head_at, values_at, behind_at, do_end_at, declare_at, simple_stmt_at, jump_at, return_at, print_at, assert_at, stmts_at, block_from, braced_at, block_stmt_at, if_at, while_at, do_at, for_at, foreach_at, active_at, unique_at, unmasked_at, stmt_by, stmt_at}
+use Rattle.isp_grammar.specs.reader.Stmts.{Head, simple_at, closed_test_at, test_at, head_at, ranges_head_at, active_head_at, unique_head_at, values_at, behind_at, do_end_at}
+use Rattle.isp_grammar.specs.reader.Stmts.{declare_at, simple_stmt_at, jump_at, return_at, print_at, assert_at, stmts_at, block_from, braced_at, block_stmt_at, if_at, while_at}
+use Rattle.isp_grammar.specs.reader.Stmts.{do_at, for_at, foreach_at, active_at, unique_at, unmasked_at, stmt_by, stmt_at}
 use Rattle.isp_grammar.specs.Signs.{if_mark, while_mark, do_mark, for_mark, foreach_mark, jump_mark}
 use Rattle.isp_tree.specs.Tree.{Expr, Stmt, Block, block, empty, loop_for, simple, assert, Simple, span_of_simple, span_of_stmt}
 use Rattle.isp_base.specs.Types.{span_to}

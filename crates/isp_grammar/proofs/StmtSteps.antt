@@ -9,7 +9,8 @@ use Rattle.isp_grammar.proofs.StmtsRefused.{stmt_off}
 use Rattle.isp_grammar.specs.reader.Readers.{Read, Reader, ◌>>=◌, both, refuse, refusal_at_limit}
 use Rattle.isp_grammar.specs.reader.Choices.{begins_with}
 use Rattle.isp_grammar.specs.reader.Starts.{start_of, begins_stmt}
-use Rattle.isp_grammar.specs.reader.Stmts.{stmt_from, stmt_by, stmt_at, braced_at, block_at, Heading, by_while, by_for, by_foreach, by_active, by_unique, heading_at, looped, loop_at, while_at, for_at, foreach_at, active_at, unique_at, test_at, head_at, ranges_head_at, active_head_at, unique_head_at}
+use Rattle.isp_grammar.specs.reader.Stmts.{stmt_from, stmt_by, stmt_at, braced_at, block_at, Heading, by_while, by_for, by_foreach, by_active, by_unique, heading_at, looped, loop_at, while_at}
+use Rattle.isp_grammar.specs.reader.Stmts.{for_at, foreach_at, active_at, unique_at, test_at, head_at, ranges_head_at, active_head_at, unique_head_at}
 use Rattle.isp_grammar.specs.declared.heads.Loop.{Loop}
 use Rattle.isp_grammar.specs.declared.heads.Loop.TheVariants as loops
 use Rattle.isp_tree.specs.Tree.{Stmt}
@@ -51,7 +52,9 @@ behind w view a (Ok y) = refl
 behind w view a (Err e) = refl
 
 headed : {A : Type 0} (stmt : Reader Stmt) (w : Span) (view : A → Heading) (read : Read A)
-    → ◌≡◌ {A = Read Stmt} (◌>>=◌ {B = Headed A} read (paired stmt) >>= λ p. Ok (looped w (view p.0.0) p.0.1, p.1)) (◌>>=◌ {B = Headed Heading} (◌>>=◌ {B = Heading × List Token} read (λ x. Ok (view x.0, x.1))) (paired stmt) >>= λ p. Ok (looped w p.0.0 p.0.1, p.1))
+    → ◌≡◌ {A = Read Stmt} (◌>>=◌ {B = Headed A} read (paired stmt) >>= λ p. Ok (looped w (view p.0.0) p.0.1, p.1))
+    (◌>>=◌ {B = Headed Heading} (◌>>=◌ {B = Heading × List Token} read (λ x. Ok (view x.0, x.1))) (paired stmt) >>= λ p. Ok
+    (looped w p.0.0 p.0.1, p.1))
 headed stmt w view (Ok x) = behind w view x.0 (stmt x.1)
 headed stmt w view (Err e) = refl
 

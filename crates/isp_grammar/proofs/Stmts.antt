@@ -18,11 +18,13 @@ use Rattle.isp_grammar.proofs.Simples.{SimpleTree, SimpleParts, simple_makes, si
 use Rattle.isp_grammar.proofs.StmtParts.{Test, ClosedTest, MaybeTest, FirstTree, MaybeFirst, MaybeStep, HeadStep, HeadTest, HeadFirst, HeadParts, first_tree, first_makes, first_deep}
 use Rattle.isp_grammar.proofs.Wrapped.{After, Bracketed}
 use Rattle.isp_tree.specs.Depth.{depth_of_option, depth_of_first, depth_of_step, deepest_of, depth_of_stmt, depth_of_block, depth_of_stmts, depth}
-use Rattle.isp_grammar.specs.Grammar.{IsMaybe, IsExpr, IsFirst, IsSimple, is_open, IsBlock, is_braces, IsStmts, is_end, is_next, IsStmt, is_empty, is_declare, is_simple, is_if, is_if_else, is_while, is_do, is_for, is_foreach, is_foreach_active, is_foreach_unique, is_return, is_print, is_assert}
+use Rattle.isp_grammar.specs.Grammar.{IsMaybe, IsExpr, IsFirst, IsSimple, is_open, IsBlock, is_braces, IsStmts, is_end, is_next, IsStmt, is_empty, is_declare, is_simple, is_if}
+use Rattle.isp_grammar.specs.Grammar.{is_if_else, is_while, is_do, is_for, is_foreach, is_foreach_active, is_foreach_unique, is_return, is_print, is_assert}
 use Rattle.isp_grammar.specs.reader.Stmts.{simple_from, if_from, block_from, stmts_at, braced_at, block_at, stmt_at}
 use Rattle.isp_grammar.specs.Signs.{word, preposition, textual, loosest, if_mark, while_mark, do_mark, for_mark, foreach_mark}
 use Rattle.isp_grammar.specs.reader.Readers.{◌>>=◌}
-use Rattle.isp_tree.specs.Tree.{Expr, Declaration, span_of_simple, Range, Stmt, empty, declare, simple, loop_while, loop_do, loop_for, foreach, foreach_active, foreach_unique, unmasked, jump, returning, print, assert, Block, all, span_of_block, span_of_stmt}
+use Rattle.isp_tree.specs.Tree.{Expr, Declaration, span_of_simple, Range, Stmt, empty, declare, simple, loop_while, loop_do, loop_for, foreach, foreach_active}
+use Rattle.isp_tree.specs.Tree.{foreach_unique, unmasked, jump, returning, print, assert, Block, all, span_of_block, span_of_stmt}
 use Rattle.isp_tree.specs.declared.types.Word.{Word}
 use Rattle.isp_tree.specs.declared.stmt.Form.{Form as Shape}
 use Rattle.isp_tree.specs.declared.stmt.Tiling.{Tiling}
@@ -217,7 +219,9 @@ for_makes f w ts p c =
     let front = a.1 ∙ ap (λ (l : List Token). at mark.ParenOpen p.0.0 ∷ l) (i.2 ∙ ap (λ (l : List Token). i.0 ++ l) test) in
     let whole = c.2 ∙ ap (λ (l : List Token). l ++ c.1) front ∙ head_regroup p.0.0 p.0.1.1.0 p.0.1.1.1.1.0 p.0.1.1.1.1.1.1 i.0 j.0 k.0 c.1 in
     subst (λ (l : List Token). IsStmt (at (for_mark f) w ∷ l) (for_of f w p)) (sym whole)
-    (is_for f w p.0.0 p.0.1.1.0 p.0.1.1.1.1.0 p.0.1.1.1.1.1.1 i.0 j.0 k.0 c.1 (option_map first_tree p.0.1.0) p.0.1.1.1.0 (option_map simple_from p.0.1.1.1.1.1.0) p.1 (first_maybe i.0 p.0.1.0 i.3) (test_maybe j.0 p.0.1.1.1.0 j.3) (step_maybe k.0 p.0.1.1.1.1.1.0 k.2) c.4)
+    (is_for f w p.0.0 p.0.1.1.0 p.0.1.1.1.1.0 p.0.1.1.1.1.1.1 i.0 j.0 k.0 c.1 (option_map first_tree p.0.1.0) p.0.1.1.1.0
+    (option_map simple_from p.0.1.1.1.1.1.0) p.1 (first_maybe i.0 p.0.1.0 i.3) (test_maybe j.0 p.0.1.1.1.0 j.3)
+    (step_maybe k.0 p.0.1.1.1.1.1.0 k.2) c.4)
 
 first_maybe_deep : (x : Option FirstTree) → depth_of_option depth_of_first (option_map first_tree x) ≡ MaybeFirst.deep x
 first_maybe_deep None = refl

@@ -15,21 +15,28 @@ use Rattle.isp_grammar.proofs.FormsComplete.{EndsByHead, optional_complete, Stan
 use Rattle.isp_grammar.proofs.Ranges.{RangesHead, ranges_head_complete, ActiveHead, active_head_complete, UniqueHead, unique_head_complete, Texts, text_complete, Values, values_complete}
 use Rattle.isp_grammar.proofs.Simples.{SimpleTree, SimpleParts, simple_complete, simple_unmakes, simple_deep, simple_starts}
 use Rattle.isp_grammar.proofs.Starts.{expr_start, type_start}
-use Rattle.isp_grammar.proofs.StmtParts.{declaration_starts, Test, test_complete, ClosedTest, closed_test_complete, MaybeTest, maybe_test_complete, is_change_start, FirstTree, MaybeFirst, MaybeStep, HeadStep, HeadTest, HeadFirst, HeadParts, head_complete, first_tree, first_unmakes}
-use Rattle.isp_grammar.proofs.StmtReads.{production_complete, block_stmt_of, block_production, empty_production, if_production, while_production, do_production, for_production, foreach_production, active_production, unique_production, unmasked_production, jump_production, return_production, print_production, assert_production, declare_reads, simple_stmt_reads, empty_of}
-use Rattle.isp_grammar.proofs.Stmts.{head_regroup, EndsStmt, Statement, Nothing, Several, are_all, BraceEnd, brace_then, block_deep, Braced, braced_of, BlockForm, block_reads, Else, FitsElse, Branches, Conditional, if_of, Looping, while_of, Tested, DoEnd, Doing, do_of, ForLoop, for_of, Spreading, foreach_of, Activity, active_of, Distinction, unique_of, unmasked_of, DeclareStmt, declare_of, SimpleStmt, simple_of, jump_of, Returning, return_of, PrintEnd, PrintValues, PrintText, Printing, print_of, Asserting, assert_of}
-use Rattle.isp_grammar.proofs.StmtsSound.{then_else, branches_then, body_then, tested_then, some_tested, do_then, for_then, foreach_then, active_then, unique_then, declare_then, simple_then, return_then, print_behind, text_then, values_then, print_end_behind, brace_close_foreign, else_foreign, asserted_then, brace_behind, stmt_off_mark}
+use Rattle.isp_grammar.proofs.StmtParts.{declaration_starts, Test, test_complete, ClosedTest, closed_test_complete, MaybeTest, maybe_test_complete, is_change_start, FirstTree}
+use Rattle.isp_grammar.proofs.StmtParts.{MaybeFirst, MaybeStep, HeadStep, HeadTest, HeadFirst, HeadParts, head_complete, first_tree, first_unmakes}
+use Rattle.isp_grammar.proofs.StmtReads.{production_complete, block_stmt_of, block_production, empty_production, if_production, while_production, do_production, for_production, foreach_production, active_production}
+use Rattle.isp_grammar.proofs.StmtReads.{unique_production, unmasked_production, jump_production, return_production, print_production, assert_production, declare_reads, simple_stmt_reads, empty_of}
+use Rattle.isp_grammar.proofs.Stmts.{head_regroup, EndsStmt, Statement, Nothing, Several, are_all, BraceEnd, brace_then, block_deep, Braced, braced_of, BlockForm, block_reads, Else, FitsElse, Branches, Conditional}
+use Rattle.isp_grammar.proofs.Stmts.{if_of, Looping, while_of, Tested, DoEnd, Doing, do_of, ForLoop, for_of, Spreading, foreach_of, Activity, active_of, Distinction, unique_of, unmasked_of, DeclareStmt, declare_of}
+use Rattle.isp_grammar.proofs.Stmts.{SimpleStmt, simple_of, jump_of, Returning, return_of, PrintEnd, PrintValues, PrintText, Printing, print_of, Asserting, assert_of}
+use Rattle.isp_grammar.proofs.StmtsSound.{then_else, branches_then, body_then, tested_then, some_tested, do_then, for_then, foreach_then, active_then, unique_then, declare_then, simple_then, return_then}
+use Rattle.isp_grammar.proofs.StmtsSound.{print_behind, text_then, values_then, print_end_behind, brace_close_foreign, else_foreign, asserted_then, brace_behind, stmt_off_mark}
 use Rattle.isp_grammar.proofs.Wrapped.{after_complete}
 use Rattle.isp_tree.specs.Depth.{depth_of_stmt, depth_of_block}
 use Rattle.isp_grammar.proofs.Exprs.{Exprs, Closed}
-use Rattle.isp_grammar.specs.Grammar.{IsMaybe, IsExpr, IsFirst, IsSimple, IsDeclaration, IsBlock, is_braces, IsStmt, is_block, is_empty, is_declare, is_simple, is_if, is_if_else, is_while, is_do, is_for, is_foreach, is_foreach_active, is_foreach_unique, is_unmasked, is_jump, is_return, is_print, is_assert}
+use Rattle.isp_grammar.specs.Grammar.{IsMaybe, IsExpr, IsFirst, IsSimple, IsDeclaration, IsBlock, is_braces, IsStmt, is_block, is_empty, is_declare, is_simple, is_if, is_if_else, is_while}
+use Rattle.isp_grammar.specs.Grammar.{is_do, is_for, is_foreach, is_foreach_active, is_foreach_unique, is_unmasked, is_jump, is_return, is_print, is_assert}
 use Rattle.isp_grammar.specs.reader.Readers.{◌>>=◌, head, on_head}
 use Rattle.isp_grammar.specs.reader.Choices.{begins_with}
 use Rattle.isp_grammar.specs.reader.Starts.{start_of}
 use Rattle.isp_grammar.specs.reader.Stmts.{simple_from, block_at, stmt_at}
 use Rattle.isp_grammar.specs.reader.Types.{begins_type}
 use Rattle.isp_grammar.specs.Signs.{word, preposition, textual, loosest, if_mark, while_mark, do_mark, for_mark, foreach_mark, jump_mark}
-use Rattle.isp_tree.specs.Tree.{Expr, Simple, First, Declaration, Stmt, block, empty, declare, simple, if_then, if_else, loop_while, loop_do, loop_for, foreach, foreach_active, foreach_unique, unmasked, jump, returning, print, assert, Block, braces, span_of_simple, span_of_stmt}
+use Rattle.isp_tree.specs.Tree.{Expr, Simple, First, Declaration, Stmt, block, empty, declare, simple, if_then, if_else, loop_while, loop_do, loop_for, foreach, foreach_active}
+use Rattle.isp_tree.specs.Tree.{foreach_unique, unmasked, jump, returning, print, assert, Block, braces, span_of_simple, span_of_stmt}
 use Rattle.isp_grammar.specs.declared.start.Start.{Start}
 use Rattle.isp_grammar.specs.declared.start.Start.TheVariants as by
 use Rattle.isp_tree.specs.declared.stmt.Form.{Form as Shape}
@@ -170,7 +177,8 @@ head_of o d e c is ts us i x p a b f =
     let behind = is_behind mark.Semicolon HeadStep e (us ++ at mark.ParenClose c ∷ []) (p, c) step in
     let test : HeadTest.is (ts ++ at mark.Semicolon e ∷ (us ++ at mark.ParenClose c ∷ [])) (x, (e, (p, c))) = (ts, at mark.Semicolon e ∷ (us ++ at mark.ParenClose c ∷ []), refl, b, behind, tt) in
     let more = is_behind mark.Semicolon HeadTest d (ts ++ at mark.Semicolon e ∷ (us ++ at mark.ParenClose c ∷ [])) (x, (e, (p, c))) test in
-    is_behind mark.ParenOpen HeadFirst o (is ++ at mark.Semicolon d ∷ (ts ++ at mark.Semicolon e ∷ (us ++ at mark.ParenClose c ∷ []))) (i, (d, (x, (e, (p, c))))) (is, at mark.Semicolon d ∷ (ts ++ at mark.Semicolon e ∷ (us ++ at mark.ParenClose c ∷ [])), refl, a, more, tt)
+    is_behind mark.ParenOpen HeadFirst o (is ++ at mark.Semicolon d ∷ (ts ++ at mark.Semicolon e ∷ (us ++ at mark.ParenClose c ∷ [])))
+    (i, (d, (x, (e, (p, c))))) (is, at mark.Semicolon d ∷ (ts ++ at mark.Semicolon e ∷ (us ++ at mark.ParenClose c ∷ [])), refl, a, more, tt)
 
 print_text_of : (w o p c e : Span) (t : List ℕ) (ts : List Token) (xs : List Expr) → Values.is ts xs → Printing.is (at mark.ParenOpen o ∷ textual t p ∷ (ts ++ at mark.ParenClose c ∷ at mark.Semicolon e ∷ [])) (o, ((t, p), (xs, (c, e))))
 print_text_of w o p c e t ts xs i =
@@ -197,7 +205,9 @@ module _ (n : ℕ) (ih : IsComplete Statement n) (blocks : IsComplete BlockForm 
 
   declare_again : (e : Span) (ts : List Token) (d : Declaration) → IsDeclaration ts d → depth_of_stmt (declare_of (d, e)) ≤ suc n → (rest : List Token) → stmt_at (suc n) ((ts ++ at mark.Semicolon e ∷ []) ++ rest) ≡ Ok (declare_of (d, e), rest)
   declare_again e ts d i le rest =
-      let b = starts_as begins_type by.Declare type_start ((ts ++ at mark.Semicolon e ∷ []) ++ rest) (ap (λ (l : List Token). begins_with begins_type l) (append_assoc ts (at mark.Semicolon e ∷ []) rest) ∙ declaration_starts i (at mark.Semicolon e ∷ rest)) in
+      let b = starts_as begins_type by.Declare type_start ((ts ++ at mark.Semicolon e ∷ []) ++ rest)
+      (ap (λ (l : List Token). begins_with begins_type l) (append_assoc ts (at mark.Semicolon e ∷ []) rest)
+      ∙ declaration_starts i (at mark.Semicolon e ∷ rest)) in
       made_complete DeclareStmt Statement declare_of [] n (stmt_at (suc n)) (ts ++ at mark.Semicolon e ∷ []) (d, e) rest (declare_start n ((ts ++ at mark.Semicolon e ∷ []) ++ rest) b) (declare_stmt_complete n)
       (is_before Declaring mark.Semicolon ts d e i) (omega arith) tt
 
@@ -217,9 +227,17 @@ module _ (n : ℕ) (ih : IsComplete Statement n) (blocks : IsComplete BlockForm 
       → (p' : Option SimpleTree) → MaybeStep.is us p' → option_map simple_from p' ≡ p → IsStmt a s → depth_of_stmt (loop_for f i x p s (span_to w (span_of_stmt s))) ≤ suc n → (rest : List Token) → EndsStmt s rest
       → stmt_at (suc n) (at (for_mark f) w ∷ at mark.ParenOpen o ∷ ((is ++ at mark.Semicolon d ∷ (ts ++ at mark.Semicolon e ∷ (us ++ at mark.ParenClose c ∷ a))) ++ rest)) ≡ Ok (loop_for f i x p s (span_to w (span_of_stmt s)), rest)
   for_again f w o d e c is ts us a i x p s i' j q k p' l r m le rest h =
-      subst (λ (z : Option First). depth_of_stmt (loop_for f z x p s (span_to w (span_of_stmt s))) ≤ suc n → stmt_at (suc n) (at (for_mark f) w ∷ at mark.ParenOpen o ∷ ((is ++ at mark.Semicolon d ∷ (ts ++ at mark.Semicolon e ∷ (us ++ at mark.ParenClose c ∷ a))) ++ rest)) ≡ Ok (loop_for f z x p s (span_to w (span_of_stmt s)), rest)) q
-      (subst (λ (z : Option Simple). depth_of_stmt (loop_for f (option_map first_tree i') x z s (span_to w (span_of_stmt s))) ≤ suc n → stmt_at (suc n) (at (for_mark f) w ∷ at mark.ParenOpen o ∷ ((is ++ at mark.Semicolon d ∷ (ts ++ at mark.Semicolon e ∷ (us ++ at mark.ParenClose c ∷ a))) ++ rest)) ≡ Ok (loop_for f (option_map first_tree i') x z s (span_to w (span_of_stmt s)), rest)) r
-      (λ le. production_complete (for_mark f) ForLoop (for_of f) (for_production f) n w (for_loop_complete n ih) (at mark.ParenOpen o ∷ (is ++ at mark.Semicolon d ∷ (ts ++ at mark.Semicolon e ∷ (us ++ at mark.ParenClose c ∷ a)))) ((o, (i', (d, (x, (e, (p', c)))))), s) rest
+      subst (λ (z : Option First). depth_of_stmt (loop_for f z x p s (span_to w (span_of_stmt s))) ≤ suc n
+      → stmt_at (suc n) (at (for_mark f) w ∷ at mark.ParenOpen o ∷
+      ((is ++ at mark.Semicolon d ∷ (ts ++ at mark.Semicolon e ∷ (us ++ at mark.ParenClose c ∷ a))) ++ rest))
+      ≡ Ok (loop_for f z x p s (span_to w (span_of_stmt s)), rest)) q
+      (subst (λ (z : Option Simple). depth_of_stmt (loop_for f (option_map first_tree i') x z s (span_to w (span_of_stmt s))) ≤ suc n
+      → stmt_at (suc n) (at (for_mark f) w ∷ at mark.ParenOpen o ∷
+      ((is ++ at mark.Semicolon d ∷ (ts ++ at mark.Semicolon e ∷ (us ++ at mark.ParenClose c ∷ a))) ++ rest))
+      ≡ Ok (loop_for f (option_map first_tree i') x z s (span_to w (span_of_stmt s)), rest)) r
+      (λ le. production_complete (for_mark f) ForLoop (for_of f) (for_production f) n w (for_loop_complete n ih)
+      (at mark.ParenOpen o ∷ (is ++ at mark.Semicolon d ∷ (ts ++ at mark.Semicolon e ∷ (us ++ at mark.ParenClose c ∷ a))))
+      ((o, (i', (d, (x, (e, (p', c)))))), s) rest
       (at mark.ParenOpen o ∷ (is ++ at mark.Semicolon d ∷ (ts ++ at mark.Semicolon e ∷ (us ++ at mark.ParenClose c ∷ []))), a, sym (head_regroup o d e c is ts us a), head_of o d e c is ts us i' x p' j k l, m, tt) le h)) le
 
   next_complete : {used : List Token} {y : Stmt} → IsStmt used y → depth_of_stmt y ≤ suc n → (rest : List Token) → EndsStmt y rest → stmt_at (suc n) (used ++ rest) ≡ Ok (y, rest)
@@ -228,7 +246,9 @@ module _ (n : ℕ) (ih : IsComplete Statement n) (blocks : IsComplete BlockForm 
   next_complete (is_declare e ts d i) le rest h = declare_again e ts d i le rest
   next_complete (is_simple e ts p i) le rest h =
       let q = simple_unmakes i in
-      subst (λ (z : Simple). depth_of_stmt (simple z (span_to (span_of_simple z) e)) ≤ suc n → stmt_at (suc n) ((ts ++ at mark.Semicolon e ∷ []) ++ rest) ≡ Ok (simple z (span_to (span_of_simple z) e), rest)) q.2 (λ le. simple_again e ts q.0 q.1 le rest) le
+      subst (λ (z : Simple). depth_of_stmt (simple z (span_to (span_of_simple z) e)) ≤ suc n
+      → stmt_at (suc n) ((ts ++ at mark.Semicolon e ∷ []) ++ rest) ≡ Ok (simple z (span_to (span_of_simple z) e), rest)) q.2
+      (λ le. simple_again e ts q.0 q.1 le rest) le
   next_complete (is_if f i o c ts a x s j k) le rest h =
       production_complete (if_mark f) Conditional (if_of f) (if_production f) n i (conditional_complete n ih) (at mark.ParenOpen o ∷ (ts ++ at mark.ParenClose c ∷ a)) (x, (s, None)) rest
       (closed o c ts, a, closed_split o c ts a, (o, c, ts, refl, j), (a, [], sym (append-nil a), k, refl, tt), tt) le (h refl)
@@ -236,7 +256,9 @@ module _ (n : ℕ) (ih : IsComplete Statement n) (blocks : IsComplete BlockForm 
       production_complete (if_mark f) Conditional (if_of f) (if_production f) n i (conditional_complete n ih) (at mark.ParenOpen o ∷ (ts ++ at mark.ParenClose c ∷ (a ++ at mark.Else e ∷ b))) (x, (s, Some t)) rest
       (closed o c ts, a ++ at mark.Else e ∷ b, closed_split o c ts (a ++ at mark.Else e ∷ b), (o, c, ts, refl, j), (a, at mark.Else e ∷ b, refl, k, (e, b, refl, m), l), tt) le h
   next_complete (is_while f w o c ts a x s j k) le rest h =
-      production_complete (while_mark f) Looping (while_of f) (while_production f) n w (looping_complete n ih) (at mark.ParenOpen o ∷ (ts ++ at mark.ParenClose c ∷ a)) (x, s) rest (closed o c ts, a, closed_split o c ts a, (o, c, ts, refl, j), k, tt) le h
+      production_complete (while_mark f) Looping (while_of f) (while_production f) n w (looping_complete n ih)
+      (at mark.ParenOpen o ∷ (ts ++ at mark.ParenClose c ∷ a)) (x, s) rest (closed o c ts, a, closed_split o c ts a, (o, c, ts, refl, j), k, tt)
+      le h
   next_complete (is_do f d w o c e a ts s x i j) le rest h =
       let last : Tested.is (at mark.ParenOpen o ∷ (ts ++ at mark.ParenClose c ∷ at mark.Semicolon e ∷ [])) (x, e) = (closed o c ts, at mark.Semicolon e ∷ [], closed_split o c ts (at mark.Semicolon e ∷ []), (o, c, ts, refl, j), refl, tt) in
       production_complete (do_mark f) Doing (do_of f) (do_production f) n d (doing_complete n ih) (a ++ at mark.While w ∷ at mark.ParenOpen o ∷ (ts ++ at mark.ParenClose c ∷ at mark.Semicolon e ∷ [])) (s, (x, e)) rest

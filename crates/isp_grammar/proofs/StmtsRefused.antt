@@ -12,15 +12,22 @@ use Rattle.isp_grammar.proofs.Choices.{nowhere, begins_same, limit_off, Limits, 
 use Rattle.isp_grammar.proofs.Declarations.{Declaring, declaration_sound, declaration_complete, declaration_by_head, declaration_refused}
 use Rattle.isp_grammar.proofs.Forms.{Form, Can, One, one_sound, one_complete, Both, Free, Follows}
 use Rattle.isp_grammar.proofs.FormsComplete.{one_by_head}
-use Rattle.isp_grammar.proofs.Ranges.{RangesHead, ranges_head_sound, ranges_head_complete, ranges_head_refused, some_ranges_head, ActiveHead, active_head_sound, active_head_complete, active_head_refused, some_active_head, UniqueHead, unique_head_sound, unique_head_complete, unique_head_refused, some_unique_head, Texts, text_sound, text_complete, text_refused, Values, values_sound, values_complete, values_refused, values_by_head}
+use Rattle.isp_grammar.proofs.Ranges.{RangesHead, ranges_head_sound, ranges_head_complete, ranges_head_refused, some_ranges_head, ActiveHead, active_head_sound, active_head_complete}
+use Rattle.isp_grammar.proofs.Ranges.{active_head_refused, some_active_head, UniqueHead, unique_head_sound, unique_head_complete, unique_head_refused, some_unique_head, Texts, text_sound}
+use Rattle.isp_grammar.proofs.Ranges.{text_complete, text_refused, Values, values_sound, values_complete, values_refused, values_by_head}
 use Rattle.isp_grammar.proofs.Refused.{Refused, refused_here, raise, FailsForm, IsRefused, one_refused, both_refused, made_refused, made_err, made_fails, optional_refused, until_refused}
 use Rattle.isp_grammar.proofs.Simples.{SimpleParts, simple_sound, simple_complete, simple_by_head, simple_refused, simple_makes}
 use Rattle.isp_grammar.proofs.Starts.{Fits, start_fits}
-use Rattle.isp_grammar.proofs.StmtParts.{Test, test_sound, test_complete, test_refused, some_test, ClosedTest, closed_test_sound, closed_test_complete, closed_test_refused, some_closed_test, MaybeTest, maybe_test_sound, maybe_test_complete, maybe_test_refused, maybe_test_by_head, HeadParts, head_sound, head_complete, head_refused, some_head, declaration_completes, simple_opens}
-use Rattle.isp_grammar.proofs.StmtReads.{FailsNext, Production, production_refused, block_stmt_of, block_production, empty_production, if_production, while_production, do_production, for_production, foreach_production, active_production, unique_production, unmasked_production, jump_production, return_production, print_production, assert_production, empty_of}
-use Rattle.isp_grammar.proofs.Stmts.{Statement, stmt_by_head, some_stmt, Nothing, Several, BraceEnd, brace_then, Braced, braced_of, braced_makes, BlockForm, block_reads, some_block, Else, FitsElse, Branches, Conditional, if_of, Looping, while_of, Tested, DoEnd, Doing, do_of, ForLoop, for_of, Spreading, foreach_of, Activity, active_of, Distinction, unique_of, unmasked_of, DeclareStmt, declare_of, declare_makes, SimpleStmt, simple_of, simple_stmt_makes, jump_of, Returning, return_of, PrintEnd, PrintValues, PrintText, Printing, print_of, Asserting, assert_of}
+use Rattle.isp_grammar.proofs.StmtParts.{Test, test_sound, test_complete, test_refused, some_test, ClosedTest, closed_test_sound, closed_test_complete, closed_test_refused, some_closed_test, MaybeTest, maybe_test_sound}
+use Rattle.isp_grammar.proofs.StmtParts.{maybe_test_complete, maybe_test_refused, maybe_test_by_head, HeadParts, head_sound, head_complete, head_refused, some_head, declaration_completes, simple_opens}
+use Rattle.isp_grammar.proofs.StmtReads.{FailsNext, Production, production_refused, block_stmt_of, block_production, empty_production, if_production, while_production, do_production, for_production, foreach_production}
+use Rattle.isp_grammar.proofs.StmtReads.{active_production, unique_production, unmasked_production, jump_production, return_production, print_production, assert_production, empty_of}
+use Rattle.isp_grammar.proofs.Stmts.{Statement, stmt_by_head, some_stmt, Nothing, Several, BraceEnd, brace_then, Braced, braced_of, braced_makes, BlockForm, block_reads, some_block, Else, FitsElse, Branches, Conditional, if_of}
+use Rattle.isp_grammar.proofs.Stmts.{Looping, while_of, Tested, DoEnd, Doing, do_of, ForLoop, for_of, Spreading, foreach_of, Activity, active_of, Distinction, unique_of, unmasked_of, DeclareStmt, declare_of, declare_makes}
+use Rattle.isp_grammar.proofs.Stmts.{SimpleStmt, simple_of, simple_stmt_makes, jump_of, Returning, return_of, PrintEnd, PrintValues, PrintText, Printing, print_of, Asserting, assert_of}
 use Rattle.isp_grammar.proofs.StmtsComplete.{stmt_stands, several_by_head, several_complete, declare_start, simple_start, stmt_complete}
-use Rattle.isp_grammar.proofs.StmtsSound.{then_else, branches_then, body_then, tested_then, some_tested, do_then, for_then, foreach_then, active_then, unique_then, declare_then, simple_then, return_then, print_behind, text_then, values_then, print_end_behind, asserted_then, brace_behind, several_sound, stmt_sound, block_sound}
+use Rattle.isp_grammar.proofs.StmtsSound.{then_else, branches_then, body_then, tested_then, some_tested, do_then, for_then, foreach_then, active_then, unique_then, declare_then, simple_then, return_then}
+use Rattle.isp_grammar.proofs.StmtsSound.{print_behind, text_then, values_then, print_end_behind, asserted_then, brace_behind, several_sound, stmt_sound, block_sound}
 use Rattle.isp_grammar.proofs.Wrapped.{after_refused}
 use Rattle.isp_grammar.specs.Grammar.{IsBlock, is_braces, is_end, IsStmt, is_declare, is_simple}
 use Rattle.isp_grammar.specs.reader.Readers.{refuse, head, on_head}

@@ -18,10 +18,14 @@ use Rattle.isp_grammar.proofs.Ranges.{RangesHead, ranges_head_sound, ActiveHead,
 use Rattle.isp_grammar.proofs.Simples.{SimpleParts, simple_sound, simple_starts, simple_deep}
 use Rattle.isp_grammar.proofs.Starts.{Fits, start_fits, starts_off}
 use Rattle.isp_grammar.proofs.StmtParts.{declaration_starts, Test, test_sound, some_test, ClosedTest, closed_test_sound, MaybeTest, maybe_test_sound, test_maybe_ends, simple_semicolon, HeadParts, head_sound}
-use Rattle.isp_grammar.proofs.StmtReads.{production_sound, block_stmt_of, block_production, empty_production, if_production, while_production, do_production, for_production, foreach_production, active_production, unique_production, unmasked_production, jump_production, return_production, print_production, assert_production, declare_reads, simple_stmt_reads, empty_of}
-use Rattle.isp_grammar.proofs.Stmts.{EndsStmt, Statement, some_stmt, Nothing, Several, BraceEnd, brace_then, block_deep, Braced, braced_of, braced_makes, BlockForm, block_reads, Else, FitsElse, Branches, Conditional, if_of, Looping, while_of, Tested, DoEnd, Doing, do_of, ForLoop, for_of, Spreading, foreach_of, Activity, active_of, Distinction, unique_of, unmasked_of, DeclareStmt, declare_of, declare_makes, SimpleStmt, simple_of, simple_stmt_makes, jump_of, Returning, return_of, PrintEnd, PrintValues, PrintText, Printing, print_of, Asserting, assert_of}
+use Rattle.isp_grammar.proofs.StmtReads.{production_sound, block_stmt_of, block_production, empty_production, if_production, while_production, do_production, for_production, foreach_production, active_production}
+use Rattle.isp_grammar.proofs.StmtReads.{unique_production, unmasked_production, jump_production, return_production, print_production, assert_production, declare_reads, simple_stmt_reads, empty_of}
+use Rattle.isp_grammar.proofs.Stmts.{EndsStmt, Statement, some_stmt, Nothing, Several, BraceEnd, brace_then, block_deep, Braced, braced_of, braced_makes, BlockForm, block_reads, Else, FitsElse, Branches, Conditional, if_of, Looping}
+use Rattle.isp_grammar.proofs.Stmts.{while_of, Tested, DoEnd, Doing, do_of, ForLoop, for_of, Spreading, foreach_of, Activity, active_of, Distinction, unique_of, unmasked_of, DeclareStmt, declare_of, declare_makes, SimpleStmt}
+use Rattle.isp_grammar.proofs.Stmts.{simple_of, simple_stmt_makes, jump_of, Returning, return_of, PrintEnd, PrintValues, PrintText, Printing, print_of, Asserting, assert_of}
 use Rattle.isp_grammar.proofs.Wrapped.{after_sound}
-use Rattle.isp_grammar.specs.Grammar.{is_open, IsBlock, is_braces, IsStmt, is_block, is_empty, is_declare, is_simple, is_if, is_if_else, is_while, is_do, is_for, is_foreach, is_foreach_active, is_foreach_unique, is_unmasked, is_jump, is_return, is_print, is_assert}
+use Rattle.isp_grammar.specs.Grammar.{is_open, IsBlock, is_braces, IsStmt, is_block, is_empty, is_declare, is_simple, is_if, is_if_else, is_while, is_do, is_for}
+use Rattle.isp_grammar.specs.Grammar.{is_foreach, is_foreach_active, is_foreach_unique, is_unmasked, is_jump, is_return, is_print, is_assert}
 use Rattle.isp_grammar.proofs.Simples.{simple_unmakes}
 use Rattle.isp_grammar.specs.reader.Readers.{Reader, optional, optional_from}
 use Rattle.isp_grammar.specs.reader.Exprs.{begins_expr}

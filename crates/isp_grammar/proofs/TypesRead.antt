@@ -234,7 +234,8 @@ with_base n a qs b s t ts i e k =
       ends = tt;
     }
 
-without_base : (n : ℕ) (a : List Token) (qs : List Qualifier) (s : Span) (ts : List Token) (x : TypeTree) (rest : List Token) → AreAll IsQualifier a qs → (has_sign qs ≡ true → s ≡ spread a) → type_word_at ts ≡ by.Other → type_end s qs ts ≡ Ok (x, rest)
+without_base : (n : ℕ) (a : List Token) (qs : List Qualifier) (s : Span) (ts : List Token) (x : TypeTree) (rest : List Token)
+    → AreAll IsQualifier a qs → (has_sign qs ≡ true → s ≡ spread a) → type_word_at ts ≡ by.Other → type_end s qs ts ≡ Ok (x, rest)
     → Found Types n (a ++ ts) x rest
 without_base n a qs s ts x rest i h o e =
     elim (chosen (has_sign qs) (Ok (record { qualifiers = qs; base = None; span = s }, ts)) (refuse Unexpected ts) (Ok (x, rest)) e) [

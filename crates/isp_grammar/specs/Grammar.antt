@@ -7,10 +7,12 @@ use Rattle.isp_base.specs.declared.types.Value.{Value}
 use Rattle.isp_lex.specs.Tokens.{at}
 use Rattle.isp_lex.specs.declared.token.Mark.TheVariants as mark
 use Rattle.isp_lex.specs.declared.token.Token.{Token}
-use Rattle.isp_grammar.specs.Signs.{word, preposition, numeral, textual, qualifier_mark, base_mark, truth_mark, prefix_mark, sign, level, joined_level, loosest, assignment_mark, change_mark, if_mark, while_mark, do_mark, for_mark, foreach_mark, jump_mark, linkage_mark, first_span, spread}
+use Rattle.isp_grammar.specs.Signs.{word, preposition, numeral, textual, qualifier_mark, base_mark, truth_mark, prefix_mark, sign, level, joined_level, loosest, assignment_mark}
+use Rattle.isp_grammar.specs.Signs.{change_mark, if_mark, while_mark, do_mark, for_mark, foreach_mark, jump_mark, linkage_mark, first_span, spread}
 use Rattle.isp_tree.specs.Tree.{TypeTree, has_sign, Expr, number, truth, program_index, program_count, place, call, brackets, cast, prefix, binary, choose, Place, variable, element, Argument, by_value, by_reference, listed, span_of, span_of_place}
 use Rattle.isp_tree.specs.Tree.{Item, plain, with_value, with_size, span_of_item, Declaration, Simple, value, assign, change, span_of_simple, First, first_declare, first_simple, Range}
-use Rattle.isp_tree.specs.Tree.{Stmt, block, empty, declare, simple, if_then, if_else, loop_while, loop_do, loop_for, foreach, foreach_active, foreach_unique, unmasked, jump, returning, print, assert, Block, braces, all, span_of_block, span_of_stmt, Param, Function}
+use Rattle.isp_tree.specs.Tree.{Stmt, block, empty, declare, simple, if_then, if_else, loop_while, loop_do, loop_for, foreach, foreach_active, foreach_unique, unmasked}
+use Rattle.isp_tree.specs.Tree.{jump, returning, print, assert, Block, braces, all, span_of_block, span_of_stmt, Param, Function}
 use Rattle.isp_tree.specs.declared.types.Word.{Word}
 use Rattle.isp_tree.specs.declared.types.Qualifier.{Qualifier}
 use Rattle.isp_tree.specs.declared.types.Base.{Base}

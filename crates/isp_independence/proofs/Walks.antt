@@ -1,9 +1,12 @@
 -- The breach that is answered of a node is the first of its breaches.
 use Rattle.std.specs.Prelude.{true, false, not, nat_lt, ◌&&◌, ◌||◌, Some, option_map}
 use Rattle.isp_base.specs.declared.types.Span.{Span}
-use Rattle.isp_typed.specs.Typed.{rate_of, TExpr, t_constant, t_program_index, t_place, t_convert, t_cast, t_unary, t_binary, t_compare, t_logic, t_choose, t_call, t_library, t_packed_store, t_packed_load, TPlace, t_variable, t_element, TBase, t_whole, t_from, TArgument, t_by_value, t_by_name, TCall, t_called, TArguments, t_no_arguments, t_argument_then, TExprs, t_no_exprs, t_expr_then}
+use Rattle.isp_typed.specs.Typed.{rate_of, TExpr, t_constant, t_program_index, t_place, t_convert, t_cast, t_unary, t_binary, t_compare, t_logic, t_choose, t_call}
+use Rattle.isp_typed.specs.Typed.{t_library, t_packed_store, t_packed_load, TPlace, t_variable, t_element, TBase, t_whole, t_from, TArgument, t_by_value, t_by_name, TCall}
+use Rattle.isp_typed.specs.Typed.{t_called, TArguments, t_no_arguments, t_argument_then, TExprs, t_no_exprs, t_expr_then}
 use Rattle.isp_typed.specs.Typed.{TItem, t_plain, t_with_value, t_with_size, TSimple, t_value, t_run, t_assign, t_update, t_step, TFirst, t_first_declare, t_first_simple, TRange}
-use Rattle.isp_typed.specs.Typed.{TStmt, t_block, t_declare, t_simple, t_if, t_if_else, t_while, t_do, t_for, t_foreach, t_foreach_active, t_foreach_unique, t_unmasked, t_jump, t_return, t_print, t_assert, TBlock, t_braces, TStmts, t_no_stmts, t_stmt_then, TFunction}
+use Rattle.isp_typed.specs.Typed.{TStmt, t_block, t_declare, t_simple, t_if, t_if_else, t_while, t_do, t_for, t_foreach, t_foreach_active, t_foreach_unique, t_unmasked}
+use Rattle.isp_typed.specs.Typed.{t_jump, t_return, t_print, t_assert, TBlock, t_braces, TStmts, t_no_stmts, t_stmt_then, TFunction}
 use Rattle.isp_independence.specs.declared.control.Control.{Control}
 use Rattle.isp_independence.specs.declared.dependence.Restriction.TheVariants.{Crossing, Printing, SharedArray, Outside, Turned, Foreach, Return}
 use Rattle.isp_independence.specs.Dependences.{at, Answered}
@@ -12,7 +15,8 @@ use Rattle.isp_independence.specs.Control.{start, branch, loop, turn, round}
 use Rattle.isp_independence.specs.Crossing.{looks_across, Cross, CrossPlace, CrossBase, CrossArgument, CrossCall, CrossArguments, CrossAll}
 use Rattle.isp_independence.specs.Statements.{Assigned, SimpleDepends, ItemDepends, FirstDepends, RangeDepends, StmtDepends, BlockDepends, StmtsDepends}
 use Rattle.isp_independence.specs.Independent.{leaves_early_block, CalledDepends, EntryDepends}
-use Rattle.isp_independence.specs.reader.Answers.{assigned_answer, expr_answer, place_answer, base_answer, argument_answer, call_answer, arguments_answer, values_answer, simple_answer, item_answer, first_answer, range_answer, stmt_answer, block_answer, stmts_answer, called_answer, entry_answer}
+use Rattle.isp_independence.specs.reader.Answers.{assigned_answer, expr_answer, place_answer, base_answer, argument_answer, call_answer, arguments_answer, values_answer, simple_answer}
+use Rattle.isp_independence.specs.reader.Answers.{item_answer, first_answer, range_answer, stmt_answer, block_answer, stmts_answer, called_answer, entry_answer}
 use Rattle.isp_independence.proofs.Answered.{none_answered, unmet_answered, either_answered, some_answered, uniform_answered, any_answered, each_answered}
 
 mutual

@@ -1,7 +1,8 @@
 -- Independent entries: no restriction is broken in the entry, nor in a function that is called from it.
 use Rattle.std.specs.Prelude.{◌≡◌, ◌⊎◌, ℕ, List, Option, Some, Bool, true, false, ◌||◌, option_map, slice_get, length}
 use Rattle.isp_independence.specs.declared.dependence.Dependence.{Dependence}
-use Rattle.isp_typed.specs.Typed.{rate_of, TStmt, t_block, t_declare, t_simple, t_if, t_if_else, t_while, t_do, t_for, t_foreach, t_foreach_active, t_foreach_unique, t_unmasked, t_jump, t_return, t_print, t_assert, TBlock, t_braces, TStmts, t_no_stmts, t_stmt_then, TFunction, Program}
+use Rattle.isp_typed.specs.Typed.{rate_of, TStmt, t_block, t_declare, t_simple, t_if, t_if_else, t_while, t_do, t_for, t_foreach, t_foreach_active, t_foreach_unique, t_unmasked}
+use Rattle.isp_typed.specs.Typed.{t_jump, t_return, t_print, t_assert, TBlock, t_braces, TStmts, t_no_stmts, t_stmt_then, TFunction, Program}
 use Rattle.isp_independence.specs.declared.control.Control.{Control}
 use Rattle.isp_independence.specs.Dependences.{Answered}
 use Rattle.isp_independence.specs.Control.{start, branch, loop, turn, round}

@@ -13,7 +13,8 @@ use Rattle.isp_tree.specs.declared.stmt.Form.TheVariants.{Plain}
 use Rattle.isp_tree.specs.declared.stmt.Jump.TheVariants.{Break, Continue}
 use Rattle.isp_typed.specs.declared.library.Library.TheVariants.{ReduceAdd, Min}
 use Rattle.isp_typed.specs.declared.variable.ArrayVariable.{ArrayVariable}
-use Rattle.isp_typed.specs.Typed.{TExpr, t_constant, t_program_index, t_place, t_compare, t_library, t_packed_store, t_whole, t_no_exprs, t_expr_then, t_variable, t_element, t_called, t_arguments, t_by_name, ty_of, t_with_value, t_with_size, t_value, t_run, TFirst, t_assign, t_step, t_first_declare}
+use Rattle.isp_typed.specs.Typed.{TExpr, t_constant, t_program_index, t_place, t_compare, t_library, t_packed_store, t_whole, t_no_exprs, t_expr_then, t_variable, t_element, t_called}
+use Rattle.isp_typed.specs.Typed.{t_arguments, t_by_name, ty_of, t_with_value, t_with_size, t_value, t_run, TFirst, t_assign, t_step, t_first_declare}
 use Rattle.isp_typed.specs.Typed.{TStmt, t_block, t_declare, t_simple, t_if, t_while, t_for, t_foreach, t_foreach_active, t_foreach_unique, t_unmasked, t_jump, t_return, t_print, t_braces, t_stmts, TFunction}
 use Rattle.isp_independence.specs.declared.dependence.Dependence.{Dependence}
 use Rattle.isp_independence.specs.declared.dependence.Restriction.TheVariants.{Crossing, Printing, SharedArray, Outside, Turned, Foreach, Return}

@@ -1,5 +1,6 @@
 -- What one lane of a kernel computes, in words of the width w that the element type takes.
-use Rattle.std.proofs.Common.{List, [], ◌∷◌, map, length, replicate, zero, suc, not, bit_xor, div-le_self, pow_pos, ltb-false, mod-eq_of_lt, ◌≡◌, refl, sym, ap, ap₂, ◌∙◌, ℕ, ◌+◌, ◌-◌, ◌*◌, ◌/◌, ◌%◌, ◌^◌, ◌<◌, ◌≤◌, Bool, true, false, cond, nat_lt, ◌==◌, arith, lit≤, bit_and, subst, lt-ltb, le-ltb, ltb-true}
+use Rattle.std.proofs.Common.{List, [], ◌∷◌, map, length, replicate, zero, suc, not, bit_xor, div-le_self, pow_pos, ltb-false, mod-eq_of_lt, ◌≡◌, refl, sym, ap, ap₂, ◌∙◌, ℕ, ◌+◌, ◌-◌, ◌*◌}
+use Rattle.std.proofs.Common.{◌/◌, ◌%◌, ◌^◌, ◌<◌, ◌≤◌, Bool, true, false, cond, nat_lt, ◌==◌, arith, lit≤, bit_and, subst, lt-ltb, le-ltb, ltb-true}
 use Rattle.std.proofs.Math.Nat.{zero-mod}
 use Rattle.std.proofs.Math.Pow.{mod-mod-pow}
 use native.Mathlib.Nat.{add-mul-mod_self_right}
@@ -247,7 +248,9 @@ module _ (w : ℕ) (t : Elem) (e : w ≡ cell_width t) where
         ap₂ (λ a b. cond a (cond b n m) (cond b m n)) (sign_is x) (sign_is y)
         ∙ turn_twice (nat_lt (greatest t) x) (nat_lt (greatest t) y) n m ∙ word_div t x y p q h
 
-    pub lane_rem : cond (is_on (cond (nat_lt (greatest t) x) (2 ^ w - 1) 0)) ((2 ^ width t - magnitude (width t) (greatest t) x % magnitude (width t) (greatest t) y) % 2 ^ width t) (magnitude (width t) (greatest t) x % magnitude (width t) (greatest t) y) ≡ op_bits Rem t x y
+    pub lane_rem : cond (is_on (cond (nat_lt (greatest t) x) (2 ^ w - 1) 0))
+        ((2 ^ width t - magnitude (width t) (greatest t) x % magnitude (width t) (greatest t) y) % 2 ^ width t)
+        (magnitude (width t) (greatest t) x % magnitude (width t) (greatest t) y) ≡ op_bits Rem t x y
     lane_rem =
         let n = magnitude (width t) (greatest t) x % magnitude (width t) (greatest t) y in
         ap (λ a. cond a ((2 ^ width t - n) % 2 ^ width t) n) (sign_is x) ∙ word_rem t x y p q h

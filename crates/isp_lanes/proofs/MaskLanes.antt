@@ -1,5 +1,6 @@
 -- The lanes of a mask, 0 or 1.
-use Rattle.std.proofs.Common.{◌≡◌, refl, sym, ap, ap₂, ◌∙◌, ◌≤◌, ◌+◌, subst, Some, None, map-id, lt-ltb, le-ltb, nat_lt, ltb-true, ltb-false, ℕ, zero, suc, ◌<◌, Bool, true, false, cond, not, ◌&&◌, ◌||◌, ◌==◌, ◌/◌, ◌%◌, ◌^◌, arith, bit_and, bit_or, bit_xor, List, [], ◌∷◌, map, length, get_or, set, replicate, lit≤, Fits, Fits-lit, w8}
+use Rattle.std.proofs.Common.{◌≡◌, refl, sym, ap, ap₂, ◌∙◌, ◌≤◌, ◌+◌, subst, Some, None, map-id, lt-ltb, le-ltb, nat_lt, ltb-true, ltb-false, ℕ, zero, suc, ◌<◌, Bool, true, false, cond, not, ◌&&◌, ◌||◌}
+use Rattle.std.proofs.Common.{◌==◌, ◌/◌, ◌%◌, ◌^◌, arith, bit_and, bit_or, bit_xor, List, [], ◌∷◌, map, length, get_or, set, replicate, lit≤, Fits, Fits-lit, w8}
 use Rattle.std.proofs.lemmas.Bool.Decides.{nat_tests}
 use Rattle.std.proofs.lemmas.Simd.{bit_mask_l, leading_from_mask_l, trailing_mask_l}
 use Rattle.std.specs.List.{position, position_or_len, list_any, list_all}

@@ -1,5 +1,6 @@
 -- Rows of truths, and what is read of them, at each width of words.
-use Rattle.std.proofs.Common.{◌≡◌, refl, sym, ap, ap₂, ◌∙◌, ℕ, zero, suc, ◌+◌, ◌-◌, ◌^◌, ◌%◌, ◌<◌, ◌≤◌, Bool, true, false, cond, not, nat_lt, ◌==◌, arith, List, [], ◌∷◌, map, map-id, length, get_or, replicate, bit_and, bit_xor, mod-eq_of_lt, mod-lt, pow_pos, Fits, w8, subst}
+use Rattle.std.proofs.Common.{◌≡◌, refl, sym, ap, ap₂, ◌∙◌, ℕ, zero, suc, ◌+◌, ◌-◌, ◌^◌, ◌%◌, ◌<◌, ◌≤◌, Bool, true, false, cond, not, nat_lt, ◌==◌, arith, List, [], ◌∷◌}
+use Rattle.std.proofs.Common.{map, map-id, length, get_or, replicate, bit_and, bit_xor, mod-eq_of_lt, mod-lt, pow_pos, Fits, w8, subst}
 use Rattle.std.specs.Int.{Width}
 use Rattle.std.proofs.Math.Facts.{Fits-of_lt}
 use mir.Val.{bits, hbits}

@@ -19,9 +19,12 @@ use Rattle.isp_typed.specs.declared.variable.Holds.TheVariants as holds
 use Rattle.isp_typed.specs.declared.variable.Variable.{Variable}
 use Rattle.isp_typed.specs.Fine.{HoldsArray, rates_of, FineExpr, FinePlace, FineCall, FineArguments, FineArgument, FineParts, FineTarget, FineValue, FineItem, FineSimple, FineFirst, FineReturned, FineStmt, FineBlock, FineStmts}
 use Rattle.isp_typed.specs.Library.{parts, library_type}
-use Rattle.isp_typed.specs.Typed.{TExpr, t_constant, t_program_index, t_place, t_convert, t_cast, t_unary, t_binary, t_compare, t_logic, t_choose, t_call, t_library, t_packed_store, t_packed_load, TPlace, t_variable, t_element, TArgument, t_by_value, t_by_name, TCall, t_called, TArguments, t_no_arguments, t_argument_then, TExprs, t_no_exprs, t_expr_then, TFunction, rate_of, rate_or, span_of, place_type}
+use Rattle.isp_typed.specs.Typed.{TExpr, t_constant, t_program_index, t_place, t_convert, t_cast, t_unary, t_binary, t_compare, t_logic, t_choose, t_call, t_library}
+use Rattle.isp_typed.specs.Typed.{t_packed_store, t_packed_load, TPlace, t_variable, t_element, TArgument, t_by_value, t_by_name, TCall, t_called, TArguments, t_no_arguments}
+use Rattle.isp_typed.specs.Typed.{t_argument_then, TExprs, t_no_exprs, t_expr_then, TFunction, rate_of, rate_or, span_of, place_type}
 use Rattle.isp_typed.specs.Typed.{TItem, t_plain, t_with_value, t_with_size, TSimple, t_value, t_run, t_assign, t_update, t_step, TFirst, t_first_declare, t_first_simple}
-use Rattle.isp_typed.specs.Typed.{TStmt, t_block, t_declare, t_simple, t_if, t_if_else, t_while, t_do, t_for, t_foreach, t_foreach_active, t_foreach_unique, t_unmasked, t_jump, t_return, t_print, t_assert, TBlock, t_braces, TStmts, t_no_stmts, t_stmt_then}
+use Rattle.isp_typed.specs.Typed.{TStmt, t_block, t_declare, t_simple, t_if, t_if_else, t_while, t_do, t_for, t_foreach, t_foreach_active, t_foreach_unique}
+use Rattle.isp_typed.specs.Typed.{t_unmasked, t_jump, t_return, t_print, t_assert, TBlock, t_braces, TStmts, t_no_stmts, t_stmt_then}
 use Rattle.isp_rates.specs.declared.exits.Within.{Within}
 use Rattle.isp_rates.specs.Breaches.{OfAny, OfEach}
 use Rattle.isp_rates.specs.Exits.{in_loop, in_turns, ItemBreach, SimpleBreach, FirstBreach, ReturnBreach, returned_rate, StmtBreach, BlockBreach, StmtsBreach}
@@ -138,8 +141,12 @@ module _ (frame : Frame) (fs : List TFunction) (IsCallable : ℕ → Type 0) (va
     fair (t_convert e x) f r n k = fair x f.0 r n k
     fair (t_cast x t s) f r n k = (fair x f.0 (demand_inside t.rate x (ExprBreach fs x) r) n k, demand_follows t.rate x (ExprBreach fs x) r)
     fair (t_unary op x t s) f r n k = (fair x f.0 r n k, λ e. ap (λ z. z.rate) f.1 ∙ e)
-    fair (t_binary op x y t s) f r n k =
-        (fair x f.0 (λ e b. r e (inl b)) (λ e b. n e (inl b)) (first _ _ k), fair y f.1 (λ e b. r e (inr b)) (λ e b. n e (inr b)) (second _ _ k), or_left_rate t.rate (rate_of x) (rate_of y) f.2.rate, or_right_rate t.rate (rate_of x) (rate_of y) f.2.rate)
+    fair (t_binary op x y t s) f r n k = (
+      fair x f.0 (λ e b. r e (inl b)) (λ e b. n e (inl b)) (first _ _ k),
+      fair y f.1 (λ e b. r e (inr b)) (λ e b. n e (inr b)) (second _ _ k),
+      or_left_rate t.rate (rate_of x) (rate_of y) f.2.rate,
+      or_right_rate t.rate (rate_of x) (rate_of y) f.2.rate,
+    )
     fair (t_compare c x y q s) f r n k =
         (fair x f.0 (λ e b. r e (inl b)) (λ e b. n e (inl b)) (first _ _ k), fair y f.1 (λ e b. r e (inr b)) (λ e b. n e (inr b)) (second _ _ k), or_left_rate q (rate_of x) (rate_of y) f.2.rate, or_right_rate q (rate_of x) (rate_of y) f.2.rate)
     fair (t_logic l x y q s) f r n k =
@@ -176,7 +183,9 @@ module _ (frame : Frame) (fs : List TFunction) (IsCallable : ℕ → Type 0) (va
         let same : variables_of fs g ≡ f.0.variables = rw f.1 refl in
         (f.0, f.1, f.2, k g (Contains-push (arguments_calls xs) g), fair_arguments (length f.0.params) f.0.variables xs f.3 (subst (λ vs. (z : Fault) → ArgumentsBreach fs vs xs z → ⊥) same r) n (first _ _ k))
 
-    fair_arguments : (m : ℕ) (vs : List Variable) (xs : TArguments) → FineArguments fs vars (take m vs) xs → ((f : Fault) → ArgumentsBreach fs vs xs f → ⊥) → ((d : Dependence) → CrossArguments xs d → ⊥) → Callable (arguments_calls xs) → FairArguments frame fs IsCallable (take m vs) xs
+    fair_arguments : (m : ℕ) (vs : List Variable) (xs : TArguments) → FineArguments fs vars (take m vs) xs
+        → ((f : Fault) → ArgumentsBreach fs vs xs f → ⊥) → ((d : Dependence) → CrossArguments xs d → ⊥) → Callable (arguments_calls xs)
+        → FairArguments frame fs IsCallable (take m vs) xs
     fair_arguments zero [] t_no_arguments f r n k = tt
     fair_arguments (suc m) [] t_no_arguments f r n k = tt
     fair_arguments zero (u ∷ us) t_no_arguments f r n k = tt
@@ -187,7 +196,8 @@ module _ (frame : Frame) (fs : List TFunction) (IsCallable : ℕ → Type 0) (va
     fair_arguments (suc m) (u ∷ us) (t_argument_then x xs) f r n k =
         (fair_argument u.holds u.constant x f.0 (λ z b. r z (inl b)) (λ z b. n z (inl b)) (first _ _ k), fair_arguments m us xs f.1 (λ z b. r z (inr b)) (λ z b. n z (inr b)) (second (argument_calls x) _ k))
 
-    fair_argument : (h : Holds) (c : Bool) (x : TArgument) → FineArgument fs vars h c x → ((f : Fault) → ArgumentBreach fs (rate_held h) x f → ⊥) → ((d : Dependence) → CrossArgument x d → ⊥) → Callable (argument_calls x) → FairArgument frame fs IsCallable h x
+    fair_argument : (h : Holds) (c : Bool) (x : TArgument) → FineArgument fs vars h c x → ((f : Fault) → ArgumentBreach fs (rate_held h) x f → ⊥)
+        → ((d : Dependence) → CrossArgument x d → ⊥) → Callable (argument_calls x) → FairArgument frame fs IsCallable h x
     fair_argument (holds.Value t) c (t_by_value x) f r n k = (fair x f.0 (demand_inside t.rate x (ExprBreach fs x) r) n k, demand_follows t.rate x (ExprBreach fs x) r)
     fair_argument (holds.Value t) c (t_by_name a s) f r n k = absurd f
     fair_argument (holds.Given e) c (t_by_value x) f r n k = absurd f

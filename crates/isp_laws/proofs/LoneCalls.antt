@@ -211,7 +211,15 @@ module _ (w : World) where
     inner = record { instance = w.instance; begin = w.begin; out = w.out; frame = frame_of g xs w.frame }
 
     same_frame : frame_of g ys w.frame ≡ frame_of g xs w.frame
-    same_frame = ap (λ f. record { named = f; sizes = (frame_of g xs w.frame).sizes; opened = (frame_of g xs w.frame).opened; own_sizes = (frame_of g xs w.frame).own_sizes; answer = g.answer }) (fun_ext (λ k. store_handed (slice_get g.variables k) (slice_get xs k) (slice_get ys k) _ (at k)))
+    same_frame = ap (λ f. record {
+      named = f;
+      sizes = (frame_of g xs w.frame).sizes;
+      opened = (frame_of g xs w.frame).opened;
+      own_sizes =
+          (frame_of g xs w.frame).own_sizes;
+      answer = g.answer;
+    })
+        (fun_ext (λ k. store_handed (slice_get g.variables k) (slice_get xs k) (slice_get ys k) _ (at k)))
 
     is_open : (b : ℕ) → b < w.frame.opened → b < w.frame.opened + length (shared_sizes g.variables)
     is_open b lt = omega (arith, lt)
@@ -237,7 +245,8 @@ module _ (w : World) where
       handed_store x e k d (Some (Values m)) (Some y) i h = absurd (subst (λ o. PassedIs w o (Values m) y) d h)
       handed_store x e k d (Some (Store b)) (Some y) i h = let both = subst (λ o. PassedIs w o (Store b) y) d h in given k b i both.1
 
-      go : (k : ℕ) (x : AVar) (t : Ty) → slice_get g.variables k ≡ Some x → array_type x.holds ≡ Some t → t.rate ≡ Uniform → (o : Holds) → x.holds ≡ o → (q r : Option Passed) → HandedAt (Some x) q r → slice_get xs k ≡ q → (frame_of g xs w.frame).named k < (frame_of g xs w.frame).opened
+      go : (k : ℕ) (x : AVar) (t : Ty) → slice_get g.variables k ≡ Some x → array_type x.holds ≡ Some t → t.rate ≡ Uniform → (o : Holds) → x.holds ≡ o
+          → (q r : Option Passed) → HandedAt (Some x) q r → slice_get xs k ≡ q → (frame_of g xs w.frame).named k < (frame_of g xs w.frame).opened
       go k x t is ty u (holds.Value v) d q r h i = absurd (no_type t (sym (ap array_type d) ∙ ty))
       go k x t is ty u (holds.Given e) d q r h i = handed_store x e k d q r i h
       go k x t is ty u (holds.Local v n) d q r h i =
@@ -305,9 +314,17 @@ module _ (program : Program) (most : ℕ) (accepted : IsAccepted program) where
       → slice_get program.functions k ≡ Some g → LooksAtNobody program k → AllPassed w (params_of g) xs ys → Stands w s t
       → CameTo w (IsAnswer w.instance g.answer) (calls_at program most (suc left) k sp (lone (Some w.instance)) xs w.frame s) (own_calls program most w.begin w.instance (suc left) k sp ys w.frame t)
   one_level left below w lt k g sp xs ys s t found looks passed st =
-      subst (λ o. CameTo w (IsAnswer w.instance g.answer) (called program most (calls_at program most left) o (lone (Some w.instance)) xs w.frame s) (own_called program most w.begin w.instance (own_calls program most w.begin w.instance left) o ys w.frame t)) (sym found)
-      (subst (λ fr. CameTo w (IsAnswer w.instance g.answer) (ended g.answer w.frame (lone (Some w.instance)) s (block gang (frame_of g xs w.frame) (calls_at program most left) most g.body (lone (Some w.instance)) (begun g xs w.frame (lone (Some w.instance)) s))) (own_ended t (does_block gang w.begin w.instance fr (own_calls program most w.begin w.instance left) most g.body (own_begun g ys t)))) (sym (same_frame w g xs ys none at))
-      (ended_came w g xs ys none at s t st _ _ (block_left (inner w g xs ys none at) gang lt program.functions (LooksAtNobody program) (calls_at program most left) (own_calls program most w.begin w.instance left) (below (inner w g xs ys none at) lt) most g.body body_fair (begun g xs w.frame (lone (Some w.instance)) s) (own_begun g ys t) (begun_stands w g xs ys none at s t st)))) where
+      subst (λ o. CameTo w (IsAnswer w.instance g.answer) (called program most (calls_at program most left) o (lone (Some w.instance)) xs w.frame s)
+      (own_called program most w.begin w.instance (own_calls program most w.begin w.instance left) o ys w.frame t)) (sym found)
+      (subst (λ fr. CameTo w (IsAnswer w.instance g.answer)
+      (ended g.answer w.frame (lone (Some w.instance)) s
+      (block gang (frame_of g xs w.frame) (calls_at program most left) most g.body (lone (Some w.instance))
+      (begun g xs w.frame (lone (Some w.instance)) s)))
+      (own_ended t (does_block gang w.begin w.instance fr (own_calls program most w.begin w.instance left) most g.body (own_begun g ys t))))
+      (sym (same_frame w g xs ys none at))
+      (ended_came w g xs ys none at s t st _ _ (block_left (inner w g xs ys none at) gang lt program.functions (LooksAtNobody program)
+      (calls_at program most left) (own_calls program most w.begin w.instance left) (below (inner w g xs ys none at) lt) most g.body body_fair
+      (begun g xs w.frame (lone (Some w.instance)) s) (own_begun g ys t) (begun_stands w g xs ys none at s t st)))) where
         none : SharesNone g.variables
         none = looks.arrays k g itself found
 

@@ -9,7 +9,8 @@ use Rattle.isp_base.specs.declared.types.Ty.{Ty}
 use Rattle.isp_base.specs.declared.trap.TrapKind.TheVariants.{Assert}
 use Rattle.isp_tree.specs.declared.stmt.Jump.{Jump}
 use Rattle.isp_tree.specs.declared.stmt.Jump.TheVariants.{Break, Continue}
-use Rattle.isp_typed.specs.Typed.{TExpr, TSimple, elem_of, rate_of, TFunction, TStmt, t_block, t_declare, t_simple, t_if, t_if_else, t_while, t_do, t_for, t_foreach, t_foreach_active, t_foreach_unique, t_unmasked, t_jump, t_return, t_print, t_assert, TBlock, t_braces, TStmts, t_no_stmts, t_stmt_then}
+use Rattle.isp_typed.specs.Typed.{TExpr, TSimple, elem_of, rate_of, TFunction, TStmt, t_block, t_declare, t_simple, t_if, t_if_else, t_while, t_do, t_for, t_foreach, t_foreach_active}
+use Rattle.isp_typed.specs.Typed.{t_foreach_unique, t_unmasked, t_jump, t_return, t_print, t_assert, TBlock, t_braces, TStmts, t_no_stmts, t_stmt_then}
 use Rattle.isp_meaning.specs.State.{State, tick}
 use Rattle.isp_meaning.specs.Payloads.{Payload, One, is_false, sole, spread, converted}
 use Rattle.isp_meaning.specs.Outcomes.{Val, Res, Went, Trapped, Cut, Done, with_value, went_all, go_on}
@@ -119,14 +120,23 @@ module _ (w : World) (gang : ℕ) (lt : w.instance < gang) (fs : List TFunction)
         left_with w (IsValue w.instance (rate_of e)) _ _ _ _ (value_came w gang lt fs IsCallable calls own agree e f.0 (tick s) t st)
         (λ m y s1 t1 r st1. left_branches w gang lt (rate_of e) m y (ran x) (ran z) (did x) (did z) s1 t1 r (run_left x f.1 s1 t1 st1) (run_left z f.2 s1 t1 st1))
     run_left (t_while g k e x sp) f s t st =
-        tested_left w gang lt (value gang w.frame calls e) (own_value e) (ran x) (did x) no_step (Has tt) (test_came w gang lt fs IsCallable calls own agree e f.0) (λ s1 t1 st1. run_left x f.1 s1 t1 st1) no_step_came (turns gang (value gang w.frame calls e) (ran x) no_step us most) (own_turns (own_value e) (did x) (Has tt) most)
-        (λ s2 t2 st2. turns_left w gang lt (value gang w.frame calls e) (own_value e) (ran x) (did x) no_step (Has tt) (test_came w gang lt fs IsCallable calls own agree e f.0) (λ s1 t1 st1. run_left x f.1 s1 t1 st1) no_step_came most s2 t2 st2) (tick s) t st
+        tested_left w gang lt (value gang w.frame calls e) (own_value e) (ran x) (did x) no_step (Has tt)
+        (test_came w gang lt fs IsCallable calls own agree e f.0) (λ s1 t1 st1. run_left x f.1 s1 t1 st1) no_step_came
+        (turns gang (value gang w.frame calls e) (ran x) no_step us most) (own_turns (own_value e) (did x) (Has tt) most)
+        (λ s2 t2 st2. turns_left w gang lt (value gang w.frame calls e) (own_value e) (ran x) (did x) no_step (Has tt)
+        (test_came w gang lt fs IsCallable calls own agree e f.0) (λ s1 t1 st1. run_left x f.1 s1 t1 st1) no_step_came most s2 t2 st2) (tick s) t
+        st
     run_left (t_do g k x e sp) f s t st =
         turns_left w gang lt (value gang w.frame calls e) (own_value e) (ran x) (did x) no_step (Has tt) (test_came w gang lt fs IsCallable calls own agree e f.0) (λ s1 t1 st1. run_left x f.1 s1 t1 st1) no_step_came most (tick s) t st
     run_left (t_for g k i e p m x sp) f s t st =
         left_with w Anything _ _ _ _ (first_came w gang lt fs IsCallable calls own agree i f.0 (tick s) t st)
-        (λ u v s3 t3 r st3. tested_left w gang lt (tested_by e) (own_tested_by e) (ran x) (did x) (stepped_by p) (own_stepped_by p) (test_part_came w gang lt fs IsCallable calls own agree e f.1) (λ s1 t1 st1. run_left x f.3 s1 t1 st1) (step_came w gang lt fs IsCallable calls own agree p f.2) (turns gang (tested_by e) (ran x) (stepped_by p) us most) (own_turns (own_tested_by e) (did x) (own_stepped_by p) most)
-        (λ s2 t2 st2. turns_left w gang lt (tested_by e) (own_tested_by e) (ran x) (did x) (stepped_by p) (own_stepped_by p) (test_part_came w gang lt fs IsCallable calls own agree e f.1) (λ s1 t1 st1. run_left x f.3 s1 t1 st1) (step_came w gang lt fs IsCallable calls own agree p f.2) most s2 t2 st2) s3 t3 st3)
+        (λ u v s3 t3 r st3. tested_left w gang lt (tested_by e) (own_tested_by e) (ran x) (did x) (stepped_by p) (own_stepped_by p)
+        (test_part_came w gang lt fs IsCallable calls own agree e f.1) (λ s1 t1 st1. run_left x f.3 s1 t1 st1)
+        (step_came w gang lt fs IsCallable calls own agree p f.2) (turns gang (tested_by e) (ran x) (stepped_by p) us most)
+        (own_turns (own_tested_by e) (did x) (own_stepped_by p) most)
+        (λ s2 t2 st2. turns_left w gang lt (tested_by e) (own_tested_by e) (ran x) (did x) (stepped_by p) (own_stepped_by p)
+        (test_part_came w gang lt fs IsCallable calls own agree e f.1) (λ s1 t1 st1. run_left x f.3 s1 t1 st1)
+        (step_came w gang lt fs IsCallable calls own agree p f.2) most s2 t2 st2) s3 t3 st3)
     run_left (t_foreach g k rs x sp) f s t st = absurd f
     run_left (t_foreach_active g k i x sp) f s t st =
         subst (λ ps. Left w (rounds (ran x) us (map (round_of_one i) ps) (tick s)) (does gang w.begin w.instance w.frame own most (t_foreach_active g k i x sp) t)) (sym (members_lone w.instance gang lt))

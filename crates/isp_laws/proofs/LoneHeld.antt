@@ -68,7 +68,17 @@ module _ (w : World) where
       let at = mapped_value w.instance (λ x. s.arrays (w.frame.named b.number) (element e x)) q m y h in
       record { by = (as_rate w.instance t q _ _ j (subst (IsValue w.instance q _) (st.4.0 (w.frame.named b.number) (element e y) o) at), st) }
   elements_value Varying q t b e m y s u o i j h st =
-      record { by = (inr (varying t i, ap Each (fun_ext (λ k. ap (each1 (λ x. s.own b.number (element e x) k)) (ap (λ f. f k) (spread_value w.instance q m y h)) ∙ each_on k (nat_eq k w.instance)) ∙ just_is w.instance (s.own b.number (element e y)) (u.own b.number (element e y)) (st.2 b.number (element e y)))), st) } where
+      record {
+        by = (
+          inr (
+            varying t i,
+            ap Each (fun_ext
+                (λ k. ap (each1 (λ x. s.own b.number (element e x) k)) (ap (λ f. f k) (spread_value w.instance q m y h)) ∙ each_on k (nat_eq k w.instance))
+                ∙ just_is w.instance (s.own b.number (element e y)) (u.own b.number (element e y)) (st.2 b.number (element e y))),
+          ),
+          st,
+        );
+      } where
         varying : (r : Rate) → Follows r Varying → r ≡ Varying
         varying Varying f = refl
         varying Uniform f = absurd (not_uniform (f refl))
@@ -140,7 +150,9 @@ module _ (w : World) where
       rw (r.2, r.3) (
       let off = offender_value w.instance gang lt (is_outside (elem_of i) (extent w.frame b)) (rate_of i) r.0 r.1 r.4 in
       rw off (at (is_outside (elem_of i) (extent w.frame b) r.1))) where
-        at : (k : Bool) → CameTo w (IsValue w.instance t.rate) (checked (some_if w.instance k) Index sp s (elements w.frame b (elem_of i) r.0 (lone (Some w.instance)) b.ty.rate s)) (choose k (Bad (trap Index sp w.instance)) (found w.begin w.instance w.frame b.ty.rate b (element (elem_of i) r.1)) u)
+        at : (k : Bool) → CameTo w (IsValue w.instance t.rate)
+            (checked (some_if w.instance k) Index sp s (elements w.frame b (elem_of i) r.0 (lone (Some w.instance)) b.ty.rate s))
+            (choose k (Bad (trap Index sp w.instance)) (found w.begin w.instance w.frame b.ty.rate b (element (elem_of i) r.1)) u)
         at true = record { by = (refl, st.4) }
         at false = elements_value b.ty.rate (rate_of i) t.rate b (elem_of i) r.0 r.1 s u f.1 f.2 f.3 r.4 st
 

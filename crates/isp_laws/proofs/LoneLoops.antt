@@ -54,15 +54,19 @@ module _ (w : World) (gang : ℕ) (lt : w.instance < gang) where
     turned_left : (v : Res) (r : End) (turn : Mask → Mask → State → Res) (own : Alone → End) → Left w v r → ((s : State) (t : Alone) → Stands w s t → Left w (turn us nobody s) (own t))
         → Left w (go_on v (λ s1 g b c q. if_so (any gang (union g c)) (turn (union g c) (union nobody q)) (loop_end gang test body step us (union nobody q)) s1)) (own_turned own_test own_body own_step r own)
     turned_left (Went s g b c q) (Does t how) turn own h k =
-        subst (λ z. Left w (go_on z (λ s1 g b c q. if_so (any gang (union g c)) (turn (union g c) (union nobody q)) (loop_end gang test body step us (union nobody q)) s1)) (own_turned own_test own_body own_step (Does t how) own)) (sym h.by.0) (at how) where
-          goes : (Mask → Mask → State → Res) → Left w (turn us nobody s) (own t) → Left w (if_so (any gang us) (turn us nobody) (loop_end gang test body step us nobody) s) (own t)
-          goes f x = subst (λ z. Left w (if_so z (turn us nobody) (loop_end gang test body step us nobody) s) (own t)) (sym (any_lone w.instance gang lt)) x
+        subst (λ z. Left w (go_on z (λ s1 g b c q. if_so (any gang (union g c)) (turn (union g c) (union nobody q))
+        (loop_end gang test body step us (union nobody q)) s1)) (own_turned own_test own_body own_step (Does t how) own)) (sym h.by.0) (at how)
+      where
+        goes : (Mask → Mask → State → Res) → Left w (turn us nobody s) (own t) → Left w (if_so (any gang us) (turn us nobody) (loop_end gang test body step us nobody) s) (own t)
+        goes f x = subst (λ z. Left w (if_so z (turn us nobody) (loop_end gang test body step us nobody) s) (own t)) (sym (any_lone w.instance gang lt)) x
 
-          at : (how : How) → Left w (go_on (left w.instance how s) (λ s1 g b c q. if_so (any gang (union g c)) (turn (union g c) (union nobody q)) (loop_end gang test body step us (union nobody q)) s1)) (own_turned own_test own_body own_step (Does t how) own)
-          at Going = subst (λ z. Left w (if_so (any gang z) (turn z nobody) (loop_end gang test body step us nobody) s) (own t)) (sym (union_nobody us)) (goes turn (k s t h.by.1))
-          at Broke = subst (λ z. Left w (if_so z (turn nobody nobody) (loop_end gang test body step us nobody) s) (Does t Going)) (sym (any_nobody gang)) (over s t h.by.1)
-          at Continued = goes turn (k s t h.by.1)
-          at Returned = subst (λ z. Left w (if_so z (turn nobody us) (loop_end gang test body step us us) s) (Does t Returned)) (sym (any_nobody gang)) (over_back s t h.by.1)
+        at : (how : How) → Left w (go_on (left w.instance how s)
+            (λ s1 g b c q. if_so (any gang (union g c)) (turn (union g c) (union nobody q)) (loop_end gang test body step us (union nobody q)) s1))
+            (own_turned own_test own_body own_step (Does t how) own)
+        at Going = subst (λ z. Left w (if_so (any gang z) (turn z nobody) (loop_end gang test body step us nobody) s) (own t)) (sym (union_nobody us)) (goes turn (k s t h.by.1))
+        at Broke = subst (λ z. Left w (if_so z (turn nobody nobody) (loop_end gang test body step us nobody) s) (Does t Going)) (sym (any_nobody gang)) (over s t h.by.1)
+        at Continued = goes turn (k s t h.by.1)
+        at Returned = subst (λ z. Left w (if_so z (turn nobody us) (loop_end gang test body step us us) s) (Does t Returned)) (sym (any_nobody gang)) (over_back s t h.by.1)
     turned_left (Trapped e s) (Dies d t) turn own h k = record { by = h.by }
     turned_left (Cut s) (Lasts t) turn own h k = record { by = h.by }
     turned_left (Went s g b c q) (Dies d t) turn own h k = absurd h.by

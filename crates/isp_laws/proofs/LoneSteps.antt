@@ -39,12 +39,15 @@ abbrev pub Tests : ℕ → Payload → ℕ → Type 0
 Tests p m y = IsValue p Varying m y
 
 module _ (w : World) (gang : ℕ) (lt : w.instance < gang) (fs : List TFunction) (IsCallable : ℕ → Type 0) (calls : Calls) (own : OwnCalls) (agree : CallsAgree w fs IsCallable calls own) where
-  update_came : (op : BinOp) (e : Elem) (q : TPlace) (x : Place) (z : Spot) (u : Rate) (m : Payload) (j : ℕ) (sp : Span) (s : State) (t : Alone) → FairPlace w.frame fs IsCallable q → PlaceIs w.instance q x z → Follows (place_type q).rate u → IsValue w.instance u m j → Stands w s t
+  update_came : (op : BinOp) (e : Elem) (q : TPlace) (x : Place) (z : Spot) (u : Rate) (m : Payload) (j : ℕ) (sp : Span) (s : State) (t : Alone)
+      → FairPlace w.frame fs IsCallable q → PlaceIs w.instance q x z → Follows (place_type q).rate u → IsValue w.instance u m j → Stands w s t
       → CameTo w Anything (update gang w.frame calls op e q x m sp (lone (Some w.instance)) s) (own_update w.begin w.instance w.frame own op e q z j sp t)
   update_came op e q x z u m j sp s t f r g h st =
       came_then w (IsValue w.instance (place_type q).rate) _ _ _ _ _ (held_came w gang lt q fs IsCallable f x z s t r st)
       (λ n i s1 t1 k st1. came_then w (IsValue w.instance (place_type q).rate) _ _ _ _ _
-      (came_checked w (IsValue w.instance (place_type q).rate) _ _ Divide sp _ _ s1 t1 (offender_value w.instance gang lt (is_zero op e) u m j h) (joined_value w.instance (op_bits op e) (place_type q).rate u (place_type q).rate _ m _ j (λ c. c) g (mapped_value w.instance (converted (place_type q).elem e) (place_type q).rate n i k) h) st1)
+      (came_checked w (IsValue w.instance (place_type q).rate) _ _ Divide sp _ _ s1 t1 (offender_value w.instance gang lt (is_zero op e) u m j h)
+      (joined_value w.instance (op_bits op e) (place_type q).rate u (place_type q).rate _ m _ j (λ c. c) g
+      (mapped_value w.instance (converted (place_type q).elem e) (place_type q).rate n i k) h) st1)
       (λ n2 i2 s2 t2 k2 st2. came_has w Anything _ _ _ _ tt (kept_stands w gang lt q (place_type q).rate x z _ _ s2 t2 r (λ c. c) (mapped_value w.instance (converted e (place_type q).elem) (place_type q).rate n2 i2 k2) st2)))
 
   pub simple_came : (x : TSimple) → FairSimple w.frame fs IsCallable x → (s : State) (t : Alone) → Stands w s t → CameTo w Anything (simple gang w.frame calls x (lone (Some w.instance)) s) (own_simple w.begin w.instance w.frame own x t)
@@ -73,18 +76,21 @@ module _ (w : World) (gang : ℕ) (lt : w.instance < gang) (fs : List TFunction)
   items_came [] f s t st = came_has w Anything _ _ _ _ tt st
   items_came (x ∷ xs) f s t st = came_then w Anything _ _ _ _ _ (item_came x f.0 s t st) (λ m y s1 t1 r st1. items_came xs f.1 s1 t1 st1)
 
-  pub first_came : (x : Option TFirst) → IfAny (FairFirst w.frame fs IsCallable) x → (s : State) (t : Alone) → Stands w s t → CameTo w Anything (first_part gang w.frame calls x (lone (Some w.instance)) s) (own_first_part w.begin w.instance w.frame own x t)
+  pub first_came : (x : Option TFirst) → IfAny (FairFirst w.frame fs IsCallable) x → (s : State) (t : Alone) → Stands w s t
+      → CameTo w Anything (first_part gang w.frame calls x (lone (Some w.instance)) s) (own_first_part w.begin w.instance w.frame own x t)
   first_came None f s t st = came_has w Anything _ _ _ _ tt st
   first_came (Some (t_first_declare xs sp)) f s t st = items_came xs f (tick s) t st
   first_came (Some (t_first_simple x)) f s t st = simple_came x f s t st
 
-  pub step_came : (x : Option TSimple) → IfAny (FairSimple w.frame fs IsCallable) x → (s : State) (t : Alone) → Stands w s t → CameTo w Anything (step_part gang w.frame calls x (lone (Some w.instance)) s) (own_step_part w.begin w.instance w.frame own x t)
+  pub step_came : (x : Option TSimple) → IfAny (FairSimple w.frame fs IsCallable) x → (s : State) (t : Alone) → Stands w s t
+      → CameTo w Anything (step_part gang w.frame calls x (lone (Some w.instance)) s) (own_step_part w.begin w.instance w.frame own x t)
   step_came None f s t st = came_has w Anything _ _ _ _ tt st
   step_came (Some x) f s t st = simple_came x f s t st
 
   pub test_came : (x : TExpr) → Fair w.frame fs IsCallable x → (s : State) (t : Alone) → Stands w s t → CameTo w (Tests w.instance) (value gang w.frame calls x (lone (Some w.instance)) s) (answer w.begin w.instance w.frame own x t)
   test_came x f s t st = came_as w (IsValue w.instance (rate_of x)) (Tests w.instance) _ _ (λ m y r. as_rate w.instance Varying (rate_of x) m y (λ c. absurd (not_uniform c)) r) (value_came w gang lt fs IsCallable calls own agree x f s t st)
 
-  pub test_part_came : (x : Option TExpr) → IfAny (Fair w.frame fs IsCallable) x → (s : State) (t : Alone) → Stands w s t → CameTo w (Tests w.instance) (test_part gang w.frame calls x (lone (Some w.instance)) s) (own_test_part w.begin w.instance w.frame own x t)
+  pub test_part_came : (x : Option TExpr) → IfAny (Fair w.frame fs IsCallable) x → (s : State) (t : Alone) → Stands w s t
+      → CameTo w (Tests w.instance) (test_part gang w.frame calls x (lone (Some w.instance)) s) (own_test_part w.begin w.instance w.frame own x t)
   test_part_came None f s t st = came_has w (Tests w.instance) _ _ _ _ (inl refl) st
   test_part_came (Some x) f s t st = test_came x f s t st

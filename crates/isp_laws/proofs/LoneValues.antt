@@ -22,7 +22,9 @@ use Rattle.isp_typed.specs.declared.variable.Holds.{Holds}
 use Rattle.isp_typed.specs.declared.variable.Holds.TheVariants as holds
 use Rattle.isp_typed.specs.declared.variable.Logic.{Logic}
 use Rattle.isp_typed.specs.declared.variable.Variable.{Variable as AVar}
-use Rattle.isp_typed.specs.Typed.{TExpr, t_constant, t_program_index, t_place, t_convert, t_cast, t_unary, t_binary, t_compare, t_logic, t_choose, t_call, t_library, t_packed_store, t_packed_load, TPlace, t_variable, t_element, TArgument, t_by_value, t_by_name, TCall, t_called, TArguments, t_no_arguments, t_argument_then, TExprs, t_no_exprs, t_expr_then, TFunction, rate_of, rate_or, elem_of}
+use Rattle.isp_typed.specs.Typed.{TExpr, t_constant, t_program_index, t_place, t_convert, t_cast, t_unary, t_binary, t_compare, t_logic, t_choose, t_call, t_library}
+use Rattle.isp_typed.specs.Typed.{t_packed_store, t_packed_load, TPlace, t_variable, t_element, TArgument, t_by_value, t_by_name, TCall, t_called, TArguments, t_no_arguments}
+use Rattle.isp_typed.specs.Typed.{t_argument_then, TExprs, t_no_exprs, t_expr_then, TFunction, rate_of, rate_or, elem_of}
 use Rattle.isp_independence.specs.Crossing.{looks_across}
 use Rattle.isp_meaning.specs.State.{State, tick}
 use Rattle.isp_meaning.specs.Payloads.{Payload, One, Each, converted, is_true, is_false, spread, nothing, kept_by, layer, first_of_two, selected}
@@ -171,7 +173,8 @@ abbrev pub Brings : World → Rate → (State → Val Payload) → (Alone → An
 Brings w r f own = (s : State) (t : Alone) → Stands w s t → CameTo w (IsValue w.instance r) (f s) (own t)
 
 module _ (w : World) (gang : ℕ) (lt : w.instance < gang) where
-  logic_came : (l : Logic) (r q u : Rate) (m : Payload) (i : ℕ) (f : Mask → State → Val Payload) (own : Alone → Answer ℕ) (s : State) (t : Alone) → Follows u r → Follows u q → IsValue w.instance r m i → Stands w s t → Brings w q (f (lone (Some w.instance))) own
+  logic_came : (l : Logic) (r q u : Rate) (m : Payload) (i : ℕ) (f : Mask → State → Val Payload) (own : Alone → Answer ℕ) (s : State) (t : Alone)
+      → Follows u r → Follows u q → IsValue w.instance r m i → Stands w s t → Brings w q (f (lone (Some w.instance))) own
       → CameTo w (IsValue w.instance u) (bind (value_unless_empty gang (kept_by (needs l) (lone (Some w.instance)) m) s f) (λ n s2. Gives (settled l (lone (Some w.instance)) m n) s2)) (choose (needs l i) own (Has i) t)
   logic_came l r q u m i f own s t g h k st later = came_unless w gang lt (IsValue w.instance u) _ (needs l i) f _ _ s (kept_value w.instance (needs l) r m i k) (at (needs l i) refl) where
     at : (b : Bool) → needs l i ≡ b → CameTo w (IsValue w.instance u) (bind (if_so b (f (lone_if w.instance b)) (Gives nothing) s) (λ n s2. Gives (settled l (lone (Some w.instance)) m n) s2)) (choose b own (Has i) t)
@@ -180,14 +183,19 @@ module _ (w : World) (gang : ℕ) (lt : w.instance < gang) where
 
   choose_came : (r q q2 u : Rate) (m : Payload) (i : ℕ) (f f2 : Mask → State → Val Payload) (own own2 : Alone → Answer ℕ) (s : State) (t : Alone) → Follows u r → Follows u q → Follows u q2 → IsValue w.instance r m i → Stands w s t
       → Brings w q (f (lone (Some w.instance))) own → Brings w q2 (f2 (lone (Some w.instance))) own2
-      → CameTo w (IsValue w.instance u) (bind (value_unless_empty gang (kept_by is_true (lone (Some w.instance)) m) s f) (λ n s2. bind (value_unless_empty gang (kept_by is_false (lone (Some w.instance)) m) s2 f2) (λ n2 s3. Gives (selected (lone (Some w.instance)) m n n2) s3))) (choose (is_true i) own own2 t)
+      → CameTo w (IsValue w.instance u) (bind (value_unless_empty gang (kept_by is_true (lone (Some w.instance)) m) s f)
+      (λ n s2. bind (value_unless_empty gang (kept_by is_false (lone (Some w.instance)) m) s2 f2)
+      (λ n2 s3. Gives (selected (lone (Some w.instance)) m n n2) s3))) (choose (is_true i) own own2 t)
   choose_came r q q2 u m i f f2 own own2 s t g h h2 k st first second = came_unless w gang lt (IsValue w.instance u) _ (is_true i) f _ _ s (kept_value w.instance is_true r m i k) (at (is_true i) refl) where
     rest : (b : Bool) → is_true i ≡ b → (n : Payload) (s2 : State) (own3 : Answer ℕ)
         → CameTo w (IsValue w.instance u) (bind (if_so (not b) (f2 (lone_if w.instance (not b))) (Gives nothing) s2) (λ n2 s3. Gives (selected (lone (Some w.instance)) m n n2) s3)) own3
         → CameTo w (IsValue w.instance u) (bind (value_unless_empty gang (kept_by is_false (lone (Some w.instance)) m) s2 f2) (λ n2 s3. Gives (selected (lone (Some w.instance)) m n n2) s3)) own3
     rest b e n s2 own3 x = came_unless w gang lt (IsValue w.instance u) _ (not b) f2 _ own3 s2 (kept_value w.instance is_false r m i k ∙ ap (λ c. lone_if w.instance (not c)) e) x
 
-    at : (b : Bool) → is_true i ≡ b → CameTo w (IsValue w.instance u) (bind (if_so b (f (lone_if w.instance b)) (Gives nothing) s) (λ n s2. bind (value_unless_empty gang (kept_by is_false (lone (Some w.instance)) m) s2 f2) (λ n2 s3. Gives (selected (lone (Some w.instance)) m n n2) s3))) (choose b own own2 t)
+    at : (b : Bool) → is_true i ≡ b → CameTo w (IsValue w.instance u)
+        (bind (if_so b (f (lone_if w.instance b)) (Gives nothing) s)
+        (λ n s2. bind (value_unless_empty gang (kept_by is_false (lone (Some w.instance)) m) s2 f2)
+        (λ n2 s3. Gives (selected (lone (Some w.instance)) m n n2) s3))) (choose b own own2 t)
     at true e = came_alone w (IsValue w.instance q) (IsValue w.instance u) _ _ _ (first s t st) (λ n z s2 t2 x st2. rest true e n s2 _ (came_has w _ _ _ _ _ (selected_first w.instance r q u m n i z e g h k x) st2))
     at false e = rest false e nothing s _ (came_alone w (IsValue w.instance q2) (IsValue w.instance u) _ _ _ (second s t st) (λ n z s2 t2 x st2. came_has w _ _ _ _ _ (selected_second w.instance r q2 u m n i z e g h2 k x) st2))
 
@@ -220,7 +228,9 @@ module _ (w : World) (gang : ℕ) (lt : w.instance < gang) (fs : List TFunction)
         (λ m i s1 t1 r st1. logic_came w gang lt l (rate_of x) (rate_of y) u m i (value gang w.frame calls y) (answer w.begin w.instance w.frame own y) s1 t1 f.2 f.3 r st1 (λ s2 t2 st2. value_came y f.1 s2 t2 st2))
     value_came (t_choose c x y u sp) f s t st =
         came_then w (IsValue w.instance (rate_of c)) _ _ _ _ _ (value_came c f.0 (tick s) t st)
-        (λ m i s1 t1 r st1. choose_came w gang lt (rate_of c) (rate_of x) (rate_of y) u.rate m i (value gang w.frame calls x) (value gang w.frame calls y) (answer w.begin w.instance w.frame own x) (answer w.begin w.instance w.frame own y) s1 t1 f.3 f.4 f.5 r st1 (λ s2 t2 st2. value_came x f.1 s2 t2 st2) (λ s2 t2 st2. value_came y f.2 s2 t2 st2))
+        (λ m i s1 t1 r st1. choose_came w gang lt (rate_of c) (rate_of x) (rate_of y) u.rate m i (value gang w.frame calls x)
+        (value gang w.frame calls y) (answer w.begin w.instance w.frame own x) (answer w.begin w.instance w.frame own y) s1 t1 f.3 f.4 f.5 r st1
+        (λ s2 t2 st2. value_came x f.1 s2 t2 st2) (λ s2 t2 st2. value_came y f.2 s2 t2 st2))
     value_came (t_call c u) f s t st = call_came c (Some u) f s t st
     value_came (t_library g e xs u sp) f s t st =
         came_then w (AllValues w.instance u.rate) _ _ _ _ _ (values_came u.rate xs f.1 f.2 (tick s) t st) (λ ms ys s1 t1 r st1. came_has w _ _ _ _ _ (library_is w.instance gang g e u.rate ms ys f.0 r) st1)
@@ -241,7 +251,8 @@ module _ (w : World) (gang : ℕ) (lt : w.instance < gang) (fs : List TFunction)
         (λ m y s1 t1 r st1. came_then w (AllValues w.instance q) _ _ _ _ _ (values_came q xs f.1 (or_second q (rate_of x) (rates_of xs) g) s1 t1 st1)
         (λ ms ys s2 t2 h st2. came_has w (AllValues w.instance q) (m ∷ ms) (y ∷ ys) s2 t2 (as_rate w.instance q (rate_of x) m y (or_first q (rate_of x) (rates_of xs) g) r, h) st2))
 
-    pub call_came : (c : TCall) (u : Option Ty) → FairCall w.frame fs IsCallable c u → (s : State) (t : Alone) → Stands w s t → CameTo w (IsAnswer w.instance u) (call gang w.frame calls c (lone (Some w.instance)) s) (answer_call w.begin w.instance w.frame own c t)
+    pub call_came : (c : TCall) (u : Option Ty) → FairCall w.frame fs IsCallable c u → (s : State) (t : Alone) → Stands w s t
+        → CameTo w (IsAnswer w.instance u) (call gang w.frame calls c (lone (Some w.instance)) s) (answer_call w.begin w.instance w.frame own c t)
     call_came (t_called k xs sp) u f s t st =
         came_then w (AllPassed w (params_of f.0)) _ _ _ _ _ (arguments_came (params_of f.0) xs f.4 (tick s) t st)
         (λ ms ys s1 t1 r st1. subst (λ z. CameTo w (IsAnswer w.instance z) (calls k sp (lone (Some w.instance)) ms w.frame s1) (own k sp ys w.frame t1)) f.2 (agree.go k f.0 sp ms ys s1 t1 f.1 f.3 r st1))

@@ -34,7 +34,8 @@ and_right true y e = e
 and_right false y e = absurd (true≢false (sym e))
 
 -- an array is one of those that are bound
-handed_passed : (w : World) (n : ℕ) (vs : List AVar) (ps : List Parameter) (xs : List Argument) (b : ℕ) → AreParams ps (take n vs) → has_signature ps xs ≡ true → b + length (rows xs) ≡ w.frame.opened → AllPassed w (take n vs) (handed b xs) (handed b xs)
+handed_passed : (w : World) (n : ℕ) (vs : List AVar) (ps : List Parameter) (xs : List Argument) (b : ℕ) → AreParams ps (take n vs)
+    → has_signature ps xs ≡ true → b + length (rows xs) ≡ w.frame.opened → AllPassed w (take n vs) (handed b xs) (handed b xs)
 handed_passed w n vs [] (x ∷ xs) b a e l = absurd (true≢false (sym e))
 handed_passed w n vs (p ∷ ps) [] b a e l = absurd (true≢false (sym e))
 handed_passed w zero [] [] [] b a e l = tt

@@ -11,7 +11,9 @@ use Rattle.isp_base.specs.declared.operators.BinOp.{BinOp}
 use Rattle.isp_base.specs.declared.trap.TrapKind.TheVariants.{Divide, Index}
 use Rattle.isp_base.specs.declared.types.Elem.{Elem}
 use Rattle.isp_base.specs.declared.types.Span.{Span}
-use Rattle.isp_typed.specs.Typed.{TExpr, t_constant, t_program_index, t_place, t_convert, t_cast, t_unary, t_binary, t_compare, t_logic, t_choose, t_call, t_library, t_packed_store, t_packed_load, TPlace, t_variable, t_element, TBase, t_whole, t_from, TArgument, t_by_value, t_by_name, TCall, t_called, TArguments, t_no_arguments, t_argument_then, TExprs, t_exprs, t_no_exprs, t_expr_then, place_span}
+use Rattle.isp_typed.specs.Typed.{TExpr, t_constant, t_program_index, t_place, t_convert, t_cast, t_unary, t_binary, t_compare, t_logic, t_choose, t_call, t_library}
+use Rattle.isp_typed.specs.Typed.{t_packed_store, t_packed_load, TPlace, t_variable, t_element, TBase, t_whole, t_from, TArgument, t_by_value, t_by_name, TCall, t_called}
+use Rattle.isp_typed.specs.Typed.{TArguments, t_no_arguments, t_argument_then, TExprs, t_exprs, t_no_exprs, t_expr_then, place_span}
 use Rattle.isp_typed.specs.Typed.{TItem, t_plain, t_with_value, t_with_size, TSimple, t_value, t_run, t_assign, t_update, t_step, TFirst, t_first_declare, t_first_simple, TRange, Program}
 use Rattle.isp_independence.specs.Reaches.{expr_calls, place_calls, base_calls, call_calls, argument_calls, arguments_calls, values_calls, item_calls, simple_calls, first_calls, range_calls, calls_of_any, calls_of_each}
 use Rattle.isp_meaning.specs.Calls.{calls_at}

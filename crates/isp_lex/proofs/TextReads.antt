@@ -124,7 +124,8 @@ said_ends [] n h q = let i : 0 ≡ n = cc in ends_here [] n i refl
 said_ends (c ∷ cs) n h q = ends_at c n cs (c == 92) refl h q
 
 -- the fault of a text that stops
-pub says_stops : (text : List ℕ) (at : ℕ) (bytes : List ℕ) (n place : ℕ) → Says text at bytes → next_is 34 (drop at text) ≡ false → said_at (drop at text) ≡ said.Stops n → IsFault place text (fault BadText (record { start = place; end = place + at + n }))
+pub says_stops : (text : List ℕ) (at : ℕ) (bytes : List ℕ) (n place : ℕ) → Says text at bytes → next_is 34 (drop at text) ≡ false
+    → said_at (drop at text) ≡ said.Stops n → IsFault place text (fault BadText (record { start = place; end = place + at + n }))
 says_stops text at bytes n place s h q =
     let f = said_ends (drop at text) n h q place s.body bytes s.decoded in
     let e : place + suc (length s.body + n) ≡ place + at + n = omega (arith, s.size) in

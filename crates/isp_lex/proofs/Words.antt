@@ -62,7 +62,9 @@ pick_known n (g ∷ gs) h =
 left_known : (n : ℕ) → list_all known (pick n left_by_length) ≡ true
 left_known n = pick_known n left_by_length refl
 
-left_sound_at : (w : List ℕ) (ws : List (List ℕ)) (word : List ℕ) (k : TokenKind) (t : Bool) → bytes_eq word w ≡ t → list_all known (w ∷ ws) ≡ true → (list_all known ws ≡ true → left_out_of ws word ≡ Some k → IsKept k word) → cond t (Some kind.LeftOut) (left_out_of ws word) ≡ Some k → IsKept k word
+left_sound_at : (w : List ℕ) (ws : List (List ℕ)) (word : List ℕ) (k : TokenKind) (t : Bool) → bytes_eq word w ≡ t → list_all known (w ∷ ws) ≡ true
+    → (list_all known ws ≡ true → left_out_of ws word ≡ Some k → IsKept k word) → cond t (Some kind.LeftOut) (left_out_of ws word) ≡ Some k
+    → IsKept k word
 left_sound_at w ws word k true f h more e =
     let s = same word w true f refl in
     let q = and_both (known w) (list_all known ws) h in

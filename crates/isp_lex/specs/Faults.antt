@@ -3,7 +3,8 @@ use Rattle.std.specs.Prelude.{ℕ, List, ◌++◌, codes}
 use Rattle.std.specs.Fmt.{decimal}
 use Rattle.isp_base.specs.declared.types.Span.{Span}
 use Rattle.isp_lex.specs.declared.fault.Rule.{Rule}
-use Rattle.isp_lex.specs.declared.fault.Rule.TheVariants.{BadByte, BadNumber, BadText, OpenComment, TooLong, Unexpected, TooDeep, LeftOut, UnknownName, NameTwice, Mismatch, Arguments, ConstAssigned, BadPrint, VaryingToUniform, BadExit, NestedForeach, BadExport}
+use Rattle.isp_lex.specs.declared.fault.Rule.TheVariants.{BadByte, BadNumber, BadText, OpenComment, TooLong, Unexpected, TooDeep, LeftOut, UnknownName, NameTwice, Mismatch}
+use Rattle.isp_lex.specs.declared.fault.Rule.TheVariants.{Arguments, ConstAssigned, BadPrint, VaryingToUniform, BadExit, NestedForeach, BadExport}
 use Rattle.isp_lex.specs.declared.fault.Fault.{Fault}
 
 -- a rule's number

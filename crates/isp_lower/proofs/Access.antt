@@ -60,15 +60,26 @@ filled_items Varying get sc ve a i = λ old. subst (λ m. Each (on a (over m old
     at true p = refl
     at false p = refl
 
-pub read_line : (code : Listing) (h : Routine) (c : Conf) (r : Rate) (d b i k q : ℕ) → any (gang_width code.gang) (c.masks k) ≡ true → act code h c (read r d b i k q) ≡ moved_by (offender (gang_width code.gang) (is_outside I64 (size code h c (array_register b))) (c.masks k) (value_at r c k i)) Index (place_at code q) (set_at r c d (found_items r (item code h c (array_register b)) c.scalars c.vectors (c.masks k) i))
+pub read_line : (code : Listing) (h : Routine) (c : Conf) (r : Rate) (d b i k q : ℕ) → any (gang_width code.gang) (c.masks k) ≡ true
+    → act code h c (read r d b i k q) ≡ moved_by (offender (gang_width code.gang) (is_outside I64 (size code h c (array_register b))) (c.masks k)
+    (value_at r c k i)) Index (place_at code q) (set_at r c d (found_items r (item code h c (array_register b)) c.scalars c.vectors (c.masks k) i))
 read_line code h c Uniform d b i k q some =
     unless_is code h c (failing code h c (is_outside I64 (size code h c (array_register b)) (c.scalars i)) (mask_register k)) Index q (item code h c (array_register b) (element I64 (c.scalars i)) 0) (set_scalar c (register Uniform d))
-    ∙ ap (λ z. moved_by z Index (place_at code q) (set_at Uniform c d (One (item code h c (array_register b) (element I64 (c.scalars i)) 0)))) (failing_is code h c (is_outside I64 (size code h c (array_register b)) (c.scalars i)) k (is_outside I64 (size code h c (array_register b))) some)
+    ∙ ap (λ z. moved_by z Index (place_at code q) (set_at Uniform c d (One (item code h c (array_register b) (element I64 (c.scalars i)) 0))))
+    (failing_is code h c (is_outside I64 (size code h c (array_register b)) (c.scalars i)) k (is_outside I64 (size code h c (array_register b)))
+    some)
 read_line code h c Varying d b i k q some =
-    unless_is code h c (lowest_failing (gang_width code.gang) (is_outside I64 (size code h c (array_register b))) (on (c.masks k) (c.vectors i))) Index q (λ p. each1 (λ x. item code h c (array_register b) (element I64 x) p) (on (c.masks k) (c.vectors i) p)) (set_vector c (register Varying d))
+    unless_is code h c (lowest_failing (gang_width code.gang) (is_outside I64 (size code h c (array_register b))) (on (c.masks k) (c.vectors i)))
+    Index q (λ p. each1 (λ x. item code h c (array_register b) (element I64 x) p) (on (c.masks k) (c.vectors i) p))
+    (set_vector c (register Varying d))
 
 -- the same by an index in each lane, or as a run
-pub read_by_line : (z : Bool) (br : Rate) (code : Listing) (h : Routine) (c : Conf) (r : Rate) (d b i k q : ℕ) → any (gang_width code.gang) (c.masks k) ≡ true → RunFits z br r (c.masks k) (c.scalars i) → act code h c (read_by z r d b i k q) ≡ moved_by (offender (gang_width code.gang) (is_outside I64 (size code h c (array_register b))) (c.masks k) (held_at r c.scalars (lanes_by z c.scalars c.vectors) (c.masks k) i)) Index (place_at code q) (set_at r c d (found_items r (item code h c (array_register b)) c.scalars (lanes_by z c.scalars c.vectors) (c.masks k) i))
+pub read_by_line : (z : Bool) (br : Rate) (code : Listing) (h : Routine) (c : Conf) (r : Rate) (d b i k q : ℕ)
+    → any (gang_width code.gang) (c.masks k) ≡ true → RunFits z br r (c.masks k) (c.scalars i)
+    → act code h c (read_by z r d b i k q) ≡ moved_by
+    (offender (gang_width code.gang) (is_outside I64 (size code h c (array_register b))) (c.masks k)
+    (held_at r c.scalars (lanes_by z c.scalars c.vectors) (c.masks k) i)) Index (place_at code q)
+    (set_at r c d (found_items r (item code h c (array_register b)) c.scalars (lanes_by z c.scalars c.vectors) (c.masks k) i))
 read_by_line false br code h c r d b i k q some f = read_line code h c r d b i k q some
 read_by_line true br code h c Uniform d b i k q some f = let no = f.1 in absurd (cc)
 read_by_line true br code h c Varying d b i k q some f =
@@ -115,7 +126,9 @@ map_of x = spread nobody x
 abbrev pub meant : Elem → (ℕ → ℕ → ℕ) → Map → Map
 meant t get x p = each1 (λ b. get (element t b) p) (x p)
 
-pub same_elements : (gang n : ℕ) (z : Bool) (t : Elem) (a : Mask) (x : Map) (v : Lanes) (get : ℕ → ℕ → ℕ) → is_whole t ≡ z → n ≤ 2 ^ 63 → ((p : ℕ) → a p ≡ true → p < gang) → lowest_failing gang (is_outside t n) x ≡ None → map1 (as_whole z t) x ≡ on a v → meant t get x ≡ meant I64 get (on a v)
+pub same_elements : (gang n : ℕ) (z : Bool) (t : Elem) (a : Mask) (x : Map) (v : Lanes) (get : ℕ → ℕ → ℕ) → is_whole t ≡ z → n ≤ 2 ^ 63
+    → ((p : ℕ) → a p ≡ true → p < gang) → lowest_failing gang (is_outside t n) x ≡ None → map1 (as_whole z t) x ≡ on a v
+    → meant t get x ≡ meant I64 get (on a v)
 same_elements gang n z t a x v get ez few inside none e = fun_ext (λ p. at p (x p) refl)
   where
     member : (p b : ℕ) → on a v p ≡ Some b → (d : Bool) → a p ≡ d → d ≡ true
@@ -139,7 +152,10 @@ one_inside gang a f x some none = go (f x) refl none
     go true e h = let no : Some (or_zero (lowest gang a)) ≡ None = some_lowest gang a some ∙ h in absurd (cc)
 
 -- what is read is what the meaning holds
-pub read_is : (w : Setting) (r br : Rate) (b : ArrayVariable) (t : Elem) (z : Bool) (m : Payload) (a : Mask) (s : State) (sc : ℕ → ℕ) (ve : ℕ → Lanes) (i n : ℕ) → Reaches br r → is_whole t ≡ z → n ≤ 2 ^ 63 → any (gang_of w) a ≡ true → ((p : ℕ) → a p ≡ true → p < gang_of w) → at_rate r a (mapped (as_whole z t) m) ≡ held_at r sc ve a i → offender (gang_of w) (is_outside t n) a m ≡ None → at_rate r a (elements w.frame b t m a br s) ≡ found_items r (get_at w br b s) sc ve a i
+pub read_is : (w : Setting) (r br : Rate) (b : ArrayVariable) (t : Elem) (z : Bool) (m : Payload) (a : Mask) (s : State) (sc : ℕ → ℕ) (ve : ℕ → Lanes)
+    (i n : ℕ) → Reaches br r → is_whole t ≡ z → n ≤ 2 ^ 63 → any (gang_of w) a ≡ true → ((p : ℕ) → a p ≡ true → p < gang_of w)
+    → at_rate r a (mapped (as_whole z t) m) ≡ held_at r sc ve a i → offender (gang_of w) (is_outside t n) a m ≡ None
+    → at_rate r a (elements w.frame b t m a br s) ≡ found_items r (get_at w br b s) sc ve a i
 read_is w Uniform Uniform b t z (One x) a s sc ve i n re ez few some inside hold none =
     let fine : is_outside t n x ≡ false = one_inside (gang_of w) a (is_outside t n) x some none in
     let ex : as_whole z t x ≡ sc i = ap sole hold in
@@ -153,7 +169,9 @@ read_is w Varying Varying b t z m a s sc ve i n re ez few some inside hold none 
     ap Each (same_elements (gang_of w) n z t a (spread a m) (ve i) (get_at w Varying b s) ez few inside (sym (at_offender Varying (gang_of w) a (is_outside t n) m) ∙ none) (ap map_of (sym (at_mapped Varying a (as_whole z t) m) ∙ hold)))
 
 -- who is outside
-pub outside_is : (w : Setting) (r : Rate) (t : Elem) (z : Bool) (m : Payload) (a : Mask) (sc : ℕ → ℕ) (ve : ℕ → Lanes) (i n : ℕ) → is_whole t ≡ z → n ≤ 2 ^ 63 → at_rate r a (mapped (as_whole z t) m) ≡ held_at r sc ve a i → offender (gang_of w) (is_outside I64 n) a (held_at r sc ve a i) ≡ offender (gang_of w) (is_outside t n) a m
+pub outside_is : (w : Setting) (r : Rate) (t : Elem) (z : Bool) (m : Payload) (a : Mask) (sc : ℕ → ℕ) (ve : ℕ → Lanes) (i n : ℕ) → is_whole t ≡ z
+    → n ≤ 2 ^ 63 → at_rate r a (mapped (as_whole z t) m) ≡ held_at r sc ve a i
+    → offender (gang_of w) (is_outside I64 n) a (held_at r sc ve a i) ≡ offender (gang_of w) (is_outside t n) a m
 outside_is w r t z m a sc ve i n ez few hold =
     ap (offender (gang_of w) (is_outside I64 n) a) (sym hold)
     ∙ sym (at_offender r (gang_of w) a (is_outside I64 n) (mapped (as_whole z t) m))

@@ -32,7 +32,8 @@ use Rattle.isp_base.specs.declared.types.Rate.TheVariants.{Uniform}
 
 module _ (w : Setting) (ready : IsSettled w) where
   -- the value that it gives goes nowhere
-  back_done : (kc : Call) (pc pc' n q : ℕ) (a : Mask) (s : State) (c : Conf) (v : Val Payload) → kc.result ≡ None → At w c pc → pc + 1 ≡ pc' → Stands w s c → GivesBackBy None w.frame a s v → CallRuns w.code w.turns c kc q v → DoneRuns w c pc' n q (bind v (λ m s1. Gives tt s1))
+  back_done : (kc : Call) (pc pc' n q : ℕ) (a : Mask) (s : State) (c : Conf) (v : Val Payload) → kc.result ≡ None → At w c pc → pc + 1 ≡ pc'
+      → Stands w s c → GivesBackBy None w.frame a s v → CallRuns w.code w.turns c kc q v → DoneRuns w c pc' n q (bind v (λ m s1. Gives tt s1))
   back_done kc pc pc' n q a s c (Gives m s1) er at to st gives run =
       let c2 : Conf = record c { arrays = s1.arrays; out = s1.out } in
       record {
@@ -58,7 +59,11 @@ module _ (w : Setting) (ready : IsSettled w) where
   back_done kc pc pc' n q a s c (Fails p s1) er at to st gives run = run
   back_done kc pc pc' n q a s c (Stops s1) er at to st gives run = run
 
-  pub run_runs : (f : ℕ) (xs : TArguments) (sp : Span) (pc p k n q : ℕ) (a : Mask) (s : State) (c : Conf) → CallParts w (t_called f xs sp) None n → AreAt w.routine.code pc (call_code w.layout None (t_called f xs sp) pc p k n) → AreAt w.code.places p (call_places w.layout (t_called f xs sp)) → Enters w pc k n a s c q → DoneRuns w c (pc + length (call_code w.layout None (t_called f xs sp) pc p k n)) n q (simple (gang_of w) w.frame (calls_of w) (t_run (t_called f xs sp)) a s)
+  pub run_runs : (f : ℕ) (xs : TArguments) (sp : Span) (pc p k n q : ℕ) (a : Mask) (s : State) (c : Conf) → CallParts w (t_called f xs sp) None n
+      → AreAt w.routine.code pc (call_code w.layout None (t_called f xs sp) pc p k n)
+      → AreAt w.code.places p (call_places w.layout (t_called f xs sp)) → Enters w pc k n a s c q
+      → DoneRuns w c (pc + length (call_code w.layout None (t_called f xs sp) pc p k n)) n q
+      (simple (gang_of w) w.frame (calls_of w) (t_run (t_called f xs sp)) a s)
   run_runs f xs sp pc p k n q a s c fit has places b =
       let vs = params_of fit.0 in
       let er : w.layout.rates f ≡ rates_held vs = rates_here w ready f fit.0 fit.1 in
@@ -71,13 +76,20 @@ module _ (w : Setting) (ready : IsSettled w) where
       let to : pc + length cb + 1 ≡ end = omega (arith, length-append ca (last ∷ []), ap length ec) in
       let here : slice_get w.routine.code (pc + length cb) ≡ Some last = subst (λ z. slice_get w.routine.code (pc + length z) ≡ Some last) (sym ec) (are_back w.routine.code pc ca (last ∷ []) has).0 in
       done_of (arguments (gang_of w) w.frame (calls_of w) xs a (tick (tick s))) (λ zs s1. calls_of w f sp a zs w.frame s1) end n q c
-      (bind_done w ready c (pc + length cb) n 1 q (λ zs c'. AreHanded a c' vs zs (argument_registers w.layout (rates_held vs) xs n)) (arguments (gang_of w) w.frame (calls_of w) xs a (tick (tick s))) (λ zs s1. bind (calls_of w f sp a zs w.frame s1) (λ m s2. Gives tt s2)) end n
-      (arguments_run w ready xs vs pc p k n (32 + q) (1 + q) a (tick (tick s)) c fit.3 (subst (AreAt w.routine.code pc) (sym ec) (are_front w.routine.code pc ca (last ∷ []) has)) (are_front w.code.places p (arguments_places w.layout xs) (sp ∷ []) places) (omega arith) (enters_part w ready pc k n (32 + q) (32 + q) a (tick s) c (omega arith) (enters_part w ready pc k n (32 + q) q a s c (omega arith) b)))
+      (bind_done w ready c (pc + length cb) n 1 q (λ zs c'. AreHanded a c' vs zs (argument_registers w.layout (rates_held vs) xs n))
+      (arguments (gang_of w) w.frame (calls_of w) xs a (tick (tick s))) (λ zs s1. bind (calls_of w f sp a zs w.frame s1) (λ m s2. Gives tt s2))
+      end n
+      (arguments_run w ready xs vs pc p k n (32 + q) (1 + q) a (tick (tick s)) c fit.3
+      (subst (AreAt w.routine.code pc) (sym ec) (are_front w.routine.code pc ca (last ∷ []) has))
+      (are_front w.code.places p (arguments_places w.layout xs) (sp ∷ []) places) (omega arith)
+      (enters_part w ready pc k n (32 + q) (32 + q) a (tick s) c (omega arith) (enters_part w ready pc k n (32 + q) q a s c (omega arith) b)))
       (λ zs s1 ok.
       done_after w ready c ok.conf ok.steps end n q _ ok.comes ok.spares ok.masks
       (back_done (record { function = f; result = None; mask = mask_register k; place = pd; arguments = argument_registers w.layout (w.layout.rates f) xs n }) (pc + length cb) end n (ok.steps + q) a s1 ok.conf _ refl ok.at to ok.stands
       (subst (λ o. GivesBackBy o w.frame a s1 (calls_of w f sp a zs w.frame s1)) fit.2 (call_gives w.program w.turns w.left f sp a zs w.frame s1 fit.0 fit.1))
-      (called_here w ready None f xs sp None (pc + length cb) pd k n (ok.steps + q) a s1 ok.conf zs fit tt here (are_back w.code.places p (arguments_places w.layout xs) (sp ∷ []) places).0 ok.at (ok.masks k b.low ∙ b.mask) b.some b.inside ok.stands (omega (arith, ok.bound)) ok.holds))))
+      (called_here w ready None f xs sp None (pc + length cb) pd k n (ok.steps + q) a s1 ok.conf zs fit tt here
+      (are_back w.code.places p (arguments_places w.layout xs) (sp ∷ []) places).0 ok.at (ok.masks k b.low ∙ b.mask) b.some b.inside ok.stands
+      (omega (arith, ok.bound)) ok.holds))))
     where
       done_of : (v : Val (List Passed)) (go : List Passed → State → Val Payload) (end n q : ℕ) (c : Conf) → DoneRuns w c end n q (bind v (λ zs s1. bind (go zs s1) (λ m s2. Gives tt s2))) → DoneRuns w c end n q (bind (bind v go) (λ m s2. Gives tt s2))
       done_of (Gives zs s1) go end n q c r = r

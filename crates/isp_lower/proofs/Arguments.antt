@@ -96,7 +96,8 @@ rate_there (w ∷ vs) (suc n) zero v h e = ap (λ o. held_or o) e
     held_or (Some u) = rate_held u.holds
 rate_there (w ∷ vs) (suc n) (suc j) v h e = rate_there vs n j v (omega (arith, h)) e
 
-pub rate_of_one : (gs : List rust_function.TypedFunction) (f j : ℕ) (g : rust_function.TypedFunction) → slice_get gs f ≡ Some g → next_rate (drop j (rates_in (functions_of gs) f)) ≡ next_rate (drop j (rates_held (take (length g.params.items) g.variables.items)))
+pub rate_of_one : (gs : List rust_function.TypedFunction) (f j : ℕ) (g : rust_function.TypedFunction) → slice_get gs f ≡ Some g
+    → next_rate (drop j (rates_in (functions_of gs) f)) ≡ next_rate (drop j (rates_held (take (length g.params.items) g.variables.items)))
 rate_of_one gs f j g e = ap (λ o. next_rate (drop j (rates_of o))) (slice_get-map function_of gs f ∙ ap (option_map function_of) e)
 
 pub rate_of_nobody : (gs : List rust_function.TypedFunction) (f j : ℕ) → slice_get gs f ≡ None → next_rate (drop j (rates_in (functions_of gs) f)) ≡ Varying
@@ -156,7 +157,8 @@ called_behind a b c go sp m is x y =
 abbrev pub called_with : ℕ → Option Register → Register → ℕ → List Register → Call
 called_with f d m p ds = record { function = f; result = d; mask = m; place = p; arguments = ds }
 
-pub call_boxed : (l : Layout) (d : Option Register) (f p k n : ℕ) (xs : TArguments) (m : Register) (ds : List Register) (z : Call) → z ≡ called_with f d m p ds → m ≡ mask_register k → ds ≡ argument_registers l (l.rates f) xs n → instr.Call z ≡ calling l d f xs p k n
+pub call_boxed : (l : Layout) (d : Option Register) (f p k n : ℕ) (xs : TArguments) (m : Register) (ds : List Register) (z : Call)
+    → z ≡ called_with f d m p ds → m ≡ mask_register k → ds ≡ argument_registers l (l.rates f) xs n → instr.Call z ≡ calling l d f xs p k n
 call_boxed l d f p k n xs m ds z is masked passed =
     ap instr.Call is ∙ ap (λ y. instr.Call (called_with f d y p ds)) masked ∙ ap (λ ys. instr.Call (called_with f d (mask_register k) p ys)) passed
 

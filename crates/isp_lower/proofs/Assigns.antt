@@ -37,10 +37,14 @@ beyond_more (t_variable v t sp) n = (omega arith, omega arith)
 beyond_more (t_element b i t sp) n = (omega arith, omega arith)
 
 module _ (w : Setting) (ready : IsSettled w) where
-  pub assign_runs : (z : TPlace) (x : TExpr) (sp : Span) (pc p k n q : ℕ) (a : Mask) (s : State) (c : Conf) → SimpleParts w (t_assign z x sp) n → AreAt w.routine.code pc (assign_code w.layout z x pc p k n) → AreAt w.code.places p (assign_places w.layout z x) → Enters w pc k n a s c q → DoneRuns w c (pc + length (assign_code w.layout z x pc p k n)) n q (simple (gang_of w) w.frame (calls_of w) (t_assign z x sp) a s)
+  pub assign_runs : (z : TPlace) (x : TExpr) (sp : Span) (pc p k n q : ℕ) (a : Mask) (s : State) (c : Conf) → SimpleParts w (t_assign z x sp) n
+      → AreAt w.routine.code pc (assign_code w.layout z x pc p k n) → AreAt w.code.places p (assign_places w.layout z x) → Enters w pc k n a s c q
+      → DoneRuns w c (pc + length (assign_code w.layout z x pc p k n)) n q (simple (gang_of w) w.frame (calls_of w) (t_assign z x sp) a s)
   assign_runs (t_variable v t sv) x sp pc p k n q a s c fit has places b =
       let fx : heads x ≤ 1 = few w x n fit.2 in
-      variable_runs w ready t.rate t.elem v x pc p k n (64 + q) q a (tick (tick s)) c fit.3 fit.0 fit.1 fit.2 has (are_front w.code.places p (expr_places w.layout x) _ places) (omega arith) (enters_part w ready pc k n (64 + q) (32 + q) a (tick s) c (omega arith) (enters_part w ready pc k n (32 + q) q a s c (omega arith) b))
+      variable_runs w ready t.rate t.elem v x pc p k n (64 + q) q a (tick (tick s)) c fit.3 fit.0 fit.1 fit.2 has
+      (are_front w.code.places p (expr_places w.layout x) _ places) (omega arith)
+      (enters_part w ready pc k n (64 + q) (32 + q) a (tick s) c (omega arith) (enters_part w ready pc k n (32 + q) q a s c (omega arith) b))
   assign_runs (t_element y i t sv) x sp pc p k n q a s c fit has places b =
       let r = t.rate in
       let m = n + 1 in
@@ -68,14 +72,24 @@ module _ (w : Setting) (ready : IsSettled w) where
       let c1 = ok.conf in
       done_after w ready c c1 ok.steps end n q _ ok.comes ok.spares ok.masks
       (bind_done w ready c1 (pc1 + length ca) m 1 (ok.steps + q) (λ d c'. Holds r a u d c' × Keeps w m c1 c') (means w ready x a s1) _ end n
-      (runs_kept w c1 (pc1 + length ca) m (1 + (ok.steps + q)) (Holds r a u) (means w ready x a s1) s1 ok.stands (value_still w ready x m a s1 fit.2) (operand_runs w ready c1 pc1 k m (ok.steps + q) (1 + (ok.steps + q)) a s1 r t.elem x cx fit.1 (omega arith) (enters_later w ready pc pc1 k n m (ok.steps + q) q (1 + q) a s s1 c (omega arith) b ok (omega arith)) ha
-      (λ at. expr_runs w ready x pc1 p1 k m (ok.steps + q) (1 + (1 + (ok.steps + q))) a s1 c1 fit.2 at (are_front w.code.places p1 (expr_places w.layout x) _ pl) (omega arith) (enters_later w ready pc pc1 k n m (ok.steps + q) q (1 + q) a s s1 c (omega arith) b ok (omega arith)))))
+      (runs_kept w c1 (pc1 + length ca) m (1 + (ok.steps + q)) (Holds r a u) (means w ready x a s1) s1 ok.stands (value_still w ready x m a s1 fit.2)
+      (operand_runs w ready c1 pc1 k m (ok.steps + q) (1 + (ok.steps + q)) a s1 r t.elem x cx fit.1 (omega arith)
+      (enters_later w ready pc pc1 k n m (ok.steps + q) q (1 + q) a s s1 c (omega arith) b ok (omega arith)) ha
+      (λ at. expr_runs w ready x pc1 p1 k m (ok.steps + q) (1 + (1 + (ok.steps + q))) a s1 c1 fit.2 at
+      (are_front w.code.places p1 (expr_places w.layout x) _ pl) (omega arith)
+      (enters_later w ready pc pc1 k n m (ok.steps + q) q (1 + q) a s s1 c (omega arith) b ok (omega arith)))))
       (λ d s2 ok2.
       let h = place_kept w ready z n a at c1 ok2.conf fit.0 ok2.holds.1 ok.holds in
       subst (λ g. DoneRuns w c1 end n (ok.steps + q) (bind (checked (outside (gang_of w) w.frame g a) Index sv s2 d) (λ b s3. Gives tt (kept (gang_of w) w.frame g a b s3)))) (sym h.1)
-      (element_done w ready v t.rate y.ty.rate y (type_of i).elem h.0 d a s2 c1 ok2.conf ok2.steps (pc1 + length ca) end k j u n (ok.steps + q) pw sv (ready.arrays y fit.0.0).is fit.0.1 (ready.arrays y fit.0.0).few b.some b.inside ok2.comes ok2.at to (are_back w.routine.code pc1 ca last h1).0 (are_back w.code.places p1 (expr_places w.layout x) _ pl).0 ok2.stands (spares_less w n m c1 ok2.conf (omega arith) ok2.spares) (λ r g. ok2.masks r (omega arith)) (ok2.masks k (omega arith) ∙ ok.masks k lk ∙ b.mask) (omega (arith, ok2.bound)) h.2 ok2.holds.0))))
+      (element_done w ready v t.rate y.ty.rate y (type_of i).elem h.0 d a s2 c1 ok2.conf ok2.steps (pc1 + length ca) end k j u n (ok.steps + q) pw sv
+      (ready.arrays y fit.0.0).is fit.0.1 (ready.arrays y fit.0.0).few b.some b.inside ok2.comes ok2.at to
+      (are_back w.routine.code pc1 ca last h1).0 (are_back w.code.places p1 (expr_places w.layout x) _ pl).0 ok2.stands
+      (spares_less w n m c1 ok2.conf (omega arith) ok2.spares) (λ r g. ok2.masks r (omega arith))
+      (ok2.masks k (omega arith) ∙ ok.masks k lk ∙ b.mask) (omega (arith, ok2.bound)) h.2 ok2.holds.0))))
 
-  pub value_runs : (x : TExpr) (pc p k n q : ℕ) (a : Mask) (s : State) (c : Conf) → ExprParts w x n → AreAt w.routine.code pc (expr_code w.layout x pc p k n) → AreAt w.code.places p (expr_places w.layout x) → Enters w pc k n a s c q → DoneRuns w c (pc + length (expr_code w.layout x pc p k n)) n q (simple (gang_of w) w.frame (calls_of w) (t_value x) a s)
+  pub value_runs : (x : TExpr) (pc p k n q : ℕ) (a : Mask) (s : State) (c : Conf) → ExprParts w x n
+      → AreAt w.routine.code pc (expr_code w.layout x pc p k n) → AreAt w.code.places p (expr_places w.layout x) → Enters w pc k n a s c q
+      → DoneRuns w c (pc + length (expr_code w.layout x pc p k n)) n q (simple (gang_of w) w.frame (calls_of w) (t_value x) a s)
   value_runs x pc p k n q a s c fit has places b =
       let fx : heads x ≤ 1 = few w x n fit in
       bind_done w ready c (pc + length (expr_code w.layout x pc p k n)) n 1 q (Holds (type_of x).rate a (found w.layout x n)) (means w ready x a (tick s)) _ _ n

@@ -28,7 +28,8 @@ moved_none a c code s f =
     let same_p : p ≡ p + 0 = omega arith in
     record { code = f.code ∙ ap (λ n. a.code.items ++ code n p) same_pc ∙ ap (λ n. a.code.items ++ code (pc + 0) n) same_p; places = f.places; texts = f.texts }
 
-pub variable_changed : (on : Scope) (a b c : Body) (o : Operation) (z : Home) (x : TExpr) (at : Site) (to by : RegisterNumber) (t : Target) → to.number ≡ (layout on).variable z.ty.rate z.number → by.number ≡ operand (layout on) z.ty.rate x at.slot.number
+pub variable_changed : (on : Scope) (a b c : Body) (o : Operation) (z : Home) (x : TExpr) (at : Site) (to by : RegisterNumber) (t : Target)
+    → to.number ≡ (layout on).variable z.ty.rate z.number → by.number ≡ operand (layout on) z.ty.rate x at.slot.number
     → t ≡ record { to = to; ty = z.ty; span = o.span; site = behind at } → Writes a b (operand_at on z.ty.rate x at) → Writes b c (update_at on o to by t) → Writes a c (change_by_at on o (t_variable z.number z.ty z.span) x at)
 variable_changed on a b c o z x at to by t to_is by_is t_is f g =
     let l = layout on in

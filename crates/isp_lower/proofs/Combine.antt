@@ -66,13 +66,16 @@ module _ (w : Setting) (ready : IsSettled w) where
   pub stopped_less : (turns : ℕ) (c : Conf) (d q : ℕ) (s : State) → Stopped w turns c (d + q) s → Stopped w turns c q s
   stopped_less turns c d q s f = record { conf = f.conf; steps = f.steps; far = f.far; goes = f.goes; out_is = f.out_is; bound = omega (arith, f.bound) }
 
-  pub bind_runs : {A B : Type 0} (c : Conf) (pc n d q : ℕ) (P : A → Conf → Type 0) (v : Val A) (go : A → State → Val B) (pc' n' : ℕ) (P' : B → Conf → Type 0) → Runs w c pc n (d + q) P v → ((x : A) (s : State) → Ok w c pc n (d + q) (P x) s → Runs w c pc' n' q P' (go x s)) → Runs w c pc' n' q P' (bind v go)
+  pub bind_runs : {A B : Type 0} (c : Conf) (pc n d q : ℕ) (P : A → Conf → Type 0) (v : Val A) (go : A → State → Val B) (pc' n' : ℕ)
+      (P' : B → Conf → Type 0) → Runs w c pc n (d + q) P v → ((x : A) (s : State) → Ok w c pc n (d + q) (P x) s → Runs w c pc' n' q P' (go x s))
+      → Runs w c pc' n' q P' (bind v go)
   bind_runs c pc n d q P (Gives x s) go pc' n' P' r f = f x s r
   bind_runs c pc n d q P (Fails p s) go pc' n' P' r f = failed_less c d q p s r
   bind_runs c pc n d q P (Stops s) go pc' n' P' r f = stopped_less w.turns c d q s r
 
   -- more that is done with the same value
-  pub runs_on : {A : Type 0} (c : Conf) (pc n d q : ℕ) (P : A → Conf → Type 0) (v : Val A) (pc' n' : ℕ) (P' : A → Conf → Type 0) → Runs w c pc n (d + q) P v → ((x : A) (s : State) → Ok w c pc n (d + q) (P x) s → Ok w c pc' n' q (P' x) s) → Runs w c pc' n' q P' v
+  pub runs_on : {A : Type 0} (c : Conf) (pc n d q : ℕ) (P : A → Conf → Type 0) (v : Val A) (pc' n' : ℕ) (P' : A → Conf → Type 0)
+      → Runs w c pc n (d + q) P v → ((x : A) (s : State) → Ok w c pc n (d + q) (P x) s → Ok w c pc' n' q (P' x) s) → Runs w c pc' n' q P' v
   runs_on c pc n d q P (Gives x s) pc' n' P' r f = f x s r
   runs_on c pc n d q P (Fails p s) pc' n' P' r f = failed_less c d q p s r
   runs_on c pc n d q P (Stops s) pc' n' P' r f = stopped_less w.turns c d q s r
@@ -105,8 +108,17 @@ module _ (w : Setting) (ready : IsSettled w) where
   set_masks Varying c d x k = refl
 
   pub set_spares : (r : Rate) (c : Conf) (t : Elem) (n j : ℕ) (x : Payload) → n ≤ j → Spares w n c (set_at r c (w.layout.spare r t j) x)
-  set_spares Uniform c t n j x le = record { scalars_stay = λ u i lt. let ne : i ≢ j = omega arith in put_other c.scalars (w.layout.spare Uniform t j) (sole x) (w.layout.spare Uniform u i) (ready.apart.spares Uniform u t i j ne); vectors_stay = λ u i lt. refl }
-  set_spares Varying c t n j x le = record { scalars_stay = λ u i lt. refl; vectors_stay = λ u i lt. let ne : i ≢ j = omega arith in put_other c.vectors (w.layout.spare Varying t j) (over (spread nobody x) (c.vectors (w.layout.spare Varying t j))) (w.layout.spare Varying u i) (ready.apart.spares Varying u t i j ne) }
+  set_spares Uniform c t n j x le = record {
+    scalars_stay = λ u i lt. let ne : i ≢ j = omega arith in put_other c.scalars (w.layout.spare Uniform t j)
+        (sole x) (w.layout.spare Uniform u i) (ready.apart.spares Uniform u t i j ne);
+    vectors_stay = λ u i lt. refl;
+  }
+  set_spares Varying c t n j x le = record {
+    scalars_stay = λ u i lt. refl;
+    vectors_stay = λ u i lt. let ne : i ≢ j = omega arith in put_other
+        c.vectors (w.layout.spare Varying t j) (over (spread nobody x) (c.vectors (w.layout.spare Varying t j))) (w.layout.spare Varying u i)
+        (ready.apart.spares Varying u t i j ne);
+  }
 
   pub set_stands : (r : Rate) (c : Conf) (t : Elem) (j : ℕ) (x : Payload) (s : State) → Stands w s c → Stands w s (set_at r c (w.layout.spare r t j) x)
   set_stands Uniform c t j x s st = record {
@@ -117,7 +129,9 @@ module _ (w : Setting) (ready : IsSettled w) where
     own_arrays = st.own_arrays;
     arrays_are = st.arrays_are;
     out_is = st.out_is;
-    run = run_place w.layout.run w.start w.members (c.scalars (w.layout.place Uniform)) (put c.scalars (w.layout.spare Uniform t j) (sole x) (w.layout.place Uniform)) s.varying (sym (put_other c.scalars (w.layout.spare Uniform t j) (sole x) (w.layout.place Uniform) (ready.apart.place_spare Uniform t j))) st.run;
+    run = run_place w.layout.run w.start w.members (c.scalars (w.layout.place Uniform))
+        (put c.scalars (w.layout.spare Uniform t j) (sole x) (w.layout.place Uniform)) s.varying
+        (sym (put_other c.scalars (w.layout.spare Uniform t j) (sole x) (w.layout.place Uniform) (ready.apart.place_spare Uniform t j))) st.run;
     constants = scalar_put w.layout (gang_of w) c.scalars c.vectors (w.layout.spare Uniform t j) (sole x) (λ u b k. ready.apart.kept_spare Uniform u b t j k) st.constants;
   }
   set_stands Varying c t j x s st =
@@ -139,7 +153,12 @@ module _ (w : Setting) (ready : IsSettled w) where
   set_holds Varying c d a x f = sym (ap (λ v. Each (on a v)) (put_same c.vectors d (over (spread nobody x) (c.vectors d))) ∙ f (c.vectors d))
 
   -- one instruction that writes slot n, or traps
-  pub write_any : (c c2 : Conf) (t pc pc' n q : ℕ) (a : Mask) (s : State) (i : Instr) (r : Rate) (e : Elem) (o : Option ℕ) (kind : TrapKind) (sp : Span) (x y : Payload) → Comes w c t c2 → At w c2 pc → pc + 1 ≡ pc' → slice_get w.routine.code pc ≡ Some i → Stands w s c2 → Spares w n c c2 → ((r : ℕ) → r < n → c2.masks r ≡ c.masks r) → t + 1 + q ≤ 32 * s.work → (o ≡ None → at_rate r a x ≡ held_at r (set_at r c2 (w.layout.spare r e n) y).scalars (set_at r c2 (w.layout.spare r e n) y).vectors a (w.layout.spare r e n)) → act w.code w.routine c2 i ≡ moved_by o kind sp (set_at r c2 (w.layout.spare r e n) y) → Runs w c pc' n q (Holds r a (w.layout.spare r e n)) (checked o kind sp s x)
+  pub write_any : (c c2 : Conf) (t pc pc' n q : ℕ) (a : Mask) (s : State) (i : Instr) (r : Rate) (e : Elem) (o : Option ℕ) (kind : TrapKind)
+      (sp : Span) (x y : Payload) → Comes w c t c2 → At w c2 pc → pc + 1 ≡ pc' → slice_get w.routine.code pc ≡ Some i → Stands w s c2
+      → Spares w n c c2 → ((r : ℕ) → r < n → c2.masks r ≡ c.masks r) → t + 1 + q ≤ 32 * s.work
+      → (o ≡ None → at_rate r a x ≡ held_at r (set_at r c2 (w.layout.spare r e n) y).scalars (set_at r c2 (w.layout.spare r e n) y).vectors a
+      (w.layout.spare r e n)) → act w.code w.routine c2 i ≡ moved_by o kind sp (set_at r c2 (w.layout.spare r e n) y)
+      → Runs w c pc' n q (Holds r a (w.layout.spare r e n)) (checked o kind sp s x)
   write_any c c2 t pc pc' n q a s i r e None kind sp x y h at to has st ke ma le ex is = record {
     conf = set_at r c2 (w.layout.spare r e n) y;
     steps = t + 1;
@@ -154,15 +173,25 @@ module _ (w : Setting) (ready : IsSettled w) where
   write_any c c2 t pc pc' n q a s i r e (Some p) kind sp x y h at to has st ke ma le ex is =
       record { conf = c2; steps = t + 1; fails = fails_on w c c2 c2 t 1 (trap kind sp p) h (step_fail w c2 pc i (trap kind sp p) ready at has is); arrays_are = st.arrays_are; out_is = st.out_is; bound = le }
 
-  pub write_checked : (c c2 : Conf) (t pc pc' n q : ℕ) (a : Mask) (s : State) (i : Instr) (r : Rate) (e : Elem) (o : Option ℕ) (kind : TrapKind) (sp : Span) (x y : Payload) → Comes w c t c2 → At w c2 pc → pc + 1 ≡ pc' → slice_get w.routine.code pc ≡ Some i → Stands w s c2 → Spares w n c c2 → ((r : ℕ) → r < n → c2.masks r ≡ c.masks r) → t + 1 + q ≤ 32 * s.work → (o ≡ None → at_rate r a x ≡ y) → Filled r a y → act w.code w.routine c2 i ≡ moved_by o kind sp (set_at r c2 (w.layout.spare r e n) y) → Runs w c pc' n q (Holds r a (w.layout.spare r e n)) (checked o kind sp s x)
+  pub write_checked : (c c2 : Conf) (t pc pc' n q : ℕ) (a : Mask) (s : State) (i : Instr) (r : Rate) (e : Elem) (o : Option ℕ) (kind : TrapKind)
+      (sp : Span) (x y : Payload) → Comes w c t c2 → At w c2 pc → pc + 1 ≡ pc' → slice_get w.routine.code pc ≡ Some i → Stands w s c2
+      → Spares w n c c2 → ((r : ℕ) → r < n → c2.masks r ≡ c.masks r) → t + 1 + q ≤ 32 * s.work → (o ≡ None → at_rate r a x ≡ y) → Filled r a y
+      → act w.code w.routine c2 i ≡ moved_by o kind sp (set_at r c2 (w.layout.spare r e n) y)
+      → Runs w c pc' n q (Holds r a (w.layout.spare r e n)) (checked o kind sp s x)
   write_checked c c2 t pc pc' n q a s i r e o kind sp x y h at to has st ke ma le ex fill is = write_any c c2 t pc pc' n q a s i r e o kind sp x y h at to has st ke ma le (λ none. ex none ∙ set_holds r c2 (w.layout.spare r e n) a y fill) is
 
-  pub write_runs : (c c2 : Conf) (t pc pc' n q : ℕ) (a : Mask) (s : State) (i : Instr) (r : Rate) (e : Elem) (o : Option ℕ) (kind : TrapKind) (sp : Span) (x y : Payload) → Comes w c t c2 → At w c2 pc → pc + 1 ≡ pc' → slice_get w.routine.code pc ≡ Some i → Stands w s c2 → Spares w n c c2 → ((r : ℕ) → r < n → c2.masks r ≡ c.masks r) → t + 1 + q ≤ 32 * s.work → at_rate r a x ≡ y → Filled r a y → act w.code w.routine c2 i ≡ moved_by o kind sp (set_at r c2 (w.layout.spare r e n) y) → Runs w c pc' n q (Holds r a (w.layout.spare r e n)) (checked o kind sp s x)
+  pub write_runs : (c c2 : Conf) (t pc pc' n q : ℕ) (a : Mask) (s : State) (i : Instr) (r : Rate) (e : Elem) (o : Option ℕ) (kind : TrapKind)
+      (sp : Span) (x y : Payload) → Comes w c t c2 → At w c2 pc → pc + 1 ≡ pc' → slice_get w.routine.code pc ≡ Some i → Stands w s c2
+      → Spares w n c c2 → ((r : ℕ) → r < n → c2.masks r ≡ c.masks r) → t + 1 + q ≤ 32 * s.work → at_rate r a x ≡ y → Filled r a y
+      → act w.code w.routine c2 i ≡ moved_by o kind sp (set_at r c2 (w.layout.spare r e n) y)
+      → Runs w c pc' n q (Holds r a (w.layout.spare r e n)) (checked o kind sp s x)
   write_runs c c2 t pc pc' n q a s i r e o kind sp x y h at to has st ke ma le ex fill is = write_checked c c2 t pc pc' n q a s i r e o kind sp x y h at to has st ke ma le (λ none. ex) fill is
 
   -- ---- a value of one rate where another is wanted
 
-  pub lift_runs : (c : Conf) (pc k n q : ℕ) (a : Mask) (v : Val Payload) (r given : Rate) (e : Elem) (f : ℕ) → Reaches given r → c.masks k ≡ a → k < n → AreAt w.routine.code pc (lift_code w.layout r given e f k n) → Runs w c pc n (1 + q) (Holds given a f) v → Runs w c (pc + length (lift_code w.layout r given e f k n)) n q (Holds r a (lifted w.layout r given e f n)) v
+  pub lift_runs : (c : Conf) (pc k n q : ℕ) (a : Mask) (v : Val Payload) (r given : Rate) (e : Elem) (f : ℕ) → Reaches given r → c.masks k ≡ a → k < n
+      → AreAt w.routine.code pc (lift_code w.layout r given e f k n) → Runs w c pc n (1 + q) (Holds given a f) v
+      → Runs w c (pc + length (lift_code w.layout r given e f k n)) n q (Holds r a (lifted w.layout r given e f n)) v
   lift_runs c pc k n q a v Uniform Uniform e f re em lt has run = runs_on c pc n 1 q _ v _ n _ run (λ x s ok. ok_less c pc _ n 1 q _ s (omega arith) ok)
   lift_runs c pc k n q a v Uniform Varying e f re em lt has run = absurd re
   lift_runs c pc k n q a v Varying Varying e f re em lt has run = runs_on c pc n 1 q _ v _ n _ run (λ x s ok. ok_less c pc _ n 1 q _ s (omega arith) ok)
@@ -171,12 +200,18 @@ module _ (w : Setting) (ready : IsSettled w) where
       (λ x s ok.
       let c2 = ok.conf in
       let y = Each (on a (λ p. c2.scalars f)) in
-      let is : act w.code w.routine c2 (instr.Vector (register Varying (w.layout.spare Varying e n)) (vector.Splat (register Uniform f) (mask_register k))) ≡ Go (set_at Varying c2 (w.layout.spare Varying e n) y) = ap (λ m. Go (set_at Varying c2 (w.layout.spare Varying e n) (Each (on m (λ p. c2.scalars f))))) (ok.masks k lt ∙ em) in
-      write_runs c c2 ok.steps pc _ n q a s _ Varying e None Divide no_place x y ok.comes ok.at refl has.0 ok.stands ok.spares ok.masks (omega (arith, ok.bound)) (ap (λ z. Each (spread a z)) ok.holds) (λ old. ap Each (filled_on a (λ p. c2.scalars f) old)) is)
+      let is : act w.code w.routine c2 (instr.Vector (register Varying (w.layout.spare Varying e n))
+      (vector.Splat (register Uniform f) (mask_register k)))
+      ≡ Go (set_at Varying c2 (w.layout.spare Varying e n) y) = ap
+      (λ m. Go (set_at Varying c2 (w.layout.spare Varying e n) (Each (on m (λ p. c2.scalars f))))) (ok.masks k lt ∙ em) in
+      write_runs c c2 ok.steps pc _ n q a s _ Varying e None Divide no_place x y ok.comes ok.at refl has.0 ok.stands ok.spares ok.masks
+      (omega (arith, ok.bound)) (ap (λ z. Each (spread a z)) ok.holds) (λ old. ap Each (filled_on a (λ p. c2.scalars f) old)) is)
 
   -- ---- the same run with another name for what is given
 
-  pub renamed : {A B D : Type 0} (c : Conf) (pc n q : ℕ) (P : B → Conf → Type 0) (Q : D → Conf → Type 0) (v : Val A) (f : A → B) (g : A → D) → ((x : A) (c : Conf) → P (f x) c → Q (g x) c) → Runs w c pc n q P (bind v (λ x s. Gives (f x) s)) → Runs w c pc n q Q (bind v (λ x s. Gives (g x) s))
+  pub renamed : {A B D : Type 0} (c : Conf) (pc n q : ℕ) (P : B → Conf → Type 0) (Q : D → Conf → Type 0) (v : Val A) (f : A → B) (g : A → D)
+      → ((x : A) (c : Conf) → P (f x) c → Q (g x) c) → Runs w c pc n q P (bind v (λ x s. Gives (f x) s))
+      → Runs w c pc n q Q (bind v (λ x s. Gives (g x) s))
   renamed c pc n q P Q (Gives x s) f g h r = record { conf = r.conf; steps = r.steps; comes = r.comes; at = r.at; stands = r.stands; spares = r.spares; masks = r.masks; holds = h x r.conf r.holds; bound = r.bound }
   renamed c pc n q P Q (Fails p s) f g h r = r
   renamed c pc n q P Q (Stops s) f g h r = r

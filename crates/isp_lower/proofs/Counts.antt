@@ -9,7 +9,8 @@ use Rattle.isp_base.specs.declared.types.Elem.TheVariants.{Bool as Truth, I8, I3
 use Rattle.isp_base.specs.declared.types.Rate.{Rate}
 use Rattle.isp_base.specs.declared.types.Rate.TheVariants.{Uniform, Varying}
 use Rattle.isp_base.specs.declared.types.Span.{Span}
-use Rattle.isp_typed.specs.Typed.{TExpr, t_constant, t_program_index, t_place, t_convert, t_cast, t_unary, t_binary, t_compare, t_logic, t_choose, TPlace, t_variable, t_element, TItem, t_plain, t_with_value, t_with_size, TSimple, t_assign, t_update, t_step, ty_of}
+use Rattle.isp_typed.specs.Typed.{TExpr, t_constant, t_program_index, t_place, t_convert, t_cast, t_unary, t_binary, t_compare, t_logic, t_choose, TPlace, t_variable}
+use Rattle.isp_typed.specs.Typed.{t_element, TItem, t_plain, t_with_value, t_with_size, TSimple, t_assign, t_update, t_step, ty_of}
 use Rattle.isp_typed.specs.declared.variable.ArrayVariable.{ArrayVariable}
 use Rattle.isp_typed.specs.declared.variable.Logic.TheVariants.{And}
 use Rattle.isp_lower.specs.Layout.{Layout, IsApart}

@@ -5,7 +5,9 @@ use Rattle.isp_base.specs.declared.types.Elem.{Elem}
 use Rattle.isp_base.specs.declared.types.Elem.TheVariants.{Bool as Truth}
 use Rattle.isp_base.specs.declared.types.Rate.{Rate}
 use Rattle.isp_base.specs.declared.types.Rate.TheVariants.{Uniform, Varying}
-use Rattle.isp_typed.specs.Typed.{TExpr, t_constant, t_program_index, t_place, t_convert, t_cast, t_unary, t_binary, t_compare, t_logic, t_choose, t_call, t_library, t_packed_store, t_packed_load, TPlace, t_variable, t_element, TBase, t_whole, t_from, TArgument, t_by_value, t_by_name, TCall, t_called, TArguments, t_no_arguments, t_argument_then, TExprs, t_no_exprs, t_expr_then, TItem, t_plain, t_with_value, t_with_size, TSimple, t_value, t_run, t_assign, t_update, t_step, place_type, type_of}
+use Rattle.isp_typed.specs.Typed.{TExpr, t_constant, t_program_index, t_place, t_convert, t_cast, t_unary, t_binary, t_compare, t_logic, t_choose, t_call, t_library, t_packed_store, t_packed_load, TPlace}
+use Rattle.isp_typed.specs.Typed.{t_variable, t_element, TBase, t_whole, t_from, TArgument, t_by_value, t_by_name, TCall, t_called, TArguments, t_no_arguments, t_argument_then, TExprs, t_no_exprs, t_expr_then}
+use Rattle.isp_typed.specs.Typed.{TItem, t_plain, t_with_value, t_with_size, TSimple, t_value, t_run, t_assign, t_update, t_step, place_type, type_of}
 use Rattle.isp_typed.specs.Fine.{params_of, HoldsOpen, FineTarget, FineSimple, foreach_index}
 use Rattle.isp_typed.specs.declared.variable.Holds.{Holds}
 use Rattle.isp_typed.specs.declared.variable.Holds.TheVariants as holds
@@ -15,8 +17,10 @@ use Rattle.isp_lower.specs.Setting.{Setting, IsSettled, IsOther, OtherAt}
 use Rattle.isp_lower.specs.Tables.{Table}
 use Rattle.isp_lower.specs.Callees.{next_rate, later}
 use Rattle.isp_lower.specs.Library.{library_rates}
-use Rattle.isp_lower.specs.Asks.{lift_asks, operand_asks, values_asks, read_asks, copy_asks, value_asks, base_asks, work_asks, zero_asks, beyond, first_slot, second_slot, expr_asks, target_asks, call_asks, arguments_asks, argument_asks, simple_asks, item_asks, items_asks, run_asks, is_lane, start_asks}
-use Rattle.isp_lower.proofs.Parts.{ExprParts, ValuesParts, CallParts, ArgumentsParts, ArgumentParts, ItemParts, ItemsParts, LiftFits, OperandFits, PlaceParts, BaseParts, PlaceTyped, CopyHas, IsNamed, ReadFits, SimpleParts, WorkFits, ZeroFits, RunParts, LaneParts, TargetOther}
+use Rattle.isp_lower.specs.Asks.{lift_asks, operand_asks, values_asks, read_asks, copy_asks, value_asks, base_asks, work_asks, zero_asks, beyond, first_slot, second_slot, expr_asks}
+use Rattle.isp_lower.specs.Asks.{target_asks, call_asks, arguments_asks, argument_asks, simple_asks, item_asks, items_asks, run_asks, is_lane, start_asks}
+use Rattle.isp_lower.proofs.Parts.{ExprParts, ValuesParts, CallParts, ArgumentsParts, ArgumentParts, ItemParts, ItemsParts, LiftFits, OperandFits, PlaceParts, BaseParts}
+use Rattle.isp_lower.proofs.Parts.{PlaceTyped, CopyHas, IsNamed, ReadFits, SimpleParts, WorkFits, ZeroFits, RunParts, LaneParts, TargetOther}
 use Rattle.isp_lower.proofs.Trees.{ExprTree, ValuesTree, CallTree, ArgumentsTree, ArgumentTree, ItemTree, ItemsTree, OperandTree, PlaceTree, BaseTree, SimpleTree}
 use Rattle.isp_lower.specs.Fits.{ExprFits, SimpleFits, ItemsFit, ItemOther, ItemsOther}
 use Rattle.isp_lower.proofs.Rated.{expr_tree, simple_tree, items_tree}
@@ -106,8 +110,17 @@ module _ (w : Setting) where
         (operand_fits r (type_of x).elem x n t.0 h.1.1.0, operand_fits r (type_of x).elem y (n + 1) t.1 h.1.1.1, h.0, expr_fits x n t.2 h.1.1.0.1, expr_fits y (n + 1) t.3 h.1.1.1.1)
     expr_fits (t_logic g x y r sp) n t h =
         (operand_fits r Truth x n t.0 h.1.1.1.0, operand_fits r Truth y (n + 1) t.1 h.1.1.1.1, h.0, expr_fits x n t.2 h.1.1.1.0.1, expr_fits y (n + 1) t.3 h.1.1.1.1.1)
-    expr_fits (t_choose c x y u sp) n t h =
-        (t.0.elem, t.0.reaches, h.0, operand_fits u.rate u.elem x (first_slot (type_of c).rate n) t.1 h.1.1.0, operand_fits u.rate u.elem y (second_slot (type_of c).rate n) t.2 h.1.1.1.0, expr_fits c n t.3 h.1.0, expr_fits x (first_slot (type_of c).rate n) t.4 h.1.1.0.1, expr_fits y (second_slot (type_of c).rate n) t.5 h.1.1.1.0.1)
+    expr_fits (t_choose c x y u sp) n t h = (
+      t.0.elem,
+      t.0.reaches,
+      h.0,
+      operand_fits u.rate u.elem x (first_slot (type_of c).rate n) t.1 h.1.1.0,
+      operand_fits u.rate u.elem y
+          (second_slot (type_of c).rate n) t.2 h.1.1.1.0,
+      expr_fits c n t.3 h.1.0,
+      expr_fits x (first_slot (type_of c).rate n) t.4 h.1.1.0.1,
+      expr_fits y (second_slot (type_of c).rate n) t.5 h.1.1.1.0.1,
+    )
     expr_fits (t_call c u) n t h = (h.0, call_fits c (Some u) n t h.1)
     expr_fits (t_library f e xs u sp) n t h = (t.0, h.0, values_fit (library_rates f u.rate) xs n t.1 h.1)
     expr_fits (t_packed_store b x sp) n t h =

@@ -34,7 +34,8 @@ ended_gives t caller a s (Went s1 g b c r) = record { last = s1; value = refl; s
 ended_gives t caller a s (Trapped p s1) = tt
 ended_gives t caller a s (Cut s1) = tt
 
-pub call_gives : (program : Program) (most left f : ℕ) (sp : Span) (a : Mask) (ps : List Passed) (caller : Frame) (s : State) (g : TFunction) → slice_get program.functions f ≡ Some g → GivesBackBy g.answer caller a s (calls_at program most left f sp a ps caller s)
+pub call_gives : (program : Program) (most left f : ℕ) (sp : Span) (a : Mask) (ps : List Passed) (caller : Frame) (s : State) (g : TFunction)
+    → slice_get program.functions f ≡ Some g → GivesBackBy g.answer caller a s (calls_at program most left f sp a ps caller s)
 call_gives program most zero f sp a ps caller s g e = tt
 call_gives program most (suc left) f sp a ps caller s g e =
     subst (λ o. GivesBackBy g.answer caller a s (called program most (calls_at program most left) o a ps caller s)) (sym e) (ended_gives g.answer caller a s _)

@@ -63,7 +63,9 @@ stays_in xs ys x t b e =
 -- ---- what code asks for
 
 -- what is asked of one thing is there of another one that has all that the first has
-module _ (H H1 : Rate → Name → Elem → Type 0) (A A1 L L1 : ArrayVariable → Type 0) (M M1 : ℕ → Type 0) (W W' : ℕ → Type 0) (names : (r : Rate) (x : Name) (t : Elem) → H r x t → H1 r x t) (arrays : (b : ArrayVariable) → A b → A1 b) (locals : (b : ArrayVariable) → L b → L1 b) (masks : (k : ℕ) → M k → M1 k) (loaded : (v : ℕ) → W v → W' v) where
+module _ (H H1 : Rate → Name → Elem → Type 0) (A A1 L L1 : ArrayVariable → Type 0) (M M1 : ℕ → Type 0) (W W' : ℕ → Type 0)
+    (names : (r : Rate) (x : Name) (t : Elem) → H r x t → H1 r x t) (arrays : (b : ArrayVariable) → A b → A1 b)
+    (locals : (b : ArrayVariable) → L b → L1 b) (masks : (k : ℕ) → M k → M1 k) (loaded : (v : ℕ) → W v → W' v) where
   pub all_grow : (a : Ask) → All H A L M W a → All H1 A1 L1 M1 W' a
   all_grow Nothing f = tt
   all_grow (Both x y) f = (all_grow x f.0, all_grow y f.1)
@@ -95,7 +97,9 @@ loaded_grows a b g v e = go (elem_in (rows_of a).loaded (Variable v)) refl e
 
 pub has_grows : (a b : Reserve) → Grows a.registers b.registers → a.masks ≤ b.masks → (x : Ask) → IsReserved a x → IsReserved b x
 has_grows a b g m x f =
-    all_grow (HasSpare a.registers) (HasSpare b.registers) AnyArray AnyArray AnyArray AnyArray (λ k. k < a.masks) (λ k. k < b.masks) (HasLoaded a.registers) (HasLoaded b.registers) (spare_grows a.registers b.registers g) (λ v z. z) (λ v z. z) (λ k l. omega (arith, l, m)) (loaded_grows a.registers b.registers g) x f
+    all_grow (HasSpare a.registers) (HasSpare b.registers) AnyArray AnyArray AnyArray AnyArray (λ k. k < a.masks) (λ k. k < b.masks)
+    (HasLoaded a.registers) (HasLoaded b.registers) (spare_grows a.registers b.registers g) (λ v z. z) (λ v z. z) (λ k l. omega (arith, l, m))
+    (loaded_grows a.registers b.registers g) x f
 
 -- ---- constants that are kept
 

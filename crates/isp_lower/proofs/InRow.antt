@@ -67,8 +67,11 @@ module _ (w : Setting) where
   pub typed_from : IsSettled w → (rs : List Rate) (xs : TExprs) (n : ℕ) → length rs ≤ count_of xs → ValuesParts w rs xs n → TypedFrom rs (elems_of xs) (value_registers w.layout rs xs n)
   typed_from ready [] xs n le f = tt
   typed_from ready (r ∷ rs) t_no_exprs n le f = absurd (omega (arith, le))
-  typed_from ready (r ∷ rs) (t_expr_then x xs) n le f =
-      (operand_typed w ready r (type_of x).elem x n f.0 f.1, each_past (λ j q y. IsTyped w q y (elem_at (elems_of (t_expr_then x xs)) j)) rs 0 (operand w.layout r x n) (value_registers w.layout rs xs (n + 1)) (typed_from ready rs xs (n + 1) (omega (arith, le)) f.2))
+  typed_from ready (r ∷ rs) (t_expr_then x xs) n le f = (
+    operand_typed w ready r (type_of x).elem x n f.0 f.1,
+    each_past (λ j q y. IsTyped w q y (elem_at (elems_of (t_expr_then x xs)) j)) rs 0
+        (operand w.layout r x n) (value_registers w.layout rs xs (n + 1)) (typed_from ready rs xs (n + 1) (omega (arith, le)) f.2),
+  )
 
   -- not a spare register of slot n
   abbrev pub IsAway : ℕ → Rate → ℕ → Type 0
@@ -83,8 +86,11 @@ module _ (w : Setting) where
     pub away_from : (rs : List Rate) (xs : TExprs) (n m : ℕ) → n < m → length rs ≤ count_of xs → ValuesParts w rs xs m → EachFrom (λ j r x. IsAway n r x) rs 0 (value_registers w.layout rs xs m)
     away_from [] xs n m lt le f = tt
     away_from (r ∷ rs) t_no_exprs n m lt le f = absurd (omega (arith, le))
-    away_from (r ∷ rs) (t_expr_then x xs) n m lt le f =
-        (placed_away r n m (operand w.layout r x m) lt (operand_placed w ready r (type_of x).elem x m f.0 f.1), each_past (λ j q y. IsAway n q y) rs 0 (operand w.layout r x m) (value_registers w.layout rs xs (m + 1)) (away_from rs xs n (m + 1) (omega arith) (omega (arith, le)) f.2))
+    away_from (r ∷ rs) (t_expr_then x xs) n m lt le f = (
+      placed_away r n m (operand w.layout r x m) lt (operand_placed w ready r (type_of x).elem x m f.0 f.1),
+      each_past (λ j q y. IsAway n q y) rs 0
+          (operand w.layout r x m) (value_registers w.layout rs xs (m + 1)) (away_from rs xs n (m + 1) (omega arith) (omega (arith, le)) f.2),
+    )
 
     -- all but the first
     pub others_away : (rs : List Rate) (xs : TExprs) (n : ℕ) → length rs ≤ count_of xs → ValuesParts w rs xs n → EachFrom (λ j r x. IsAway n r x) (later rs) 1 (value_registers w.layout rs xs n)

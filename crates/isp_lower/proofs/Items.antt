@@ -55,15 +55,21 @@ module _ (w : Setting) (ready : IsSettled w) where
   -- ---- without a value
 
   -- a varying one, from a spare scalar
-  made_each : (t : Elem) (v : ℕ) (pc k n q : ℕ) (a : Mask) (s : State) (c : Conf) → ZeroFits w Varying t v n → OtherAt w Varying v → AreAt w.routine.code pc (zero_each w.layout false t v k n) → Enters w pc k n a s c q → DoneRuns w c (pc + 2) n q (Gives tt (written Varying v a (One 0) (tick s)))
+  made_each : (t : Elem) (v : ℕ) (pc k n q : ℕ) (a : Mask) (s : State) (c : Conf) → ZeroFits w Varying t v n → OtherAt w Varying v
+      → AreAt w.routine.code pc (zero_each w.layout false t v k n) → Enters w pc k n a s c q
+      → DoneRuns w c (pc + 2) n q (Gives tt (written Varying v a (One 0) (tick s)))
   made_each t v pc k n q a s c fit other has b =
       let d = w.layout.spare Uniform t n in
       let e = w.layout.variable Varying v in
-      let ok : Ok w c (pc + 1) n (1 + q) (Holds Uniform a d (One 0)) (tick s) = write_runs w ready c c 0 pc (pc + 1) n (1 + q) a (tick s) (constant d t 0) Uniform t None Divide no_place (One 0) (One 0) (comes_none w c) b.at refl has.0 b.stands (spares_all w n c) (λ g l. refl) (omega (arith, b.used)) refl refl
+      let ok : Ok w c (pc + 1) n (1 + q) (Holds Uniform a d (One 0)) (tick s) = write_runs w ready c c 0 pc (pc + 1) n (1 + q) a (tick s)
+      (constant d t 0) Uniform t None Divide no_place (One 0) (One 0) (comes_none w c) b.at refl has.0 b.stands (spares_all w n c)
+      (λ g l. refl) (omega (arith, b.used)) refl refl
       (ap (λ u. Go (set_at Uniform c d (One (wrap u (number t 0))))) fit.0 ∙ ap (λ z. Go (set_at Uniform c d (One z))) (zero_is t)) in
       splat_done w ready v (One 0) a (tick s) c ok.conf ok.steps (pc + 1) (pc + 2) k d n q ok.comes ok.at (omega arith) has.1.0 ok.stands ok.spares ok.masks (ok.masks k b.low ∙ b.mask) (omega (arith, ok.bound)) ok.holds other
 
-  zero_runs : (r : Rate) (t : Elem) (v : ℕ) (pc k n q : ℕ) (a : Mask) (s : State) (c : Conf) → ZeroFits w r t v n → OtherAt w r v → AreAt w.routine.code pc (zero_code w.layout r t v k n) → Enters w pc k n a s c q → DoneRuns w c (pc + length (zero_code w.layout r t v k n)) n q (Gives tt (written r v a (One 0) (tick s)))
+  zero_runs : (r : Rate) (t : Elem) (v : ℕ) (pc k n q : ℕ) (a : Mask) (s : State) (c : Conf) → ZeroFits w r t v n → OtherAt w r v
+      → AreAt w.routine.code pc (zero_code w.layout r t v k n) → Enters w pc k n a s c q
+      → DoneRuns w c (pc + length (zero_code w.layout r t v k n)) n q (Gives tt (written r v a (One 0) (tick s)))
   zero_runs Uniform t v pc k n q a s c fit other has b =
       let d = w.layout.variable Uniform v in
       let c3 = set_at Uniform c d (One 0) in
@@ -83,7 +89,9 @@ module _ (w : Setting) (ready : IsSettled w) where
 
   -- ---- arrays
 
-  cleared_runs : (r : Rate) (b : ArrayVariable) (pc k n q : ℕ) (a : Mask) (s : State) (c : Conf) → ArrayFitsAt w r b → slice_get w.routine.code pc ≡ Some (instr.Clear (array_register (w.layout.array b.number)) (mask_register k)) → Enters w pc k n a s c q → DoneRuns w c (pc + 1) n q (Gives tt (cleared w.frame r b.number a (tick s)))
+  cleared_runs : (r : Rate) (b : ArrayVariable) (pc k n q : ℕ) (a : Mask) (s : State) (c : Conf) → ArrayFitsAt w r b
+      → slice_get w.routine.code pc ≡ Some (instr.Clear (array_register (w.layout.array b.number)) (mask_register k)) → Enters w pc k n a s c q
+      → DoneRuns w c (pc + 1) n q (Gives tt (cleared w.frame r b.number a (tick s)))
   cleared_runs Uniform y pc k n q a s c fit has b =
       let A = w.layout.array y.number in
       let N = c.home.named A in
@@ -91,7 +99,19 @@ module _ (w : Setting) (ready : IsSettled w) where
       let en : N ≡ w.frame.named y.number = ap (λ h. h.named A) b.at.home_is ∙ fit.1 in
       step_done w ready c c c3 0 pc (pc + 1) n q (instr.Clear (array_register A) (mask_register k)) None Divide no_place (One 0) (tick s) (λ m. cleared w.frame Uniform y.number a) (comes_none w c) b.at refl has
       (ap (λ z. Go (lines.cleared w.code w.routine c z (array_register A) (mask_register k))) fit.0) refl (next_at w c c3 pc b.at refl refl refl) b.stands
-      (λ none. record { uniforms = b.stands.uniforms; varying = b.stands.varying; result = b.stands.result; results = b.stands.results; own_arrays = b.stands.own_arrays; arrays_are = ap (λ z. put z N (λ e. 0)) b.stands.arrays_are ∙ ap (λ z. put s.arrays z (λ e. 0)) en; out_is = b.stands.out_is; run = b.stands.run; constants = b.stands.constants })
+      (λ none. record {
+        uniforms = b.stands.uniforms;
+        varying = b.stands.varying;
+        result = b.stands.result;
+        results = b.stands.results;
+        own_arrays =
+            b.stands.own_arrays;
+        arrays_are = ap (λ z. put z N (λ e. 0)) b.stands.arrays_are
+            ∙ ap (λ z. put s.arrays z (λ e. 0)) en;
+        out_is = b.stands.out_is;
+        run = b.stands.run;
+        constants = b.stands.constants;
+      })
       (spares_all w n c) (λ g l. refl) (omega (arith, b.used)) (omega (arith, b.used))
   cleared_runs Varying y pc k n q a s c fit has b =
       let A = w.layout.array y.number in
@@ -101,19 +121,35 @@ module _ (w : Setting) (ready : IsSettled w) where
       let ef : F ≡ G = ap (λ (m : Mask). (λ (e p : ℕ). if m p then 0 else c.own A e p)) b.mask ∙ ap (λ (f : ℕ → Lanes). (λ (e p : ℕ). if a p then 0 else f e p)) (b.stands.own_arrays y.number) in
       step_done w ready c c c3 0 pc (pc + 1) n q (instr.Clear (array_register A) (mask_register k)) None Divide no_place (One 0) (tick s) (λ m. cleared w.frame Varying y.number a) (comes_none w c) b.at refl has
       (ap (λ z. Go (lines.cleared w.code w.routine c z (array_register A) (mask_register k))) fit.0) refl (next_at w c c3 pc b.at refl refl refl) b.stands
-      (λ none. record { uniforms = b.stands.uniforms; varying = b.stands.varying; result = b.stands.result; results = b.stands.results; own_arrays = put_through c.own s.own w.layout.array y.number F G ready.apart.arrays b.stands.own_arrays ef; arrays_are = b.stands.arrays_are; out_is = b.stands.out_is; run = b.stands.run; constants = b.stands.constants })
+      (λ none. record {
+        uniforms = b.stands.uniforms;
+        varying = b.stands.varying;
+        result = b.stands.result;
+        results = b.stands.results;
+        own_arrays =
+            put_through c.own s.own w.layout.array y.number F G ready.apart.arrays b.stands.own_arrays ef;
+        arrays_are = b.stands.arrays_are;
+        out_is =
+            b.stands.out_is;
+        run = b.stands.run;
+        constants = b.stands.constants;
+      })
       (spares_all w n c) (λ g l. refl) (omega (arith, b.used)) (omega (arith, b.used))
 
   -- ---- items
 
-  item_runs : (x : TItem) (pc p k n q : ℕ) (a : Mask) (s : State) (c : Conf) → ItemParts w n x → AreAt w.routine.code pc (item_code w.layout x pc p k n) → AreAt w.code.places p (item_places w.layout x) → Enters w pc k n a s c q → DoneRuns w c (pc + length (item_code w.layout x pc p k n)) n q (item (gang_of w) w.frame (calls_of w) x a s)
+  item_runs : (x : TItem) (pc p k n q : ℕ) (a : Mask) (s : State) (c : Conf) → ItemParts w n x
+      → AreAt w.routine.code pc (item_code w.layout x pc p k n) → AreAt w.code.places p (item_places w.layout x) → Enters w pc k n a s c q
+      → DoneRuns w c (pc + length (item_code w.layout x pc p k n)) n q (item (gang_of w) w.frame (calls_of w) x a s)
   item_runs (t_plain v t sp) pc p k n q a s c fit has places b = zero_runs t.rate t.elem v pc k n q a s c fit.0 fit.1 has b
   item_runs (t_with_value v t x sp) pc p k n q a s c fit has places b =
       let fx : heads x ≤ 1 = few w x n fit.2 in
       variable_runs w ready t.rate t.elem v x pc p k n (32 + q) q a (tick s) c fit.3 fit.0 fit.1 fit.2 has places (omega arith) (enters_part w ready pc k n (32 + q) q a s c (omega arith) b)
   item_runs (t_with_size y sp) pc p k n q a s c fit has places b = cleared_runs y.ty.rate y pc k n q a s c (ready.arrays y fit).is has.0 b
 
-  pub items_run : (xs : List TItem) (pc p k n q : ℕ) (a : Mask) (s : State) (c : Conf) → ItemsParts w n xs → AreAt w.routine.code pc (items_code w.layout xs pc p k n) → AreAt w.code.places p (items_places w.layout xs) → Enters w pc k n a s c q → DoneRuns w c (pc + length (items_code w.layout xs pc p k n)) n q (items (gang_of w) w.frame (calls_of w) xs a s)
+  pub items_run : (xs : List TItem) (pc p k n q : ℕ) (a : Mask) (s : State) (c : Conf) → ItemsParts w n xs
+      → AreAt w.routine.code pc (items_code w.layout xs pc p k n) → AreAt w.code.places p (items_places w.layout xs) → Enters w pc k n a s c q
+      → DoneRuns w c (pc + length (items_code w.layout xs pc p k n)) n q (items (gang_of w) w.frame (calls_of w) xs a s)
   items_run [] pc p k n q a s c fit has places b = record {
     conf = c;
     steps = 0;
@@ -135,4 +171,14 @@ module _ (w : Setting) (ready : IsSettled w) where
       (λ s1 ok.
       done_after w ready c ok.conf ok.steps (pc + length (cx ++ rest)) n q _ ok.comes ok.spares ok.masks
       (subst (λ g. DoneRuns w ok.conf g n (ok.steps + q) (items (gang_of w) w.frame (calls_of w) xs a s1)) to
-      (items_run xs pc1 p1 k n (ok.steps + q) a s1 ok.conf fit.1 (are_back w.routine.code pc cx rest has) (are_back w.code.places p (item_places w.layout x) _ places) (record { at = ok.at; mask = ok.masks k b.low ∙ b.mask; some = b.some; inside = b.inside; stands = ok.stands; used = ok.bound; low = b.low }))))
+      (items_run xs pc1 p1 k n (ok.steps + q) a s1 ok.conf fit.1 (are_back w.routine.code pc cx rest has)
+      (are_back w.code.places p (item_places w.layout x) _ places)
+      (record {
+        at = ok.at;
+        mask = ok.masks k b.low ∙ b.mask;
+        some = b.some;
+        inside = b.inside;
+        stands = ok.stands;
+        used = ok.bound;
+        low = b.low;
+      }))))

@@ -51,14 +51,20 @@ module _ (w : Setting) (ready : IsSettled w) where
   masked_at c pc m x at = next_at w c (masked c m x) pc at refl refl refl
 
   -- a value is copied to slot n
-  pub copy_ok : (c : Conf) (pc k n q : ℕ) (a : Mask) (m : Payload) (s : State) (r : Rate) (t : Elem) (x : ℕ) → (ok : Ok w c pc n (1 + q) (Holds r a x m) s) → ok.conf.masks k ≡ a → slice_get w.routine.code pc ≡ Some (copy r (w.layout.spare r t n) x k) → Ok w c (pc + 1) n q (Holds r a (w.layout.spare r t n) m) s
+  pub copy_ok : (c : Conf) (pc k n q : ℕ) (a : Mask) (m : Payload) (s : State) (r : Rate) (t : Elem) (x : ℕ)
+      → (ok : Ok w c pc n (1 + q) (Holds r a x m) s) → ok.conf.masks k ≡ a → slice_get w.routine.code pc ≡ Some (copy r (w.layout.spare r t n) x k)
+      → Ok w c (pc + 1) n q (Holds r a (w.layout.spare r t n) m) s
   copy_ok c pc k n q a m s r t x ok em has =
       let c2 = ok.conf in
-      write_runs w ready c c2 ok.steps pc _ n q a s (copy r (w.layout.spare r t n) x k) r t None Divide no_place m (held_at r c2.scalars c2.vectors a x) ok.comes ok.at refl has ok.stands ok.spares ok.masks (omega (arith, ok.bound)) ok.holds (filled_held r a c2.scalars c2.vectors x)
+      write_runs w ready c c2 ok.steps pc _ n q a s (copy r (w.layout.spare r t n) x k) r t None Divide no_place m
+      (held_at r c2.scalars c2.vectors a x) ok.comes ok.at refl has ok.stands ok.spares ok.masks (omega (arith, ok.bound)) ok.holds
+      (filled_held r a c2.scalars c2.vectors x)
       (copy_line w.code w.routine c2 r (w.layout.spare r t n) x k ∙ ap (λ u. Go (set_at r c2 (w.layout.spare r t n) (held_at r c2.scalars c2.vectors u x))) em)
 
   -- a value moves to slot n
-  pub move_ok : (c : Conf) (pc k n q : ℕ) (a : Mask) (m : Payload) (s : State) (r : Rate) (t : Elem) (x : ℕ) → (ok : Ok w c pc n (1 + q) (Holds r a x m) s) → ok.conf.masks k ≡ a → AreAt w.routine.code pc (move_code r (w.layout.spare r t n) x k) → Ok w c (pc + length (move_code r (w.layout.spare r t n) x k)) n q (Holds r a (w.layout.spare r t n) m) s
+  pub move_ok : (c : Conf) (pc k n q : ℕ) (a : Mask) (m : Payload) (s : State) (r : Rate) (t : Elem) (x : ℕ)
+      → (ok : Ok w c pc n (1 + q) (Holds r a x m) s) → ok.conf.masks k ≡ a → AreAt w.routine.code pc (move_code r (w.layout.spare r t n) x k)
+      → Ok w c (pc + length (move_code r (w.layout.spare r t n) x k)) n q (Holds r a (w.layout.spare r t n) m) s
   move_ok c pc k n q a m s r t x ok em has = go (nat_eq (w.layout.spare r t n) x) refl has
     where
       go : (b : Bool) → nat_eq (w.layout.spare r t n) x ≡ b → AreAt w.routine.code pc (move b r (w.layout.spare r t n) x k) → Ok w c (pc + length (move b r (w.layout.spare r t n) x k)) n q (Holds r a (w.layout.spare r t n) m) s

@@ -52,12 +52,15 @@ vector_appends b l r x k n code e =
     silent Varying (Some v) eo h = known_silent l x v eo
 
 -- any other one has its own, and is lifted
-pub lifted_appends : (a b : Body) (l : Layout) (r : Rate) (x : TExpr) (k n : ℕ) (code : ℕ → ℕ → List Instr) (places : List Span) → in_vector l r (known x) ≡ false → Appends a b (λ pc p. code pc p ++ lift_code l r (type_of x).rate (type_of x).elem (found l x n) k n) places → Appends a b (λ pc p. operand_of l r x k n (code pc p)) places
+pub lifted_appends : (a b : Body) (l : Layout) (r : Rate) (x : TExpr) (k n : ℕ) (code : ℕ → ℕ → List Instr) (places : List Span)
+    → in_vector l r (known x) ≡ false → Appends a b (λ pc p. code pc p ++ lift_code l r (type_of x).rate (type_of x).elem (found l x n) k n) places
+    → Appends a b (λ pc p. operand_of l r x k n (code pc p)) places
 lifted_appends a b l r x k n code places e h =
     subst (λ z. Appends a b (λ pc p. unless_kept z (code pc p ++ lift_code l r (type_of x).rate (type_of x).elem (found l x n) k n)) places) (sym e) h
 
 -- a value as one of another type
-pub kept_appends : (b : Body) (l : Layout) (e : Elem) (x : TExpr) (code : ℕ → ℕ → List Instr) → is_kept l (constant_of x) (type_of x).rate e ≡ true → Appends b b (λ pc p. unless_kept (is_kept l (constant_of x) (type_of x).rate e) (code pc p)) (expr_places l x)
+pub kept_appends : (b : Body) (l : Layout) (e : Elem) (x : TExpr) (code : ℕ → ℕ → List Instr) → is_kept l (constant_of x) (type_of x).rate e ≡ true
+    → Appends b b (λ pc p. unless_kept (is_kept l (constant_of x) (type_of x).rate e) (code pc p)) (expr_places l x)
 kept_appends b l e x code is =
     subst (λ z. Appends b b (λ pc p. unless_kept z (code pc p)) (expr_places l x)) (sym is) (subst (Appends b b (λ pc p. [])) (sym (go (constant_of x) refl is)) (appends_self b))
   where
@@ -65,5 +68,7 @@ kept_appends b l e x code is =
     go None eo h = absurd (cc)
     go (Some v) eo h = constant_silent l x (Some v) eo v refl
 
-pub other_appends : (a b : Body) (l : Layout) (e : Elem) (x : TExpr) (code : ℕ → ℕ → List Instr) (places : List Span) → is_kept l (constant_of x) (type_of x).rate e ≡ false → Appends a b code places → Appends a b (λ pc p. unless_kept (is_kept l (constant_of x) (type_of x).rate e) (code pc p)) places
+pub other_appends : (a b : Body) (l : Layout) (e : Elem) (x : TExpr) (code : ℕ → ℕ → List Instr) (places : List Span)
+    → is_kept l (constant_of x) (type_of x).rate e ≡ false → Appends a b code places
+    → Appends a b (λ pc p. unless_kept (is_kept l (constant_of x) (type_of x).rate e) (code pc p)) places
 other_appends a b l e x code places is h = subst (λ z. Appends a b (λ pc p. unless_kept z (code pc p)) places) (sym is) h

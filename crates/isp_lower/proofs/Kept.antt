@@ -11,7 +11,9 @@ use Rattle.isp_base.specs.declared.types.Rate.{Rate}
 use Rattle.isp_base.specs.declared.types.Rate.TheVariants.{Uniform, Varying}
 use Rattle.isp_base.specs.declared.types.Span.{Span}
 use Rattle.isp_code.specs.Conf.{Conf}
-use Rattle.isp_typed.specs.Typed.{TExpr, t_constant, t_program_index, t_place, t_convert, t_cast, t_unary, t_binary, t_compare, t_logic, t_choose, t_call, t_library, t_packed_store, t_packed_load, t_variable, t_element, TBase, t_whole, t_from, TArgument, t_by_value, t_by_name, TCall, t_called, TArguments, t_no_arguments, t_argument_then, TExprs, t_no_exprs, t_expr_then, type_of}
+use Rattle.isp_typed.specs.Typed.{TExpr, t_constant, t_program_index, t_place, t_convert, t_cast, t_unary, t_binary, t_compare, t_logic, t_choose, t_call, t_library}
+use Rattle.isp_typed.specs.Typed.{t_packed_store, t_packed_load, t_variable, t_element, TBase, t_whole, t_from, TArgument, t_by_value, t_by_name, TCall, t_called}
+use Rattle.isp_typed.specs.Typed.{TArguments, t_no_arguments, t_argument_then, TExprs, t_no_exprs, t_expr_then, type_of}
 use Rattle.isp_meaning.specs.State.{State}
 use Rattle.isp_meaning.specs.Payloads.{Payload, One, Each, nothing}
 use Rattle.isp_meaning.specs.Outcomes.{Val, Gives, Fails, Stops, bind, checked, if_so, value_unless_empty}
@@ -76,7 +78,9 @@ module _ (w : Setting) where
       scalar x (inr (inl j)) = ap c'.scalars j.3 ∙ sp.scalars_stay j.0 j.1 j.2 ∙ ap c.scalars (sym j.3)
       scalar x (inr (inr g)) = ap c'.scalars g.3 ∙ st'.constants Uniform g.0 g.1 g.2 ∙ sym (st.constants Uniform g.0 g.1 g.2) ∙ ap c.scalars (sym g.3)
 
-      place : (o : Option ℕ) (i : ℕ) → o ≡ Some i → RunHolds o w.start w.members (c.scalars (w.layout.place Uniform)) s.varying → RunHolds o w.start w.members (c'.scalars (w.layout.place Uniform)) s'.varying → c'.scalars (w.layout.place Uniform) ≡ c.scalars (w.layout.place Uniform)
+      place : (o : Option ℕ) (i : ℕ) → o ≡ Some i → RunHolds o w.start w.members (c.scalars (w.layout.place Uniform)) s.varying
+          → RunHolds o w.start w.members (c'.scalars (w.layout.place Uniform)) s'.varying
+          → c'.scalars (w.layout.place Uniform) ≡ c.scalars (w.layout.place Uniform)
       place None i e h h' = absurd (cc)
       place (Some j) i e h h' = h'.0 ∙ sym h.0
 

@@ -163,7 +163,10 @@ short_chosen a b l d z x y t k n short is sp =
     (subst (λ h. Appends a b (λ pc p. choose_to l h d z x y t pc k n (expr_code l z pc p k n) (one p) (other p)) (expr_places l z)) (sym short) is)
 
 pub long_chosen : (a b : Body) (l : Layout) (r : Rate) (d : ℕ) (z x y : TExpr) (t : Ty) (k n : ℕ) → is_short l t.rate z x y ≡ false → r ≡ (type_of z).rate
-    → Appends a b (λ pc p. choose_code l r t.rate t.elem x y (found l z n) pc k n (expr_code l z pc p k n) (λ pc1 m i. operand_of l t.rate x m i (expr_code l x pc1 (p + length (expr_places l z)) m i)) (λ pc1 m i. operand_of l t.rate y m i (expr_code l y pc1 (p + length (expr_places l z) + length (expr_places l x)) m i))) (expr_places l z ++ (expr_places l x ++ expr_places l y))
+    → Appends a b (λ pc p. choose_code l r t.rate t.elem x y (found l z n) pc k n (expr_code l z pc p k n)
+    (λ pc1 m i. operand_of l t.rate x m i (expr_code l x pc1 (p + length (expr_places l z)) m i))
+    (λ pc1 m i. operand_of l t.rate y m i (expr_code l y pc1 (p + length (expr_places l z) + length (expr_places l x)) m i)))
+    (expr_places l z ++ (expr_places l x ++ expr_places l y))
     → (sp : Span) → Appends a b (λ pc p. expr_to l d (t_choose z x y t sp) pc p k n) (expr_places l (t_choose z x y t sp))
 long_chosen a b l r d z x y t k n long rate is sp =
     let one = λ (p pc m i : ℕ). operand_of l t.rate x m i (expr_code l x pc (p + length (expr_places l z)) m i) in

@@ -41,7 +41,11 @@ module _ (w : Setting) (ready : IsSettled w) where
   stops_less c z q s le f = record { conf = f.conf; steps = f.steps; far = f.far; goes = f.goes; out_is = f.out_is; bound = omega (arith, le, f.bound) }
 
   -- the rest of the values, once the first is held
-  rest_leave : (rs : List Rate) (x : TExpr) (regs : List ℕ) (n pc pc1 d q : ℕ) (a : Mask) (m : Payload) (s : State) (c : Conf) (ok : Ok w c pc1 n (3 + q) (Holds (next_rate rs) a (operand w.layout (next_rate rs) x n) m) s) (v : Val (List Payload)) → OperandFits w (next_rate rs) (type_of x).elem x n → ExprParts w x n → KeepsBy w.layout.loaded s v → RunsLeaving ok.conf pc (n + 1) d (ok.steps + (3 + q)) (λ ms c'. AllHold (later rs) a regs ms c') v → RunsLeaving c pc n (3 + d) q (λ ms c'. AllHold rs a (operand w.layout (next_rate rs) x n ∷ regs) ms c') (bind v (λ ms s1. Gives (m ∷ ms) s1))
+  rest_leave : (rs : List Rate) (x : TExpr) (regs : List ℕ) (n pc pc1 d q : ℕ) (a : Mask) (m : Payload) (s : State) (c : Conf)
+      (ok : Ok w c pc1 n (3 + q) (Holds (next_rate rs) a (operand w.layout (next_rate rs) x n) m) s) (v : Val (List Payload))
+      → OperandFits w (next_rate rs) (type_of x).elem x n → ExprParts w x n → KeepsBy w.layout.loaded s v
+      → RunsLeaving ok.conf pc (n + 1) d (ok.steps + (3 + q)) (λ ms c'. AllHold (later rs) a regs ms c') v
+      → RunsLeaving c pc n (3 + d) q (λ ms c'. AllHold rs a (operand w.layout (next_rate rs) x n ∷ regs) ms c') (bind v (λ ms s1. Gives (m ∷ ms) s1))
   rest_leave rs x regs n pc pc1 d q a m s c ok (Gives ms s1) fit parts k r = record {
     conf = r.conf;
     steps = ok.steps + r.steps;
@@ -50,19 +54,28 @@ module _ (w : Setting) (ready : IsSettled w) where
     stands = r.stands;
     spares = spares_on w n c ok.conf r.conf ok.spares (spares_less w n (n + 1) ok.conf r.conf (omega arith) r.spares);
     masks = λ j lt. r.masks j (omega arith) ∙ ok.masks j lt;
-    holds = (ok.holds ∙ sym (held_kept w (next_rate rs) (n + 1) ok.conf r.conf a (operand w.layout (next_rate rs) x n) (kept_of w (n + 1) ok.conf r.conf s s1 ok.stands r.stands k r.spares) (operand_low w ready (next_rate rs) (type_of x).elem x n fit parts)), r.holds);
+    holds = (
+      ok.holds ∙ sym (held_kept w (next_rate rs) (n + 1) ok.conf r.conf a (operand w.layout (next_rate rs) x n)
+          (kept_of w (n + 1) ok.conf r.conf s s1 ok.stands r.stands k r.spares) (operand_low w ready (next_rate rs) (type_of x).elem x n fit parts)),
+      r.holds,
+    );
     bound = omega (arith, r.bound);
   }
   rest_leave rs x regs n pc pc1 d q a m s c ok (Fails p s1) fit parts k r = failed_after w ready c ok.conf ok.steps q p s1 ok.comes (fails_less ok.conf (ok.steps + (3 + q)) (ok.steps + q) p s1 (omega arith) r)
   rest_leave rs x regs n pc pc1 d q a m s c ok (Stops s1) fit parts k r = stopped_after w ready w.turns c ok.conf ok.steps q s1 ok.comes (stops_less ok.conf (ok.steps + (3 + q)) (ok.steps + q) s1 (omega arith) r)
 
   -- a value, and what follows it
-  first_leaves : {B : Type 0} (c : Conf) (pc pc1 n d q : ℕ) (P : Payload → Conf → Type 0) (Q : B → Conf → Type 0) (v : Val Payload) (go : Payload → State → Val B) → Runs w c pc1 n (3 + q) P v → ((m : Payload) (s : State) → Ok w c pc1 n (3 + q) (P m) s → RunsLeaving c pc n d q Q (go m s)) → RunsLeaving c pc n d q Q (bind v go)
+  first_leaves : {B : Type 0} (c : Conf) (pc pc1 n d q : ℕ) (P : Payload → Conf → Type 0) (Q : B → Conf → Type 0) (v : Val Payload)
+      (go : Payload → State → Val B) → Runs w c pc1 n (3 + q) P v
+      → ((m : Payload) (s : State) → Ok w c pc1 n (3 + q) (P m) s → RunsLeaving c pc n d q Q (go m s)) → RunsLeaving c pc n d q Q (bind v go)
   first_leaves c pc pc1 n d q P Q (Gives m s) go r f = f m s r
   first_leaves c pc pc1 n d q P Q (Fails p s) go r f = fails_less c (3 + q) q p s (omega arith) r
   first_leaves c pc pc1 n d q P Q (Stops s) go r f = stops_less c (3 + q) q s (omega arith) r
 
-  pub values_leave : (xs : TExprs) (rs : List Rate) (pc p k n q : ℕ) (a : Mask) (s : State) (c : Conf) → ValuesParts w rs xs n → AreAt w.routine.code pc (values_code w.layout rs xs pc p k n) → AreAt w.code.places p (values_places w.layout xs) → Enters w pc k n a s c q → RunsLeaving c (pc + length (values_code w.layout rs xs pc p k n)) n (3 * count_of xs) q (λ ms c'. AllHold rs a (value_registers w.layout rs xs n) ms c') (values (gang_of w) w.frame (calls_of w) xs a s)
+  pub values_leave : (xs : TExprs) (rs : List Rate) (pc p k n q : ℕ) (a : Mask) (s : State) (c : Conf) → ValuesParts w rs xs n
+      → AreAt w.routine.code pc (values_code w.layout rs xs pc p k n) → AreAt w.code.places p (values_places w.layout xs) → Enters w pc k n a s c q
+      → RunsLeaving c (pc + length (values_code w.layout rs xs pc p k n)) n (3 * count_of xs) q
+      (λ ms c'. AllHold rs a (value_registers w.layout rs xs n) ms c') (values (gang_of w) w.frame (calls_of w) xs a s)
   values_leave t_no_exprs rs pc p k n q a s c fit has places b = record {
     conf = c;
     steps = 0;
@@ -96,4 +109,6 @@ module _ (w : Setting) (ready : IsSettled w) where
       (λ at. expr_runs w ready x pc p k n q (1 + (3 + q)) a s c fit.1 at (are_front w.code.places p px _ places) (omega (arith, f)) b))
       (λ m s1 ok.
       rest_leave rs x regs n (pc1 + length cb) pc1 (3 * count_of xs) q a m s1 c ok (values (gang_of w) w.frame (calls_of w) xs a s1) fit.0 fit.1 (values_still w ready (later rs) xs (n + 1) a s1 fit.2)
-      (values_leave xs (later rs) pc1 p1 k (n + 1) (ok.steps + (3 + q)) a s1 ok.conf fit.2 (are_back w.routine.code pc ca cb has) (are_back w.code.places p px _ places) (enters_later w ready pc pc1 k n (n + 1) (ok.steps + (3 + q)) q (3 + q) a s s1 c (omega arith) b ok (omega arith))))))
+      (values_leave xs (later rs) pc1 p1 k (n + 1) (ok.steps + (3 + q)) a s1 ok.conf fit.2 (are_back w.routine.code pc ca cb has)
+      (are_back w.code.places p px _ places) (enters_later w ready pc pc1 k n (n + 1) (ok.steps + (3 + q)) q (3 + q) a s s1 c (omega arith) b ok
+      (omega arith))))))

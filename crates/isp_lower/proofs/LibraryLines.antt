@@ -155,7 +155,8 @@ module _ (code : Listing) (h : Routine) where
         ∙ ap (λ v. Go (set_at Varying c d (Each (on a (shuffle gang v (on a (c.vectors i))))))) (sym (lanes_are a m c x hx))
         ∙ ap (λ v. Go (set_at Varying c d (Each (on a (shuffle gang (spread a m) v))))) (sym (lanes_are a z c i hi)))
 
-    shuffles_two : (d s x y i : ℕ) (m n z : Payload) → Holds Varying a x m c → Holds Varying a y n c → Holds Varying a i z c → Makes Varying d s a (Each (on a (shuffle_two gang (spread a m) (spread a n) (spread a z)))) c (table.shuffle_two d x y i k ∷ [])
+    shuffles_two : (d s x y i : ℕ) (m n z : Payload) → Holds Varying a x m c → Holds Varying a y n c → Holds Varying a i z c
+        → Makes Varying d s a (Each (on a (shuffle_two gang (spread a m) (spread a n) (spread a z)))) c (table.shuffle_two d x y i k ∷ [])
     shuffles_two d s x y i m n z hx hy hi =
         lanes_made d s (shuffle_two gang (spread a m) (spread a n) (spread a z)) (table.shuffle_two d x y i k)
         (ap (λ b. Go (set_at Varying c d (Each (on b (shuffle_two gang (on b (c.vectors x)) (on b (c.vectors y)) (on b (c.vectors i))))))) em
@@ -173,7 +174,9 @@ module _ (code : Listing) (h : Routine) where
 
     -- ---- at a rate
 
-    plain_line : (r : Rate) (o : Plain) (t : Elem) (d x y : ℕ) → elem_of h (register r d) ≡ t → act code h c (compute r o d x y k) ≡ Go (set_at r c d (joined (op_bits (plain_of o) t) a (held_at r c.scalars c.vectors a x) (held_at r c.scalars c.vectors a y)))
+    plain_line : (r : Rate) (o : Plain) (t : Elem) (d x y : ℕ) → elem_of h (register r d) ≡ t
+        → act code h c (compute r o d x y k) ≡ Go (set_at r c d
+        (joined (op_bits (plain_of o) t) a (held_at r c.scalars c.vectors a x) (held_at r c.scalars c.vectors a y)))
     plain_line r o t d x y et =
         compute_line code h c r o d x y k
         ∙ ap (λ u. Go (set_at r c d (joined (op_bits (plain_of o) u) (c.masks k) (value_at r c k x) (value_at r c k y)))) et
@@ -223,7 +226,10 @@ module _ (w : Setting) (ready : IsSettled w) (a : Mask) (k : ℕ) where
   others_hold Uniform c s x z ne = ap One (put_other c.scalars s (sole z) x ne)
   others_hold Varying c s x z ne = ap (λ v. Each (on a v)) (put_other c.vectors s (over (spread nobody z) (c.vectors s)) x ne)
 
-  clamps : (r : Rate) (t : Elem) (d s x y z : ℕ) (m n p : Payload) (c : Conf) → c.masks k ≡ a → elem_of w.routine (register r d) ≡ t → elem_of w.routine (register r s) ≡ t → z ≢ s → Holds r a x m c → Holds r a y n c → Holds r a z p c → Makes w.code w.routine r d s a (joined (op_bits op.Min t) a (joined (op_bits op.Max t) a m n) p) c (compute r plain.Max s x y k ∷ compute r plain.Min d s z k ∷ [])
+  clamps : (r : Rate) (t : Elem) (d s x y z : ℕ) (m n p : Payload) (c : Conf) → c.masks k ≡ a → elem_of w.routine (register r d) ≡ t
+      → elem_of w.routine (register r s) ≡ t → z ≢ s → Holds r a x m c → Holds r a y n c → Holds r a z p c
+      → Makes w.code w.routine r d s a (joined (op_bits op.Min t) a (joined (op_bits op.Max t) a m n) p) c
+      (compute r plain.Max s x y k ∷ compute r plain.Min d s z k ∷ [])
   clamps r t d s x y z m n p c em et es ne hx hy hz =
       let v = joined (op_bits op.Max t) a (held_at r c.scalars c.vectors a x) (held_at r c.scalars c.vectors a y) in
       let c1 = set_at r c s v in
@@ -244,7 +250,10 @@ module _ (w : Setting) (ready : IsSettled w) (a : Mask) (k : ℕ) where
   none_is true = refl
   none_is false = refl
 
-  nones : (d s x : ℕ) (m : Payload) (c : Conf) → c.masks k ≡ a → elem_of w.routine (register Uniform d) ≡ Truth → elem_of w.routine (register Varying x) ≡ Truth → Holds Varying a x m c → Makes w.code w.routine Uniform d s a (One (bit (not (any_of is_true (gang_of w) (spread a m))))) c (reduce reduction.Any s x k ∷ unary Uniform unary_op.Not d s k ∷ [])
+  nones : (d s x : ℕ) (m : Payload) (c : Conf) → c.masks k ≡ a → elem_of w.routine (register Uniform d) ≡ Truth
+      → elem_of w.routine (register Varying x) ≡ Truth → Holds Varying a x m c
+      → Makes w.code w.routine Uniform d s a (One (bit (not (any_of is_true (gang_of w) (spread a m))))) c
+      (reduce reduction.Any s x k ∷ unary Uniform unary_op.Not d s k ∷ [])
   nones d s x m c em et ex hx =
       let b = any_of is_true (gang_of w) (spread a m) in
       let v = if b then 1 else 0 in
@@ -256,13 +265,23 @@ module _ (w : Setting) (ready : IsSettled w) (a : Mask) (k : ℕ) where
         steps = (
           One v,
           reduce_line w.code w.routine c a k em reduction.Any Truth s x m ex hx,
-          ap (λ u. Go (set_at Uniform c1 d (One (unary_bits unary_op.Not u (c1.scalars s))))) et ∙ ap (λ u. Go (set_at Uniform c1 d (One (unary_bits unary_op.Not Truth u)))) (put_same c.scalars s v) ∙ ap (λ u. Go (set_at Uniform c1 d (One u))) (none_is b),
+          ap (λ u. Go (set_at Uniform c1 d (One (unary_bits unary_op.Not u (c1.scalars s))))) et
+              ∙ ap (λ u. Go (set_at Uniform c1 d (One (unary_bits unary_op.Not Truth u)))) (put_same c.scalars s v)
+              ∙ ap (λ u. Go (set_at Uniform c1 d (One u))) (none_is b),
         );
       }
 
   -- ---- the table
 
-  pub library_makes : (spare : Rate → Elem → ℕ) (f : Library) (e : Elem) (r : Rate) (d : ℕ) (xs : List ℕ) (ms : List Payload) (c : Conf) → c.masks k ≡ a → IsTyped w (library_type f e r).rate d (library_type f e r).elem → IsTyped w (library_type f e r).rate (spare (library_type f e r).rate (library_type f e r).elem) (library_type f e r).elem → TypedFrom w (library_rates f (library_type f e r).rate) (part_elems e (parts f)) xs → EachFrom (λ j q x. (u : Elem) → x ≢ spare q u) (later (library_rates f (library_type f e r).rate)) 1 xs → HoldFrom (library_rates f (library_type f e r).rate) a xs ms c → Makes w.code w.routine (library_type f e r).rate d (spare (library_type f e r).rate (library_type f e r).elem) a (library_value (gang_of w) e a f (argument ms 0) (argument ms 1) (argument ms 2)) c (library_code f (library_type f e r).rate d (spare (library_type f e r).rate (library_type f e r).elem) xs k)
+  pub library_makes : (spare : Rate → Elem → ℕ) (f : Library) (e : Elem) (r : Rate) (d : ℕ) (xs : List ℕ) (ms : List Payload) (c : Conf)
+      → c.masks k ≡ a → IsTyped w (library_type f e r).rate d (library_type f e r).elem
+      → IsTyped w (library_type f e r).rate (spare (library_type f e r).rate (library_type f e r).elem) (library_type f e r).elem
+      → TypedFrom w (library_rates f (library_type f e r).rate) (part_elems e (parts f)) xs
+      → EachFrom (λ j q x. (u : Elem) → x ≢ spare q u) (later (library_rates f (library_type f e r).rate)) 1 xs
+      → HoldFrom (library_rates f (library_type f e r).rate) a xs ms c
+      → Makes w.code w.routine (library_type f e r).rate d (spare (library_type f e r).rate (library_type f e r).elem) a
+      (library_value (gang_of w) e a f (argument ms 0) (argument ms 1) (argument ms 2)) c
+      (library_code f (library_type f e r).rate d (spare (library_type f e r).rate (library_type f e r).elem) xs k)
   library_makes spare library.ReduceAdd e r d xs ms c em td ts tx away h = reduces w.code w.routine c a k em reduction.Add e d _ (register_at xs 0) (argument ms 0) tx.0 h.0
   library_makes spare library.ReduceMin e r d xs ms c em td ts tx away h = reduces w.code w.routine c a k em reduction.Min e d _ (register_at xs 0) (argument ms 0) tx.0 h.0
   library_makes spare library.ReduceMax e r d xs ms c em td ts tx away h = reduces w.code w.routine c a k em reduction.Max e d _ (register_at xs 0) (argument ms 0) tx.0 h.0

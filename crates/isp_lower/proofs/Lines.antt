@@ -90,17 +90,28 @@ module _ (code : Listing) (h : Routine) (c : Conf) where
   never_fails Uniform o t y k never = ap (if_fails gang (is_zero o t) (c.masks k)) (never (c.scalars y))
   never_fails Varying o t y k never = none_fails gang (is_zero o t) (on (c.masks k) (c.vectors y)) never
 
-  plain_line : (r : Rate) (o : Plain) (d x y k q : ℕ) → ((b : ℕ) → is_zero (plain_of o) (elem_of h (register r d)) b ≡ false) → act code h c (compute r o d x y k) ≡ moved_by (zero_lane r (plain_of o) (elem_of h (register r d)) y k) Divide (place_at code q) (set_at r c d (joined (op_bits (plain_of o) (elem_of h (register r d))) (c.masks k) (value_at r c k x) (value_at r c k y)))
+  plain_line : (r : Rate) (o : Plain) (d x y k q : ℕ) → ((b : ℕ) → is_zero (plain_of o) (elem_of h (register r d)) b ≡ false)
+      → act code h c (compute r o d x y k) ≡ moved_by (zero_lane r (plain_of o) (elem_of h (register r d)) y k) Divide (place_at code q)
+      (set_at r c d (joined (op_bits (plain_of o) (elem_of h (register r d))) (c.masks k) (value_at r c k x) (value_at r c k y)))
   plain_line r o d x y k q never =
       compute_line r o d x y k
       ∙ ap (λ z. moved_by z Divide (place_at code q) (set_at r c d (joined (op_bits (plain_of o) (elem_of h (register r d))) (c.masks k) (value_at r c k x) (value_at r c k y)))) (sym (never_fails r (plain_of o) (elem_of h (register r d)) y k never))
 
-  divide_line : (r : Rate) (o : Division) (d x y k q : ℕ) → any gang (c.masks k) ≡ true → act code h c (instr.Divide o (register r d) (register r x) (register r y) (mask_register k) q) ≡ moved_by (zero_lane r (division_of o) (elem_of h (register r d)) y k) Divide (place_at code q) (set_at r c d (joined (op_bits (division_of o) (elem_of h (register r d))) (c.masks k) (value_at r c k x) (value_at r c k y)))
+  divide_line : (r : Rate) (o : Division) (d x y k q : ℕ) → any gang (c.masks k) ≡ true
+      → act code h c (instr.Divide o (register r d) (register r x) (register r y) (mask_register k) q)
+      ≡ moved_by (zero_lane r (division_of o) (elem_of h (register r d)) y k) Divide (place_at code q)
+      (set_at r c d (joined (op_bits (division_of o) (elem_of h (register r d))) (c.masks k) (value_at r c k x) (value_at r c k y)))
   divide_line Uniform o d x y k q some =
-      unless_is (failing code h c (is_zero (division_of o) (elem_of h (register Uniform d)) (c.scalars y)) (mask_register k)) Divide q (op_bits (division_of o) (elem_of h (register Uniform d)) (c.scalars x) (c.scalars y)) (set_scalar c (register Uniform d))
-      ∙ ap (λ z. moved_by z Divide (place_at code q) (set_scalar c (register Uniform d) (op_bits (division_of o) (elem_of h (register Uniform d)) (c.scalars x) (c.scalars y)))) (failing_is (is_zero (division_of o) (elem_of h (register Uniform d)) (c.scalars y)) k (is_zero (division_of o) (elem_of h (register Uniform d))) some)
+      unless_is (failing code h c (is_zero (division_of o) (elem_of h (register Uniform d)) (c.scalars y)) (mask_register k)) Divide q
+      (op_bits (division_of o) (elem_of h (register Uniform d)) (c.scalars x) (c.scalars y)) (set_scalar c (register Uniform d))
+      ∙ ap (λ z. moved_by z Divide (place_at code q) (set_scalar c (register Uniform d)
+      (op_bits (division_of o) (elem_of h (register Uniform d)) (c.scalars x) (c.scalars y))))
+      (failing_is (is_zero (division_of o) (elem_of h (register Uniform d)) (c.scalars y)) k
+      (is_zero (division_of o) (elem_of h (register Uniform d))) some)
   divide_line Varying o d x y k q some =
-      unless_is (zero_lane Varying (division_of o) (elem_of h (register Varying d)) y k) Divide q (map2 (op_bits (division_of o) (elem_of h (register Varying d))) (on (c.masks k) (c.vectors x)) (on (c.masks k) (c.vectors y))) (set_vector c (register Varying d))
+      unless_is (zero_lane Varying (division_of o) (elem_of h (register Varying d)) y k) Divide q
+      (map2 (op_bits (division_of o) (elem_of h (register Varying d))) (on (c.masks k) (c.vectors x)) (on (c.masks k) (c.vectors y)))
+      (set_vector c (register Varying d))
 
   pub operate_line : (r : Rate) (o : BinOp) (d x y k q : ℕ) → any gang (c.masks k) ≡ true → OperateLine r o d x y k q
   operate_line r op.Add d x y k q some = plain_line r plain.Add d x y k q (λ b. refl)
@@ -117,7 +128,10 @@ module _ (code : Listing) (h : Routine) (c : Conf) where
   operate_line r op.Max d x y k q some = plain_line r plain.Max d x y k q (λ b. refl)
 
   -- the same with the place of the operator, in the types that the registers have
-  pub operate_at : (r : Rate) (o : BinOp) (t : Elem) (d x y k q : ℕ) (a : Mask) (sp : Span) → any gang a ≡ true → c.masks k ≡ a → elem_of h (register r d) ≡ t → AreAt code.places q (operate_places o sp) → act code h c (operate r o d x y k q) ≡ moved_by (offender gang (is_zero o t) a (held_at r c.scalars c.vectors a y)) Divide sp (set_at r c d (joined (op_bits o t) a (held_at r c.scalars c.vectors a x) (held_at r c.scalars c.vectors a y)))
+  pub operate_at : (r : Rate) (o : BinOp) (t : Elem) (d x y k q : ℕ) (a : Mask) (sp : Span) → any gang a ≡ true → c.masks k ≡ a
+      → elem_of h (register r d) ≡ t → AreAt code.places q (operate_places o sp)
+      → act code h c (operate r o d x y k q) ≡ moved_by (offender gang (is_zero o t) a (held_at r c.scalars c.vectors a y)) Divide sp
+      (set_at r c d (joined (op_bits o t) a (held_at r c.scalars c.vectors a x) (held_at r c.scalars c.vectors a y)))
   operate_at r o t d x y k q a sp some em et places =
       operate_line r o d x y k q (ap (any gang) em ∙ some)
       ∙ ap (λ u. moved_by (offender gang (is_zero o u) (c.masks k) (value_at r c k y)) Divide (place_at code q) (set_at r c d (joined (op_bits o u) (c.masks k) (value_at r c k x) (value_at r c k y)))) et

@@ -52,7 +52,15 @@ module _ (w : Setting) (ready : IsSettled w) where
   jumps_is c Or d = sym (not_not (is_true (c.scalars d)))
 
   -- one value decides for all
-  pub logic_one : (g : Logic) (c : Conf) (pc k n q : ℕ) (a : Mask) (va : Val Payload) (vb : Mask → State → Val Payload) (x y : ℕ) (ca : List Instr) (cb : ℕ → ℕ → List Instr) → c.masks k ≡ a → k < n → any (gang_of w) a ≡ true → ((p : ℕ) → a p ≡ true → Allowed w p) → AreAt w.routine.code pc (logic_code Uniform g (w.layout.spare Uniform Truth n) x y pc k n ca cb) → Runs w c (pc + length ca) n (1 + (1 + q)) (Holds Uniform a x) va → ((s : State) (c1 : Conf) (pc1 z : ℕ) → AreAt w.routine.code pc1 (cb pc1 k) → Enters w pc1 k (n + 1) a s c1 z → Runs w c1 (pc1 + length (cb pc1 k)) (n + 1) (1 + z) (Holds Uniform a y) (vb a s)) → Runs w c (pc + length (logic_code Uniform g (w.layout.spare Uniform Truth n) x y pc k n ca cb)) n q (Holds Uniform a (w.layout.spare Uniform Truth n)) (bind va (λ m s1. bind (value_unless_empty (gang_of w) (kept_by (needs g) a m) s1 vb) (λ z s2. Gives (settled g a m z) s2)))
+  pub logic_one : (g : Logic) (c : Conf) (pc k n q : ℕ) (a : Mask) (va : Val Payload) (vb : Mask → State → Val Payload) (x y : ℕ) (ca : List Instr)
+      (cb : ℕ → ℕ → List Instr) → c.masks k ≡ a → k < n → any (gang_of w) a ≡ true → ((p : ℕ) → a p ≡ true → Allowed w p)
+      → AreAt w.routine.code pc (logic_code Uniform g (w.layout.spare Uniform Truth n) x y pc k n ca cb)
+      → Runs w c (pc + length ca) n (1 + (1 + q)) (Holds Uniform a x) va
+      → ((s : State) (c1 : Conf) (pc1 z : ℕ) → AreAt w.routine.code pc1 (cb pc1 k) → Enters w pc1 k (n + 1) a s c1 z
+      → Runs w c1 (pc1 + length (cb pc1 k)) (n + 1) (1 + z) (Holds Uniform a y) (vb a s))
+      → Runs w c (pc + length (logic_code Uniform g (w.layout.spare Uniform Truth n) x y pc k n ca cb)) n q
+      (Holds Uniform a (w.layout.spare Uniform Truth n))
+      (bind va (λ m s1. bind (value_unless_empty (gang_of w) (kept_by (needs g) a m) s1 vb) (λ z s2. Gives (settled g a m z) s2)))
   logic_one g c pc k n q a va vb x y ca cb em lk some inside has ra rb =
       bind_runs w ready c p1 n 1 q (Holds Uniform a d) va _ _ n _
       (runs_on w ready c (pc + length ca) n 1 (1 + q) (Holds Uniform a x) va p1 n (Holds Uniform a d) ra
@@ -74,7 +82,12 @@ module _ (w : Setting) (ready : IsSettled w) where
       here : pc + length ca + length (move_code Uniform (w.layout.spare Uniform Truth n) x k) ≡ pc + length (ca ++ move_code Uniform (w.layout.spare Uniform Truth n) x k)
       here = omega (arith, length-append ca (move_code Uniform (w.layout.spare Uniform Truth n) x k))
 
-      rest : (m : Payload) (s : State) (ok : Ok w c (pc + length (ca ++ move_code Uniform (w.layout.spare Uniform Truth n) x k)) n (1 + q) (Holds Uniform a (w.layout.spare Uniform Truth n) m) s) → Runs w c (pc + length (logic_code Uniform g (w.layout.spare Uniform Truth n) x y pc k n ca cb)) n q (Holds Uniform a (w.layout.spare Uniform Truth n)) (bind (value_unless_empty (gang_of w) (kept_by (needs g) a (One (ok.conf.scalars (w.layout.spare Uniform Truth n)))) s vb) (λ z s2. Gives (settled g a (One (ok.conf.scalars (w.layout.spare Uniform Truth n))) z) s2))
+      rest : (m : Payload) (s : State) (ok : Ok w c (pc + length (ca ++ move_code Uniform (w.layout.spare Uniform Truth n) x k)) n (1 + q)
+          (Holds Uniform a (w.layout.spare Uniform Truth n) m) s)
+          → Runs w c (pc + length (logic_code Uniform g (w.layout.spare Uniform Truth n) x y pc k n ca cb)) n q
+          (Holds Uniform a (w.layout.spare Uniform Truth n))
+          (bind (value_unless_empty (gang_of w) (kept_by (needs g) a (One (ok.conf.scalars (w.layout.spare Uniform Truth n)))) s vb)
+          (λ z s2. Gives (settled g a (One (ok.conf.scalars (w.layout.spare Uniform Truth n))) z) s2))
       rest m s ok = runs_after w ready c c4 (ok.steps + 1) end n q _ _ (comes_on w c c1 c4 ok.steps 1 ok.comes (jump_comes w ready c1 p1 (decided g) (register Uniform d) to ok.at at1.0)) ok.spares ok.masks (go (needs g (c1.scalars d)) refl)
         where
           c1 : Conf
@@ -105,11 +118,35 @@ module _ (w : Setting) (ready : IsSettled w) where
           go true e =
               subst (λ v. Runs w c4 end n q1 (Holds Uniform a d) (bind v (λ z s2. Gives z s2))) (sym (unless_some (gang_of w) a s vb some))
               (bind_runs w ready c4 pcy (n + 1) 1 q1 (Holds Uniform a y) (vb a s) (λ z s2. Gives z s2) end n (Holds Uniform a d)
-              (rb s c4 (p1 + 1) q1 (are_front w.routine.code (p1 + 1) (cb (p1 + 1) k) last at1.1) (record { at = jump_at w ready c1 p1 (decided g) (register Uniform d) to false ok.at (jumps_is c1 g d ∙ ap not e); mask = ok.masks k lk ∙ em; some = some; inside = inside; stands = ok.stands; used = omega (arith, ok.bound); low = omega arith }))
-              (λ z s2 ok2. ok_to w ready c4 (pcy + 1) end n q1 _ s2 ends (copy_ok w ready c4 pcy k n q1 a z s2 Uniform Truth y (ok_down w ready c4 pcy n (n + 1) (1 + q1) _ s2 (omega arith) ok2) (ok2.masks k (omega arith) ∙ ok.masks k lk ∙ em) (are_back w.routine.code (p1 + 1) (cb (p1 + 1) k) last at1.1).0)))
+              (rb s c4 (p1 + 1) q1 (are_front w.routine.code (p1 + 1) (cb (p1 + 1) k) last at1.1)
+              (record {
+                at = jump_at w ready c1 p1 (decided g) (register Uniform d) to false ok.at (jumps_is c1 g d ∙ ap not e);
+                mask = ok.masks k
+                    lk ∙ em;
+                some = some;
+                inside = inside;
+                stands = ok.stands;
+                used = omega (arith, ok.bound);
+                low = omega arith;
+              }))
+              (λ z s2 ok2. ok_to w ready c4 (pcy + 1) end n q1 _ s2 ends
+              (copy_ok w ready c4 pcy k n q1 a z s2 Uniform Truth y (ok_down w ready c4 pcy n (n + 1) (1 + q1) _ s2 (omega arith) ok2)
+              (ok2.masks k (omega arith) ∙ ok.masks k lk ∙ em) (are_back w.routine.code (p1 + 1) (cb (p1 + 1) k) last at1.1).0)))
           go false e =
               subst (λ v. Runs w c4 end n q1 (Holds Uniform a d) (bind v (λ z s2. Gives (One (c1.scalars d)) s2))) (sym (unless_none (gang_of w) nobody s vb (any_nobody (gang_of w))))
-              (record { conf = c4; steps = 0; comes = comes_none w c4; at = at_to w c4 to end (jump_at w ready c1 p1 (decided g) (register Uniform d) to true ok.at (jumps_is c1 g d ∙ ap not e)) (omega (arith, ends, length-append (cb (p1 + 1) k) last)); stands = ok.stands; spares = spares_all w n c4; masks = λ i h. refl; holds = refl; bound = omega (arith, ok.bound) })
+              (record {
+                conf = c4;
+                steps = 0;
+                comes = comes_none w c4;
+                at = at_to w c4 to end
+                    (jump_at w ready c1 p1 (decided g) (register Uniform d) to true ok.at (jumps_is c1 g d ∙ ap not e))
+                    (omega (arith, ends, length-append (cb (p1 + 1) k) last));
+                stands = ok.stands;
+                spares = spares_all w n c4;
+                masks = λ i h. refl;
+                holds = refl;
+                bound = omega (arith, ok.bound);
+              })
 
 -- ---- in lanes
 
@@ -127,7 +164,8 @@ layer_over a f u v = fun_ext (λ p. at (a p) (f (v p)) p refl)
     chosen : Bool → ℕ → Option ℕ
     chosen b p = if b then Some (u p) else None
 
-    at : (b d : Bool) (p : ℕ) → f (v p) ≡ d → (if b then Some (or_old (if holds f (if b then Some (v p) else None) then Some (u p) else None) (v p)) else None) ≡ first_of_two (if holds f (if b then Some (v p) else None) then Some (u p) else None) (if b then Some (v p) else None)
+    at : (b d : Bool) (p : ℕ) → f (v p) ≡ d → (if b then Some (or_old (if holds f (if b then Some (v p) else None) then Some (u p) else None) (v p))
+        else None) ≡ first_of_two (if holds f (if b then Some (v p) else None) then Some (u p) else None) (if b then Some (v p) else None)
     at true true p e = ap (λ z. Some (or_old (if z then Some (u p) else None) (v p))) e ∙ sym (ap (λ z. first_of_two (if z then Some (u p) else None) (Some (v p))) e)
     at true false p e = ap (λ z. Some (or_old (if z then Some (u p) else None) (v p))) e ∙ sym (ap (λ z. first_of_two (if z then Some (u p) else None) (Some (v p))) e)
     at false d p e = refl
@@ -140,7 +178,9 @@ layer_same a u v = fun_ext (λ p. at (a p) p)
     at false p = refl
 
 -- what `&&` and `||` give, where the right side was taken in the lanes that need it
-settled_at : (g : Logic) (a : Mask) (m z : Payload) (u v : Lanes) → at_rate Varying a m ≡ Each (on a v) → spread (where_true (needs g) (on a v)) z ≡ on (where_true (needs g) (on a v)) u → at_rate Varying a (settled g a m z) ≡ Each (layer (on (where_true (needs g) (on a v)) u) (on a v))
+settled_at : (g : Logic) (a : Mask) (m z : Payload) (u v : Lanes) → at_rate Varying a m ≡ Each (on a v)
+    → spread (where_true (needs g) (on a v)) z ≡ on (where_true (needs g) (on a v)) u
+    → at_rate Varying a (settled g a m z) ≡ Each (layer (on (where_true (needs g) (on a v)) u) (on a v))
 settled_at g a (Each x) z u v hm hz =
     let ex : x ≡ on a v = ap (spread nobody) hm in
     ap (λ x. Each (layer (spread (where_true (needs g) x) z) x)) ex ∙ ap (λ y. Each (layer y (on a v))) hz
@@ -185,7 +225,10 @@ module _ (w : Setting) (ready : IsSettled w) where
   abbrev Decided : Logic → ℕ → Mask → Payload → Conf → Type 0
   Decided g n a m c = Holds Varying a (w.layout.spare Varying Truth n) m c × (c.masks n ≡ where_true (needs g) (on a (c.vectors (w.layout.spare Varying Truth n))))
 
-  needing_ok : (g : Logic) (c : Conf) (pc k n q : ℕ) (a : Mask) (m : Payload) (s : State) → k < n → c.masks k ≡ a → AreAt w.routine.code pc (needing g n (w.layout.spare Varying Truth n) k) → Ok w c pc n (2 + q) (Holds Varying a (w.layout.spare Varying Truth n) m) s → Ok w c (pc + length (needing g n (w.layout.spare Varying Truth n) k)) n q (Decided g n a m) s
+  needing_ok : (g : Logic) (c : Conf) (pc k n q : ℕ) (a : Mask) (m : Payload) (s : State) → k < n → c.masks k ≡ a
+      → AreAt w.routine.code pc (needing g n (w.layout.spare Varying Truth n) k)
+      → Ok w c pc n (2 + q) (Holds Varying a (w.layout.spare Varying Truth n) m) s
+      → Ok w c (pc + length (needing g n (w.layout.spare Varying Truth n) k)) n q (Decided g n a m) s
   needing_ok And c pc k n q a m s lk em has ok =
       let d = w.layout.spare Varying Truth n in
       let c2 = ok.conf in
@@ -226,7 +269,11 @@ module _ (w : Setting) (ready : IsSettled w) where
       }
 
   -- the right value joins the left one in slot n
-  joined_ok : (g : Logic) (c : Conf) (pc k n q : ℕ) (a : Mask) (m z : Payload) (s : State) (v : Lanes) (y : ℕ) → (ok : Ok w c pc n (1 + q) (Holds Varying (where_true (needs g) (on a v)) y z) s) → at_rate Varying a m ≡ Each (on a v) → ok.conf.vectors (w.layout.spare Varying Truth n) ≡ v → ok.conf.masks n ≡ where_true (needs g) (on a v) → slice_get w.routine.code pc ≡ Some (copy Varying (w.layout.spare Varying Truth n) y n) → Ok w c (pc + 1) n q (Holds Varying a (w.layout.spare Varying Truth n) (settled g a m z)) s
+  joined_ok : (g : Logic) (c : Conf) (pc k n q : ℕ) (a : Mask) (m z : Payload) (s : State) (v : Lanes) (y : ℕ)
+      → (ok : Ok w c pc n (1 + q) (Holds Varying (where_true (needs g) (on a v)) y z) s) → at_rate Varying a m ≡ Each (on a v)
+      → ok.conf.vectors (w.layout.spare Varying Truth n) ≡ v → ok.conf.masks n ≡ where_true (needs g) (on a v)
+      → slice_get w.routine.code pc ≡ Some (copy Varying (w.layout.spare Varying Truth n) y n)
+      → Ok w c (pc + 1) n q (Holds Varying a (w.layout.spare Varying Truth n) (settled g a m z)) s
   joined_ok g c pc k n q a m z s v y ok hm hv em has =
       let d = w.layout.spare Varying Truth n in
       let c2 = ok.conf in
@@ -239,13 +286,26 @@ module _ (w : Setting) (ready : IsSettled w) where
       (copy_line w.code w.routine c2 Varying d y n ∙ ap (λ b. Go (set_at Varying c2 d (Each (on b u)))) em)
 
   -- in each lane its own value decides
-  pub logic_each : (g : Logic) (c : Conf) (pc k n q : ℕ) (a : Mask) (va : Val Payload) (vb : Mask → State → Val Payload) (x y : ℕ) (ca : List Instr) (cb : ℕ → ℕ → List Instr) → c.masks k ≡ a → k < n → any (gang_of w) a ≡ true → ((p : ℕ) → a p ≡ true → Allowed w p) → AreAt w.routine.code pc (logic_code Varying g (w.layout.spare Varying Truth n) x y pc k n ca cb) → Runs w c (pc + length ca) n (1 + (2 + (1 + q))) (Holds Varying a x) va → ((T : Mask) (s : State) (c1 : Conf) (pc1 z : ℕ) → AreAt w.routine.code pc1 (cb pc1 n) → Enters w pc1 n (n + 1) T s c1 z → Runs w c1 (pc1 + length (cb pc1 n)) (n + 1) (1 + z) (Holds Varying T y) (vb T s)) → Runs w c (pc + length (logic_code Varying g (w.layout.spare Varying Truth n) x y pc k n ca cb)) n q (Holds Varying a (w.layout.spare Varying Truth n)) (bind va (λ m s1. bind (value_unless_empty (gang_of w) (kept_by (needs g) a m) s1 vb) (λ z s2. Gives (settled g a m z) s2)))
+  pub logic_each : (g : Logic) (c : Conf) (pc k n q : ℕ) (a : Mask) (va : Val Payload) (vb : Mask → State → Val Payload) (x y : ℕ) (ca : List Instr)
+      (cb : ℕ → ℕ → List Instr) → c.masks k ≡ a → k < n → any (gang_of w) a ≡ true → ((p : ℕ) → a p ≡ true → Allowed w p)
+      → AreAt w.routine.code pc (logic_code Varying g (w.layout.spare Varying Truth n) x y pc k n ca cb)
+      → Runs w c (pc + length ca) n (1 + (2 + (1 + q))) (Holds Varying a x) va
+      → ((T : Mask) (s : State) (c1 : Conf) (pc1 z : ℕ) → AreAt w.routine.code pc1 (cb pc1 n) → Enters w pc1 n (n + 1) T s c1 z
+      → Runs w c1 (pc1 + length (cb pc1 n)) (n + 1) (1 + z) (Holds Varying T y) (vb T s))
+      → Runs w c (pc + length (logic_code Varying g (w.layout.spare Varying Truth n) x y pc k n ca cb)) n q
+      (Holds Varying a (w.layout.spare Varying Truth n))
+      (bind va (λ m s1. bind (value_unless_empty (gang_of w) (kept_by (needs g) a m) s1 vb) (λ z s2. Gives (settled g a m z) s2)))
   logic_each g c pc k n q a va vb x y ca cb em lk some inside has ra rb =
       bind_runs w ready c p1 n 1 q (Decided g n a) va _ _ n _
       (runs_on w ready c (pc + length ca + length mv) n 2 (1 + q) (Holds Varying a d) va p1 n (Decided g n a)
       (runs_on w ready c (pc + length ca) n 1 (2 + (1 + q)) (Holds Varying a x) va (pc + length ca + length mv) n (Holds Varying a d) ra
-      (λ m s ok. move_ok w ready c (pc + length ca) k n (2 + (1 + q)) a m s Varying Truth x ok (ok.masks k lk ∙ em) (are_front w.routine.code (pc + length ca) mv nd (are_back w.routine.code pc ca (mv ++ nd) (are_front w.routine.code pc (ca ++ (mv ++ nd)) _ has)))))
-      (λ m s ok. ok_to w ready c _ p1 n (1 + q) _ s here (needing_ok g c (pc + length ca + length mv) k n (1 + q) a m s lk em (are_back w.routine.code (pc + length ca) mv nd (are_back w.routine.code pc ca (mv ++ nd) (are_front w.routine.code pc (ca ++ (mv ++ nd)) _ has))) ok)))
+      (λ m s ok. move_ok w ready c (pc + length ca) k n (2 + (1 + q)) a m s Varying Truth x ok (ok.masks k lk ∙ em)
+      (are_front w.routine.code (pc + length ca) mv nd
+      (are_back w.routine.code pc ca (mv ++ nd) (are_front w.routine.code pc (ca ++ (mv ++ nd)) _ has)))))
+      (λ m s ok. ok_to w ready c _ p1 n (1 + q) _ s here
+      (needing_ok g c (pc + length ca + length mv) k n (1 + q) a m s lk em
+      (are_back w.routine.code (pc + length ca) mv nd (are_back w.routine.code pc ca (mv ++ nd)
+      (are_front w.routine.code pc (ca ++ (mv ++ nd)) _ has))) ok)))
       rest
     where
       d : ℕ
@@ -308,10 +368,36 @@ module _ (w : Setting) (ready : IsSettled w) where
           go true e =
               subst (λ u. Runs w c4 end n q1 (Holds Varying a d) (bind u (λ z s2. Gives (settled g a m z) s2))) (sym (unless_some (gang_of w) T s vb e))
               (bind_runs w ready c4 pcy (n + 1) 1 q1 (Holds Varying T y) (vb T s) (λ z s2. Gives (settled g a m z) s2) end n (Holds Varying a d)
-              (rb T s c4 (p1 + 1) q1 (are_front w.routine.code (p1 + 1) (cb (p1 + 1) n) last at1.1) (record { at = jump_at w ready c1 p1 jump.Off (mask_register n) to false ok.at (off_is true e); mask = ok.holds.1; some = e; inside = where_inside (Allowed w) a (needs g) v inside; stands = ok.stands; used = omega (arith, ok.bound); low = omega arith }))
-              (λ z s2 ok2. ok_to w ready c4 (pcy + 1) end n q1 _ s2 ends (joined_ok g c4 pcy k n q1 a m z s2 v y (ok_down w ready c4 pcy n (n + 1) (1 + q1) _ s2 (omega arith) ok2) ok.holds.0 (ok2.spares.vectors_stay Truth n (omega arith)) (ok2.masks n (omega arith) ∙ ok.holds.1) (are_back w.routine.code (p1 + 1) (cb (p1 + 1) n) last at1.1).0)))
+              (rb T s c4 (p1 + 1) q1 (are_front w.routine.code (p1 + 1) (cb (p1 + 1) n) last at1.1)
+              (record {
+                at = jump_at w ready c1 p1 jump.Off (mask_register n) to false ok.at (off_is true e);
+                mask = ok.holds.1;
+                some = e;
+                inside
+                    = where_inside (Allowed w) a (needs g) v inside;
+                stands = ok.stands;
+                used = omega (arith, ok.bound);
+                low = omega arith;
+              }))
+              (λ z s2 ok2. ok_to w ready c4 (pcy + 1) end n q1 _ s2 ends
+              (joined_ok g c4 pcy k n q1 a m z s2 v y (ok_down w ready c4 pcy n (n + 1) (1 + q1) _ s2 (omega arith) ok2) ok.holds.0
+              (ok2.spares.vectors_stay Truth n (omega arith)) (ok2.masks n (omega arith) ∙ ok.holds.1)
+              (are_back w.routine.code (p1 + 1) (cb (p1 + 1) n) last at1.1).0)))
           go false e =
               let off : T ≡ nobody = is_nobody (gang_of w) T (λ p h. (where_inside (Allowed w) a (needs g) v inside p h).0) e in
               let hz : spread T nothing ≡ on T v = subst (λ t. spread t nothing ≡ on t v) (sym off) refl in
               subst (λ u. Runs w c4 end n q1 (Holds Varying a d) (bind u (λ z s2. Gives (settled g a m z) s2))) (sym (unless_none (gang_of w) T s vb e))
-              (record { conf = c4; steps = 0; comes = comes_none w c4; at = at_to w c4 to end (jump_at w ready c1 p1 jump.Off (mask_register n) to true ok.at (off_is false e)) (omega (arith, ends, length-append (cb (p1 + 1) n) last)); stands = ok.stands; spares = spares_all w n c4; masks = λ i h. refl; holds = settled_at g a m nothing v v ok.holds.0 hz ∙ ap (λ t. Each (layer (on t v) (on a v))) off; bound = omega (arith, ok.bound) })
+              (record {
+                conf = c4;
+                steps = 0;
+                comes = comes_none w c4;
+                at = at_to w c4 to end
+                    (jump_at w ready c1 p1 jump.Off (mask_register n) to true ok.at (off_is false e))
+                    (omega (arith, ends, length-append (cb (p1 + 1) n) last));
+                stands = ok.stands;
+                spares = spares_all w n c4;
+                masks = λ i h. refl;
+                holds = settled_at g a m nothing v v ok.holds.0 hz
+                    ∙ ap (λ t. Each (layer (on t v) (on a v))) off;
+                bound = omega (arith, ok.bound);
+              })

@@ -165,7 +165,9 @@ module _ (rows new : List RegisterRow) (r : RegisterRow) (found : Option (ℕ ×
 -- where the row is refused, the map tells of the rows that are there
 pub refused_new : (rows : List RegisterRow) (r : RegisterRow) (found : Option (ℕ × Elem)) (m n : BTreeMap ℕ ℕ) (k len : ℕ) → Tells m (map row_of rows) → is_some found ≡ false → IfNone found (elem_in (map row_of rows) (name_of r.name) ≡ None)
     → k ≡ name_number (name_of r.name) → ((q : ℕ) → get nat_cmp n q ≡ cond (is_eq (nat_cmp k q)) (Some len) (get nat_cmp m q)) → Tells n (map row_of rows)
-refused_new rows r found m n k len tells absent at e put x t is = put (name_number x) ∙ ap (λ z. cond (is_eq (nat_cmp z (name_number x))) (Some len) (get nat_cmp m (name_number x))) e ∙ go (is_eq (nat_cmp (name_number (name_of r.name)) (name_number x))) refl
+refused_new rows r found m n k len tells absent at e put x t is = put (name_number x)
+    ∙ ap (λ z. cond (is_eq (nat_cmp z (name_number x))) (Some len) (get nat_cmp m (name_number x))) e
+    ∙ go (is_eq (nat_cmp (name_number (name_of r.name)) (name_number x))) refl
   where
     none : (o : Option (ℕ × Elem)) → is_some o ≡ false → IfNone o (elem_in (map row_of rows) (name_of r.name) ≡ None) → elem_in (map row_of rows) (name_of r.name) ≡ None
     none None out told = told

@@ -174,7 +174,13 @@ routine_at (k ∷ fs) zero g e = ap (λ z. Some (routine_for z)) (same_Some k g 
 routine_at (k ∷ fs) (suc f) g e = routine_at fs f g e
 
 linked : (fs : List TFunction) (n : ℕ) (rows : Rows) (masks : ℕ) (code : List Instr) → Links fs (with_places fs n) (with_rows rows masks code) (layout_of (rates_in fs) rows)
-linked fs n rows masks code = record { rates = refl; constants = kept_there (with_rows rows masks code) (rates_in fs) rows (rows_made rows masks code); headers = λ f g e. record { routine = routine_for g; found = routine_at fs f g e; params = params_held (params_of g); returns = refl } }
+linked fs n rows masks code = record {
+  rates = refl;
+  constants = kept_there (with_rows rows masks code) (rates_in fs) rows
+      (rows_made rows masks code);
+  headers = λ f g e. record
+      { routine = routine_for g; found = routine_at fs f g e; params = params_held (params_of g); returns = refl };
+}
 
 module _ (fs : List TFunction) (r : Reserve) (pc p k n : ℕ) (lt : k < r.masks) where
   abbrev rows : Rows

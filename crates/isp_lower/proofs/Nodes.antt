@@ -51,7 +51,10 @@ module _ (w : Setting) (ready : IsSettled w) where
   enters_later pc pc1 k n m z q q1 a s s1 c lt b ok le = record { at = ok.at; mask = ok.masks k b.low ∙ b.mask; some = b.some; inside = b.inside; stands = ok.stands; used = omega (arith, ok.bound); low = omega (arith, b.low) }
 
   -- one instruction that gives a value
-  pub leaf_runs : (g : Target) (pc k n q rest : ℕ) (a : Mask) (s : State) (c : Conf) (i : Instr) (r : Rate) (t : Elem) (x y : Payload) → rest ≤ 31 + q → Enters w pc k n a s c q → slice_get w.routine.code pc ≡ Some i → at_rate r a x ≡ y → Filled r a y → act w.code w.routine c i ≡ Go (set_at r c (target w.layout g r t n) y) → Leaves w g (target w.layout g r t n) c (pc + 1) n rest r a (Gives x (tick s))
+  pub leaf_runs : (g : Target) (pc k n q rest : ℕ) (a : Mask) (s : State) (c : Conf) (i : Instr) (r : Rate) (t : Elem) (x y : Payload) → rest ≤ 31 + q
+      → Enters w pc k n a s c q → slice_get w.routine.code pc ≡ Some i → at_rate r a x ≡ y → Filled r a y
+      → act w.code w.routine c i ≡ Go (set_at r c (target w.layout g r t n) y)
+      → Leaves w g (target w.layout g r t n) c (pc + 1) n rest r a (Gives x (tick s))
   leaf_runs g pc k n q rest a s c i r t x y le b has ex fill is =
       write_sure w ready g c c 0 pc (pc + 1) n rest a (tick s) i r t None Divide no_place x y (comes_none w c) b.at refl has b.stands (spares_all w n c) (λ k lt. refl) (omega (arith, b.used)) ex fill is
 
@@ -81,7 +84,9 @@ module _ (w : Setting) (ready : IsSettled w) where
   known_value (t_packed_store b x sp) v a s e = absurd (cc)
   known_value (t_packed_load b u sp) v a s e = absurd (cc)
 
-  vector_runs : (r : Rate) (x : TExpr) (pc k n q rest : ℕ) (a : Mask) (s : State) (c : Conf) → rest ≤ 31 + q → Enters w pc k n a s c q → in_vector w.layout r (known x) ≡ true → Runs w c (pc + 0) n rest (Holds r a (vector_of w.layout (known x))) (value (gang_of w) w.frame (calls_of w) x a s)
+  vector_runs : (r : Rate) (x : TExpr) (pc k n q rest : ℕ) (a : Mask) (s : State) (c : Conf) → rest ≤ 31 + q → Enters w pc k n a s c q
+      → in_vector w.layout r (known x) ≡ true → Runs w c (pc + 0) n rest (Holds r a (vector_of w.layout (known x)))
+      (value (gang_of w) w.frame (calls_of w) x a s)
   vector_runs r x pc k n q rest a s c le b is = go r (known x) refl is
     where
       go : (g : Rate) (o : Option Value) → known x ≡ o → in_vector w.layout g o ≡ true → Runs w c (pc + 0) n rest (Holds g a (vector_of w.layout o)) (value (gang_of w) w.frame (calls_of w) x a s)
@@ -103,13 +108,19 @@ module _ (w : Setting) (ready : IsSettled w) where
           })
 
   -- an operand, by the run of its own code
-  pub operand_runs : (c : Conf) (pc k n q rest : ℕ) (a : Mask) (s : State) (r : Rate) (t : Elem) (x : TExpr) (code : List Instr) → OperandFits w r t x n → heads x + (1 + rest) ≤ 5 + q → Enters w pc k n a s c q → AreAt w.routine.code pc (operand_of w.layout r x k n code) → (AreAt w.routine.code pc code → Runs w c (pc + length code) n (1 + rest) (Holds (type_of x).rate a (found w.layout x n)) (value (gang_of w) w.frame (calls_of w) x a s)) → Runs w c (pc + length (operand_of w.layout r x k n code)) n rest (Holds r a (operand w.layout r x n)) (value (gang_of w) w.frame (calls_of w) x a s)
+  pub operand_runs : (c : Conf) (pc k n q rest : ℕ) (a : Mask) (s : State) (r : Rate) (t : Elem) (x : TExpr) (code : List Instr)
+      → OperandFits w r t x n → heads x + (1 + rest) ≤ 5 + q → Enters w pc k n a s c q → AreAt w.routine.code pc (operand_of w.layout r x k n code)
+      → (AreAt w.routine.code pc code → Runs w c (pc + length code) n (1 + rest) (Holds (type_of x).rate a (found w.layout x n))
+      (value (gang_of w) w.frame (calls_of w) x a s)) → Runs w c (pc + length (operand_of w.layout r x k n code)) n rest
+      (Holds r a (operand w.layout r x n)) (value (gang_of w) w.frame (calls_of w) x a s)
   operand_runs c pc k n q rest a s r t x code fit le b has run = go (in_vector w.layout r (known x)) refl has
     where
       lift : List Instr
       lift = lift_code w.layout r (type_of x).rate (type_of x).elem (found w.layout x n) k n
 
-      go : (z : Bool) → in_vector w.layout r (known x) ≡ z → AreAt w.routine.code pc (unless_kept z (code ++ lift)) → Runs w c (pc + length (unless_kept z (code ++ lift))) n rest (Holds r a (operand_by w.layout z r x n)) (value (gang_of w) w.frame (calls_of w) x a s)
+      go : (z : Bool) → in_vector w.layout r (known x) ≡ z → AreAt w.routine.code pc (unless_kept z (code ++ lift))
+          → Runs w c (pc + length (unless_kept z (code ++ lift))) n rest (Holds r a (operand_by w.layout z r x n))
+          (value (gang_of w) w.frame (calls_of w) x a s)
       go true e at = vector_runs r x pc k n q rest a s c (omega (arith, le)) b e
       go false e at =
           let v = value (gang_of w) w.frame (calls_of w) x a s in
@@ -118,7 +129,11 @@ module _ (w : Setting) (ready : IsSettled w) where
           (lift_runs w ready c (pc + length code) k n rest a v r (type_of x).rate (type_of x).elem (found w.layout x n) fit.reaches b.mask b.low (are_back w.routine.code pc code lift at) (run (are_front w.routine.code pc code lift at)))
 
   -- an operand and an instruction on it
-  pub one_runs : (g : Target) (c : Conf) (pc k n q : ℕ) (a : Mask) (va : Val Payload) (r : Rate) (t : Elem) (x : ℕ) (ca : List Instr) (i : Instr) (f : ℕ → ℕ) → c.masks k ≡ a → k < n → AreAt w.routine.code pc (ca ++ i ∷ []) → ((c : Conf) → act w.code w.routine c i ≡ Go (set_at r c (target w.layout g r t n) (mapped f (value_at r c k x)))) → Runs w c (pc + length ca) n (1 + q) (Holds r a x) va → Leaves w g (target w.layout g r t n) c (pc + length (ca ++ i ∷ [])) n q r a (bind va (λ m s. Gives (mapped f m) s))
+  pub one_runs : (g : Target) (c : Conf) (pc k n q : ℕ) (a : Mask) (va : Val Payload) (r : Rate) (t : Elem) (x : ℕ) (ca : List Instr) (i : Instr)
+      (f : ℕ → ℕ) → c.masks k ≡ a → k < n → AreAt w.routine.code pc (ca ++ i ∷ [])
+      → ((c : Conf) → act w.code w.routine c i ≡ Go (set_at r c (target w.layout g r t n) (mapped f (value_at r c k x))))
+      → Runs w c (pc + length ca) n (1 + q) (Holds r a x) va
+      → Leaves w g (target w.layout g r t n) c (pc + length (ca ++ i ∷ [])) n q r a (bind va (λ m s. Gives (mapped f m) s))
   one_runs g c pc k n q a va r t x ca i f em lt has line ra =
       let to : pc + length ca + 1 ≡ pc + length (ca ++ i ∷ []) = omega (arith, length-append ca (i ∷ [])) in
       bind_leaves w ready g (target w.layout g r t n) c (pc + length ca) n 1 q _ va _ _ n r a ra
@@ -126,10 +141,23 @@ module _ (w : Setting) (ready : IsSettled w) where
       let c2 = ok.conf in
       let y = mapped f (held_at r c2.scalars c2.vectors a x) in
       let is : act w.code w.routine c2 i ≡ Go (set_at r c2 (target w.layout g r t n) y) = line c2 ∙ ap (λ b. Go (set_at r c2 (target w.layout g r t n) (mapped f (held_at r c2.scalars c2.vectors b x)))) (ok.masks k lt ∙ em) in
-      write_sure w ready g c c2 ok.steps (pc + length ca) _ n q a s i r t None Divide no_place (mapped f m) y ok.comes ok.at to (are_back w.routine.code pc ca (i ∷ []) has).0 ok.stands ok.spares ok.masks (omega (arith, ok.bound)) (at_mapped r a f m ∙ ap (mapped f) ok.holds) (filled_mapped r a f c2.scalars c2.vectors x) is)
+      write_sure w ready g c c2 ok.steps (pc + length ca) _ n q a s i r t None Divide no_place (mapped f m) y ok.comes ok.at to
+      (are_back w.routine.code pc ca (i ∷ []) has).0 ok.stands ok.spares ok.masks (omega (arith, ok.bound))
+      (at_mapped r a f m ∙ ap (mapped f) ok.holds) (filled_mapped r a f c2.scalars c2.vectors x) is)
 
   -- two operands and an instruction on them, which may trap by the second
-  pub pair_runs : (g : Target) (c : Conf) (pc k n q : ℕ) (a : Mask) (va : Val Payload) (vb : Payload → State → Val Payload) (r : Rate) (t : Elem) (x y : ℕ) (ca : List Instr) (cb : ℕ → List Instr) (i : Instr) (f : ℕ → ℕ → ℕ) (o : Payload → Option ℕ) (kind : TrapKind) (sp : Span) → c.masks k ≡ a → k < n → Low w.layout r (n + 1) x → AreAt w.routine.code pc (pair_code pc ca cb i) → ((z : Payload) → o z ≡ o (at_rate r a z)) → ((c : Conf) → c.masks k ≡ a → act w.code w.routine c i ≡ moved_by (o (held_at r c.scalars c.vectors a y)) kind sp (set_at r c (target w.layout g r t n) (joined f a (held_at r c.scalars c.vectors a x) (held_at r c.scalars c.vectors a y)))) → Runs w c (pc + length ca) n (1 + q) (Holds r a x) va → ((m : Payload) (s : State) (ok : Ok w c (pc + length ca) n (1 + q) (Holds r a x m) s) → Runs w ok.conf (pc + length ca + length (cb (pc + length ca))) (n + 1) (1 + (ok.steps + q)) (Holds r a y) (vb m s)) → ((m : Payload) (s : State) → KeepsBy w.layout.loaded s (vb m s)) → Leaves w g (target w.layout g r t n) c (pc + length (pair_code pc ca cb i)) n q r a (bind va (λ m s. bind (vb m s) (λ z s'. checked (o z) kind sp s' (joined f a m z))))
+  pub pair_runs : (g : Target) (c : Conf) (pc k n q : ℕ) (a : Mask) (va : Val Payload) (vb : Payload → State → Val Payload) (r : Rate) (t : Elem)
+      (x y : ℕ) (ca : List Instr) (cb : ℕ → List Instr) (i : Instr) (f : ℕ → ℕ → ℕ) (o : Payload → Option ℕ) (kind : TrapKind) (sp : Span)
+      → c.masks k ≡ a → k < n → Low w.layout r (n + 1) x → AreAt w.routine.code pc (pair_code pc ca cb i) → ((z : Payload) → o z ≡ o (at_rate r a z))
+      → ((c : Conf) → c.masks k ≡ a → act w.code w.routine c i
+      ≡ moved_by (o (held_at r c.scalars c.vectors a y)) kind sp
+      (set_at r c (target w.layout g r t n) (joined f a (held_at r c.scalars c.vectors a x) (held_at r c.scalars c.vectors a y))))
+      → Runs w c (pc + length ca) n (1 + q) (Holds r a x) va
+      → ((m : Payload) (s : State) (ok : Ok w c (pc + length ca) n (1 + q) (Holds r a x m) s)
+      → Runs w ok.conf (pc + length ca + length (cb (pc + length ca))) (n + 1) (1 + (ok.steps + q)) (Holds r a y) (vb m s))
+      → ((m : Payload) (s : State) → KeepsBy w.layout.loaded s (vb m s))
+      → Leaves w g (target w.layout g r t n) c (pc + length (pair_code pc ca cb i)) n q r a
+      (bind va (λ m s. bind (vb m s) (λ z s'. checked (o z) kind sp s' (joined f a m z))))
   pair_runs g c pc k n q a va vb r t x y ca cb i f o kind sp em lt low has ocong line ra rb still =
       let b = cb (pc + length ca) in
       let to : pc + length ca + length b + 1 ≡ pc + length (ca ++ (b ++ i ∷ [])) = omega (arith, length-append ca (b ++ i ∷ []), length-append b (i ∷ [])) in
@@ -147,4 +175,7 @@ module _ (w : Setting) (ready : IsSettled w) where
       let ex : at_rate r a m ≡ u = ok.holds ∙ sym (held_kept w r (n + 1) c1 c2 a x ok2.holds.1 low) in
       let eo : o v ≡ o z = ap o (sym ok2.holds.0) ∙ sym (ocong z) in
       let is : act w.code w.routine c2 i ≡ moved_by (o z) kind sp (set_at r c2 (target w.layout g r t n) (joined f a u v)) = line c2 e2 ∙ ap (λ p. moved_by p kind sp (set_at r c2 (target w.layout g r t n) (joined f a u v))) eo in
-      write_sure w ready g c1 c2 ok2.steps _ _ n (ok.steps + q) a s' i r t (o z) kind sp (joined f a m z) (joined f a u v) ok2.comes ok2.at to here ok2.stands (spares_less w n (n + 1) c1 c2 (omega arith) ok2.spares) (λ j h. ok2.masks j (omega arith)) (omega (arith, ok2.bound)) (at_joined r a f m z ∙ ap (λ p. joined f a p (at_rate r a z)) ex ∙ ap (joined f a u) ok2.holds.0) (filled_joined r a f c2.scalars c2.vectors x y) is)))
+      write_sure w ready g c1 c2 ok2.steps _ _ n (ok.steps + q) a s' i r t (o z) kind sp (joined f a m z) (joined f a u v) ok2.comes ok2.at to here
+      ok2.stands (spares_less w n (n + 1) c1 c2 (omega arith) ok2.spares) (λ j h. ok2.masks j (omega arith)) (omega (arith, ok2.bound))
+      (at_joined r a f m z ∙ ap (λ p. joined f a p (at_rate r a z)) ex ∙ ap (joined f a u) ok2.holds.0)
+      (filled_joined r a f c2.scalars c2.vectors x y) is)))

@@ -7,11 +7,15 @@ use Rattle.isp_base.specs.declared.types.Rate.{Rate}
 use Rattle.isp_base.specs.declared.types.Rate.TheVariants.{Uniform, Varying}
 use Rattle.isp_base.specs.declared.types.Ty.{Ty}
 use Rattle.isp_typed.specs.Fine.{HoldsArray, HoldsValue, FineExpr, FinePlace, FineBase, FineCall, FineArguments, FineArgument, FineParts, params_of, FineTarget, FineSimple, FineItem}
-use Rattle.isp_typed.specs.Typed.{TExpr, t_constant, t_program_index, t_place, t_convert, t_cast, t_unary, t_binary, t_compare, t_logic, t_choose, t_call, t_library, t_packed_store, t_packed_load, TPlace, t_variable, t_element, TBase, t_whole, t_from, TArgument, t_by_value, t_by_name, TCall, t_called, TArguments, t_no_arguments, t_argument_then, TExprs, t_no_exprs, t_expr_then, TItem, t_plain, t_with_value, t_with_size, TSimple, t_value, t_run, t_assign, t_update, t_step, TFunction, place_type, ty_of, type_of}
+use Rattle.isp_typed.specs.Typed.{TExpr, t_constant, t_program_index, t_place, t_convert, t_cast, t_unary, t_binary, t_compare, t_logic, t_choose, t_call, t_library, t_packed_store, t_packed_load, TPlace}
+use Rattle.isp_typed.specs.Typed.{t_variable, t_element, TBase, t_whole, t_from, TArgument, t_by_value, t_by_name, TCall, t_called, TArguments, t_no_arguments, t_argument_then, TExprs, t_no_exprs, t_expr_then}
+use Rattle.isp_typed.specs.Typed.{TItem, t_plain, t_with_value, t_with_size, TSimple, t_value, t_run, t_assign, t_update, t_step, TFunction, place_type, ty_of, type_of}
 use Rattle.isp_typed.specs.declared.variable.Holds.{Holds}
 use Rattle.isp_typed.specs.declared.variable.Holds.TheVariants as holds
 use Rattle.isp_typed.specs.declared.variable.Variable.{Variable}
-use Rattle.isp_lower.specs.Asks.{Ask, Nothing, Both, Register, ArrayOf, LocalOf, MaskOf, Number, Loads, All, first_slot, second_slot, beyond, lift_asks, test_asks, sides_ask, read_asks, copy_asks, value_asks, work_asks, zero_asks, expr_asks, target_asks, base_asks, values_asks, call_asks, arguments_asks, argument_asks, change_asks, simple_asks, item_asks, place_asks, run_asks, start_asks}
+use Rattle.isp_lower.specs.Asks.{Ask, Nothing, Both, Register, ArrayOf, LocalOf, MaskOf, Number, Loads, All, first_slot, second_slot, beyond, lift_asks, test_asks}
+use Rattle.isp_lower.specs.Asks.{sides_ask, read_asks, copy_asks, value_asks, work_asks, zero_asks, expr_asks, target_asks, base_asks, values_asks, call_asks}
+use Rattle.isp_lower.specs.Asks.{arguments_asks, argument_asks, change_asks, simple_asks, item_asks, place_asks, run_asks, start_asks}
 use Rattle.isp_typed.specs.Library.{parts}
 use Rattle.isp_typed.specs.declared.library.Part.{Part}
 use Rattle.isp_lower.specs.Callees.{next_rate, later}

@@ -111,17 +111,33 @@ abbrev pub with_loaded : Conf → ℕ → Map → Conf
 with_loaded c v x = record c { vectors = put c.vectors v (over x (c.vectors v)) }
 
 module _ (code : Listing) (h : Routine) (c : Conf) where
-  store_line : (d b i y k q : ℕ) → act code h c (packed_store d b i y k q) ≡ moved_by (lowest (gang_width code.gang) (packed_outside (size code h c (array_register b)) (number I64 (c.scalars i)) (c.masks k))) Index (place_at code q) (set_at Uniform (with_stored code c b (number I64 (c.scalars i)) (c.masks k) y) d (One (rank (c.masks k) (gang_width code.gang))))
+  store_line : (d b i y k q : ℕ) → act code h c (packed_store d b i y k q)
+      ≡ moved_by (lowest (gang_width code.gang) (packed_outside (size code h c (array_register b)) (number I64 (c.scalars i)) (c.masks k))) Index
+      (place_at code q) (set_at Uniform (with_stored code c b (number I64 (c.scalars i)) (c.masks k) y) d
+      (One (rank (c.masks k) (gang_width code.gang))))
   store_line d b i y k q =
-      unless_is code h c (lowest (gang_width code.gang) (packed_outside (size code h c (array_register b)) (number I64 (c.scalars i)) (c.masks k))) Index q (packed_stored code h c (register Uniform d) (array_register b) (number I64 (c.scalars i)) (register Varying y) (mask_register k)) (λ c1. c1)
+      unless_is code h c (lowest (gang_width code.gang) (packed_outside (size code h c (array_register b)) (number I64 (c.scalars i)) (c.masks k)))
+      Index q (packed_stored code h c (register Uniform d) (array_register b) (number I64 (c.scalars i)) (register Varying y) (mask_register k))
+      (λ c1. c1)
 
-  load_line : (d b i y k q : ℕ) → act code h c (packed_load d b i y k q) ≡ moved_by (lowest (gang_width code.gang) (packed_outside (size code h c (array_register b)) (number I64 (c.scalars i)) (c.masks k))) Index (place_at code q) (set_at Uniform (with_loaded c y (elements_at c b (number I64 (c.scalars i)) (c.masks k))) d (One (rank (c.masks k) (gang_width code.gang))))
+  load_line : (d b i y k q : ℕ) → act code h c (packed_load d b i y k q)
+      ≡ moved_by (lowest (gang_width code.gang) (packed_outside (size code h c (array_register b)) (number I64 (c.scalars i)) (c.masks k))) Index
+      (place_at code q) (set_at Uniform (with_loaded c y (elements_at c b (number I64 (c.scalars i)) (c.masks k))) d
+      (One (rank (c.masks k) (gang_width code.gang))))
   load_line d b i y k q =
-      unless_is code h c (lowest (gang_width code.gang) (packed_outside (size code h c (array_register b)) (number I64 (c.scalars i)) (c.masks k))) Index q (packed_loaded code h c (register Uniform d) (array_register b) (number I64 (c.scalars i)) (register Varying y) (mask_register k)) (λ c1. c1)
+      unless_is code h c (lowest (gang_width code.gang) (packed_outside (size code h c (array_register b)) (number I64 (c.scalars i)) (c.masks k)))
+      Index q (packed_loaded code h c (register Uniform d) (array_register b) (number I64 (c.scalars i)) (register Varying y) (mask_register k))
+      (λ c1. c1)
 
 module _ (w : Setting) (ready : IsSettled w) where
   -- an instruction that counts, and changes the state besides, or traps
-  counted_leaves : (u : Target) (c c1 c2 : Conf) (t pc pc' n q : ℕ) (a : Mask) (s : State) (i : Instr) (o : Option ℕ) (sp : Span) (count : ℕ) (m : Payload) (go : Payload → State → State) → Comes w c t c1 → At w c1 pc → pc + 1 ≡ pc' → slice_get w.routine.code pc ≡ Some i → Stands w s c1 → Spares w n c c1 → act w.code w.routine c1 i ≡ moved_by o Index sp (set_at Uniform c2 (target w.layout u Uniform I32 n) (One count)) → record (set_at Uniform c2 (target w.layout u Uniform I32 n) (One count)) { out = c1.out } ≡ set_at Uniform c2 (target w.layout u Uniform I32 n) (One count) → At w c2 pc → (o ≡ None → Stands w (go m s) c2) → Spares w n c c2 → ((r : ℕ) → r < n → c2.masks r ≡ c.masks r) → t + 1 + q ≤ 32 * s.work → t + 1 + q ≤ 32 * (go m s).work → Leaves w u (target w.layout u Uniform I32 n) c pc' n q Uniform a (bind (checked o Index sp s m) (λ x s2. Gives (One count) (go x s2)))
+  counted_leaves : (u : Target) (c c1 c2 : Conf) (t pc pc' n q : ℕ) (a : Mask) (s : State) (i : Instr) (o : Option ℕ) (sp : Span) (count : ℕ)
+      (m : Payload) (go : Payload → State → State) → Comes w c t c1 → At w c1 pc → pc + 1 ≡ pc' → slice_get w.routine.code pc ≡ Some i → Stands w s c1
+      → Spares w n c c1 → act w.code w.routine c1 i ≡ moved_by o Index sp (set_at Uniform c2 (target w.layout u Uniform I32 n) (One count))
+      → record (set_at Uniform c2 (target w.layout u Uniform I32 n) (One count)) { out = c1.out }
+      ≡ set_at Uniform c2 (target w.layout u Uniform I32 n) (One count) → At w c2 pc → (o ≡ None → Stands w (go m s) c2) → Spares w n c c2
+      → ((r : ℕ) → r < n → c2.masks r ≡ c.masks r) → t + 1 + q ≤ 32 * s.work → t + 1 + q ≤ 32 * (go m s).work
+      → Leaves w u (target w.layout u Uniform I32 n) c pc' n q Uniform a (bind (checked o Index sp s m) (λ x s2. Gives (One count) (go x s2)))
   counted_leaves u c c1 c2 t pc pc' n q a s i None sp count m go h at to has st ke is out at2 st2 ke2 ma2 le le2 =
       let d = target w.layout u Uniform I32 n in
       let c3 = set_at Uniform c2 d (One count) in
@@ -138,14 +154,24 @@ module _ (w : Setting) (ready : IsSettled w) where
       named_is w ready y c pc at is.1
 
   -- who traps, in the words of the meaning
-  traps_are : (y : ArrayVariable) (z : ℤ) (a : Mask) (c : Conf) (pc k j p : ℕ) (sp : Span) (c3 : Mask → Conf) → ArrayFits w y → At w c pc → slice_get w.code.places p ≡ Some sp → c.masks k ≡ a → IsFirst z (c.scalars j) → moved_by (lowest (gang_of w) (packed_outside (size w.code w.routine c (array_register (w.layout.array y.number))) (number I64 (c.scalars j)) (c.masks k))) Index (place_at w.code p) (c3 (c.masks k)) ≡ moved_by (lowest (gang_of w) (packed_outside (extent w.frame y) z a)) Index sp (c3 a)
+  traps_are : (y : ArrayVariable) (z : ℤ) (a : Mask) (c : Conf) (pc k j p : ℕ) (sp : Span) (c3 : Mask → Conf) → ArrayFits w y → At w c pc
+      → slice_get w.code.places p ≡ Some sp → c.masks k ≡ a → IsFirst z (c.scalars j)
+      → moved_by (lowest (gang_of w) (packed_outside (size w.code w.routine c (array_register (w.layout.array y.number))) (number I64 (c.scalars j))
+      (c.masks k))) Index (place_at w.code p) (c3 (c.masks k)) ≡ moved_by (lowest (gang_of w) (packed_outside (extent w.frame y) z a)) Index sp (c3 a)
   traps_are y z a c pc k j p sp c3 fy at place em first =
       ap (λ m. moved_by (lowest (gang_of w) (packed_outside (size w.code w.routine c (array_register (w.layout.array y.number))) (number I64 (c.scalars j)) m)) Index (place_at w.code p) (c3 m)) em
       ∙ ap (λ g. moved_by (lowest (gang_of w) (packed_outside g (number I64 (c.scalars j)) a)) Index (place_at w.code p) (c3 a)) (size_at w y.ty.rate y c pc ready.sizes at fy.is)
       ∙ ap (λ o. moved_by o Index (place_at w.code p) (c3 a)) (first_outside (gang_of w) (extent w.frame y) z (c.scalars j) a fy.few first)
       ∙ ap (λ l. moved_by (lowest (gang_of w) (packed_outside (extent w.frame y) z a)) Index l (c3 a)) (place_named w.code w.routine c p sp place)
 
-  pub store_leaves : (u : Target) (y : ArrayVariable) (z : ℤ) (m : Payload) (a : Mask) (s : State) (c c1 : Conf) (t pc pc' k j x n q p : ℕ) (sp : Span) → ArrayFits w y → y.ty.rate ≡ Uniform → any (gang_of w) a ≡ true → Comes w c t c1 → At w c1 pc → pc + 1 ≡ pc' → slice_get w.routine.code pc ≡ Some (packed_store (target w.layout u Uniform I32 n) (w.layout.array y.number) j x k p) → slice_get w.code.places p ≡ Some sp → Stands w s c1 → Spares w n c c1 → ((r : ℕ) → r < n → c1.masks r ≡ c.masks r) → c1.masks k ≡ a → t + 1 + q ≤ 32 * s.work → IsFirst z (c1.scalars j) → Holds Varying a x m c1 → Leaves w u (target w.layout u Uniform I32 n) c pc' n q Uniform a (bind (checked (lowest (gang_of w) (packed_outside (extent w.frame y) z a)) Index sp s m) (λ v s3. Gives (One (rank a (gang_of w))) (packed_kept (gang_of w) (w.frame.named y.number) z a v s3)))
+  pub store_leaves : (u : Target) (y : ArrayVariable) (z : ℤ) (m : Payload) (a : Mask) (s : State) (c c1 : Conf) (t pc pc' k j x n q p : ℕ)
+      (sp : Span) → ArrayFits w y → y.ty.rate ≡ Uniform → any (gang_of w) a ≡ true → Comes w c t c1 → At w c1 pc → pc + 1 ≡ pc'
+      → slice_get w.routine.code pc ≡ Some (packed_store (target w.layout u Uniform I32 n) (w.layout.array y.number) j x k p)
+      → slice_get w.code.places p ≡ Some sp → Stands w s c1 → Spares w n c c1 → ((r : ℕ) → r < n → c1.masks r ≡ c.masks r) → c1.masks k ≡ a
+      → t + 1 + q ≤ 32 * s.work → IsFirst z (c1.scalars j) → Holds Varying a x m c1
+      → Leaves w u (target w.layout u Uniform I32 n) c pc' n q Uniform a
+      (bind (checked (lowest (gang_of w) (packed_outside (extent w.frame y) z a)) Index sp s m)
+      (λ v s3. Gives (One (rank a (gang_of w))) (packed_kept (gang_of w) (w.frame.named y.number) z a v s3)))
   store_leaves u y z m a s c c1 t pc pc' k j x n q p sp fy er some h at to has place st ke ma em le first hold =
       let d = target w.layout u Uniform I32 n in
       let A = w.layout.array y.number in
@@ -162,11 +188,31 @@ module _ (w : Setting) (ready : IsSettled w) where
       let ez : z1 ≡ z = first_same (gang_of w) (extent w.frame y) z (c1.scalars j) a fy.few first some none in
       let ex : on a (c1.vectors x) ≡ spread a m = ap (spread nobody) (sym hold) in
       let ea : c1.arrays N ≡ s.arrays (w.frame.named y.number) = ap c1.arrays en ∙ ap (λ g. g (w.frame.named y.number)) st.arrays_are in
-      let ef : F ≡ scatter (gang_of w) (packed_places z a) (spread a m) (s.arrays (w.frame.named y.number)) = ap (λ v. scatter (gang_of w) (packed_places v a) (on a (c1.vectors x)) (c1.arrays N)) ez ∙ ap (λ v. scatter (gang_of w) (packed_places z a) v (c1.arrays N)) ex ∙ ap (scatter (gang_of w) (packed_places z a) (spread a m)) ea in
-      record { uniforms = st.uniforms; varying = st.varying; result = st.result; results = st.results; own_arrays = st.own_arrays; arrays_are = arrays_put w ready c1 s N (w.frame.named y.number) F _ st.arrays_are en ef; out_is = st.out_is; run = st.run; constants = st.constants })
+      let ef : F ≡ scatter (gang_of w) (packed_places z a) (spread a m) (s.arrays (w.frame.named y.number)) = ap
+      (λ v. scatter (gang_of w) (packed_places v a) (on a (c1.vectors x)) (c1.arrays N)) ez
+      ∙ ap (λ v. scatter (gang_of w) (packed_places z a) v (c1.arrays N)) ex ∙ ap (scatter (gang_of w) (packed_places z a) (spread a m)) ea in
+      record {
+        uniforms = st.uniforms;
+        varying = st.varying;
+        result = st.result;
+        results = st.results;
+        own_arrays = st.own_arrays;
+        arrays_are =
+            arrays_put w ready c1 s N (w.frame.named y.number) F _ st.arrays_are en ef;
+        out_is = st.out_is;
+        run = st.run;
+        constants = st.constants;
+      })
       (record { scalars_stay = ke.scalars_stay; vectors_stay = ke.vectors_stay }) ma le le
 
-  pub load_leaves : (u : Target) (y : ArrayVariable) (z : ℤ) (v : ℕ) (a : Mask) (s : State) (c c1 : Conf) (t pc pc' k j n q p : ℕ) (sp : Span) → IsOther w v → ArrayFits w y → y.ty.rate ≡ Uniform → any (gang_of w) a ≡ true → Comes w c t c1 → At w c1 pc → pc + 1 ≡ pc' → slice_get w.routine.code pc ≡ Some (packed_load (target w.layout u Uniform I32 n) (w.layout.array y.number) j (w.layout.variable Varying v) k p) → slice_get w.code.places p ≡ Some sp → Stands w s c1 → Spares w n c c1 → ((r : ℕ) → r < n → c1.masks r ≡ c.masks r) → c1.masks k ≡ a → t + 1 + q ≤ 32 * s.work → IsFirst z (c1.scalars j) → Leaves w u (target w.layout u Uniform I32 n) c pc' n q Uniform a (bind (checked (lowest (gang_of w) (packed_outside (extent w.frame y) z a)) Index sp s (packed_held (w.frame.named y.number) z a s)) (λ m s3. Gives (One (rank a (gang_of w))) (written Varying v a m s3)))
+  pub load_leaves : (u : Target) (y : ArrayVariable) (z : ℤ) (v : ℕ) (a : Mask) (s : State) (c c1 : Conf) (t pc pc' k j n q p : ℕ) (sp : Span)
+      → IsOther w v → ArrayFits w y → y.ty.rate ≡ Uniform → any (gang_of w) a ≡ true → Comes w c t c1 → At w c1 pc → pc + 1 ≡ pc'
+      → slice_get w.routine.code pc ≡ Some (packed_load (target w.layout u Uniform I32 n) (w.layout.array y.number) j (w.layout.variable Varying v) k
+      p) → slice_get w.code.places p ≡ Some sp → Stands w s c1 → Spares w n c c1 → ((r : ℕ) → r < n → c1.masks r ≡ c.masks r) → c1.masks k ≡ a
+      → t + 1 + q ≤ 32 * s.work → IsFirst z (c1.scalars j)
+      → Leaves w u (target w.layout u Uniform I32 n) c pc' n q Uniform a
+      (bind (checked (lowest (gang_of w) (packed_outside (extent w.frame y) z a)) Index sp s (packed_held (w.frame.named y.number) z a s))
+      (λ m s3. Gives (One (rank a (gang_of w))) (written Varying v a m s3)))
   load_leaves u y z v a s c c1 t pc pc' k j n q p sp other fy er some h at to has place st ke ma em le first =
       let d = target w.layout u Uniform I32 n in
       let A = w.layout.array y.number in
@@ -183,7 +229,9 @@ module _ (w : Setting) (ready : IsSettled w) where
       (λ none.
       let ez : z1 ≡ z = first_same (gang_of w) (extent w.frame y) z (c1.scalars j) a fy.few first some none in
       let ea : c1.arrays (c1.home.named A) ≡ s.arrays (w.frame.named y.number) = ap c1.arrays en ∙ ap (λ g. g (w.frame.named y.number)) st.arrays_are in
-      let ex : Each (on a (λ p. s.arrays (w.frame.named y.number) (unsigned_abs (packed_index z a p)))) ≡ Each x = sym (ap (λ g. Each (on a (λ p. c1.arrays (c1.home.named A) (unsigned_abs (packed_index g a p))))) ez ∙ ap (λ g. Each (on a (λ p. g (unsigned_abs (packed_index z a p))))) ea) in
+      let ex : Each (on a (λ p. s.arrays (w.frame.named y.number) (unsigned_abs (packed_index z a p))))
+      ≡ Each x = sym (ap (λ g. Each (on a (λ p. c1.arrays (c1.home.named A) (unsigned_abs (packed_index g a p))))) ez
+      ∙ ap (λ g. Each (on a (λ p. g (unsigned_abs (packed_index z a p))))) ea) in
       let g = written_stands w ready Varying v c1 a m s (Each x) st ex other in
       record { uniforms = g.uniforms; varying = g.varying; result = g.result; results = g.results; own_arrays = g.own_arrays; arrays_are = g.arrays_are; out_is = g.out_is; run = g.run; constants = g.constants })
       (let k2 = spares_on w n c c1 (set_at Varying c1 V (Each x)) ke (variable_spares w ready Varying v n c1 (Each x)) in record { scalars_stay = k2.scalars_stay; vectors_stay = k2.vectors_stay }) ma le le

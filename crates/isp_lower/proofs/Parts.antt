@@ -8,7 +8,9 @@ use Rattle.isp_base.specs.declared.types.Elem.{Elem}
 use Rattle.isp_base.specs.declared.types.Elem.TheVariants.{Bool as Truth, I32, I64}
 use Rattle.isp_base.specs.declared.types.Rate.{Rate}
 use Rattle.isp_base.specs.declared.types.Rate.TheVariants.{Uniform, Varying}
-use Rattle.isp_typed.specs.Typed.{TExpr, t_constant, t_program_index, t_place, t_convert, t_cast, t_unary, t_binary, t_compare, t_logic, t_choose, t_call, t_library, t_packed_store, t_packed_load, TPlace, t_variable, t_element, TBase, t_whole, t_from, TArgument, t_by_value, t_by_name, TCall, t_called, TArguments, t_no_arguments, t_argument_then, TExprs, t_no_exprs, t_expr_then, TFunction, TItem, t_plain, t_with_value, t_with_size, TSimple, t_value, t_run, t_assign, t_update, t_step, place_type, type_of}
+use Rattle.isp_typed.specs.Typed.{TExpr, t_constant, t_program_index, t_place, t_convert, t_cast, t_unary, t_binary, t_compare, t_logic, t_choose, t_call, t_library, t_packed_store, t_packed_load, TPlace}
+use Rattle.isp_typed.specs.Typed.{t_variable, t_element, TBase, t_whole, t_from, TArgument, t_by_value, t_by_name, TCall, t_called, TArguments, t_no_arguments, t_argument_then, TExprs, t_no_exprs, t_expr_then}
+use Rattle.isp_typed.specs.Typed.{TFunction, TItem, t_plain, t_with_value, t_with_size, TSimple, t_value, t_run, t_assign, t_update, t_step, place_type, type_of}
 use Rattle.isp_typed.specs.Fine.{heads, HoldsArray, params_of}
 use Rattle.isp_typed.specs.declared.variable.Holds.{Holds}
 use Rattle.isp_typed.specs.declared.variable.Holds.TheVariants as holds
@@ -99,7 +101,9 @@ module _ (w : Setting) where
     ExprParts (t_logic g x y r sp) n =
         OperandFits r Truth x n × OperandFits r Truth y (n + 1) × SpareFits r Truth n × ExprParts x n × ExprParts y (n + 1)
     ExprParts (t_choose c x y t sp) n =
-        ((type_of c).elem ≡ Truth) × Reaches (type_of c).rate t.rate × SpareFits t.rate t.elem n × OperandFits t.rate t.elem x (first_slot (type_of c).rate n) × OperandFits t.rate t.elem y (second_slot (type_of c).rate n) × ExprParts c n × ExprParts x (first_slot (type_of c).rate n) × ExprParts y (second_slot (type_of c).rate n)
+        ((type_of c).elem ≡ Truth) × Reaches (type_of c).rate t.rate × SpareFits t.rate t.elem n
+        × OperandFits t.rate t.elem x (first_slot (type_of c).rate n) × OperandFits t.rate t.elem y (second_slot (type_of c).rate n)
+        × ExprParts c n × ExprParts x (first_slot (type_of c).rate n) × ExprParts y (second_slot (type_of c).rate n)
     ExprParts (t_call c t) n = SpareFits t.rate t.elem n × CallParts c (Some t) n
     ExprParts (t_library f e xs t sp) n = LibraryTyped f e xs t × SpareFits t.rate t.elem n × ValuesParts (library_rates f t.rate) xs n
     ExprParts (t_packed_store b x sp) n =

@@ -31,7 +31,9 @@ use Rattle.isp_lower.specs.Asks.{beyond, is_lane}
 
 module _ (w : Setting) (ready : IsSettled w) where
   -- the index goes first
-  pub place_runs : (z : TPlace) (pc p k n d q : ℕ) (a : Mask) (s : State) (c : Conf) → d ≤ 20 → PlaceParts w z n → AreAt w.routine.code pc (index_code w.layout z pc p k n) → AreAt w.code.places p (index_places w.layout z) → Enters w pc k n a s c q → Runs w c (pc + length (index_code w.layout z pc p k n)) n (d + q) (PlaceHolds w ready z n a) (place (gang_of w) w.frame (calls_of w) z a s)
+  pub place_runs : (z : TPlace) (pc p k n d q : ℕ) (a : Mask) (s : State) (c : Conf) → d ≤ 20 → PlaceParts w z n
+      → AreAt w.routine.code pc (index_code w.layout z pc p k n) → AreAt w.code.places p (index_places w.layout z) → Enters w pc k n a s c q
+      → Runs w c (pc + length (index_code w.layout z pc p k n)) n (d + q) (PlaceHolds w ready z n a) (place (gang_of w) w.frame (calls_of w) z a s)
   place_runs (t_variable v t sv) pc p k n d q a s c le fit has places b = record {
     conf = c;
     steps = 0;
@@ -49,7 +51,9 @@ module _ (w : Setting) (ready : IsSettled w) where
       element_index_runs w ready y i t pc k n (32 + q) (d + q) a (tick s) c xi (omega arith) (enters_part w ready pc k n (32 + q) q a s c (omega arith) b) fit.4 fit.2 fit.3 fit.5 has
       (λ at. expr_runs w ready i pc p k n (32 + q) (1 + (1 + (d + q))) a (tick s) c fit.4 at places (omega arith) (enters_part w ready pc k n (32 + q) q a s c (omega arith) b))
 
-  pub index_kept : (z : Bool) (br r : Rate) (i : TExpr) (n : ℕ) (a : Mask) (m : Payload) (c c' : Conf) → (z ≡ true → is_run w.layout br i ≡ true) → Reaches (type_of i).rate r → ExprParts w i n → Keeps w (n + 1) c c' → IndexHolds z br r a (index_by w.layout z r i n) m c.scalars c.vectors → IndexHolds z br r a (index_by w.layout z r i n) m c'.scalars c'.vectors
+  pub index_kept : (z : Bool) (br r : Rate) (i : TExpr) (n : ℕ) (a : Mask) (m : Payload) (c c' : Conf) → (z ≡ true → is_run w.layout br i ≡ true)
+      → Reaches (type_of i).rate r → ExprParts w i n → Keeps w (n + 1) c c' → IndexHolds z br r a (index_by w.layout z r i n) m c.scalars c.vectors
+      → IndexHolds z br r a (index_by w.layout z r i n) m c'.scalars c'.vectors
   index_kept false br r i n a m c c' so re fit k h = record { holds = h.holds ∙ sym (held_kept w r (n + 1) c c' a (index w.layout r i n) k (index_low w ready r i n re fit)); fits = tt }
   index_kept true br r i n a m c c' so re fit k h =
       let d = start_in w.layout (is_lane i) n in

@@ -7,7 +7,9 @@ use Rattle.isp_base.specs.declared.types.Rate.{Rate}
 use Rattle.isp_base.specs.declared.types.Rate.TheVariants.{Uniform, Varying}
 use Rattle.isp_base.specs.declared.types.Ty.{Ty}
 use Rattle.isp_typed.specs.Fine.{IsWhole, AreOperands, FineExpr, FinePlace, FineBase, FineCall, FineArguments, FineArgument, FineParts, rates_of as rates_of_values, params_of, FineTarget, FineSimple, FineItem}
-use Rattle.isp_typed.specs.Typed.{TExpr, t_constant, t_program_index, t_place, t_convert, t_cast, t_unary, t_binary, t_compare, t_logic, t_choose, t_call, t_library, t_packed_store, t_packed_load, TPlace, t_variable, t_element, TBase, t_whole, t_from, TArgument, t_by_value, t_by_name, TCall, t_called, TArguments, t_no_arguments, t_argument_then, TExprs, t_no_exprs, t_expr_then, TItem, t_plain, t_with_value, t_with_size, TSimple, t_value, t_run, t_assign, t_update, t_step, TFunction, place_type, type_of, rate_or}
+use Rattle.isp_typed.specs.Typed.{TExpr, t_constant, t_program_index, t_place, t_convert, t_cast, t_unary, t_binary, t_compare, t_logic, t_choose, t_call, t_library, t_packed_store, t_packed_load, TPlace, t_variable}
+use Rattle.isp_typed.specs.Typed.{t_element, TBase, t_whole, t_from, TArgument, t_by_value, t_by_name, TCall, t_called, TArguments, t_no_arguments, t_argument_then, TExprs, t_no_exprs, t_expr_then, TItem, t_plain}
+use Rattle.isp_typed.specs.Typed.{t_with_value, t_with_size, TSimple, t_value, t_run, t_assign, t_update, t_step, TFunction, place_type, type_of, rate_or}
 use Rattle.isp_typed.specs.declared.variable.Holds.{Holds}
 use Rattle.isp_typed.specs.declared.variable.Holds.TheVariants as holds
 use Rattle.isp_typed.specs.declared.variable.Variable.{Variable}
@@ -133,8 +135,23 @@ module _ (fs : List TFunction) (vars : List Variable) where
     expr_tree (t_choose q x y t sp) f r =
         let rc = (type_of q).rate in
         let rx = (type_of x).rate in
-        let ry = (type_of y).rate in
-        (record { elem = f.3; reaches = subst (Reaches rc) (sym f.6) (reaches_first rc (rate_or rx ry)) }, record { elem = f.4; reaches = subst (Reaches rx) (sym f.6) (reaches_on rx (rate_or rx ry) (rate_or rc (rate_or rx ry)) (reaches_first rx ry) (reaches_second rc (rate_or rx ry))) }, record { elem = f.5; reaches = subst (Reaches ry) (sym f.6) (reaches_on ry (rate_or rx ry) (rate_or rc (rate_or rx ry)) (reaches_second rx ry) (reaches_second rc (rate_or rx ry))) }, expr_tree q f.0 r.0, expr_tree x f.1 r.1, expr_tree y f.2 r.2)
+        let ry = (type_of y).rate in (
+          record { elem = f.3; reaches = subst (Reaches rc) (sym f.6) (reaches_first rc (rate_or rx ry)) },
+          record {
+            elem = f.4;
+            reaches = subst (Reaches rx) (sym f.6)
+                (reaches_on rx (rate_or rx ry) (rate_or rc (rate_or rx ry)) (reaches_first rx ry) (reaches_second rc (rate_or rx ry)));
+          },
+          record {
+            elem = f.5;
+            reaches = subst (Reaches ry) (sym f.6)
+                (reaches_on ry (rate_or rx ry) (rate_or rc (rate_or rx ry)) (reaches_second rx ry) (reaches_second rc (rate_or rx ry)));
+          },
+          expr_tree q f.0
+              r.0,
+          expr_tree x f.1 r.1,
+          expr_tree y f.2 r.2,
+        )
     expr_tree (t_call k t) f r = call_tree k (Some t) f r
     expr_tree (t_library g e xs t sp) f r =
         (record { elems = parts_are fs vars e (parts g) xs f.0; works = f.1; gives = f.2 }, values_tree e (parts g) (works_at g t.rate) xs f.0 r (subst (λ u. EachReaches (works_at g u.rate) xs) (sym f.2) (works_reach g e xs)))

@@ -24,7 +24,9 @@ one_number : (rows : List Row) (x y : Name) → number_in rows x ≡ number_in r
 one_number [] x y e = e
 one_number (z ∷ rows) x y e = go (name_number z.name == name_number x) (name_number z.name == name_number y) refl refl (one_number rows x y) e
   where
-    go : (b d : Bool) → (name_number z.name == name_number x) ≡ b → (name_number z.name == name_number y) ≡ d → (number_in rows x ≡ number_in rows y → name_number x ≡ name_number y) → (if b then 0 else 1 + number_in rows x) ≡ (if d then 0 else 1 + number_in rows y) → name_number x ≡ name_number y
+    go : (b d : Bool) → (name_number z.name == name_number x) ≡ b → (name_number z.name == name_number y) ≡ d
+        → (number_in rows x ≡ number_in rows y → name_number x ≡ name_number y)
+        → (if b then 0 else 1 + number_in rows x) ≡ (if d then 0 else 1 + number_in rows y) → name_number x ≡ name_number y
     go true true eb ed ih h = sym (eqb-true (name_number z.name) (name_number x) eb) ∙ eqb-true (name_number z.name) (name_number y) ed
     go true false eb ed ih h = absurd (omega (arith, h))
     go false true eb ed ih h = absurd (omega (arith, h))
@@ -72,7 +74,9 @@ pub row_typed : (rows : List Row) (x : Name) (t : Elem) → elem_in rows x ≡ S
 row_typed [] x t e = absurd (cc)
 row_typed (z ∷ rows) x t e = go (name_number z.name == name_number x) (row_typed rows x t) e
   where
-    go : (b : Bool) → (elem_in rows x ≡ Some t → slice_get (map (λ y. y.elem) rows) (number_in rows x) ≡ Some t) → (if b then Some z.elem else elem_in rows x) ≡ Some t → slice_get (z.elem ∷ map (λ y. y.elem) rows) (if b then 0 else 1 + number_in rows x) ≡ Some t
+    go : (b : Bool) → (elem_in rows x ≡ Some t → slice_get (map (λ y. y.elem) rows) (number_in rows x) ≡ Some t)
+        → (if b then Some z.elem else elem_in rows x) ≡ Some t
+        → slice_get (z.elem ∷ map (λ y. y.elem) rows) (if b then 0 else 1 + number_in rows x) ≡ Some t
     go true ih h = h
     go false ih h = later (number_in rows x) (ih h)
       where
@@ -88,7 +92,10 @@ pub rows_stay : (rows more : List Row) (x : Name) (t : Elem) → elem_in rows x 
 rows_stay [] more x t e = absurd (cc)
 rows_stay (z ∷ rows) more x t e = go (name_number z.name == name_number x) (rows_stay rows more x t) e
   where
-    go : (b : Bool) → (elem_in rows x ≡ Some t → (number_in (rows ++ more) x ≡ number_in rows x) × (elem_in (rows ++ more) x ≡ Some t)) → (if b then Some z.elem else elem_in rows x) ≡ Some t → ((if b then 0 else 1 + number_in (rows ++ more) x) ≡ (if b then 0 else 1 + number_in rows x)) × ((if b then Some z.elem else elem_in (rows ++ more) x) ≡ Some t)
+    go : (b : Bool) → (elem_in rows x ≡ Some t → (number_in (rows ++ more) x ≡ number_in rows x) × (elem_in (rows ++ more) x ≡ Some t))
+        → (if b then Some z.elem else elem_in rows x) ≡ Some t
+        → ((if b then 0 else 1 + number_in (rows ++ more) x) ≡ (if b then 0 else 1 + number_in rows x))
+        × ((if b then Some z.elem else elem_in (rows ++ more) x) ≡ Some t)
     go true ih h = (refl, h)
     go false ih h = let r = ih h in (ap (λ n. 1 + n) r.0, r.1)
 
@@ -105,7 +112,9 @@ count_at : (h : Routine) (r : Rate) → length (types_in (table_of h) (class_at 
 count_at h Uniform = refl
 count_at h Varying = refl
 
-pub register_there : (h : Routine) (rates : ℕ → List Rate) (rows : Rows) → ((r : Rate) → types_in (table_of h) (class_at r) ≡ map (λ y. y.elem) (rows_at rows r)) → (r : Rate) (x : Name) (t : Elem) → HasRow rows r x t → HasRegister h (layout_of rates rows) r x t
+pub register_there : (h : Routine) (rates : ℕ → List Rate) (rows : Rows)
+    → ((r : Rate) → types_in (table_of h) (class_at r) ≡ map (λ y. y.elem) (rows_at rows r)) → (r : Rate) (x : Name) (t : Elem) → HasRow rows r x t
+    → HasRegister h (layout_of rates rows) r x t
 register_there h rates rows made r x t has =
     let n = number_in (rows_at rows r) x in
     let types = types_in (table_of h) (class_at r) in

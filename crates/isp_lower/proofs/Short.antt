@@ -79,22 +79,44 @@ module _ (w : Setting) where
   stays_in_place (t_place (t_element b i t sp)) n e T s c st = absurd (cc)
   stays_in_place (t_convert u x) n e T s c st = go (constant_of x) refl e
     where
-      go : (o : Option Value) → constant_of x ≡ o → is_kept w.layout o (type_of x).rate u ≡ true → (m : Payload) × (s' : State) × (value (gang_of w) w.frame (calls_of w) (t_convert u x) T s ≡ Gives m s') × Later s s' × Holds (type_of x).rate T (kept_found w.layout (is_kept w.layout o (type_of x).rate u) (type_of x).rate u (bits_as o u) n) m c
+      go : (o : Option Value) → constant_of x ≡ o → is_kept w.layout o (type_of x).rate u ≡ true
+          → (m : Payload) × (s' : State) × (value (gang_of w) w.frame (calls_of w) (t_convert u x) T s ≡ Gives m s') × Later s s'
+          × Holds (type_of x).rate T (kept_found w.layout (is_kept w.layout o (type_of x).rate u) (type_of x).rate u (bits_as o u) n) m c
       go None eo h = absurd (cc)
       go (Some v) eo h =
           let one = constant_is_one x v eo in
           let b = converted v.elem u v.bits in
-          subst (λ y. w.layout.kept (type_of y).rate u b ≡ true → (m : Payload) × (s' : State) × (value (gang_of w) w.frame (calls_of w) (t_convert u y) T s ≡ Gives m s') × Later s s' × Holds (type_of y).rate T (kept_found w.layout (w.layout.kept (type_of y).rate u b) (type_of y).rate u b n) m c) (sym one.1)
-          (λ k. (One (converted v.elem u (v.bits % 2 ^ width v.elem)), tick s, refl, ticked s, kept_there (w.layout.kept Uniform u b) u b (converted v.elem u (v.bits % 2 ^ width v.elem)) n T s c st refl k (sym (wrap_bits u b) ∙ constant_is v.elem u v.bits))) h
+          subst (λ y. w.layout.kept (type_of y).rate u b ≡ true
+          → (m : Payload) × (s' : State) × (value (gang_of w) w.frame (calls_of w) (t_convert u y) T s ≡ Gives m s') × Later s s'
+          × Holds (type_of y).rate T (kept_found w.layout (w.layout.kept (type_of y).rate u b) (type_of y).rate u b n) m c) (sym one.1)
+          (λ k. (
+            One (converted v.elem u (v.bits % 2 ^ width v.elem)),
+            tick s,
+            refl,
+            ticked s,
+            kept_there (w.layout.kept Uniform u b) u b
+                (converted v.elem u (v.bits % 2 ^ width v.elem)) n T s c st refl k (sym (wrap_bits u b) ∙ constant_is v.elem u v.bits),
+          )) h
   stays_in_place (t_cast x t sp) n e T s c st = go (same_rate t.rate (type_of x).rate) refl (λ h. stays_in_place x n h T (tick s) c st) e
     where
-      go : (d : Bool) → same_rate t.rate (type_of x).rate ≡ d → (stays w.layout x ≡ true → (m : Payload) × (s' : State) × (value (gang_of w) w.frame (calls_of w) x T (tick s) ≡ Gives m s') × Later (tick s) s' × Holds (type_of x).rate T (found w.layout x n) m c) → (d && stays w.layout x) ≡ true → (m : Payload) × (s' : State) × (value (gang_of w) w.frame (calls_of w) x T (tick s) ≡ Gives m s') × Later s s' × Holds t.rate T (lifted w.layout t.rate (type_of x).rate (type_of x).elem (found w.layout x n) n) m c
+      go : (d : Bool) → same_rate t.rate (type_of x).rate ≡ d
+          → (stays w.layout x ≡ true → (m : Payload) × (s' : State) × (value (gang_of w) w.frame (calls_of w) x T (tick s) ≡ Gives m s')
+          × Later (tick s) s' × Holds (type_of x).rate T (found w.layout x n) m c) → (d && stays w.layout x) ≡ true
+          → (m : Payload) × (s' : State) × (value (gang_of w) w.frame (calls_of w) x T (tick s) ≡ Gives m s') × Later s s'
+          × Holds t.rate T (lifted w.layout t.rate (type_of x).rate (type_of x).elem (found w.layout x n) n) m c
       go true ed ih h =
           let er : t.rate ≡ (type_of x).rate = same_rate-is t.rate (type_of x).rate ed in
           let in_x = ih h in
           let le = in_x.3.work in
-          let later : Later s in_x.1 = record { stands = λ c st. in_x.3.stands c st; work = omega (arith, le) } in
-          (in_x.0, in_x.1, in_x.2, later, subst (λ r. Holds r T (lifted w.layout r (type_of x).rate (type_of x).elem (found w.layout x n) n) in_x.0 c) (sym er) (subst (λ f. Holds (type_of x).rate T f in_x.0 c) (sym (lifted_same (type_of x).rate (type_of x).elem (found w.layout x n) n)) in_x.4))
+          let later : Later s in_x.1 = record { stands = λ c st. in_x.3.stands c st; work = omega (arith, le) } in (
+            in_x.0,
+            in_x.1,
+            in_x.2,
+            later,
+            subst (λ r. Holds r T (lifted w.layout r (type_of x).rate (type_of x).elem (found w.layout x n) n) in_x.0 c)
+                (sym er) (subst (λ f. Holds (type_of x).rate T f in_x.0 c) (sym (lifted_same (type_of x).rate (type_of x).elem (found w.layout x n) n))
+                in_x.4),
+          )
       go false ed ih h = absurd (cc)
   stays_in_place (t_unary o x t sp) n e T s c st = absurd (cc)
   stays_in_place (t_binary o x y t sp) n e T s c st = absurd (cc)
@@ -107,7 +129,9 @@ module _ (w : Setting) where
   stays_in_place (t_packed_load d v sp) n e T s c st = absurd (cc)
 
   -- for the lanes of a set that may be empty
-  side : (T : Mask) (s : State) (c : Conf) (v : Mask → State → Val Payload) (f : ℕ) → ((p : ℕ) → T p ≡ true → Allowed w p) → InPlace Varying f v → Stands w s c → (m : Payload) × (s' : State) × (value_unless_empty (gang_of w) T s v ≡ Gives m s') × Later s s' × (spread T m ≡ on T (c.vectors f))
+  side : (T : Mask) (s : State) (c : Conf) (v : Mask → State → Val Payload) (f : ℕ) → ((p : ℕ) → T p ≡ true → Allowed w p) → InPlace Varying f v
+      → Stands w s c → (m : Payload) × (s' : State) × (value_unless_empty (gang_of w) T s v ≡ Gives m s') × Later s s'
+      × (spread T m ≡ on T (c.vectors f))
   side T s c v f inside there st = go (any (gang_of w) T) refl
     where
       go : (d : Bool) → any (gang_of w) T ≡ d → (m : Payload) × (s' : State) × (value_unless_empty (gang_of w) T s v ≡ Gives m s') × Later s s' × (spread T m ≡ on T (c.vectors f))
@@ -132,7 +156,8 @@ module _ (w : Setting) where
   Chosen r a b s c f x y va vb =
       (m : Payload) × (s' : State) × (chosen a b s va vb ≡ Gives m s') × Later s s' × (at_rate r a m ≡ picked r c a f x y)
 
-  chosen_is : (r : Rate) (a : Mask) (b : Payload) (s : State) (c : Conf) (f x y : ℕ) (va vb : Mask → State → Val Payload) → any (gang_of w) a ≡ true → ((p : ℕ) → a p ≡ true → Allowed w p) → Stands w s c → InPlace r x va → InPlace r y vb → Holds r a f b c → Chosen r a b s c f x y va vb
+  chosen_is : (r : Rate) (a : Mask) (b : Payload) (s : State) (c : Conf) (f x y : ℕ) (va vb : Mask → State → Val Payload) → any (gang_of w) a ≡ true
+      → ((p : ℕ) → a p ≡ true → Allowed w p) → Stands w s c → InPlace r x va → InPlace r y vb → Holds r a f b c → Chosen r a b s c f x y va vb
   chosen_is Uniform a b s c f x y va vb some inside st hx hy hold = subst (λ z. Chosen Uniform a z s c f x y va vb) (sym hold) (go (is_true (c.scalars f)))
     where
       pick : Bool → Val Payload
@@ -140,11 +165,25 @@ module _ (w : Setting) where
 
       go : (d : Bool) → (m : Payload) × (s' : State) × (pick d ≡ Gives m s') × Later s s' × (m ≡ One (if d then c.scalars x else c.scalars y))
       go true =
-          let h = hx a s c st in
-          (h.0, h.1, ap (λ u. bind u (λ m s2. bind (value_unless_empty (gang_of w) nobody s2 vb) (λ z s3. Gives m s3))) (unless_some (gang_of w) a s va some ∙ h.2) ∙ ap (λ u. bind u (λ z s3. Gives h.0 s3)) (unless_none (gang_of w) nobody h.1 vb (any_nobody (gang_of w))), h.3, h.4)
+          let h = hx a s c st in (
+            h.0,
+            h.1,
+            ap (λ u. bind u (λ m s2. bind (value_unless_empty (gang_of w) nobody s2 vb) (λ z s3. Gives m s3)))
+                (unless_some (gang_of w) a s va some ∙ h.2) ∙ ap (λ u. bind u (λ z s3. Gives h.0 s3))
+                (unless_none (gang_of w) nobody h.1 vb (any_nobody (gang_of w))),
+            h.3,
+            h.4,
+          )
       go false =
-          let h = hy a s c st in
-          (h.0, h.1, ap (λ u. bind u (λ m s2. bind (value_unless_empty (gang_of w) a s2 vb) (λ z s3. Gives z s3))) (unless_none (gang_of w) nobody s va (any_nobody (gang_of w))) ∙ ap (λ u. bind u (λ z s3. Gives z s3)) (unless_some (gang_of w) a s vb some ∙ h.2), h.3, h.4)
+          let h = hy a s c st in (
+            h.0,
+            h.1,
+            ap (λ u. bind u (λ m s2. bind (value_unless_empty (gang_of w) a s2 vb) (λ z s3. Gives z s3)))
+                (unless_none (gang_of w) nobody s va (any_nobody (gang_of w)))
+                ∙ ap (λ u. bind u (λ z s3. Gives z s3)) (unless_some (gang_of w) a s vb some ∙ h.2),
+            h.3,
+            h.4,
+          )
   chosen_is Varying a b s c f x y va vb some inside st hx hy hold =
       let v = c.vectors f in
       let T = where_true is_true (on a v) in
@@ -172,7 +211,12 @@ module _ (w : Setting) where
   select_line Varying c d f x y k = refl
 
 module _ (w : Setting) (ready : IsSettled w) where
-  pub short_runs : (g : Target) (r : Rate) (t : Elem) (f x y : ℕ) (va vb : Mask → State → Val Payload) (c : Conf) (pc k n q : ℕ) (a : Mask) (vt : Val Payload) (ct : List Instr) → c.masks k ≡ a → k < n → any (gang_of w) a ≡ true → ((p : ℕ) → a p ≡ true → Allowed w p) → InPlace w r x va → InPlace w r y vb → AreAt w.routine.code pc (ct ++ select r (target w.layout g r t n) f x y k ∷ []) → Runs w c (pc + length ct) n (1 + q) (Holds r a f) vt → Leaves w g (target w.layout g r t n) c (pc + length (ct ++ select r (target w.layout g r t n) f x y k ∷ [])) n q r a (bind vt (λ b s. chosen w a b s va vb))
+  pub short_runs : (g : Target) (r : Rate) (t : Elem) (f x y : ℕ) (va vb : Mask → State → Val Payload) (c : Conf) (pc k n q : ℕ) (a : Mask)
+      (vt : Val Payload) (ct : List Instr) → c.masks k ≡ a → k < n → any (gang_of w) a ≡ true → ((p : ℕ) → a p ≡ true → Allowed w p)
+      → InPlace w r x va → InPlace w r y vb → AreAt w.routine.code pc (ct ++ select r (target w.layout g r t n) f x y k ∷ [])
+      → Runs w c (pc + length ct) n (1 + q) (Holds r a f) vt
+      → Leaves w g (target w.layout g r t n) c (pc + length (ct ++ select r (target w.layout g r t n) f x y k ∷ [])) n q r a
+      (bind vt (λ b s. chosen w a b s va vb))
   short_runs g r t f x y va vb c pc k n q a vt ct em lk some inside hx hy has run =
       let d = target w.layout g r t n in
       let i = select r d f x y k in
@@ -184,5 +228,7 @@ module _ (w : Setting) (ready : IsSettled w) where
       let h = chosen_is w r a b s c2 f x y va vb some inside ok.stands hx hy ok.holds in
       let le = h.3.work in
       subst (λ z. Leaves w g d c end n q r a z) (sym h.2)
-      (write_sure w ready g c c2 ok.steps (pc + length ct) end n q a h.1 i r t None Divide no_place h.0 (picked w r c2 a f x y) ok.comes ok.at to (are_back w.routine.code pc ct _ has).0 (h.3.stands c2 ok.stands) ok.spares ok.masks (omega (arith, ok.bound, le)) h.4 (filled_picked w r c2 a f x y)
+      (write_sure w ready g c c2 ok.steps (pc + length ct) end n q a h.1 i r t None Divide no_place h.0 (picked w r c2 a f x y) ok.comes ok.at to
+      (are_back w.routine.code pc ct _ has).0 (h.3.stands c2 ok.stands) ok.spares ok.masks (omega (arith, ok.bound, le)) h.4
+      (filled_picked w r c2 a f x y)
       (select_line w r c2 d f x y k ∙ ap (λ m. Go (set_at r c2 d (picked w r c2 m f x y))) (ok.masks k lk ∙ em))))

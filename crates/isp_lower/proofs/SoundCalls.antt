@@ -71,7 +71,12 @@ module _ (fs : List TFunction) (h : Routine) (l : Layout) (constants : HasKept h
       one : (y : Holds) (x : TArgument) → ArgumentTree fs y x → Granted h l (argument_asks x n) → p.kind ≡ kind_of y → p.elem ≡ elem_held y → OneAs h p.kind p.elem (argument_register l (rate_held y) x n)
       one (holds.Value t) (t_by_value x) is f ek ee =
           let o = operand_there fs h l constants t.rate t.elem x n is.0 is.1 (taken_there h l t.rate x n _ f) in
-          subst (λ k. OneAs h k p.elem (register t.rate (operand l t.rate x n))) (sym ek) ((o.0.0 ∙ class_is h t.rate, subst (λ c. operand l t.rate x n < count_of h c) (class_is h t.rate) o.0.1), o.1 ∙ sym ee, passed_is h t.rate (register t.rate (operand l t.rate x n)))
+          subst (λ k. OneAs h k p.elem (register t.rate (operand l t.rate x n))) (sym ek) (
+            (o.0.0 ∙ class_is h t.rate, subst (λ c. operand l t.rate x n < count_of h c) (class_is h t.rate) o.0.1),
+            o.1
+                ∙ sym ee,
+            passed_is h t.rate (register t.rate (operand l t.rate x n)),
+          )
       one (holds.Value t) (t_by_name b sp) is f ek ee = absurd is
       one (holds.Given e) (t_by_value x) is f ek ee = absurd is
       one (holds.Given e) (t_by_name b sp) is f ek ee =
@@ -92,7 +97,9 @@ module _ (code : Listing) (h : Routine) (l : Layout) where
   all_there (p ∷ ps) [] f = absurd f
   all_there (p ∷ ps) (x ∷ xs) f = (subst (λ c. x.number < count_of h c) (sym f.0.0.0) f.0.0.1, all_there ps xs f.1)
 
-  pub calling_sound : (d : Option Register) (f : ℕ) (xs : TArguments) (p k n : ℕ) (g : TFunction) (to : HasHeader code f g) → IsGiven h to.routine.returns d → AllFine code h (result_operands d) → k < h.masks → p + 1 ≤ length code.places → ArePassed h to.routine.params (argument_registers l (l.rates f) xs n) → IsSound code h (calling l d f xs p k n)
+  pub calling_sound : (d : Option Register) (f : ℕ) (xs : TArguments) (p k n : ℕ) (g : TFunction) (to : HasHeader code f g)
+      → IsGiven h to.routine.returns d → AllFine code h (result_operands d) → k < h.masks → p + 1 ≤ length code.places
+      → ArePassed h to.routine.params (argument_registers l (l.rates f) xs n) → IsSound code h (calling l d f xs p k n)
   calling_sound d f xs p k n g to given there lk lp passed =
       let regs = argument_registers l (l.rates f) xs n in (
         fine_both (result_operands d) (AnyRegister (mask_register k) ∷ Place p ∷ (map any_register regs ++ Mask (mask_register k) ∷ [])) there

@@ -7,7 +7,8 @@ use Rattle.isp_base.specs.declared.types.Rate.{Rate}
 use Rattle.isp_base.specs.declared.types.Rate.TheVariants.{Uniform, Varying}
 use Rattle.isp_base.specs.declared.types.Value.{Value}
 use Rattle.isp_code.specs.Listing.{Routine, Listing}
-use Rattle.isp_typed.specs.Typed.{TExpr, t_constant, t_program_index, t_place, t_convert, t_cast, t_unary, t_binary, t_compare, t_logic, t_choose, t_call, t_library, t_packed_store, t_packed_load, TPlace, t_variable, t_element, TFunction, place_type, type_of}
+use Rattle.isp_typed.specs.Typed.{TExpr, t_constant, t_program_index, t_place, t_convert, t_cast, t_unary, t_binary, t_compare, t_logic, t_choose, t_call, t_library}
+use Rattle.isp_typed.specs.Typed.{t_packed_store, t_packed_load, TPlace, t_variable, t_element, TFunction, place_type, type_of}
 use Rattle.isp_meaning.specs.Calls.{same_rate}
 use Rattle.isp_meaning.specs.Payloads.{converted}
 use Rattle.isp_lower.specs.Layout.{Layout}
@@ -126,7 +127,9 @@ module _ (fs : List TFunction) (h : Routine) (l : Layout) (constants : HasKept h
   counting_reaches i r (inr e) re = lane_reaches r (subst (λ g. Reaches g r) (counter_is l e.1.rate e.0 e.4).varying (subst (λ u. Reaches (type_of u).rate r) e.3 re))
 
   -- that of an element
-  pub element_index_there : (code : Listing) (b : ArrayVariable) (r : Rate) (i : TExpr) (n : ℕ) → Reaches (type_of i).rate r → ExprTree fs i → HasArray h l b → Granted h l (element_asks b.ty.rate r i n (expr_asks i n)) → IndexThere code h (is_run l b.ty.rate i) r (l.array b.number) (index_by l (is_run l b.ty.rate i) r i n)
+  pub element_index_there : (code : Listing) (b : ArrayVariable) (r : Rate) (i : TExpr) (n : ℕ) → Reaches (type_of i).rate r → ExprTree fs i
+      → HasArray h l b → Granted h l (element_asks b.ty.rate r i n (expr_asks i n))
+      → IndexThere code h (is_run l b.ty.rate i) r (l.array b.number) (index_by l (is_run l b.ty.rate i) r i n)
   element_index_there code b r i n re is there f = go (is_run l b.ty.rate i) refl
     where
       go : (z : Bool) → is_run l b.ty.rate i ≡ z → IndexThere code h z r (l.array b.number) (index_by l z r i n)

@@ -42,8 +42,12 @@ module _ (h : Routine) where
     pub there_from : (rs : List Rate) (xs : TExprs) (n : ℕ) → length rs ≤ count_of xs → ValuesTree fs rs xs → Granted h l (values_asks rs xs n) → ThereFrom rs (elems_of xs) (value_registers l rs xs n)
     there_from [] xs n le is f = tt
     there_from (r ∷ rs) t_no_exprs n le is f = absurd (omega (arith, le))
-    there_from (r ∷ rs) (t_expr_then x xs) n le is f =
-        (operand_there fs h l constants r (type_of x).elem x n is.0 is.1 f.1.0, each_past (λ j q y. IsRegister h q y (elem_at (elems_of (t_expr_then x xs)) j)) rs 0 (operand l r x n) (value_registers l rs xs (n + 1)) (there_from rs xs (n + 1) (omega (arith, le)) is.2 f.1.1))
+    there_from (r ∷ rs) (t_expr_then x xs) n le is f = (
+      operand_there fs h l constants r (type_of x).elem x n is.0 is.1 f.1.0,
+      each_past
+          (λ j q y. IsRegister h q y (elem_at (elems_of (t_expr_then x xs)) j)) rs 0 (operand l r x n) (value_registers l rs xs (n + 1))
+          (there_from rs xs (n + 1) (omega (arith, le)) is.2 f.1.1),
+    )
 
 -- ---- types
 
@@ -87,7 +91,10 @@ module _ (code : Listing) (h : Routine) (k : ℕ) (lk : k < h.masks) where
 
   -- ---- the table
 
-  pub library_sound : (f : Library) (e : Elem) (r : Rate) (d s : ℕ) (xs : List ℕ) → LibraryWorksIn f e → IsRegister h (library_type f e r).rate d (library_type f e r).elem → IsRegister h (library_type f e r).rate s (library_type f e r).elem → ThereFrom h (library_rates f (library_type f e r).rate) (part_elems e (parts f)) xs → AreSound code h (library_code f (library_type f e r).rate d s xs k)
+  pub library_sound : (f : Library) (e : Elem) (r : Rate) (d s : ℕ) (xs : List ℕ) → LibraryWorksIn f e
+      → IsRegister h (library_type f e r).rate d (library_type f e r).elem → IsRegister h (library_type f e r).rate s (library_type f e r).elem
+      → ThereFrom h (library_rates f (library_type f e r).rate) (part_elems e (parts f)) xs
+      → AreSound code h (library_code f (library_type f e r).rate d s xs k)
   library_sound library.ReduceAdd e r d s xs is hd hs v = (sum_sound e d (register_at xs 0) (number_of e is) hd v.0, tt)
   library_sound library.ReduceMin e r d s xs is hd hs v = ((((hd.0, number_from e _ (number_of e is) hd.1), ((v.0.0, v.0.1 ∙ sym hd.1), ((refl, lk), tt))), tt), tt)
   library_sound library.ReduceMax e r d s xs is hd hs v = ((((hd.0, number_from e _ (number_of e is) hd.1), ((v.0.0, v.0.1 ∙ sym hd.1), ((refl, lk), tt))), tt), tt)

@@ -78,14 +78,16 @@ module _ (code : Listing) (h : Routine) where
   compute_sound Varying o t d x y k is hd hx hy lk =
       (((hd.0, λ e. no_truth t is (sym hd.1 ∙ e)), ((hx.0, hx.1 ∙ sym hd.1), ((hy.0, hy.1 ∙ sym hd.1), ((refl, lk), tt)))), tt)
 
-  divide_sound : (r : Rate) (o : Division) (t : Elem) (d x y k p : ℕ) → IsNumber t → IsRegister h r d t → IsRegister h r x t → IsRegister h r y t → k < h.masks → p < length code.places → IsSound code h (instr.Divide o (register r d) (register r x) (register r y) (mask_register k) p)
+  divide_sound : (r : Rate) (o : Division) (t : Elem) (d x y k p : ℕ) → IsNumber t → IsRegister h r d t → IsRegister h r x t → IsRegister h r y t
+      → k < h.masks → p < length code.places → IsSound code h (instr.Divide o (register r d) (register r x) (register r y) (mask_register k) p)
   divide_sound Uniform o t d x y k p is hd hx hy lk lp =
       (((hd.0, λ e. no_truth t is (sym hd.1 ∙ e)), ((hx.0, hx.1 ∙ sym hd.1), ((hy.0, hy.1 ∙ sym hd.1), ((refl, lk), (lp, tt))))), tt)
   divide_sound Varying o t d x y k p is hd hx hy lk lp =
       (((hd.0, λ e. no_truth t is (sym hd.1 ∙ e)), ((hx.0, hx.1 ∙ sym hd.1), ((hy.0, hy.1 ∙ sym hd.1), ((refl, lk), (lp, tt))))), tt)
 
   -- a division names a place
-  pub operate_sound : (r : Rate) (o : BinOp) (t : Elem) (d x y k p : ℕ) (sp : Span) → IsNumber t → IsRegister h r d t → IsRegister h r x t → IsRegister h r y t → k < h.masks → p + length (operate_places o sp) ≤ length code.places → IsSound code h (operate r o d x y k p)
+  pub operate_sound : (r : Rate) (o : BinOp) (t : Elem) (d x y k p : ℕ) (sp : Span) → IsNumber t → IsRegister h r d t → IsRegister h r x t
+      → IsRegister h r y t → k < h.masks → p + length (operate_places o sp) ≤ length code.places → IsSound code h (operate r o d x y k p)
   operate_sound r op.Add t d x y k p sp is hd hx hy lk lp = compute_sound r plain.Add t d x y k is hd hx hy lk
   operate_sound r op.Sub t d x y k p sp is hd hx hy lk lp = compute_sound r plain.Sub t d x y k is hd hx hy lk
   operate_sound r op.Mul t d x y k p sp is hd hx hy lk lp = compute_sound r plain.Mul t d x y k is hd hx hy lk
@@ -168,11 +170,13 @@ module _ (code : Listing) (h : Routine) where
   word_is I64 u is e = absurd (cc)
   word_is U64 u is e = absurd (cc)
 
-  pub packed_store_sound : (t : Elem) (d b i x k p : ℕ) → IsWord t → IsRegister h Uniform d I32 → IsArray Uniform b t → IsRegister h Uniform i I64 → IsRegister h Varying x t → k < h.masks → p < length code.places → IsSound code h (packed_store d b i x k p)
+  pub packed_store_sound : (t : Elem) (d b i x k p : ℕ) → IsWord t → IsRegister h Uniform d I32 → IsArray Uniform b t → IsRegister h Uniform i I64
+      → IsRegister h Varying x t → k < h.masks → p < length code.places → IsSound code h (packed_store d b i x k p)
   unfolding IsArray
   packed_store_sound t d b i x k p is hd hb hi hx lk lp = (((hd.0, hd.1), ((hb.0, hb.2, word_is t _ is hb.1), ((hi.0, hi.1), ((hx.0, hx.1 ∙ sym hb.1), ((refl, lk), (lp, tt)))))), tt)
 
-  pub packed_load_sound : (t : Elem) (d b i x k p : ℕ) → IsWord t → IsRegister h Uniform d I32 → IsArray Uniform b t → IsRegister h Uniform i I64 → IsRegister h Varying x t → k < h.masks → p < length code.places → IsSound code h (packed_load d b i x k p)
+  pub packed_load_sound : (t : Elem) (d b i x k p : ℕ) → IsWord t → IsRegister h Uniform d I32 → IsArray Uniform b t → IsRegister h Uniform i I64
+      → IsRegister h Varying x t → k < h.masks → p < length code.places → IsSound code h (packed_load d b i x k p)
   unfolding IsArray
   packed_load_sound t d b i x k p is hd hb hi hx lk lp = (((hd.0, hd.1), ((hb.0, hb.2, word_is t _ is hb.1), ((hi.0, hi.1), ((hx.0, hx.1 ∙ sym hb.1), ((refl, lk), (lp, tt)))))), tt)
 

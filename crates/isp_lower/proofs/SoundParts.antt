@@ -87,28 +87,44 @@ module _ (code : Listing) (h : Routine) where
 
   module _ (fs : List TFunction) (l : Layout) (constants : HasKept h l) where
     -- `&&` and `||`
-    pub logic_sound : (r : Rate) (g : Logic) (d x y pc k n : ℕ) (a : List Instr) (b : ℕ → ℕ → List Instr) → IsRegister h r d Truth → IsRegister h r x Truth → IsRegister h r y Truth → k < h.masks → Granted h l (test_asks r n) → Here pc a → AnyMask b → Here pc (logic_code r g d x y pc k n a b)
+    pub logic_sound : (r : Rate) (g : Logic) (d x y pc k n : ℕ) (a : List Instr) (b : ℕ → ℕ → List Instr) → IsRegister h r d Truth
+        → IsRegister h r x Truth → IsRegister h r y Truth → k < h.masks → Granted h l (test_asks r n) → Here pc a → AnyMask b
+        → Here pc (logic_code r g d x y pc k n a b)
     logic_sound Uniform g d x y pc k n a b hd hx hy lk test f t =
         let first = a ++ move_code Uniform d x k in
         here_both pc first (guard (jump_on (decided g) d) (pc + length first) (λ pc2. b pc2 k ++ copy Uniform d y k ∷ []))
         (here_both pc a (move_code Uniform d x k) f (λ lt. move_sound code h Uniform Truth d x k hd hx lk))
-        (guard_sound (jump_on (decided g) d) (λ pc2. b pc2 k ++ copy Uniform d y k ∷ []) (λ to lt. decided_sound code h g d to hd lt) (λ pc2. here_then pc2 (b pc2 k) (copy Uniform d y k) (t pc2 k lk) (copy_sound code h Uniform Truth d y k hd hy lk)) (pc + length first))
+        (guard_sound (jump_on (decided g) d) (λ pc2. b pc2 k ++ copy Uniform d y k ∷ []) (λ to lt. decided_sound code h g d to hd lt)
+        (λ pc2. here_then pc2 (b pc2 k) (copy Uniform d y k) (t pc2 k lk) (copy_sound code h Uniform Truth d y k hd hy lk)) (pc + length first))
     logic_sound Varying g d x y pc k n a b hd hx hy lk test f t =
         let first = a ++ (move_code Varying d x k ++ needing g n d k) in
         here_both pc first (guard (jump_off n) (pc + length first) (λ pc2. b pc2 n ++ copy Varying d y n ∷ []))
         (here_both pc a (move_code Varying d x k ++ needing g n d k) f (λ lt. sound_both code h (move_code Varying d x k) (needing g n d k) (move_sound code h Varying Truth d x k hd hx lk) (needing_sound code h g n d k test hd lk)))
-        (guard_sound (jump_off n) (λ pc2. b pc2 n ++ copy Varying d y n ∷ []) (λ to lt. off_sound code h n to test lt) (λ pc2. here_then pc2 (b pc2 n) (copy Varying d y n) (t pc2 n test) (copy_sound code h Varying Truth d y n hd hy test)) (pc + length first))
+        (guard_sound (jump_off n) (λ pc2. b pc2 n ++ copy Varying d y n ∷ []) (λ to lt. off_sound code h n to test lt)
+        (λ pc2. here_then pc2 (b pc2 n) (copy Varying d y n) (t pc2 n test) (copy_sound code h Varying Truth d y n hd hy test))
+        (pc + length first))
 
     -- the sides of a varying test
-    pub rest_sound : (t : Elem) (d c x y pc k n : ℕ) (a b : ℕ → ℕ → ℕ → List Instr) → IsRegister h Varying d t → IsRegister h Varying c Truth → IsRegister h Varying x t → IsRegister h Varying y t → k < h.masks → Granted h l (sides_ask Varying n) → AnyMask (λ pc m. a pc m (n + 1)) → AnyMask (λ pc m. b pc m (n + 2)) → Here pc (choose_rest d c x y pc k n a b)
+    pub rest_sound : (t : Elem) (d c x y pc k n : ℕ) (a b : ℕ → ℕ → ℕ → List Instr) → IsRegister h Varying d t → IsRegister h Varying c Truth
+        → IsRegister h Varying x t → IsRegister h Varying y t → k < h.masks → Granted h l (sides_ask Varying n) → AnyMask (λ pc m. a pc m (n + 1))
+        → AnyMask (λ pc m. b pc m (n + 2)) → Here pc (choose_rest d c x y pc k n a b)
     rest_sound t d c x y pc k n a b hd hc hx hy lk masks f g lt =
         let side = guard (jump_off n) (pc + 1) (λ pc1. a pc1 n (n + 1)) in
         let p2 = pc + 1 + length side in
         let other = guard (jump_off (n + 1)) (p2 + 1) (λ pc2. b pc2 (n + 1) (n + 2)) in
         let last = the_others (n + 1) k n ∷ (other ++ select Varying d c x y k ∷ []) in
         let e1 = length-append side last in
-        let e2 = length-append other (select Varying d c x y k ∷ []) in
-        (where_sound code h n c k masks.1.0 hc lk, sound_both code h side last (guard_sound (jump_off n) (λ pc1. a pc1 n (n + 1)) (λ to low. off_sound code h n to masks.1.0 low) (λ pc1. f pc1 n masks.1.0) (pc + 1) (omega (arith, e1, lt))) (others_sound code h (n + 1) k n masks.1.1 lk masks.1.0, here_then (p2 + 1) other (select Varying d c x y k) (guard_sound (jump_off (n + 1)) (λ pc2. b pc2 (n + 1) (n + 2)) (λ to low. off_sound code h (n + 1) to masks.1.1 low) (λ pc2. g pc2 (n + 1) masks.1.1) (p2 + 1)) (select_sound code h Varying t d c x y k hd hc hx hy lk) (omega (arith, e1, lt))))
+        let e2 = length-append other (select Varying d c x y k ∷ []) in (
+          where_sound code h n c k masks.1.0 hc lk,
+          sound_both code h side last
+              (guard_sound (jump_off n) (λ pc1. a pc1 n (n + 1)) (λ to low. off_sound code h n to masks.1.0 low) (λ pc1. f pc1 n masks.1.0) (pc + 1)
+              (omega (arith, e1, lt))) (
+                others_sound code h (n + 1) k n masks.1.1 lk masks.1.0,
+                here_then (p2 + 1) other (select Varying d c x y k)
+                    (guard_sound (jump_off (n + 1)) (λ pc2. b pc2 (n + 1) (n + 2)) (λ to low. off_sound code h (n + 1) to masks.1.1 low)
+                    (λ pc2. g pc2 (n + 1) masks.1.1) (p2 + 1)) (select_sound code h Varying t d c x y k hd hc hx hy lk) (omega (arith, e1, lt)),
+              ),
+        )
 
     pub lift_sound : (given r : Rate) (u t : Elem) (x k n : ℕ) → Reaches given r → u ≡ t → Granted h l (lift_asks r given u n) → IsRegister h given x u → k < h.masks → AreSound code h (lift_code l r given u x k n)
     lift_sound Uniform Uniform u t x k n is e f hx lk = tt
@@ -130,7 +146,9 @@ module _ (code : Listing) (h : Routine) where
 
     -- ---- a value of one type where another is wanted
 
-    pub convert_to_sound : (x : TExpr) (e : Elem) (d pc k n : ℕ) (a : List Instr) → IsRegister h (type_of x).rate d e → IsRegister h (type_of x).rate (found l x n) (type_of x).elem → k < h.masks → Here pc a → Here pc (convert_to l (constant_of x) e (type_of x).rate d (found l x n) k a)
+    pub convert_to_sound : (x : TExpr) (e : Elem) (d pc k n : ℕ) (a : List Instr) → IsRegister h (type_of x).rate d e
+        → IsRegister h (type_of x).rate (found l x n) (type_of x).elem → k < h.masks → Here pc a
+        → Here pc (convert_to l (constant_of x) e (type_of x).rate d (found l x n) k a)
     convert_to_sound x e d pc k n a hd hx lk f = go (constant_of x) refl
       where
         uniform : (v : Value) → constant_of x ≡ Some v → IsRegister h Uniform d e
@@ -148,14 +166,19 @@ module _ (code : Listing) (h : Routine) where
     pub index_sound : (r : Rate) (i : TExpr) (pc k n : ℕ) (a : List Instr) → Reaches (type_of i).rate r → ExprTree fs i → Granted h l (index_asks r i n (expr_asks i n)) → k < h.masks → Here pc a → Here pc (index_of l r i k n a)
     index_sound r i pc k n a re is f lk s =
         let x = whole l (is_whole (type_of i).elem) i n in
-        here_both pc (whole_of l (is_whole (type_of i).elem) i k n a) (lift_code l r (type_of i).rate I64 x k n) (whole_sound (is_whole (type_of i).elem) i pc k n a is f.1 lk s) (λ lt. lift_sound (type_of i).rate r I64 I64 x k n re refl f.0 (whole_there fs h l constants (is_whole (type_of i).elem) i n refl is f.1) lk)
+        here_both pc (whole_of l (is_whole (type_of i).elem) i k n a) (lift_code l r (type_of i).rate I64 x k n)
+        (whole_sound (is_whole (type_of i).elem) i pc k n a is f.1 lk s)
+        (λ lt. lift_sound (type_of i).rate r I64 I64 x k n re refl f.0 (whole_there fs h l constants (is_whole (type_of i).elem) i n refl is f.1)
+        lk)
 
     -- that of an element
     start_sound : (i : TExpr) (n : ℕ) → Counting l i → Granted h l (start_asks i n) → AreSound code h (start_code l (is_lane i) n)
     start_sound i n (inl e) g = subst (λ u. Granted h l (start_asks u n) → AreSound code h (start_code l (is_lane u) n)) (sym e.1) (λ f. (constant_sound code h I64 (l.spare Uniform I64 n) 0 f, tt)) g
     start_sound i n (inr e) g = subst (λ u. Granted h l (start_asks u n) → AreSound code h (start_code l (is_lane u) n)) (sym e.3) (λ f. tt) g
 
-    pub element_index_sound : (b : ArrayVariable) (r : Rate) (i : TExpr) (pc k n : ℕ) (a : List Instr) → Reaches (type_of i).rate r → ExprTree fs i → Granted h l (element_asks b.ty.rate r i n (expr_asks i n)) → k < h.masks → Here pc a → Here pc (index_by_of l (is_run l b.ty.rate i) r i k n a)
+    pub element_index_sound : (b : ArrayVariable) (r : Rate) (i : TExpr) (pc k n : ℕ) (a : List Instr) → Reaches (type_of i).rate r → ExprTree fs i
+        → Granted h l (element_asks b.ty.rate r i n (expr_asks i n)) → k < h.masks → Here pc a
+        → Here pc (index_by_of l (is_run l b.ty.rate i) r i k n a)
     element_index_sound b r i pc k n a re is f lk s = go (is_run l b.ty.rate i) refl
       where
         go : (z : Bool) → is_run l b.ty.rate i ≡ z → Here pc (index_by_of l z r i k n a)
@@ -163,20 +186,33 @@ module _ (code : Listing) (h : Routine) where
         go false e = index_sound r i pc k n a re is f.1 lk s
 
     -- by a uniform test, or by a varying one; the value goes to slot n
-    pub choose_sound : (g r : Rate) (t : Elem) (x y : TExpr) (c pc k n : ℕ) (test : List Instr) (a b : ℕ → ℕ → ℕ → List Instr) → Reaches g r → IsRegister h g c Truth → IsRegister h r (l.spare r t n) t → IsRegister h r (operand l r x (first_slot g n)) t → IsRegister h r (operand l r y (second_slot g n)) t → k < h.masks → Granted h l (sides_ask g n) → Here pc test → AnyMask (λ pc m. a pc m (first_slot g n)) → AnyMask (λ pc m. b pc m (second_slot g n)) → Here pc (choose_code l g r t x y c pc k n test a b)
+    pub choose_sound : (g r : Rate) (t : Elem) (x y : TExpr) (c pc k n : ℕ) (test : List Instr) (a b : ℕ → ℕ → ℕ → List Instr) → Reaches g r
+        → IsRegister h g c Truth → IsRegister h r (l.spare r t n) t → IsRegister h r (operand l r x (first_slot g n)) t
+        → IsRegister h r (operand l r y (second_slot g n)) t → k < h.masks → Granted h l (sides_ask g n) → Here pc test
+        → AnyMask (λ pc m. a pc m (first_slot g n)) → AnyMask (λ pc m. b pc m (second_slot g n)) → Here pc (choose_code l g r t x y c pc k n test a b)
     choose_sound Uniform r t x y c pc k n test a b re hc hd hx hy lk masks s f g =
         here_both pc test (choice (jump_on jump.False c) (pc + length test) (λ pc2. a pc2 k n ++ move_code r (l.spare r t n) (operand l r x n) k) (λ pc2. b pc2 k n ++ move_code r (l.spare r t n) (operand l r y n) k)) s
-        (choice_sound (jump_on jump.False c) (λ pc2. a pc2 k n ++ move_code r (l.spare r t n) (operand l r x n) k) (λ pc2. b pc2 k n ++ move_code r (l.spare r t n) (operand l r y n) k) (λ to lt. (((hc.0, hc.1), (lt, tt)), tt)) (λ pc2. here_both pc2 (a pc2 k n) (move_code r (l.spare r t n) (operand l r x n) k) (f pc2 k lk) (λ lt. move_sound code h r t (l.spare r t n) (operand l r x n) k hd hx lk)) (λ pc2. here_both pc2 (b pc2 k n) (move_code r (l.spare r t n) (operand l r y n) k) (g pc2 k lk) (λ lt. move_sound code h r t (l.spare r t n) (operand l r y n) k hd hy lk)) (pc + length test))
+        (choice_sound (jump_on jump.False c) (λ pc2. a pc2 k n ++ move_code r (l.spare r t n) (operand l r x n) k)
+        (λ pc2. b pc2 k n ++ move_code r (l.spare r t n) (operand l r y n) k) (λ to lt. (((hc.0, hc.1), (lt, tt)), tt))
+        (λ pc2. here_both pc2 (a pc2 k n) (move_code r (l.spare r t n) (operand l r x n) k) (f pc2 k lk)
+        (λ lt. move_sound code h r t (l.spare r t n) (operand l r x n) k hd hx lk))
+        (λ pc2. here_both pc2 (b pc2 k n) (move_code r (l.spare r t n) (operand l r y n) k) (g pc2 k lk)
+        (λ lt. move_sound code h r t (l.spare r t n) (operand l r y n) k hd hy lk)) (pc + length test))
     choose_sound Varying Uniform t x y c pc k n test a b re hc hd hx hy lk masks s f g = absurd re
     choose_sound Varying Varying t x y c pc k n test a b re hc hd hx hy lk masks s f g =
         let rest = choose_rest (l.spare Varying t n) c (operand l Varying x (n + 1)) (operand l Varying y (n + 2)) (pc + length test) k n a b in
         here_both pc test rest s (rest_sound t (l.spare Varying t n) c (operand l Varying x (n + 1)) (operand l Varying y (n + 2)) (pc + length test) k n a b hd hc hx hy lk masks f g)
 
     -- between two variables one instruction is enough
-    pub short_sound : (r : Rate) (t : Elem) (c x y : TExpr) (d k n mx my : ℕ) → is_short l r c x y ≡ true → IsRegister h r d t → OperandTree r Truth c → OperandTree r t x → OperandTree r t y → ExprTree fs c → ExprTree fs x → ExprTree fs y → Granted h l (expr_asks c n) → Granted h l (expr_asks x mx) → Granted h l (expr_asks y my) → k < h.masks → IsSound code h (select r d (found l c n) (found l x n) (found l y n) k)
+    pub short_sound : (r : Rate) (t : Elem) (c x y : TExpr) (d k n mx my : ℕ) → is_short l r c x y ≡ true → IsRegister h r d t → OperandTree r Truth c
+        → OperandTree r t x → OperandTree r t y → ExprTree fs c → ExprTree fs x → ExprTree fs y → Granted h l (expr_asks c n)
+        → Granted h l (expr_asks x mx) → Granted h l (expr_asks y my) → k < h.masks
+        → IsSound code h (select r d (found l c n) (found l x n) (found l y n) k)
     short_sound r t c x y d k n mx my e hd oc ox oy ic ix iy fc fx fy lk =
         let same = same_rate-is r (type_of c).rate (both_first (same_rate r (type_of c).rate) (stays_at l r x && stays_at l r y) e) in
         let both = both_second (same_rate r (type_of c).rate) (stays_at l r x && stays_at l r y) e in
         let hc = found_there fs h l constants c n ic fc in
         let test : IsRegister h r (found l c n) Truth = subst (λ u. IsRegister h r (found l c n) u) oc.elem (subst (λ q. IsRegister h q (found l c n) (type_of c).elem) (sym same) hc) in
-        select_sound code h r t d (found l c n) (found l x n) (found l y n) k hd test (stayed_there fs h l constants r t x n mx (both_first (stays_at l r x) (stays_at l r y) both) ox ix fx) (stayed_there fs h l constants r t y n my (both_second (stays_at l r x) (stays_at l r y) both) oy iy fy) lk
+        select_sound code h r t d (found l c n) (found l x n) (found l y n) k hd test
+        (stayed_there fs h l constants r t x n mx (both_first (stays_at l r x) (stays_at l r y) both) ox ix fx)
+        (stayed_there fs h l constants r t y n my (both_second (stays_at l r x) (stays_at l r y) both) oy iy fy) lk

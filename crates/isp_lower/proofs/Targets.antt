@@ -44,29 +44,49 @@ written_bound Uniform v a x s t q le = le
 written_bound Varying v a x s t q le = le
 
 module _ (w : Setting) (ready : IsSettled w) where
-  pub leaves_after : (g : Target) (d : ℕ) (c c1 : Conf) (t pc n q : ℕ) (r : Rate) (a : Mask) (v : Val Payload) → Comes w c t c1 → Spares w n c c1 → ((r : ℕ) → r < n → c1.masks r ≡ c.masks r) → Leaves w g d c1 pc n (t + q) r a v → Leaves w g d c pc n q r a v
+  pub leaves_after : (g : Target) (d : ℕ) (c c1 : Conf) (t pc n q : ℕ) (r : Rate) (a : Mask) (v : Val Payload) → Comes w c t c1 → Spares w n c c1
+      → ((r : ℕ) → r < n → c1.masks r ≡ c.masks r) → Leaves w g d c1 pc n (t + q) r a v → Leaves w g d c pc n q r a v
   leaves_after InSlot d c c1 t pc n q r a v h k m run = runs_after w ready c c1 t pc n q (Holds r a d) v h k m run
   leaves_after (InVariable x) d c c1 t pc n q r a v h k m run = λ other. done_after w ready c c1 t pc n q _ h k m (run other)
 
-  pub bind_leaves : {A : Type 0} (g : Target) (e : ℕ) (c : Conf) (pc n d q : ℕ) (P : A → Conf → Type 0) (v : Val A) (go : A → State → Val Payload) (pc' n' : ℕ) (r : Rate) (a : Mask) → Runs w c pc n (d + q) P v → ((x : A) (s : State) → Ok w c pc n (d + q) (P x) s → Leaves w g e c pc' n' q r a (go x s)) → Leaves w g e c pc' n' q r a (bind v go)
+  pub bind_leaves : {A : Type 0} (g : Target) (e : ℕ) (c : Conf) (pc n d q : ℕ) (P : A → Conf → Type 0) (v : Val A) (go : A → State → Val Payload)
+      (pc' n' : ℕ) (r : Rate) (a : Mask) → Runs w c pc n (d + q) P v
+      → ((x : A) (s : State) → Ok w c pc n (d + q) (P x) s → Leaves w g e c pc' n' q r a (go x s)) → Leaves w g e c pc' n' q r a (bind v go)
   bind_leaves InSlot e c pc n d q P v go pc' n' r a run f = bind_runs w ready c pc n d q P v go pc' n' (Holds r a e) run f
   bind_leaves (InVariable y) e c pc n d q P (Gives x s) go pc' n' r a run f = f x s run
   bind_leaves (InVariable y) e c pc n d q P (Fails p s) go pc' n' r a run f = λ other. failed_less w ready c d q p s run
   bind_leaves (InVariable y) e c pc n d q P (Stops s) go pc' n' r a run f = λ other. stopped_less w ready w.turns c d q s run
 
   -- one instruction that writes it, or traps
-  pub write_leaves : (g : Target) (c c2 : Conf) (t pc pc' n q : ℕ) (a : Mask) (s : State) (i : Instr) (r : Rate) (e : Elem) (o : Option ℕ) (kind : TrapKind) (sp : Span) (x y : Payload) → Comes w c t c2 → At w c2 pc → pc + 1 ≡ pc' → slice_get w.routine.code pc ≡ Some i → Stands w s c2 → Spares w n c c2 → ((r : ℕ) → r < n → c2.masks r ≡ c.masks r) → t + 1 + q ≤ 32 * s.work → (o ≡ None → at_rate r a x ≡ y) → Filled r a y → act w.code w.routine c2 i ≡ moved_by o kind sp (set_at r c2 (target w.layout g r e n) y) → Leaves w g (target w.layout g r e n) c pc' n q r a (checked o kind sp s x)
+  pub write_leaves : (g : Target) (c c2 : Conf) (t pc pc' n q : ℕ) (a : Mask) (s : State) (i : Instr) (r : Rate) (e : Elem) (o : Option ℕ)
+      (kind : TrapKind) (sp : Span) (x y : Payload) → Comes w c t c2 → At w c2 pc → pc + 1 ≡ pc' → slice_get w.routine.code pc ≡ Some i
+      → Stands w s c2 → Spares w n c c2 → ((r : ℕ) → r < n → c2.masks r ≡ c.masks r) → t + 1 + q ≤ 32 * s.work → (o ≡ None → at_rate r a x ≡ y)
+      → Filled r a y → act w.code w.routine c2 i ≡ moved_by o kind sp (set_at r c2 (target w.layout g r e n) y)
+      → Leaves w g (target w.layout g r e n) c pc' n q r a (checked o kind sp s x)
   write_leaves InSlot c c2 t pc pc' n q a s i r e o kind sp x y h at to has st ke ma le ex fill is = write_checked w ready c c2 t pc pc' n q a s i r e o kind sp x y h at to has st ke ma le ex fill is
   write_leaves (InVariable v) c c2 t pc pc' n q a s i Uniform e o kind sp x y h at to has st ke ma le ex fill is = λ other.
-      step_done w ready c c2 (set_at Uniform c2 (w.layout.variable Uniform v) y) t pc pc' n q i o kind sp x s (written Uniform v a) h at to has is refl (set_goes w ready Uniform c2 (w.layout.variable Uniform v) y pc at) st (λ none. written_stands w ready Uniform v c2 a x s y st (ex none) other) (spares_on w n c c2 (set_at Uniform c2 (w.layout.variable Uniform v) y) ke (variable_spares w ready Uniform v n c2 y)) ma le le
+      step_done w ready c c2 (set_at Uniform c2 (w.layout.variable Uniform v) y) t pc pc' n q i o kind sp x s (written Uniform v a) h at to has is
+      refl (set_goes w ready Uniform c2 (w.layout.variable Uniform v) y pc at) st
+      (λ none. written_stands w ready Uniform v c2 a x s y st (ex none) other)
+      (spares_on w n c c2 (set_at Uniform c2 (w.layout.variable Uniform v) y) ke (variable_spares w ready Uniform v n c2 y)) ma le le
   write_leaves (InVariable v) c c2 t pc pc' n q a s i Varying e o kind sp x y h at to has st ke ma le ex fill is = λ other.
-      step_done w ready c c2 (set_at Varying c2 (w.layout.variable Varying v) y) t pc pc' n q i o kind sp x s (written Varying v a) h at to has is refl (set_goes w ready Varying c2 (w.layout.variable Varying v) y pc at) st (λ none. written_stands w ready Varying v c2 a x s y st (ex none) other) (spares_on w n c c2 (set_at Varying c2 (w.layout.variable Varying v) y) ke (variable_spares w ready Varying v n c2 y)) ma le le
+      step_done w ready c c2 (set_at Varying c2 (w.layout.variable Varying v) y) t pc pc' n q i o kind sp x s (written Varying v a) h at to has is
+      refl (set_goes w ready Varying c2 (w.layout.variable Varying v) y pc at) st
+      (λ none. written_stands w ready Varying v c2 a x s y st (ex none) other)
+      (spares_on w n c c2 (set_at Varying c2 (w.layout.variable Varying v) y) ke (variable_spares w ready Varying v n c2 y)) ma le le
 
-  pub write_sure : (g : Target) (c c2 : Conf) (t pc pc' n q : ℕ) (a : Mask) (s : State) (i : Instr) (r : Rate) (e : Elem) (o : Option ℕ) (kind : TrapKind) (sp : Span) (x y : Payload) → Comes w c t c2 → At w c2 pc → pc + 1 ≡ pc' → slice_get w.routine.code pc ≡ Some i → Stands w s c2 → Spares w n c c2 → ((r : ℕ) → r < n → c2.masks r ≡ c.masks r) → t + 1 + q ≤ 32 * s.work → at_rate r a x ≡ y → Filled r a y → act w.code w.routine c2 i ≡ moved_by o kind sp (set_at r c2 (target w.layout g r e n) y) → Leaves w g (target w.layout g r e n) c pc' n q r a (checked o kind sp s x)
+  pub write_sure : (g : Target) (c c2 : Conf) (t pc pc' n q : ℕ) (a : Mask) (s : State) (i : Instr) (r : Rate) (e : Elem) (o : Option ℕ)
+      (kind : TrapKind) (sp : Span) (x y : Payload) → Comes w c t c2 → At w c2 pc → pc + 1 ≡ pc' → slice_get w.routine.code pc ≡ Some i
+      → Stands w s c2 → Spares w n c c2 → ((r : ℕ) → r < n → c2.masks r ≡ c.masks r) → t + 1 + q ≤ 32 * s.work → at_rate r a x ≡ y → Filled r a y
+      → act w.code w.routine c2 i ≡ moved_by o kind sp (set_at r c2 (target w.layout g r e n) y)
+      → Leaves w g (target w.layout g r e n) c pc' n q r a (checked o kind sp s x)
   write_sure g c c2 t pc pc' n q a s i r e o kind sp x y h at to has st ke ma le ex fill is = write_leaves g c c2 t pc pc' n q a s i r e o kind sp x y h at to has st ke ma le (λ none. ex) fill is
 
   -- a value that has come into its register
-  pub came_leaves : (g : Target) (c c2 : Conf) (t pc pc' n q : ℕ) (a : Mask) (s : State) (r : Rate) (e : Elem) (x y : Payload) → Comes w c t (set_at r c2 (target w.layout g r e n) y) → At w c2 pc → pc + 1 ≡ pc' → Stands w s c2 → Spares w n c c2 → ((r : ℕ) → r < n → c2.masks r ≡ c.masks r) → t + q ≤ 32 * s.work → at_rate r a x ≡ y → Filled r a y → Leaves w g (target w.layout g r e n) c pc' n q r a (Gives x s)
+  pub came_leaves : (g : Target) (c c2 : Conf) (t pc pc' n q : ℕ) (a : Mask) (s : State) (r : Rate) (e : Elem) (x y : Payload)
+      → Comes w c t (set_at r c2 (target w.layout g r e n) y) → At w c2 pc → pc + 1 ≡ pc' → Stands w s c2 → Spares w n c c2
+      → ((r : ℕ) → r < n → c2.masks r ≡ c.masks r) → t + q ≤ 32 * s.work → at_rate r a x ≡ y → Filled r a y
+      → Leaves w g (target w.layout g r e n) c pc' n q r a (Gives x s)
   came_leaves InSlot c c2 t pc pc' n q a s r e x y h at to st ke ma le ex fill =
       let c3 = set_at r c2 (w.layout.spare r e n) y in
       record {

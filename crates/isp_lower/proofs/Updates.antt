@@ -135,7 +135,14 @@ checked_mapped None kind sp s v g = refl
 checked_mapped (Some p) kind sp s v g = refl
 
 module _ (w : Setting) (ready : IsSettled w) where
-  pub update_leaves : (g : Target) (same : Bool) (o : BinOp) (t u : Elem) (r : Rate) (h y : ℕ) (c : Conf) (pc k i q p : ℕ) (a : Mask) (s : State) (x z : Payload) (sp : Span) → IsNumber t → (same ≡ true → u ≡ t) → IsTyped w r h u → WorkFits w same r t i → IsTyped w r (target w.layout g r u i) u → Low w.layout r i y → At w c pc → c.masks k ≡ a → any (gang_of w) a ≡ true → k < i → Stands w s c → 3 + q ≤ 32 * s.work → Holds r a h x c → Holds r a y z c → AreAt w.routine.code pc (update_to w.layout same o t r (target w.layout g r u i) h y k i p) → AreAt w.code.places p (operate_places o sp) → Leaves w g (target w.layout g r u i) c (pc + length (update_to w.layout same o t r (target w.layout g r u i) h y k i p)) i q r a (bind (checked (offender (gang_of w) (is_zero o t) a z) Divide sp s (joined (op_bits o t) a (mapped (converted u t) x) z)) (λ m s2. Gives (mapped (converted t u) m) s2))
+  pub update_leaves : (g : Target) (same : Bool) (o : BinOp) (t u : Elem) (r : Rate) (h y : ℕ) (c : Conf) (pc k i q p : ℕ) (a : Mask) (s : State)
+      (x z : Payload) (sp : Span) → IsNumber t → (same ≡ true → u ≡ t) → IsTyped w r h u → WorkFits w same r t i
+      → IsTyped w r (target w.layout g r u i) u → Low w.layout r i y → At w c pc → c.masks k ≡ a → any (gang_of w) a ≡ true → k < i → Stands w s c
+      → 3 + q ≤ 32 * s.work → Holds r a h x c → Holds r a y z c
+      → AreAt w.routine.code pc (update_to w.layout same o t r (target w.layout g r u i) h y k i p) → AreAt w.code.places p (operate_places o sp)
+      → Leaves w g (target w.layout g r u i) c (pc + length (update_to w.layout same o t r (target w.layout g r u i) h y k i p)) i q r a
+      (bind (checked (offender (gang_of w) (is_zero o t) a z) Divide sp s (joined (op_bits o t) a (mapped (converted u t) x) z))
+      (λ m s2. Gives (mapped (converted t u) m) s2))
   update_leaves g true o t u r h y c pc k i q p a s x z sp num same th work tu low at em some lt st us hx hz has places =
       let e : u ≡ t = same refl in
       let f = op_bits o t in
@@ -143,18 +150,29 @@ module _ (w : Setting) (ready : IsSettled w) where
       let td : IsTyped w r d t = tu ∙ e in
       let out = offender (gang_of w) (is_zero o t) a z in
       let Y = joined f a (held_at r c.scalars c.vectors a h) (held_at r c.scalars c.vectors a y) in
-      let m1 : mapped (converted t u) (joined f a (mapped (converted u t) x) z) ≡ joined f a x z = ap (λ g. mapped (converted t g) (joined f a (mapped (converted g t) x) z)) e ∙ ap (mapped (converted t t)) (joined_same f (converted t t) a x z (λ b d. same_op o t b d num)) ∙ mapped_same f (converted t t) a x z (λ b d. same_back o t b d num) in
+      let m1 : mapped (converted t u) (joined f a (mapped (converted u t) x) z)
+      ≡ joined f a x z = ap (λ g. mapped (converted t g) (joined f a (mapped (converted g t) x) z)) e
+      ∙ ap (mapped (converted t t)) (joined_same f (converted t t) a x z (λ b d. same_op o t b d num))
+      ∙ mapped_same f (converted t t) a x z (λ b d. same_back o t b d num) in
       let line = operate_at w.code w.routine c r o t d h y k p a sp some em td places ∙ ap (λ g. moved_by g Divide sp (set_at r c d Y)) (ap (offender (gang_of w) (is_zero o t) a) (sym hz) ∙ sym (at_offender r (gang_of w) a (is_zero o t) z)) in
       subst (λ v. Leaves w g d c (pc + 1) i q r a v) (sym (checked_mapped out Divide sp s (joined f a (mapped (converted u t) x) z) (mapped (converted t u)) ∙ ap (checked out Divide sp s) m1))
-      (write_sure w ready g c c 0 pc (pc + 1) i q a s (operate r o d h y k p) r u out Divide sp (joined f a x z) Y (comes_none w c) at refl has.0 st (spares_all w i c) (λ g l. refl) (omega arith) (at_joined r a f x z ∙ ap (λ g. joined f a g (at_rate r a z)) hx ∙ ap (joined f a (held_at r c.scalars c.vectors a h)) hz) (filled_joined r a f c.scalars c.vectors h y) line)
+      (write_sure w ready g c c 0 pc (pc + 1) i q a s (operate r o d h y k p) r u out Divide sp (joined f a x z) Y (comes_none w c) at refl has.0 st
+      (spares_all w i c) (λ g l. refl) (omega arith) (at_joined r a f x z ∙ ap (λ g. joined f a g (at_rate r a z)) hx
+      ∙ ap (joined f a (held_at r c.scalars c.vectors a h)) hz) (filled_joined r a f c.scalars c.vectors h y) line)
   update_leaves g false o t u r h y c pc k i q p a s x z sp num same th work tu low at em some lt st us hx hz has places =
       let f = op_bits o t in
       let d = w.layout.spare r t i in
       let e = target w.layout g r u i in
       let out = offender (gang_of w) (is_zero o t) a z in
       let x1 = mapped (converted u t) x in
-      let converts = λ (c2 : Conf) (from to : ℕ) (v v' : Elem) (ev : IsTyped w r from v) (ev' : IsTyped w r to v'). convert_line w.code w.routine c2 r to from k ∙ ap (λ g. Go (set_at r c2 to (mapped (converted g (elem_of w.routine (register r to))) (value_at r c2 k from)))) ev ∙ ap (λ g. Go (set_at r c2 to (mapped (converted v g) (value_at r c2 k from)))) ev' in
-      let ok1 : Ok w c (pc + 1) i (2 + q) (Holds r a d x1) s = write_runs w ready c c 0 pc (pc + 1) i (2 + q) a s (convert r d h k) r t None Divide no_place x1 (mapped (converted u t) (held_at r c.scalars c.vectors a h)) (comes_none w c) at refl has.0 st (spares_all w i c) (λ g l. refl) (omega arith) (at_mapped r a (converted u t) x ∙ ap (mapped (converted u t)) hx) (filled_mapped r a (converted u t) c.scalars c.vectors h) (converts c h d u t th work ∙ ap (λ g. Go (set_at r c d (mapped (converted u t) (held_at r c.scalars c.vectors g h)))) em) in
+      let converts = λ (c2 : Conf) (from to : ℕ) (v v' : Elem) (ev : IsTyped w r from v) (ev' : IsTyped w r to v'). convert_line w.code w.routine c2 r
+      to from k ∙ ap (λ g. Go (set_at r c2 to (mapped (converted g (elem_of w.routine (register r to))) (value_at r c2 k from)))) ev
+      ∙ ap (λ g. Go (set_at r c2 to (mapped (converted v g) (value_at r c2 k from)))) ev' in
+      let ok1 : Ok w c (pc + 1) i (2 + q) (Holds r a d x1) s = write_runs w ready c c 0 pc (pc + 1) i (2 + q) a s (convert r d h k) r t None Divide
+      no_place x1 (mapped (converted u t) (held_at r c.scalars c.vectors a h)) (comes_none w c) at refl has.0 st (spares_all w i c)
+      (λ g l. refl) (omega arith) (at_mapped r a (converted u t) x ∙ ap (mapped (converted u t)) hx)
+      (filled_mapped r a (converted u t) c.scalars c.vectors h)
+      (converts c h d u t th work ∙ ap (λ g. Go (set_at r c d (mapped (converted u t) (held_at r c.scalars c.vectors g h)))) em) in
       let c1 = ok1.conf in
       let e1 : c1.masks k ≡ a = ok1.masks k lt ∙ em in
       let hy : at_rate r a z ≡ held_at r c1.scalars c1.vectors a y = hz ∙ sym (held_kept w r i c c1 a y (kept_same w i c c1 s st ok1.stands ok1.spares) low) in
@@ -162,13 +180,17 @@ module _ (w : Setting) (ready : IsSettled w) where
       let line = operate_at w.code w.routine c1 r o t d d y k p a sp some e1 work places ∙ ap (λ g. moved_by g Divide sp (set_at r c1 d Y)) (ap (offender (gang_of w) (is_zero o t) a) (sym hy) ∙ sym (at_offender r (gang_of w) a (is_zero o t) z)) in
       let to : pc + 1 + 1 ≡ pc + length (convert r d h k ∷ operate r o d d y k p ∷ []) = omega arith in
       let va = checked out Divide sp s (joined f a x1 z) in
-      let run2 : Runs w c (pc + 1 + 1) i (1 + q) (Holds r a d) va = write_runs w ready c c1 ok1.steps (pc + 1) (pc + 1 + 1) i (1 + q) a s (operate r o d d y k p) r t out Divide sp (joined f a x1 z) Y ok1.comes ok1.at refl has.1.0 ok1.stands ok1.spares ok1.masks (omega (arith, ok1.bound)) (at_joined r a f x1 z ∙ ap (λ g. joined f a g (at_rate r a z)) ok1.holds ∙ ap (joined f a (held_at r c1.scalars c1.vectors a d)) hy) (filled_joined r a f c1.scalars c1.vectors d y) line in
+      let run2 : Runs w c (pc + 1 + 1) i (1 + q) (Holds r a d) va = write_runs w ready c c1 ok1.steps (pc + 1) (pc + 1 + 1) i (1 + q) a s
+      (operate r o d d y k p) r t out Divide sp (joined f a x1 z) Y ok1.comes ok1.at refl has.1.0 ok1.stands ok1.spares ok1.masks
+      (omega (arith, ok1.bound)) (at_joined r a f x1 z ∙ ap (λ g. joined f a g (at_rate r a z)) ok1.holds
+      ∙ ap (joined f a (held_at r c1.scalars c1.vectors a d)) hy) (filled_joined r a f c1.scalars c1.vectors d y) line in
       one_runs w ready g c pc k i q a va r u d (convert r d h k ∷ operate r o d d y k p ∷ []) (convert r e d k) (converted t u) em lt has (λ c2. converts c2 d e t u work tu) (subst (λ g. Runs w c g i (1 + q) (Holds r a d) va) to run2)
 
   abbrev done : (Payload → State → State) → Payload → State → Val Done
   done f m s = Gives tt (f m s)
 
-  twice : (o : Option ℕ) (kind : TrapKind) (sp : Span) (s : State) (v : Payload) (g : Payload → Payload) (f : Payload → State → State) → bind (checked o kind sp s v) (λ z s3. done f (g z) s3) ≡ bind (bind (checked o kind sp s v) (λ z s3. Gives (g z) s3)) (done f)
+  twice : (o : Option ℕ) (kind : TrapKind) (sp : Span) (s : State) (v : Payload) (g : Payload → Payload) (f : Payload → State → State)
+      → bind (checked o kind sp s v) (λ z s3. done f (g z) s3) ≡ bind (bind (checked o kind sp s v) (λ z s3. Gives (g z) s3)) (done f)
   twice None kind sp s v g f = refl
   twice (Some p) kind sp s v g f = refl
 
@@ -178,7 +200,12 @@ module _ (w : Setting) (ready : IsSettled w) where
   done_less n m c pc q (Stops s) le r = r
 
   -- the place is read, the operator works, the place is written
-  pub change_runs : (o : BinOp) (t : Elem) (z : TPlace) (sp : Span) (at : Place) (v : Payload) (pc p k n i y q : ℕ) (a : Mask) (s : State) (c : Conf) → ChangeFits w t z n i → beyond z n ≤ i → n ≤ i → k < n → Low w.layout (place_type z).rate i y → At w c pc → c.masks k ≡ a → any (gang_of w) a ≡ true → ((r : ℕ) → a r ≡ true → Allowed w r) → Stands w s c → 6 + q ≤ 32 * s.work → PlaceHolds w ready z n a at c → Holds (place_type z).rate a y v c → AreAt w.routine.code pc (change_code w.layout o t z y p k n i) → AreAt w.code.places p (change_places w.layout o z sp) → DoneRuns w c (pc + length (change_code w.layout o t z y p k n i)) n q (update (gang_of w) w.frame (calls_of w) o t z at v sp a s)
+  pub change_runs : (o : BinOp) (t : Elem) (z : TPlace) (sp : Span) (at : Place) (v : Payload) (pc p k n i y q : ℕ) (a : Mask) (s : State) (c : Conf)
+      → ChangeFits w t z n i → beyond z n ≤ i → n ≤ i → k < n → Low w.layout (place_type z).rate i y → At w c pc → c.masks k ≡ a
+      → any (gang_of w) a ≡ true → ((r : ℕ) → a r ≡ true → Allowed w r) → Stands w s c → 6 + q ≤ 32 * s.work → PlaceHolds w ready z n a at c
+      → Holds (place_type z).rate a y v c → AreAt w.routine.code pc (change_code w.layout o t z y p k n i)
+      → AreAt w.code.places p (change_places w.layout o z sp)
+      → DoneRuns w c (pc + length (change_code w.layout o t z y p k n i)) n q (update (gang_of w) w.frame (calls_of w) o t z at v sp a s)
   change_runs o t (t_variable x u sv) sp at v pc p k n i y q a s c fit lz le lk low here em some inside st us h hy has places =
       let same = same_elem u.elem t in
       let r = u.rate in
@@ -189,7 +216,8 @@ module _ (w : Setting) (ready : IsSettled w) where
       subst (λ g. DoneRuns w c end n q (update (gang_of w) w.frame (calls_of w) o t (t_variable x u sv) g v sp a s)) (sym h)
       (subst (λ g. DoneRuns w c end n q g) (sym (twice who Divide sp s val (mapped (converted t u.elem)) (written r x a)))
       (done_less n i c end q _ le
-      (update_leaves (InVariable x) same o t u.elem r f y c pc k i q p a s (variable r x a s) v sp fit.number (same_elem-is u.elem t) fit.target fit.working fit.target low here em some (omega arith) st (omega (arith, us)) (variable_held w ready r x a s c st) hy has places fit.other)))
+      (update_leaves (InVariable x) same o t u.elem r f y c pc k i q p a s (variable r x a s) v sp fit.number (same_elem-is u.elem t) fit.target
+      fit.working fit.target low here em some (omega arith) st (omega (arith, us)) (variable_held w ready r x a s c st) hy has places fit.other)))
   change_runs o t (t_element b j u sv) sp at v pc p k n i y q a s c fit lz le lk low here em some inside st us h hy has places =
       let same = same_elem u.elem t in
       let r = u.rate in
@@ -208,8 +236,11 @@ module _ (w : Setting) (ready : IsSettled w) where
       let x = held (gang_of w) w.frame (Element b (type_of j).elem m0) a s in
       let val = joined (op_bits o t) a (mapped (converted u.elem t) x) v in
       subst (λ g. DoneRuns w c end n q (update (gang_of w) w.frame (calls_of w) o t z g v sp a s)) (sym h.1)
-      (bind_checked w ready c (pc + 1) i 5 q (Holds r a f) (outside (gang_of w) w.frame (Element b (type_of j).elem m0) a) Index sv s x (λ x1 s1. bind (checked who Divide sp s1 (joined (op_bits o t) a (mapped (converted u.elem t) x1) v)) (λ m s2. done put_there (mapped (converted t u.elem) m) s2)) end n
-      (element_runs w ready InSlot v1 at_j b j u sv c c 0 pc (pc + 1) k i p (5 + q) a s m0 (ready.arrays b fit.target.0) fit.target.1 (comes_none w c) here refl has.0 places.0 st (spares_all w i c) (λ g l. refl) em some inside (omega (arith, us)) h.2)
+      (bind_checked w ready c (pc + 1) i 5 q (Holds r a f) (outside (gang_of w) w.frame (Element b (type_of j).elem m0) a) Index sv s x
+      (λ x1 s1. bind (checked who Divide sp s1 (joined (op_bits o t) a (mapped (converted u.elem t) x1) v))
+      (λ m s2. done put_there (mapped (converted t u.elem) m) s2)) end n
+      (element_runs w ready InSlot v1 at_j b j u sv c c 0 pc (pc + 1) k i p (5 + q) a s m0 (ready.arrays b fit.target.0) fit.target.1 (comes_none w c)
+      here refl has.0 places.0 st (spares_all w i c) (λ g l. refl) em some inside (omega (arith, us)) h.2)
       (λ none ok.
       let c1 = ok.conf in
       let q1 = ok.steps + q in
@@ -219,15 +250,23 @@ module _ (w : Setting) (ready : IsSettled w) where
       (subst (λ g. DoneRuns w c1 end n q1 g) (sym (twice who Divide sp s val (mapped (converted t u.elem)) put_there))
       (bind_done w ready c1 pc2 i 1 q1 (λ m c'. Holds r a f m c' × Keeps w i c1 c') (bind (checked who Divide sp s val) (λ m s3. Gives (mapped (converted t u.elem) m) s3)) (done put_there) end n
       (runs_kept w c1 pc2 i (1 + q1) (Holds r a f) (bind (checked who Divide sp s val) (λ m s3. Gives (mapped (converted t u.elem) m) s3)) s ok.stands (checked_still w who Divide sp s val (mapped (converted t u.elem)))
-      (update_leaves InSlot same o t u.elem r f y c1 (pc + 1) k i (1 + q1) (p + 1) a s x v sp fit.number (same_elem-is u.elem t) fit.back fit.working fit.back low ok.at e1 some (omega arith) ok.stands (omega (arith, ok.bound)) ok.holds (hy ∙ sym (held_kept w r i c c1 a y here_kept low)) (are_front w.routine.code (pc + 1) cu last has.1) places.1))
+      (update_leaves InSlot same o t u.elem r f y c1 (pc + 1) k i (1 + q1) (p + 1) a s x v sp fit.number (same_elem-is u.elem t) fit.back fit.working
+      fit.back low ok.at e1 some (omega arith) ok.stands (omega (arith, ok.bound)) ok.holds (hy ∙ sym (held_kept w r i c c1 a y here_kept low))
+      (are_front w.routine.code (pc + 1) cu last has.1) places.1))
       (λ m s3 ok2.
       let h2 = index_kept w ready v1 b.ty.rate r j n a _ c ok2.conf (λ e. e) fit.target.2 fit.target.4 (keeps_on w (n + 1) i c c1 ok2.conf lz (kept_same w (n + 1) c c1 s st ok.stands (spares_less w (n + 1) i c c1 lz ok.spares)) ok2.holds.1) h.2 in
       subst (λ g. DoneRuns w c1 end n q1 (bind (checked g Index sv s3 m) (done put_there))) none
-      (element_done w ready v1 r b.ty.rate b (type_of j).elem m0 m a s3 c1 ok2.conf ok2.steps pc2 end k at_j f n q1 p sv (ready.arrays b fit.target.0).is fit.target.1 (ready.arrays b fit.target.0).few some inside ok2.comes ok2.at to (are_back w.routine.code (pc + 1) cu last has.1).0 places.0 ok2.stands (spares_less w n i c1 ok2.conf le ok2.spares) (λ g l. ok2.masks g (omega arith)) (ok2.masks k (omega arith) ∙ e1) (omega (arith, ok2.bound)) h2 ok2.holds.0))))))
+      (element_done w ready v1 r b.ty.rate b (type_of j).elem m0 m a s3 c1 ok2.conf ok2.steps pc2 end k at_j f n q1 p sv
+      (ready.arrays b fit.target.0).is fit.target.1 (ready.arrays b fit.target.0).few some inside ok2.comes ok2.at to
+      (are_back w.routine.code (pc + 1) cu last has.1).0 places.0 ok2.stands (spares_less w n i c1 ok2.conf le ok2.spares)
+      (λ g l. ok2.masks g (omega arith)) (ok2.masks k (omega arith) ∙ e1) (omega (arith, ok2.bound)) h2 ok2.holds.0))))))
 
   -- ---- `op=`
 
-  pub change_by_runs : (o : BinOp) (t : Elem) (z : TPlace) (x : TExpr) (sp : Span) (pc p k n q : ℕ) (a : Mask) (s : State) (c : Conf) → SimpleParts w (t_update o t z x sp) n → AreAt w.routine.code pc (change_by_code w.layout o t z x pc p k n) → AreAt w.code.places p (simple_places w.layout (t_update o t z x sp)) → Enters w pc k n a s c q → DoneRuns w c (pc + length (change_by_code w.layout o t z x pc p k n)) n q (simple (gang_of w) w.frame (calls_of w) (t_update o t z x sp) a s)
+  pub change_by_runs : (o : BinOp) (t : Elem) (z : TPlace) (x : TExpr) (sp : Span) (pc p k n q : ℕ) (a : Mask) (s : State) (c : Conf)
+      → SimpleParts w (t_update o t z x sp) n → AreAt w.routine.code pc (change_by_code w.layout o t z x pc p k n)
+      → AreAt w.code.places p (simple_places w.layout (t_update o t z x sp)) → Enters w pc k n a s c q
+      → DoneRuns w c (pc + length (change_by_code w.layout o t z x pc p k n)) n q (simple (gang_of w) w.frame (calls_of w) (t_update o t z x sp) a s)
   change_by_runs o t z x sp pc p k n q a s c fit has places b =
       let r = (place_type z).rate in
       let m = beyond z n in
@@ -253,17 +292,26 @@ module _ (w : Setting) (ready : IsSettled w) where
       let c1 = ok.conf in
       done_after w ready c c1 ok.steps end n q _ ok.comes ok.spares ok.masks
       (bind_done w ready c1 (pc1 + length ca) m 6 (ok.steps + q) (λ d c'. Holds r a y d c' × Keeps w m c1 c') (means w ready x a s1) _ end n
-      (runs_kept w c1 (pc1 + length ca) m (6 + (ok.steps + q)) (Holds r a y) (means w ready x a s1) s1 ok.stands (value_still w ready x m a s1 fit.2) (operand_runs w ready c1 pc1 k m (8 + (ok.steps + q)) (6 + (ok.steps + q)) a s1 r t x cx fit.1 (omega arith) (enters_later w ready pc pc1 k n m (8 + (ok.steps + q)) q (8 + q) a s s1 c more.0 b ok (omega arith)) ha
-      (λ at. expr_runs w ready x pc1 p1 k m (8 + (ok.steps + q)) (1 + (6 + (ok.steps + q))) a s1 c1 fit.2 at (are_front w.code.places p1 (expr_places w.layout x) _ pl) (omega arith) (enters_later w ready pc pc1 k n m (8 + (ok.steps + q)) q (8 + q) a s s1 c more.0 b ok (omega arith)))))
+      (runs_kept w c1 (pc1 + length ca) m (6 + (ok.steps + q)) (Holds r a y) (means w ready x a s1) s1 ok.stands (value_still w ready x m a s1 fit.2)
+      (operand_runs w ready c1 pc1 k m (8 + (ok.steps + q)) (6 + (ok.steps + q)) a s1 r t x cx fit.1 (omega arith)
+      (enters_later w ready pc pc1 k n m (8 + (ok.steps + q)) q (8 + q) a s s1 c more.0 b ok (omega arith)) ha
+      (λ at. expr_runs w ready x pc1 p1 k m (8 + (ok.steps + q)) (1 + (6 + (ok.steps + q))) a s1 c1 fit.2 at
+      (are_front w.code.places p1 (expr_places w.layout x) _ pl) (omega arith)
+      (enters_later w ready pc pc1 k n m (8 + (ok.steps + q)) q (8 + q) a s s1 c more.0 b ok (omega arith)))))
       (λ v s2 ok2.
       done_after w ready c1 ok2.conf ok2.steps end n (ok.steps + q) _ ok2.comes (spares_less w n m c1 ok2.conf more.0 ok2.spares) (λ g l. ok2.masks g (omega (arith, more.0)))
       (subst (λ g. DoneRuns w ok2.conf g n (ok2.steps + (ok.steps + q)) (update (gang_of w) w.frame (calls_of w) o t z at v sp a s2)) to
-      (change_runs o t z sp at v (pc1 + length ca) pw k n (m + 1) y (ok2.steps + (ok.steps + q)) a s2 ok2.conf fit.0 (omega arith) (omega (arith, more.0)) lk (operand_low w ready r t x m fit.1 fit.2) ok2.at (ok2.masks k (omega (arith, more.0)) ∙ ok.masks k lk ∙ b.mask) b.some b.inside ok2.stands (omega (arith, ok2.bound)) (place_kept w ready z n a at c1 ok2.conf fit.0.target ok2.holds.1 ok.holds) ok2.holds.0 (are_back w.routine.code pc1 ca last h1) (are_back w.code.places p1 (expr_places w.layout x) _ pl))))))
+      (change_runs o t z sp at v (pc1 + length ca) pw k n (m + 1) y (ok2.steps + (ok.steps + q)) a s2 ok2.conf fit.0 (omega arith)
+      (omega (arith, more.0)) lk (operand_low w ready r t x m fit.1 fit.2) ok2.at (ok2.masks k (omega (arith, more.0)) ∙ ok.masks k lk ∙ b.mask)
+      b.some b.inside ok2.stands (omega (arith, ok2.bound)) (place_kept w ready z n a at c1 ok2.conf fit.0.target ok2.holds.1 ok.holds)
+      ok2.holds.0 (are_back w.routine.code pc1 ca last h1) (are_back w.code.places p1 (expr_places w.layout x) _ pl))))))
 
   -- ---- `++` and `--`
 
   -- the number 1
-  one_ok : (r : Rate) (t : Elem) (pc k m q : ℕ) (a : Mask) (s : State) (c : Conf) → IsNumber t → SpareFits w Uniform t m → k < m → c.masks k ≡ a → ((p : ℕ) → a p ≡ true → Allowed w p) → At w c pc → Stands w s c → 2 + q ≤ 32 * s.work → AreAt w.routine.code pc (one_code w.layout r t k m) → Runs w c (pc + length (one_code w.layout r t k m)) m q (Holds r a (one_in w.layout r t m)) (Gives (One 1) s)
+  one_ok : (r : Rate) (t : Elem) (pc k m q : ℕ) (a : Mask) (s : State) (c : Conf) → IsNumber t → SpareFits w Uniform t m → k < m → c.masks k ≡ a
+      → ((p : ℕ) → a p ≡ true → Allowed w p) → At w c pc → Stands w s c → 2 + q ≤ 32 * s.work → AreAt w.routine.code pc (one_code w.layout r t k m)
+      → Runs w c (pc + length (one_code w.layout r t k m)) m q (Holds r a (one_in w.layout r t m)) (Gives (One 1) s)
   one_ok r t pc k m q a s c num ty lk em inside at st us has = go r (in_vector w.layout r (Some one)) refl has
     where
       one : Value
@@ -278,7 +326,10 @@ module _ (w : Setting) (ready : IsSettled w) where
       here : (P : Conf → Type 0) (z : ℕ) → 2 + z ≤ 32 * s.work → P c → Ok w c (pc + 0) m z P s
       here P z le h = record { conf = c; steps = 0; comes = comes_none w c; at = at_to w c pc _ at (omega arith); stands = st; spares = spares_all w m c; masks = λ g l. refl; holds = h; bound = omega (arith, le) }
 
-      made : (z : Bool) → w.layout.kept Uniform t 1 ≡ z → AreAt w.routine.code pc (unless_kept z (constant (kept_found w.layout z Uniform t 1 m) t 1 ∷ [])) → Runs w c (pc + length (unless_kept z (constant (kept_found w.layout z Uniform t 1 m) t 1 ∷ []))) m (1 + q) (Holds Uniform a (kept_found w.layout z Uniform t 1 m)) (Gives (One 1) s)
+      made : (z : Bool) → w.layout.kept Uniform t 1 ≡ z
+          → AreAt w.routine.code pc (unless_kept z (constant (kept_found w.layout z Uniform t 1 m) t 1 ∷ []))
+          → Runs w c (pc + length (unless_kept z (constant (kept_found w.layout z Uniform t 1 m) t 1 ∷ []))) m (1 + q)
+          (Holds Uniform a (kept_found w.layout z Uniform t 1 m)) (Gives (One 1) s)
       made true e h =
           let first = here (Holds Uniform a (w.layout.constant Uniform t 1) (One 1)) q us (ap One (sym small ∙ sym (st.constants Uniform t 1 e))) in
           record { conf = first.conf; steps = first.steps; comes = first.comes; at = first.at; stands = first.stands; spares = first.spares; masks = first.masks; holds = first.holds; bound = omega (arith, us) }
@@ -287,7 +338,9 @@ module _ (w : Setting) (ready : IsSettled w) where
           write_runs w ready c c 0 pc (pc + 1) m (1 + q) a s (constant d t 1) Uniform t None Divide no_place (One 1) (One 1) (comes_none w c) at refl h.0 st (spares_all w m c) (λ g l. refl) (omega (arith, us)) refl refl
           (ap (λ u. Go (set_at Uniform c d (One (wrap u (number t 1))))) ty ∙ ap (λ z. Go (set_at Uniform c d (One z))) (one_is t num))
 
-      lifts : (g : Rate) → AreAt w.routine.code pc (code ++ lift_code w.layout g Uniform t (found w.layout (one_of t) m) k m) → Runs w c (pc + length (code ++ lift_code w.layout g Uniform t (found w.layout (one_of t) m) k m)) m q (Holds g a (lifted w.layout g Uniform t (found w.layout (one_of t) m) m)) (Gives (One 1) s)
+      lifts : (g : Rate) → AreAt w.routine.code pc (code ++ lift_code w.layout g Uniform t (found w.layout (one_of t) m) k m)
+          → Runs w c (pc + length (code ++ lift_code w.layout g Uniform t (found w.layout (one_of t) m) k m)) m q
+          (Holds g a (lifted w.layout g Uniform t (found w.layout (one_of t) m) m)) (Gives (One 1) s)
       lifts g h =
           let f = found w.layout (one_of t) m in
           let lift = lift_code w.layout g Uniform t f k m in
@@ -296,13 +349,19 @@ module _ (w : Setting) (ready : IsSettled w) where
           (lift_runs w ready c (pc + length code) k m q a (Gives (One 1) s) g Uniform t f tt em lk (are_back w.routine.code pc code lift h)
           (made (w.layout.kept Uniform t 1) refl (are_front w.routine.code pc code lift h)))
 
-      go : (g : Rate) (z : Bool) → in_vector w.layout g (Some one) ≡ z → AreAt w.routine.code pc (unless_kept z (code ++ lift_code w.layout g Uniform t (found w.layout (one_of t) m) k m)) → Runs w c (pc + length (unless_kept z (code ++ lift_code w.layout g Uniform t (found w.layout (one_of t) m) k m))) m q (Holds g a (operand_by w.layout z g (one_of t) m)) (Gives (One 1) s)
+      go : (g : Rate) (z : Bool) → in_vector w.layout g (Some one) ≡ z
+          → AreAt w.routine.code pc (unless_kept z (code ++ lift_code w.layout g Uniform t (found w.layout (one_of t) m) k m))
+          → Runs w c (pc + length (unless_kept z (code ++ lift_code w.layout g Uniform t (found w.layout (one_of t) m) k m))) m q
+          (Holds g a (operand_by w.layout z g (one_of t) m)) (Gives (One 1) s)
       go Uniform true e h = absurd (cc)
       go Varying true e h =
           here (Holds Varying a (w.layout.constant Varying t 1) (One 1)) q us (ap Each (ap (λ b. on a (λ p. b)) (sym small) ∙ sym (on_everywhere (gang_of w) (1 % 2 ^ width t) a (λ p l. (inside p l).0)) ∙ ap (on a) (sym (st.constants Varying t 1 e))))
       go g false e h = lifts g h
 
-  pub step_runs : (o : BinOp) (t : Elem) (z : TPlace) (sp : Span) (pc p k n q : ℕ) (a : Mask) (s : State) (c : Conf) → SimpleParts w (t_step o t z sp) n → AreAt w.routine.code pc (step_code w.layout o t z pc p k n) → AreAt w.code.places p (simple_places w.layout (t_step o t z sp)) → Enters w pc k n a s c q → DoneRuns w c (pc + length (step_code w.layout o t z pc p k n)) n q (simple (gang_of w) w.frame (calls_of w) (t_step o t z sp) a s)
+  pub step_runs : (o : BinOp) (t : Elem) (z : TPlace) (sp : Span) (pc p k n q : ℕ) (a : Mask) (s : State) (c : Conf)
+      → SimpleParts w (t_step o t z sp) n → AreAt w.routine.code pc (step_code w.layout o t z pc p k n)
+      → AreAt w.code.places p (simple_places w.layout (t_step o t z sp)) → Enters w pc k n a s c q
+      → DoneRuns w c (pc + length (step_code w.layout o t z pc p k n)) n q (simple (gang_of w) w.frame (calls_of w) (t_step o t z sp) a s)
   step_runs o t z sp pc p k n q a s c fit has places b =
       let r = (place_type z).rate in
       let m = beyond z n in
@@ -327,9 +386,15 @@ module _ (w : Setting) (ready : IsSettled w) where
       done_after w ready c c1 ok.steps end n q _ ok.comes ok.spares ok.masks
       (done_after w ready c1 ok2.conf ok2.steps end n (ok.steps + q) _ ok2.comes (spares_less w n m c1 ok2.conf more.0 ok2.spares) (λ g l. ok2.masks g (omega (arith, more.0)))
       (subst (λ g. DoneRuns w ok2.conf g n (ok2.steps + (ok.steps + q)) (update (gang_of w) w.frame (calls_of w) o t z at (One 1) sp a s1)) to
-      (change_runs o t z sp at (One 1) (pc1 + length ca) p1 k n (m + 1) y (ok2.steps + (ok.steps + q)) a s1 ok2.conf fit.0 (omega arith) (omega (arith, more.0)) lk (operand_low w ready r t (one_of t) m (record { elem = refl; reaches = tt; lift = fit.2 }) fit.1) ok2.at (ok2.masks k (omega (arith, more.0)) ∙ e1) b.some b.inside ok2.stands (omega (arith, ok2.bound)) (place_kept w ready z n a at c1 ok2.conf fit.0.target (kept_same w m c1 ok2.conf s1 ok.stands ok2.stands ok2.spares) ok.holds) ok2.holds (are_back w.routine.code pc1 ca last h1) (are_back w.code.places p (index_places w.layout z) _ places)))))
+      (change_runs o t z sp at (One 1) (pc1 + length ca) p1 k n (m + 1) y (ok2.steps + (ok.steps + q)) a s1 ok2.conf fit.0 (omega arith)
+      (omega (arith, more.0)) lk (operand_low w ready r t (one_of t) m (record { elem = refl; reaches = tt; lift = fit.2 }) fit.1) ok2.at
+      (ok2.masks k (omega (arith, more.0)) ∙ e1) b.some b.inside ok2.stands (omega (arith, ok2.bound))
+      (place_kept w ready z n a at c1 ok2.conf fit.0.target (kept_same w m c1 ok2.conf s1 ok.stands ok2.stands ok2.spares) ok.holds) ok2.holds
+      (are_back w.routine.code pc1 ca last h1) (are_back w.code.places p (index_places w.layout z) _ places)))))
 
-  pub simple_runs : (x : TSimple) (pc p k n q : ℕ) (a : Mask) (s : State) (c : Conf) → SimpleParts w x n → AreAt w.routine.code pc (simple_code w.layout x pc p k n) → AreAt w.code.places p (simple_places w.layout x) → Enters w pc k n a s c q → DoneRuns w c (pc + length (simple_code w.layout x pc p k n)) n q (simple (gang_of w) w.frame (calls_of w) x a s)
+  pub simple_runs : (x : TSimple) (pc p k n q : ℕ) (a : Mask) (s : State) (c : Conf) → SimpleParts w x n
+      → AreAt w.routine.code pc (simple_code w.layout x pc p k n) → AreAt w.code.places p (simple_places w.layout x) → Enters w pc k n a s c q
+      → DoneRuns w c (pc + length (simple_code w.layout x pc p k n)) n q (simple (gang_of w) w.frame (calls_of w) x a s)
   simple_runs (t_value x) pc p k n q a s c fit has places b = value_runs w ready x pc p k n q a s c fit has places b
   simple_runs (t_run (t_called f xs sp)) pc p k n q a s c fit has places b = run_runs w ready f xs sp pc p k n q a s c fit has places b
   simple_runs (t_assign z x sp) pc p k n q a s c fit has places b = assign_runs w ready z x sp pc p k n q a s c fit has places b

@@ -28,17 +28,27 @@ use Rattle.isp_lower.proofs.Found.{few}
 use Rattle.isp_lower.proofs.Values.{wrap_bits}
 use Rattle.isp_lower.proofs.Targets.{InVariable}
 use Rattle.isp_lower.proofs.Nodes.{enters_part, operand_runs}
-use Rattle.isp_lower.proofs.Exprs.{means, NodeRuns, constant_runs, index_node, element_node, convert_node, unary_node, binary_node, compare_node, choose_node, expr_runs, call_node, copied_node, packed_store_node, packed_load_node, base_runs, library_node, values_run, arguments_run}
+use Rattle.isp_lower.proofs.Exprs.{means, NodeRuns, constant_runs, index_node, element_node, convert_node, unary_node, binary_node, compare_node, choose_node, expr_runs}
+use Rattle.isp_lower.proofs.Exprs.{call_node, copied_node, packed_store_node, packed_load_node, base_runs, library_node, values_run, arguments_run}
 use Rattle.isp_lower.proofs.Parts.{ExprParts, OperandFits}
 use Rattle.isp_lower.specs.Rated.{Reaches}
 use Rattle.isp_lower.specs.Tables.{IsTyped}
 
 module _ (w : Setting) (ready : IsSettled w) where
   -- a part that may be of another rate
-  part_done : (v : ℕ) (e : Bool) (c : Conf) (pc k n q : ℕ) (a : Mask) (vx : Val Payload) (r given : Rate) (f : ℕ) (code : ℕ → List Instr) → Reaches given r → OtherAt w r v → c.masks k ≡ a → k < n → writes_part w.layout r given e ≡ true → AreAt w.routine.code pc (code (part_to w.layout r given (w.layout.variable r v) f) ++ lift_to w.layout r given (w.layout.variable r v) f k) → (AreAt w.routine.code pc (code f) → Runs w c (pc + length (code f)) n (1 + q) (Holds given a f) vx) → (given ≡ r → e ≡ true → AreAt w.routine.code pc (code (w.layout.variable given v)) → DoneRuns w c (pc + length (code (w.layout.variable given v))) n q (bind vx (λ m s. Gives tt (written given v a m s)))) → DoneRuns w c (pc + length (code (part_to w.layout r given (w.layout.variable r v) f) ++ lift_to w.layout r given (w.layout.variable r v) f k)) n q (bind vx (λ m s. Gives tt (written r v a m s)))
+  part_done : (v : ℕ) (e : Bool) (c : Conf) (pc k n q : ℕ) (a : Mask) (vx : Val Payload) (r given : Rate) (f : ℕ) (code : ℕ → List Instr)
+      → Reaches given r → OtherAt w r v → c.masks k ≡ a → k < n → writes_part w.layout r given e ≡ true
+      → AreAt w.routine.code pc (code (part_to w.layout r given (w.layout.variable r v) f) ++ lift_to w.layout r given (w.layout.variable r v) f k)
+      → (AreAt w.routine.code pc (code f) → Runs w c (pc + length (code f)) n (1 + q) (Holds given a f) vx)
+      → (given ≡ r → e ≡ true → AreAt w.routine.code pc (code (w.layout.variable given v))
+      → DoneRuns w c (pc + length (code (w.layout.variable given v))) n q (bind vx (λ m s. Gives tt (written given v a m s))))
+      → DoneRuns w c (pc + length (code (part_to w.layout r given (w.layout.variable r v) f) ++ lift_to w.layout r given (w.layout.variable r v) f k))
+      n q (bind vx (λ m s. Gives tt (written r v a m s)))
   part_done v e c pc k n q a vx Uniform Uniform f code re other em lk es has copied direct = plain v c pc n q a vx Uniform (code (w.layout.variable Uniform v)) (direct refl es (are_front w.routine.code pc (code (w.layout.variable Uniform v)) _ has))
     where
-      plain : (v : ℕ) (c : Conf) (pc n q : ℕ) (a : Mask) (vx : Val Payload) (r : Rate) (xs : List Instr) → DoneRuns w c (pc + length xs) n q (bind vx (λ m s. Gives tt (written r v a m s))) → DoneRuns w c (pc + length (xs ++ [])) n q (bind vx (λ m s. Gives tt (written r v a m s)))
+      plain : (v : ℕ) (c : Conf) (pc n q : ℕ) (a : Mask) (vx : Val Payload) (r : Rate) (xs : List Instr)
+          → DoneRuns w c (pc + length xs) n q (bind vx (λ m s. Gives tt (written r v a m s)))
+          → DoneRuns w c (pc + length (xs ++ [])) n q (bind vx (λ m s. Gives tt (written r v a m s)))
       plain v c pc n q a vx r xs run = let to : pc + length xs ≡ pc + length (xs ++ []) = omega (arith, length-append xs []) in subst (λ g. DoneRuns w c g n q (bind vx (λ m s. Gives tt (written r v a m s)))) to run
   part_done v e c pc k n q a vx Uniform Varying f code re other em lk es has copied direct = absurd re
   part_done v e c pc k n q a vx Varying Varying f code re other em lk es has copied direct =
@@ -64,7 +74,9 @@ module _ (w : Setting) (ready : IsSettled w) where
   direct_runs v (t_program_index sp) e pc p k n q rest a s c fit ty has places le b = index_node w ready (InVariable v) sp pc p k n q rest a s c fit ty has places le b
   direct_runs v (t_place (t_variable u t sp)) e pc p k n q rest a s c fit ty has places le b = go (is_copied w.layout t.rate u) e has
     where
-      go : (z : Bool) → z ≡ true → AreAt w.routine.code pc (variable_read w.layout z (w.layout.variable t.rate v) t.rate u k) → OtherAt w t.rate v → DoneRuns w c (pc + length (variable_read w.layout z (w.layout.variable t.rate v) t.rate u k)) n rest (bind (means w ready (t_place (t_variable u t sp)) a s) (λ m s. Gives tt (written t.rate v a m s)))
+      go : (z : Bool) → z ≡ true → AreAt w.routine.code pc (variable_read w.layout z (w.layout.variable t.rate v) t.rate u k) → OtherAt w t.rate v
+          → DoneRuns w c (pc + length (variable_read w.layout z (w.layout.variable t.rate v) t.rate u k)) n rest
+          (bind (means w ready (t_place (t_variable u t sp)) a s) (λ m s. Gives tt (written t.rate v a m s)))
       go true h at = copied_node w ready (InVariable v) u t pc k n q rest a s c (omega (arith, le)) b at.0
       go false h at = absurd (cc)
   direct_runs v (t_place (t_element y i t sp)) e pc p k n q rest a s c fit ty has places le b = element_node w ready (InVariable v) y i t sp (expr_runs w ready i) pc p k n q rest a s c fit ty has places le b
@@ -91,9 +103,13 @@ module _ (w : Setting) (ready : IsSettled w) where
   direct_runs v (t_choose d x y t sp) e pc p k n q rest a s c fit ty has places le b = go (is_short w.layout t.rate d x y) refl e has
     where
       code : Bool → List Instr
-      code z = choose_to w.layout z (w.layout.variable t.rate v) d x y t pc k n (expr_code w.layout d pc p k n) (λ pc1 m i. operand_of w.layout t.rate x m i (expr_code w.layout x pc1 (p + length (expr_places w.layout d)) m i)) (λ pc1 m i. operand_of w.layout t.rate y m i (expr_code w.layout y pc1 (p + length (expr_places w.layout d) + length (expr_places w.layout x)) m i))
+      code z = choose_to w.layout z (w.layout.variable t.rate v) d x y t pc k n (expr_code w.layout d pc p k n)
+          (λ pc1 m i. operand_of w.layout t.rate x m i (expr_code w.layout x pc1 (p + length (expr_places w.layout d)) m i))
+          (λ pc1 m i. operand_of w.layout t.rate y m i (expr_code w.layout y pc1
+          (p + length (expr_places w.layout d) + length (expr_places w.layout x)) m i))
 
-      go : (z : Bool) → is_short w.layout t.rate d x y ≡ z → z ≡ true → AreAt w.routine.code pc (code z) → OtherAt w t.rate v → DoneRuns w c (pc + length (code z)) n rest (bind (means w ready (t_choose d x y t sp) a s) (λ m s. Gives tt (written t.rate v a m s)))
+      go : (z : Bool) → is_short w.layout t.rate d x y ≡ z → z ≡ true → AreAt w.routine.code pc (code z) → OtherAt w t.rate v
+          → DoneRuns w c (pc + length (code z)) n rest (bind (means w ready (t_choose d x y t sp) a s) (λ m s. Gives tt (written t.rate v a m s)))
       go true ez h at = choose_node w ready (InVariable v) d x y t sp (expr_runs w ready d) ez pc p k n q rest a s c fit.5 at (are_front w.code.places p (expr_places w.layout d) _ places) (omega arith) b
       go false ez h at = absurd (cc)
   direct_runs v (t_call (t_called g xs sp) t) e pc p k n q rest a s c fit ty has places le b = call_node w ready (InVariable v) g xs sp t (arguments_run w ready xs) pc p k n q rest a s c fit ty has places le b
@@ -101,7 +117,11 @@ module _ (w : Setting) (ready : IsSettled w) where
   direct_runs v (t_packed_store d x sp) e pc p k n q rest a s c fit ty has places le b = packed_store_node w ready (InVariable v) d x sp (base_runs w ready d) (expr_runs w ready x) pc p k n q rest a s c fit ty has places le b
   direct_runs v (t_packed_load d u sp) e pc p k n q rest a s c fit ty has places le b = packed_load_node w ready (InVariable v) d u sp (base_runs w ready d) pc p k n q rest a s c fit ty has places le b
 
-  pub variable_runs : (r : Rate) (e : Elem) (v : ℕ) (x : TExpr) (pc p k n q rest : ℕ) (a : Mask) (s : State) (c : Conf) → OtherAt w r v → IsTyped w r (w.layout.variable r v) e → OperandFits w r e x n → ExprParts w x n → AreAt w.routine.code pc (variable_code w.layout r v x pc p k n) → AreAt w.code.places p (expr_places w.layout x) → heads x + rest ≤ 3 + q → Enters w pc k n a s c q → DoneRuns w c (pc + length (variable_code w.layout r v x pc p k n)) n rest (bind (means w ready x a s) (λ m s1. Gives tt (written r v a m s1)))
+  pub variable_runs : (r : Rate) (e : Elem) (v : ℕ) (x : TExpr) (pc p k n q rest : ℕ) (a : Mask) (s : State) (c : Conf) → OtherAt w r v
+      → IsTyped w r (w.layout.variable r v) e → OperandFits w r e x n → ExprParts w x n
+      → AreAt w.routine.code pc (variable_code w.layout r v x pc p k n) → AreAt w.code.places p (expr_places w.layout x) → heads x + rest ≤ 3 + q
+      → Enters w pc k n a s c q → DoneRuns w c (pc + length (variable_code w.layout r v x pc p k n)) n rest
+      (bind (means w ready x a s) (λ m s1. Gives tt (written r v a m s1)))
   variable_runs r e v x pc p k n q rest a s c other ty ofit fit has places le b = go (writes_part w.layout r (type_of x).rate (writes_last w.layout x)) refl has
     where
       d : ℕ
@@ -110,7 +130,10 @@ module _ (w : Setting) (ready : IsSettled w) where
       typed : (type_of x).rate ≡ r → IsTyped w (type_of x).rate (w.layout.variable (type_of x).rate v) (type_of x).elem
       typed same = subst (λ g. IsTyped w g (w.layout.variable g v) (type_of x).elem) (sym same) (ty ∙ sym ofit.elem)
 
-      go : (z : Bool) → writes_part w.layout r (type_of x).rate (writes_last w.layout x) ≡ z → AreAt w.routine.code pc (variable_from w.layout z r d x pc p k n) → DoneRuns w c (pc + length (variable_from w.layout z r d x pc p k n)) n rest (bind (means w ready x a s) (λ m s1. Gives tt (written r v a m s1)))
+      go : (z : Bool) → writes_part w.layout r (type_of x).rate (writes_last w.layout x) ≡ z
+          → AreAt w.routine.code pc (variable_from w.layout z r d x pc p k n)
+          → DoneRuns w c (pc + length (variable_from w.layout z r d x pc p k n)) n rest
+          (bind (means w ready x a s) (λ m s1. Gives tt (written r v a m s1)))
       go true ez at =
           part_done v (writes_last w.layout x) c pc k n rest a (means w ready x a s) r (type_of x).rate (found w.layout x n) (λ d. expr_to w.layout d x pc p k n) ofit.reaches other b.mask b.low ez at
           (λ h. expr_runs w ready x pc p k n q (1 + rest) a s c fit h places (omega arith) b)
@@ -124,4 +147,6 @@ module _ (w : Setting) (ready : IsSettled w) where
           bind_done w ready c (pc + length ca) n 1 rest (Holds r a (operand w.layout r x n)) (means w ready x a s) _ _ n
           (operand_runs w ready c pc k n q (1 + rest) a s r e x cx ofit (omega arith) b ha
           (λ at. expr_runs w ready x pc p k n q (1 + (1 + rest)) a s c fit at places (omega arith) b))
-          (λ m s2 ok. variable_done w ready r v m a s2 c ok.conf ok.steps (pc + length ca) _ k (operand w.layout r x n) n rest ok.comes ok.at to (are_back w.routine.code pc ca last at).0 ok.stands ok.spares ok.masks (ok.masks k b.low ∙ b.mask) (omega (arith, ok.bound)) ok.holds other)
+          (λ m s2 ok. variable_done w ready r v m a s2 c ok.conf ok.steps (pc + length ca) _ k (operand w.layout r x n) n rest ok.comes ok.at to
+          (are_back w.routine.code pc ca last at).0 ok.stands ok.spares ok.masks (ok.masks k b.low ∙ b.mask) (omega (arith, ok.bound)) ok.holds
+          other)

@@ -11,7 +11,9 @@ use Rattle.isp_code.specs.declared.instr.Instr.TheVariants as instr
 use Rattle.isp_code.specs.declared.instr.JumpTest.TheVariants as jump
 use Rattle.isp_code.specs.declared.instr.VectorInstr.TheVariants as vector
 use Rattle.isp_code.specs.declared.register.Register.{Register}
-use Rattle.isp_typed.specs.Typed.{TExpr, t_constant, t_program_index, t_place, t_convert, t_cast, t_unary, t_binary, t_compare, t_logic, t_choose, t_call, t_library, t_packed_store, t_packed_load, TPlace, t_variable, t_element, TBase, t_whole, t_from, base_array, TArgument, t_by_value, t_by_name, TCall, t_called, TArguments, t_no_arguments, t_argument_then, TExprs, t_no_exprs, t_expr_then, type_of}
+use Rattle.isp_typed.specs.Typed.{TExpr, t_constant, t_program_index, t_place, t_convert, t_cast, t_unary, t_binary, t_compare, t_logic, t_choose, t_call, t_library}
+use Rattle.isp_typed.specs.Typed.{t_packed_store, t_packed_load, TPlace, t_variable, t_element, TBase, t_whole, t_from, base_array, TArgument, t_by_value, t_by_name, TCall}
+use Rattle.isp_typed.specs.Typed.{t_called, TArguments, t_no_arguments, t_argument_then, TExprs, t_no_exprs, t_expr_then, type_of}
 use Rattle.isp_lower.specs.Callees.{next_rate, later}
 use Rattle.isp_lower.specs.Layout.{Layout, register, mask_register, array_register}
 use Rattle.isp_lower.specs.Library.{library_code, library_rates}
@@ -88,20 +90,30 @@ module _ (l : Layout) where
     expr_to d (t_unary o x t sp) pc p k n =
         operand_of l t.rate x k n (expr_to (found l x n) x pc p k n) ++ unary t.rate o d (operand l t.rate x n) k ∷ []
     expr_to d (t_binary o x y t sp) pc p k n =
-        pair_code pc (operand_of l t.rate x k n (expr_to (found l x n) x pc p k n)) (λ pc1. operand_of l t.rate y k (n + 1) (expr_to (found l y (n + 1)) y pc1 (p + length (expr_places l x)) k (n + 1))) (operate t.rate o d (operand l t.rate x n) (operand l t.rate y (n + 1)) k (p + length (expr_places l x) + length (expr_places l y)))
+        pair_code pc (operand_of l t.rate x k n (expr_to (found l x n) x pc p k n))
+        (λ pc1. operand_of l t.rate y k (n + 1) (expr_to (found l y (n + 1)) y pc1 (p + length (expr_places l x)) k (n + 1)))
+        (operate t.rate o d (operand l t.rate x n) (operand l t.rate y (n + 1)) k (p + length (expr_places l x) + length (expr_places l y)))
     expr_to d (t_compare c x y r sp) pc p k n =
-        pair_code pc (operand_of l r x k n (expr_to (found l x n) x pc p k n)) (λ pc1. operand_of l r y k (n + 1) (expr_to (found l y (n + 1)) y pc1 (p + length (expr_places l x)) k (n + 1))) (compare r c d (operand l r x n) (operand l r y (n + 1)) k)
+        pair_code pc (operand_of l r x k n (expr_to (found l x n) x pc p k n))
+        (λ pc1. operand_of l r y k (n + 1) (expr_to (found l y (n + 1)) y pc1 (p + length (expr_places l x)) k (n + 1)))
+        (compare r c d (operand l r x n) (operand l r y (n + 1)) k)
     expr_to d (t_logic g x y r sp) pc p k n =
-        logic_code r g (l.spare r Truth n) (operand l r x n) (operand l r y (n + 1)) pc k n (operand_of l r x k n (expr_to (found l x n) x pc p k n)) (λ pc1 m. operand_of l r y m (n + 1) (expr_to (found l y (n + 1)) y pc1 (p + length (expr_places l x)) m (n + 1)))
+        logic_code r g (l.spare r Truth n) (operand l r x n) (operand l r y (n + 1)) pc k n (operand_of l r x k n (expr_to (found l x n) x pc p k n))
+        (λ pc1 m. operand_of l r y m (n + 1) (expr_to (found l y (n + 1)) y pc1 (p + length (expr_places l x)) m (n + 1)))
     expr_to d (t_choose c x y t sp) pc p k n =
-        choose_to (is_short l t.rate c x y) d c x y t pc k n (expr_to (found l c n) c pc p k n) (λ pc1 m i. operand_of l t.rate x m i (expr_to (found l x i) x pc1 (p + length (expr_places l c)) m i)) (λ pc1 m i. operand_of l t.rate y m i (expr_to (found l y i) y pc1 (p + length (expr_places l c) + length (expr_places l x)) m i))
+        choose_to (is_short l t.rate c x y) d c x y t pc k n (expr_to (found l c n) c pc p k n)
+        (λ pc1 m i. operand_of l t.rate x m i (expr_to (found l x i) x pc1 (p + length (expr_places l c)) m i))
+        (λ pc1 m i. operand_of l t.rate y m i (expr_to (found l y i) y pc1 (p + length (expr_places l c) + length (expr_places l x)) m i))
     expr_to d (t_call c t) pc p k n = call_code (Some (register t.rate d)) c pc p k n
     expr_to d (t_library f e xs t sp) pc p k n =
         let rs = library_rates f t.rate in
         values_code rs xs pc p k n ++ library_code f t.rate d (l.spare t.rate t.elem n) (value_registers rs xs n) k
     -- the number of the first element, the value in each lane, then one instruction
     expr_to d (t_packed_store b x sp) pc p k n =
-        pair_code pc (base_code b pc p k n) (λ pc1. operand_of l Varying x k (n + 1) (expr_to (found l x (n + 1)) x pc1 (p + length (base_places l b)) k (n + 1))) (packed_store d (l.array (base_array b).number) (base_register b n) (operand l Varying x (n + 1)) k (p + length (base_places l b) + length (expr_places l x)))
+        pair_code pc (base_code b pc p k n) (λ pc1. operand_of l Varying x k (n + 1)
+        (expr_to (found l x (n + 1)) x pc1 (p + length (base_places l b)) k (n + 1)))
+        (packed_store d (l.array (base_array b).number) (base_register b n) (operand l Varying x (n + 1)) k
+        (p + length (base_places l b) + length (expr_places l x)))
     expr_to d (t_packed_load b v sp) pc p k n =
         base_code b pc p k n ++ packed_load d (l.array (base_array b).number) (base_register b n) (l.variable Varying v) k (p + length (base_places l b)) ∷ []
 

@@ -33,7 +33,19 @@ pub record Draft : Type 0 where
 
 abbrev pub draft_of : Emitter → Draft
 draft_of e =
-    record { gang = e.gang; callees = functions_of e.callees.now; places = e.body.places.items; texts = texts_of e.body; routines = map routine_of e.functions.items; heading = option_map heading_in e.heading; rows = rows_of e.reserved.registers; masks = e.reserved.masks; code = e.body.code.items }
+    record {
+      gang = e.gang;
+      callees = functions_of e.callees.now;
+      places = e.body.places.items;
+      texts = texts_of e.body;
+      routines = map routine_of
+          e.functions.items;
+      heading = option_map heading_in e.heading;
+      rows = rows_of e.reserved.registers;
+      masks = e.reserved.masks;
+      code =
+          e.body.code.items;
+    }
 
 -- ---- from one to the next
 

@@ -63,7 +63,22 @@ fresh_at rows r j = number_in (rows_at rows r) (Fresh j)
 -- with the rates of the parameters of functions
 abbrev pub layout_of : (ℕ → List Rate) → Rows → Layout
 layout_of rates rows =
-    record { rates = rates; variable = λ r v. number_in (rows_at rows r) (Variable v); result = λ r. number_in (rows_at rows r) Result; spare = λ r t j. number_in (rows_at rows r) (Spare t j); place = λ r. number_in (rows_at rows r) Place; run = None; in_run = false; fresh = fresh_at rows; array = λ v. number_in rows.arrays (Variable v); loaded = λ v. is_some (elem_in rows.loaded (Variable v)); kept = λ r t b. keeps (rows_at rows r) t b; constant = λ r t b. number_in (rows_at rows r) (Kept t b) }
+    record {
+      rates = rates;
+      variable = λ r v. number_in (rows_at rows r) (Variable v);
+      result = λ r. number_in (rows_at rows r) Result;
+      spare = λ r t
+          j. number_in (rows_at rows r) (Spare t j);
+      place = λ r. number_in (rows_at rows r) Place;
+      run = None;
+      in_run = false;
+      fresh = fresh_at rows;
+      array = λ v. number_in rows.arrays (Variable v);
+      loaded = λ v. is_some (elem_in rows.loaded (Variable v));
+      kept = λ r t b. keeps
+          (rows_at rows r) t b;
+      constant = λ r t b. number_in (rows_at rows r) (Kept t b);
+    }
 
 -- the number of the register that a layout has for a name
 abbrev pub numbered : Layout → Rate → Name → ℕ

@@ -133,7 +133,9 @@ pub record IsSettled (w : Setting) : Type 0 where
 
 -- Registers, own arrays, arrays and output stand for a state, and registers of constants hold these. It is stated of these parts
 -- alone, so that a step that changes other parts of the machine leaves the fact as it is.
-pub record StandsFor (l : Layout) (gang : ℕ) (start : ℕ) (members : Mask) (ones : ℕ → ℕ) (each : ℕ → Lanes) (owns : ℕ → ℕ → Lanes) (one : ℕ) (in_each : Lanes) (stores : ℕ → Lanes) (text : List ℕ) (scalars : ℕ → ℕ) (vectors : ℕ → Lanes) (own : ℕ → ℕ → Lanes) (arrays : ℕ → Lanes) (out : List ℕ) : Type 0 where
+pub record StandsFor (l : Layout) (gang : ℕ) (start : ℕ) (members : Mask) (ones : ℕ → ℕ) (each : ℕ → Lanes) (owns : ℕ → ℕ → Lanes) (one : ℕ)
+    (in_each : Lanes) (stores : ℕ → Lanes) (text : List ℕ) (scalars : ℕ → ℕ) (vectors : ℕ → Lanes) (own : ℕ → ℕ → Lanes) (arrays : ℕ → Lanes)
+    (out : List ℕ) : Type 0 where
   pub uniforms : (v : ℕ) → scalars (l.variable Uniform v) ≡ ones v
   pub varying : (v : ℕ) → vectors (l.variable Varying v) ≡ each v
   pub result : scalars (l.result Uniform) ≡ one

@@ -26,7 +26,10 @@ module _ (l : Layout) where
   assign_code (t_variable v t sp) x pc p k n = variable_code l t.rate v x pc p k n
   assign_code (t_element b i t sp) x pc p k n =
       let z = is_run l b.ty.rate i in
-      two pc (index_code l (t_element b i t sp) pc p k n) (λ pc1. operand_of l t.rate x k (n + 1) (expr_code l x pc1 (p + length (expr_places l i)) k (n + 1)) ++ write_by z t.rate (l.array b.number) (index_by l z t.rate i n) (operand l t.rate x (n + 1)) k (p + length (expr_places l i) + length (expr_places l x)) ∷ [])
+      two pc (index_code l (t_element b i t sp) pc p k n)
+      (λ pc1. operand_of l t.rate x k (n + 1) (expr_code l x pc1 (p + length (expr_places l i)) k (n + 1))
+      ++ write_by z t.rate (l.array b.number) (index_by l z t.rate i n) (operand l t.rate x (n + 1)) k
+      (p + length (expr_places l i) + length (expr_places l x)) ∷ [])
 
   abbrev pub assign_places : TPlace → TExpr → List Span
   assign_places z x = index_places l z ++ (expr_places l x ++ read_places l z)
@@ -45,12 +48,17 @@ module _ (l : Layout) where
       update_to (same_elem u.elem t) o t u.rate (l.variable u.rate v) (l.variable u.rate v) y k i p
   change_code o t (t_element b j u sp) y p k n i =
       let z = is_run l b.ty.rate j in
-      read_by z u.rate (l.spare u.rate u.elem i) (l.array b.number) (index_by l z u.rate j n) k p ∷ (update_to (same_elem u.elem t) o t u.rate (l.spare u.rate u.elem i) (l.spare u.rate u.elem i) y k i (p + 1) ++ write_by z u.rate (l.array b.number) (index_by l z u.rate j n) (l.spare u.rate u.elem i) k p ∷ [])
+      read_by z u.rate (l.spare u.rate u.elem i) (l.array b.number) (index_by l z u.rate j n) k p ∷
+      (update_to (same_elem u.elem t) o t u.rate (l.spare u.rate u.elem i) (l.spare u.rate u.elem i) y k i (p + 1)
+      ++ write_by z u.rate (l.array b.number) (index_by l z u.rate j n) (l.spare u.rate u.elem i) k p ∷ [])
 
   -- `op=`: the target's index, the right side, then the place is read
   abbrev pub change_by_code : BinOp → Elem → TPlace → TExpr → ℕ → ℕ → ℕ → ℕ → List Instr
   change_by_code o t z x pc p k n =
-      two pc (index_code l z pc p k n) (λ pc1. operand_of l (place_type z).rate x k (beyond z n) (expr_code l x pc1 (p + length (index_places l z)) k (beyond z n)) ++ change_code o t z (operand l (place_type z).rate x (beyond z n)) (p + length (index_places l z) + length (expr_places l x)) k n (beyond z n + 1))
+      two pc (index_code l z pc p k n) (λ pc1. operand_of l (place_type z).rate x k (beyond z n)
+      (expr_code l x pc1 (p + length (index_places l z)) k (beyond z n))
+      ++ change_code o t z (operand l (place_type z).rate x (beyond z n)) (p + length (index_places l z) + length (expr_places l x)) k n
+      (beyond z n + 1))
 
   abbrev pub change_places : BinOp → TPlace → Span → List Span
   change_places o z sp = read_places l z ++ operate_places o sp

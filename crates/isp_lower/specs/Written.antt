@@ -134,7 +134,12 @@ skipped_at on skip x t =
 
 abbrev pub side_at : Scope → Ty → TExpr → Site → Piece
 side_at on t x at =
-    record { code = λ pc p. operand_of (layout on) t.rate x at.mask.number at.slot.number (expr_code (layout on) x pc p at.mask.number at.slot.number) ++ move_code t.rate ((layout on).spare t.rate t.elem at.slot.number) (operand (layout on) t.rate x at.slot.number) at.mask.number; places = expr_places (layout on) x }
+    record {
+      code = λ pc p. operand_of (layout on) t.rate x at.mask.number at.slot.number (expr_code (layout on) x pc p at.mask.number at.slot.number)
+          ++ move_code t.rate ((layout on).spare t.rate t.elem at.slot.number) (operand (layout on) t.rate x at.slot.number) at.mask.number;
+      places =
+          expr_places (layout on) x;
+    }
 
 abbrev pub guarded_at : Scope → Rate → TExpr → Site → Piece
 guarded_at on r x at =
@@ -156,7 +161,11 @@ by_masks_at on c x y t =
     let l = layout on in
     let r = t.ty.rate in
     let n = t.site.slot.number in
-    record { code = λ pc p. choose_rest (l.spare r t.ty.elem n) c.number (operand l r x (n + 1)) (operand l r y (n + 2)) pc t.site.mask.number n (side_code on r x p) (side_code on r y (p + length (expr_places l x))); places = expr_places l x ++ expr_places l y }
+    record {
+      code = λ pc p. choose_rest (l.spare r t.ty.elem n) c.number (operand l r x (n + 1)) (operand l r y (n + 2)) pc t.site.mask.number n
+          (side_code on r x p) (side_code on r y (p + length (expr_places l x)));
+      places = expr_places l x ++ expr_places l y;
+    }
 
 abbrev pub chosen_at : Scope → Rate → TExpr → TExpr → TExpr → Target → Piece
 chosen_at on r z x y t =
@@ -164,7 +173,11 @@ chosen_at on r z x y t =
     let k = t.site.mask.number in
     let n = t.site.slot.number in
     let p1 = λ (p : ℕ). p + length (expr_places l z) in
-    record { code = λ pc p. choose_code l r t.ty.rate t.ty.elem x y (found l z n) pc k n (expr_code l z pc p k n) (side_code on t.ty.rate x (p1 p)) (side_code on t.ty.rate y (p1 p + length (expr_places l x))); places = expr_places l z ++ (expr_places l x ++ expr_places l y) }
+    record {
+      code = λ pc p. choose_code l r t.ty.rate t.ty.elem x y (found l z n) pc k n (expr_code l z pc p k n) (side_code on t.ty.rate x (p1 p))
+          (side_code on t.ty.rate y (p1 p + length (expr_places l x)));
+      places = expr_places l z ++ (expr_places l x ++ expr_places l y);
+    }
 
 -- one instruction behind the test
 abbrev pub short_at : Scope → TExpr → TExpr → TExpr → Target → Piece
@@ -249,7 +262,12 @@ changed_at on o e y at =
     let l = layout on in
     let d = l.spare e.ty.rate e.ty.elem at.slot.number in
     let b = l.array e.array.number in
-    record { code = λ pc p. read_by e.is_run e.ty.rate d b e.index.number at.mask.number p ∷ (update_code on o e.ty d d y.number at (p + 1) ++ write_by e.is_run e.ty.rate b e.index.number d at.mask.number p ∷ []); places = e.span ∷ operate_places o.operator o.span }
+    record {
+      code = λ pc p. read_by e.is_run e.ty.rate d b e.index.number at.mask.number p ∷
+          (update_code on o e.ty d d y.number at (p + 1) ++ write_by e.is_run e.ty.rate b e.index.number d at.mask.number p ∷ []);
+      places = e.span ∷
+          operate_places o.operator o.span;
+    }
 
 -- the same with the value of an expression, and with the number 1, behind the index
 abbrev pub element_by_at : Scope → Operation → Element → TExpr → Site → Piece
@@ -257,7 +275,12 @@ element_by_at on o e x at =
     let l = layout on in
     let r = e.ty.rate in
     let n = at.slot.number in
-    record { code = λ pc p. operand_of l r x at.mask.number n (expr_code l x pc p at.mask.number n) ++ (changed_at on o e (record { number = operand l r x n }) (behind at)).code pc (p + length (expr_places l x)); places = expr_places l x ++ e.span ∷ operate_places o.operator o.span }
+    record {
+      code = λ pc p. operand_of l r x at.mask.number n (expr_code l x pc p at.mask.number n)
+          ++ (changed_at on o e (record { number = operand l r x n }) (behind at)).code pc (p + length (expr_places l x));
+      places = expr_places l x
+          ++ e.span ∷ operate_places o.operator o.span;
+    }
 
 abbrev pub element_step_at : Scope → Operation → Element → Site → Piece
 element_step_at on o e at =

@@ -26,7 +26,8 @@ last_of [] x = refl
 last_of (i ∷ a) x = last_of a x
 
 pub body_sound : (code : Listing) (h : Routine) → IsBodyCode code h → AreSound code h h.code
-body_sound code h is = function_sound is.functions code h is.layout is.links is.answer is.constants is.body is.numbers is.code_is (block_tree is.functions is.variables is.answer is.body is.fine is.rated) is.present is.kept is.spares is.masks is.places is.texts is.given
+body_sound code h is = function_sound is.functions code h is.layout is.links is.answer is.constants is.body is.numbers is.code_is
+    (block_tree is.functions is.variables is.answer is.body is.fine is.rated) is.present is.kept is.spares is.masks is.places is.texts is.given
 
 body_ends : (code : Listing) (h : Routine) → IsBodyCode code h → stays (slice_get h.code (last h)) ≡ true
 body_ends code h is =
@@ -36,6 +37,7 @@ body_ends code h is =
     let size : length h.code - 1 ≡ length body = omega (arith, ap length is.code_is ∙ length-append body (back ∷ [])) in
     ap (λ n. stays (slice_get h.code n)) size ∙ ap (λ c. stays (slice_get c (length body))) is.code_is ∙ ap stays (last_of body back)
 
-pub code_accepted : (code : Listing) → ((f : ℕ) (h : Routine) → slice_get code.routines f ≡ Some h → header_fits (take f code.routines) h ≡ true) → ((f : ℕ) (h : Routine) → slice_get code.routines f ≡ Some h → IsBodyCode code h) → code_fault code ≡ None
+pub code_accepted : (code : Listing) → ((f : ℕ) (h : Routine) → slice_get code.routines f ≡ Some h → header_fits (take f code.routines) h ≡ true)
+    → ((f : ℕ) (h : Routine) → slice_get code.routines f ≡ Some h → IsBodyCode code h) → code_fault code ≡ None
 code_accepted code headers each =
     fine_accepted code (record { headers = headers; lines = λ f h found. sound_at code h h.code (body_sound code h (each f h found)); ends = λ f h found. body_ends code h (each f h found) })

@@ -19,7 +19,8 @@ use Rattle.isp_meaning.proofs.Members.{any_at, lowest_below, lowest_first, lowes
 use Rattle.isp_lower.specs.Layout.{mask_register}
 use Rattle.isp_lower.specs.Runs.{Comes}
 use Rattle.isp_lower.specs.Setting.{Setting, IsSettled, gang_of, AreAt, At, Stands, Allowed}
-use Rattle.isp_lower.proofs.Lemmas.{are_front, are_back, put_same, put_other, comes_on, comes_none, step_go, at_to, spares_all, spares_less, jumped, jump_comes, jump_at, masked, masked_at, others_comes, set_at, set_comes, set_goes, variable_spares, written_stands}
+use Rattle.isp_lower.proofs.Lemmas.{are_front, are_back, put_same, put_other, comes_on, comes_none, step_go, at_to, spares_all, spares_less, jumped, jump_comes, jump_at}
+use Rattle.isp_lower.proofs.Lemmas.{masked, masked_at, others_comes, set_at, set_comes, set_goes, variable_spares, written_stands}
 use Rattle.isp_masks.specs.LoopRuns.{BodyRuns}
 use Rattle.isp_masks.specs.Loops.{copy_mask}
 use Rattle.isp_masks.specs.Rounds.{lowest_mask, lane_number, take_code, one_code, active_code}
@@ -51,7 +52,9 @@ pub and_first : (b d : Bool) → (b && d) ≡ true → b ≡ true
 and_first true d e = refl
 and_first false d e = absurd (cc)
 
-module _ (w : Setting) (ready : IsSettled w) (spot : Spot) (three : AreThree spot) (i : ℕ) (all : Mask) (code : ℕ → List Instr) (body : Mask → State → Res) (runs : BodyRuns w (spot.slot + 1) code body) (top : ℕ) (has : AreAt w.routine.code top (one_code (w.layout.variable Uniform i) spot.slot top code)) where
+module _ (w : Setting) (ready : IsSettled w) (spot : Spot) (three : AreThree spot) (i : ℕ) (all : Mask) (code : ℕ → List Instr)
+    (body : Mask → State → Res) (runs : BodyRuns w (spot.slot + 1) code body) (top : ℕ)
+    (has : AreAt w.routine.code top (one_code (w.layout.variable Uniform i) spot.slot top code)) where
   abbrev gang : ℕ
   gang = gang_of w
 
@@ -80,7 +83,17 @@ module _ (w : Setting) (ready : IsSettled w) (spot : Spot) (three : AreThree spo
   turn_runs left p ps s c q found b le again last =
       stmt_after w ready w.turns c c3 3 end spot q _ comes3 (variable_spares w ready Uniform i n c2 (One x)) (λ r lt ne. mask3 r lt) three
       (go_runs w ready w.turns c3 pc2 (body_spot (n + 1)) 1 (3 + q) (body one s3) _ end spot
-      (runs one s3 c3 pc1 (1 + (3 + q)) (are_front w.routine.code pc1 (code pc1) (instr.JumpIf jump.On (mask_register n) top ∷ []) rest) (record { at = at3; mask = mask1; some = any_lone gang p in_gang; inside = λ r e. subst (Allowed w) (sym (eqb-true r p e)) (b.allowed p (lowest_in gang left p found)); stands = stands3; used = omega (arith, le); low = omega arith }))
+      (runs one s3 c3 pc1 (1 + (3 + q)) (are_front w.routine.code pc1 (code pc1) (instr.JumpIf jump.On (mask_register n) top ∷ []) rest)
+      (record {
+        at = at3;
+        mask = mask1;
+        some = any_lone gang p in_gang;
+        inside = λ r e. subst (Allowed w) (sym (eqb-true r p e))
+            (b.allowed p (lowest_in gang left p found));
+        stands = stands3;
+        used = omega (arith, le);
+        low = omega arith;
+      }))
       (λ s1 g u ct rt e ok. after s1 g ct rt ok))
     where
       in_gang : p < gang
@@ -168,7 +181,9 @@ module _ (w : Setting) (ready : IsSettled w) (spot : Spot) (three : AreThree spo
 
       after : (s1 : State) (g ct rt : Mask) (ok : StmtOk w c3 pc2 (body_spot (n + 1)) (1 + (3 + q)) s1 g ct rt) → StmtRuns w w.turns c3 end spot (3 + q) (rounds body all (map (round_of_one i) ps) s1)
       after s1 g ct rt ok =
-          stmt_after w ready w.turns c3 c5 (ok.steps + 1) end spot (3 + q) _ (comes_on w c3 c4 c5 ok.steps 1 ok.comes (jump_comes w ready c4 pc2 jump.On (mask_register n) top ok.at back.0)) (spares_less w n (n + 1 + 3) c3 c4 (omega arith) ok.spares) (λ r lt ne. low r (omega arith)) three (go (any gang others) refl)
+          stmt_after w ready w.turns c3 c5 (ok.steps + 1) end spot (3 + q) _
+          (comes_on w c3 c4 c5 ok.steps 1 ok.comes (jump_comes w ready c4 pc2 jump.On (mask_register n) top ok.at back.0))
+          (spares_less w n (n + 1 + 3) c3 c4 (omega arith) ok.spares) (λ r lt ne. low r (omega arith)) three (go (any gang others) refl)
         where
           c4 : Conf
           c4 = ok.conf
@@ -193,10 +208,19 @@ module _ (w : Setting) (ready : IsSettled w) (spot : Spot) (three : AreThree spo
 
           go : (z : Bool) → any gang others ≡ z → StmtRuns w w.turns c5 end spot (ok.steps + 1 + (3 + q)) (rounds body all (map (round_of_one i) ps) s1)
           go true e =
-              again s1 c5 (ok.steps + 1 + (3 + q)) e (record { at = jump_at w ready c4 pc2 jump.On (mask_register n) top true ok.at (jumps_is true e); all_is = all4; left_is = left4; stands = ok.stands; allowed = λ r h. b.allowed r (and_first (left r) _ h) }) (omega (arith, ok.bound))
+              again s1 c5 (ok.steps + 1 + (3 + q)) e (record {
+                at = jump_at w ready c4 pc2 jump.On (mask_register n) top true ok.at (jumps_is true e);
+                all_is = all4;
+                left_is = left4;
+                stands = ok.stands;
+                allowed = λ r h. b.allowed r (and_first (left r) _ h);
+              })
+              (omega (arith, ok.bound))
           go false e =
               subst (λ xs. StmtRuns w w.turns c5 end spot (ok.steps + 1 + (3 + q)) (rounds body all (map (round_of_one i) xs) s1)) (sym (last e))
-              (plain_ok w ready c5 c5 0 end spot (ok.steps + 1 + (3 + q)) all s1 (comes_none w c5) (at_to w c5 (pc2 + 1) end (jump_at w ready c4 pc2 jump.On (mask_register n) top false ok.at (jumps_is false e)) ends) ok.stands (spares_all w n c5) (λ r lt. refl) three all4 (omega (arith, ok.bound)))
+              (plain_ok w ready c5 c5 0 end spot (ok.steps + 1 + (3 + q)) all s1 (comes_none w c5)
+              (at_to w c5 (pc2 + 1) end (jump_at w ready c4 pc2 jump.On (mask_register n) top false ok.at (jumps_is false e)) ends) ok.stands
+              (spares_all w n c5) (λ r lt. refl) three all4 (omega (arith, ok.bound)))
 
   turns_run : (ps : List ℕ) (left : Mask) (s : State) (c : Conf) (q : ℕ) → members gang left ≡ ps → any gang left ≡ true → BeforeTurn left s c → q ≤ 32 * s.work → StmtRuns w w.turns c end spot q (rounds body all (map (round_of_one i) ps) s)
   turns_run [] left s c q e some b le =
@@ -219,7 +243,11 @@ module _ (w : Setting) (ready : IsSettled w) (spot : Spot) (three : AreThree spo
       tail_is x y xs ys h = cc
 
 module _ (w : Setting) (ready : IsSettled w) where
-  pub active_runs : (i pc : ℕ) (spot : Spot) (q : ℕ) (a : Mask) (s : State) (c : Conf) (code : ℕ → List Instr) (body : Mask → State → Res) → BodyRuns w (spot.slot + 1) code body → AreAt w.routine.code pc (active_code (w.layout.variable Uniform i) pc spot.on spot.slot code) → AreThree spot → EntersAt w pc spot a s c q → StmtRuns w w.turns c (pc + length (active_code (w.layout.variable Uniform i) pc spot.on spot.slot code)) spot q (rounds body a (active_rounds (gang_of w) i a) (tick s))
+  pub active_runs : (i pc : ℕ) (spot : Spot) (q : ℕ) (a : Mask) (s : State) (c : Conf) (code : ℕ → List Instr) (body : Mask → State → Res)
+      → BodyRuns w (spot.slot + 1) code body → AreAt w.routine.code pc (active_code (w.layout.variable Uniform i) pc spot.on spot.slot code)
+      → AreThree spot → EntersAt w pc spot a s c q → StmtRuns w w.turns c
+      (pc + length (active_code (w.layout.variable Uniform i) pc spot.on spot.slot code)) spot q
+      (rounds body a (active_rounds (gang_of w) i a) (tick s))
   active_runs i pc spot q a s c code body runs has three b =
       let n = spot.slot in
       let c1 = masked w ready c n (c.masks spot.on) in
@@ -227,4 +255,12 @@ module _ (w : Setting) (ready : IsSettled w) where
       let ends : pc + 1 + length (one_code (w.layout.variable Uniform i) n (pc + 1) code) ≡ pc + length (active_code (w.layout.variable Uniform i) pc spot.on n code) = omega arith in
       stmt_after w ready w.turns c c1 1 _ spot q _ (step_go w c pc (copy_mask n spot.on) c1 ready b.at has.0 refl) (spares_all w n c) (λ r lt ne. let rn : r ≢ n = omega arith in put_other c.masks n (c.masks spot.on) r rn) three
       (subst (λ z. StmtRuns w w.turns c1 z spot (1 + q) (rounds body a (active_rounds (gang_of w) i a) (tick s))) ends
-      (turns_run w ready spot three i a code body runs (pc + 1) has.1 (members (gang_of w) a) a (tick s) c1 (1 + q) refl b.some (record { at = masked_at w ready c pc n (c.masks spot.on) b.at; all_is = put_other c.masks n (c.masks spot.on) spot.on kn ∙ b.mask; left_is = put_same c.masks n (c.masks spot.on) ∙ b.mask; stands = b.stands; allowed = b.inside }) (omega (arith, b.used))))
+      (turns_run w ready spot three i a code body runs (pc + 1) has.1 (members (gang_of w) a) a (tick s) c1 (1 + q) refl b.some
+      (record {
+        at = masked_at w ready c pc n (c.masks spot.on) b.at;
+        all_is = put_other c.masks n (c.masks spot.on) spot.on kn
+            ∙ b.mask;
+        left_is = put_same c.masks n (c.masks spot.on) ∙ b.mask;
+        stands = b.stands;
+        allowed = b.inside;
+      }) (omega (arith, b.used))))

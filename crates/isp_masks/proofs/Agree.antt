@@ -59,7 +59,9 @@ all_inside n p h = ltb-true p n h
 below_same : (n b : ℕ) (f : ℕ → ℕ → ℕ) → b < n → below n f b ≡ f b
 below_same n b f lt = cond-true (nat_lt b n) (f b) (λ e. 0) (lt-ltb b n lt)
 
-module _ (program : Program) (code : Listing) (all : AreCompiled program code) (f : ℕ) (h : TFunction) (g : Routine) (l : Layout) (z : Numbers) (is : IsCompiled program code f h g l z) (entry : IsEntry h g l) (xs : List Argument) (sig : has_signature h.parameters xs ≡ true) (short : AreShort xs) where
+module _ (program : Program) (code : Listing) (all : AreCompiled program code) (f : ℕ) (h : TFunction) (g : Routine) (l : Layout) (z : Numbers)
+    (is : IsCompiled program code f h g l z) (entry : IsEntry h g l) (xs : List Argument) (sig : has_signature h.parameters xs ≡ true)
+    (short : AreShort xs) where
   abbrev world : ℕ → Setting
   world n = entry_setting program code f h g l n xs
 
@@ -140,7 +142,9 @@ module _ (program : Program) (code : Listing) (all : AreCompiled program code) (
       (r.steps, omega (arith, r.bound), ap (outcome (rows xs)) r.fails ∙ ap (λ z. Traps t (rows_now (rows xs) z) r.conf.out) r.arrays_are ∙ ap (Traps t (rows_now (rows xs) s.arrays)) r.out_is, tt)
   follows_from n (Cut s) r = (r.steps, omega (arith, r.bound), ap (outcome (rows xs)) r.goes ∙ ap GoesOn r.out_is, r.far)
 
-  body_runs : (n : ℕ) → StmtRuns (world n) n (first_conf code f g xs) (0 + length body) first_spot (1 + 0) (block (gang_width program.gang) (frame_of h (handed 0 xs) (first_frame xs)) (calls_at program n 255) n h.body everybody (entry_state program h xs))
+  body_runs : (n : ℕ) → StmtRuns (world n) n (first_conf code f g xs) (0 + length body) first_spot (1 + 0)
+      (block (gang_width program.gang) (frame_of h (handed 0 xs) (first_frame xs)) (calls_at program n 255) n h.body everybody
+      (entry_state program h xs))
   body_runs n =
       let c = first_conf code f g xs in
       let begin = λ (u : Gang). begun h (handed 0 xs) (first_frame xs) (everyone (gang_width u)) (first_state xs) in

@@ -181,7 +181,8 @@ pub record Opens (h : TFunction) (names : ℕ → ℕ) (ps : List Passed) (calle
   pub given : (v : ℕ) (x : Variable) (e : Elem) → slice_get h.variables v ≡ Some x → x.holds ≡ holds.Given e → Given h names ps caller v
   pub local : (v : ℕ) → slice_get h.parameters v ≡ None → slice_get ps v ≡ None
 
-module _ (program : Program) (listing : Listing) (f : ℕ) (h : TFunction) (g : Routine) (l : Layout) (names : ℕ → ℕ) (waiting : List machine.Frame) (ps : List Passed) (caller : Frame) (turns left : ℕ) (stand : ArraysStand h g l) (opens : Opens h names ps caller) where
+module _ (program : Program) (listing : Listing) (f : ℕ) (h : TFunction) (g : Routine) (l : Layout) (names : ℕ → ℕ) (waiting : List machine.Frame)
+    (ps : List Passed) (caller : Frame) (turns left : ℕ) (stand : ArraysStand h g l) (opens : Opens h names ps caller) where
   abbrev world : Setting
   world = call_setting program listing f h g l names waiting ps caller turns left
 
@@ -277,7 +278,9 @@ module _ (program : Program) (listing : Listing) (f : ℕ) (h : TFunction) (g : 
       shared_size : b.ty.rate ≡ Uniform → extent_at Uniform world.frame b.number ≡ n
       shared_size er =
           let off : opened + place - opened ≡ place = omega arith in
-          ap world.frame.sizes frame_named ∙ cond-false (nat_lt (opened + place) opened) (caller.sizes (opened + place)) (slice_index sizes (opened + place - opened)) (le-ltb (opened + place) opened (omega arith)) ∙ ap (slice_index sizes) off ∙ size_is h.variables b.number x b.ty n ex k er
+          ap world.frame.sizes frame_named ∙ cond-false (nat_lt (opened + place) opened) (caller.sizes (opened + place))
+          (slice_index sizes (opened + place - opened)) (le-ltb (opened + place) opened (omega arith)) ∙ ap (slice_index sizes) off
+          ∙ size_is h.variables b.number x b.ty n ex k er
 
       go : (r : Rate) → b.ty.rate ≡ r → ArrayFits world b
       go Uniform er = record {

@@ -67,7 +67,9 @@ elems_at (q ∷ ps) zero p e k = go q.kind (ap (λ z. z.is_array) (same_Some (pa
     go kind.Array is = refl
 elems_at (q ∷ ps) (suc v) p e k = go q.kind (elems_at ps v p e k)
   where
-    go : (m : ParamKind) → slice_get (param_elems class.Array ps) (array_count (take v (map parameter_of ps))) ≡ Some p.elem → slice_get (if_class (same_class (class_of m) class.Array) q.elem (param_elems class.Array ps)) (array_then (is_array m) (array_count (take v (map parameter_of ps)))) ≡ Some p.elem
+    go : (m : ParamKind) → slice_get (param_elems class.Array ps) (array_count (take v (map parameter_of ps))) ≡ Some p.elem
+        → slice_get (if_class (same_class (class_of m) class.Array) q.elem (param_elems class.Array ps))
+        (array_then (is_array m) (array_count (take v (map parameter_of ps)))) ≡ Some p.elem
     go kind.Scalar ih = ih
     go kind.Vector ih = ih
     go kind.Array ih = ih
@@ -138,7 +140,9 @@ module _ (h : TFunction) (g : Routine) (l : Layout) (stand : ArraysStand h g l) 
 
       there : IsThere g class.Array (array_register (l.array b.number)) × (elem_of g (array_register (l.array b.number)) ≡ b.ty.elem)
       there =
-          subst (λ a. IsThere g class.Array (array_register a) × (elem_of g (array_register a) ≡ b.ty.elem)) (sym number_is) (typed_there (passed g + j) b.ty.elem (back_at (param_elems class.Array g.params) (map local_elem g.locals) j b.ty.elem (slice_get-map local_elem g.locals j ∙ ap (λ o. type_in o) own)))
+          subst (λ a. IsThere g class.Array (array_register a) × (elem_of g (array_register a) ≡ b.ty.elem)) (sym number_is)
+          (typed_there (passed g + j) b.ty.elem (back_at (param_elems class.Array g.params) (map local_elem g.locals) j b.ty.elem
+          (slice_get-map local_elem g.locals j ∙ ap (λ o. type_in o) own)))
         where
           type_in : Option Local → Option Elem
           type_in None = None
@@ -178,11 +182,14 @@ module _ (h : TFunction) (g : Routine) (l : Layout) (stand : ArraysStand h g l) 
 
   present_of : (n : ℕ) → Held n → Granted g l (block_asks h.answer h.body n)
   present_of n f =
-      all_grow (HasRegister g l) (HasRegister g l) (HoldsArray h.variables) (HasArray g l) (HoldsLocal h.variables) (HasLocal g l) (HasMask g) (HasMask g) (IsLoadedIn l) (IsLoadedIn l) (λ r x t z. z) arrays_there locals_there (λ m z. z) (λ v z. z) (block_asks h.answer h.body n) f
+      all_grow (HasRegister g l) (HasRegister g l) (HoldsArray h.variables) (HasArray g l) (HoldsLocal h.variables) (HasLocal g l) (HasMask g)
+      (HasMask g) (IsLoadedIn l) (IsLoadedIn l) (λ r x t z. z) arrays_there locals_there (λ m z. z) (λ v z. z) (block_asks h.answer h.body n) f
 
   table_of : (n : ℕ) → Held n → Table g l h.variables (block_asks h.answer h.body n)
   table_of n f =
-      all_grow (HasRegister g l) (IsNamedIn g l) (HoldsArray h.variables) (HoldsArray h.variables) (HoldsLocal h.variables) (HoldsArray h.variables) (HasMask g) AnyMask (IsLoadedIn l) (IsLoadedIn l) (λ r x t z. z.1) (λ b z. z) locals_held (λ m z. tt) (λ v z. z) (block_asks h.answer h.body n) f
+      all_grow (HasRegister g l) (IsNamedIn g l) (HoldsArray h.variables) (HoldsArray h.variables) (HoldsLocal h.variables) (HoldsArray h.variables)
+      (HasMask g) AnyMask (IsLoadedIn l) (IsLoadedIn l) (λ r x t z. z.1) (λ b z. z) locals_held (λ m z. tt) (λ v z. z)
+      (block_asks h.answer h.body n) f
 
 -- What a body of an accepted program asks for is there for the verifier, and the table is as the laws ask, where its
 -- registers and masks are there: its arrays are variables of the function.
@@ -190,7 +197,9 @@ pub record BodyPresent (h : TFunction) (g : Routine) (l : Layout) (n : ℕ) : Ty
   pub present : Granted g l (block_asks h.answer h.body n)
   pub named : Table g l h.variables (block_asks h.answer h.body n)
 
-pub body_present : (fs : List TFunction) (h : TFunction) (g : Routine) (l : Layout) → FineFunction fs h → ArraysStand h g l → parameters_of g ≡ h.parameters → (n : ℕ) → All (HasRegister g l) AnyArray AnyArray (HasMask g) (IsLoadedIn l) (block_asks h.answer h.body n) → BodyPresent h g l n
+pub body_present : (fs : List TFunction) (h : TFunction) (g : Routine) (l : Layout) → FineFunction fs h → ArraysStand h g l
+    → parameters_of g ≡ h.parameters → (n : ℕ) → All (HasRegister g l) AnyArray AnyArray (HasMask g) (IsLoadedIn l) (block_asks h.answer h.body n)
+    → BodyPresent h g l n
 body_present fs h g l fine stand made n f =
     let held = all_held h.variables h.answer (HasRegister g l) (HasMask g) (IsLoadedIn l) (block_asks h.answer h.body n) (block_own fs h.variables h.answer h.body n fine.body) f in
     record { present = present_of h g l stand made fine.params n held; named = table_of h g l stand made fine.params n held }

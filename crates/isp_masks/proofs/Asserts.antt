@@ -18,7 +18,8 @@ use Rattle.isp_meaning.specs.State.{State}
 use Rattle.isp_lower.specs.Layout.{register}
 use Rattle.isp_lower.specs.Runs.{Comes, DoneRuns}
 use Rattle.isp_lower.specs.Setting.{Setting, IsSettled, gang_of, AreAt, At, Stands, Holds, Spares}
-use Rattle.isp_lower.proofs.Lemmas.{put_same, put_other, comes_none, comes_on, step_go, step_fail, next_at, at_to, spares_all, spares_on, failed_after, stopped_after, jumped, jump_comes, jump_at, masked, where_comes, others_comes, masked_at, at_kept, place_named}
+use Rattle.isp_lower.proofs.Lemmas.{put_same, put_other, comes_none, comes_on, step_go, step_fail, next_at, at_to, spares_all, spares_on, failed_after, stopped_after}
+use Rattle.isp_lower.proofs.Lemmas.{jumped, jump_comes, jump_at, masked, where_comes, others_comes, masked_at, at_kept, place_named}
 use Rattle.isp_masks.specs.Asserts.{fail, fails_code}
 
 -- ---- the lowest for which a test is true
@@ -59,7 +60,9 @@ module _ (w : Setting) (ready : IsSettled w) where
   done_after c c1 d pc n q (Stops s) h sp ma r = stopped_after w ready w.turns c c1 d q s h r
 
   -- the instruction that traps: for the lowest of mask k, if it has one
-  fail_runs : (o : Option ℕ) (pc k p n q : ℕ) (s : State) (c : Conf) (sp : Span) → lowest (gang_of w) (c.masks k) ≡ o → At w c pc → slice_get w.routine.code pc ≡ Some (fail k p) → slice_get w.code.places p ≡ Some sp → Stands w s c → 1 + q ≤ 32 * s.work → DoneRuns w c (pc + 1) n q (checked o Assert sp s tt)
+  fail_runs : (o : Option ℕ) (pc k p n q : ℕ) (s : State) (c : Conf) (sp : Span) → lowest (gang_of w) (c.masks k) ≡ o → At w c pc
+      → slice_get w.routine.code pc ≡ Some (fail k p) → slice_get w.code.places p ≡ Some sp → Stands w s c → 1 + q ≤ 32 * s.work
+      → DoneRuns w c (pc + 1) n q (checked o Assert sp s tt)
   fail_runs None pc k p n q s c sp e at has place st le = record {
     conf = next c;
     steps = 1;
@@ -71,9 +74,20 @@ module _ (w : Setting) (ready : IsSettled w) where
     bound = le;
   }
   fail_runs (Some l) pc k p n q s c sp e at has place st le =
-      record { conf = c; steps = 1; fails = step_fail w c pc (fail k p) (trap Assert sp l) ready at has (ap (λ o. moved (unless w.code w.routine c o Assert p (next c)) (λ c1. c1)) e ∙ ap (λ z. Fail (trap Assert z l)) (place_named w.code w.routine c p sp place)); arrays_are = st.arrays_are; out_is = st.out_is; bound = le }
+      record {
+        conf = c;
+        steps = 1;
+        fails = step_fail w c pc (fail k p) (trap Assert sp l) ready at has
+            (ap (λ o. moved (unless w.code w.routine c o Assert p (next c)) (λ c1. c1)) e
+            ∙ ap (λ z. Fail (trap Assert z l)) (place_named w.code w.routine c p sp place));
+        arrays_are = st.arrays_are;
+        out_is = st.out_is;
+        bound = le;
+      }
 
-  pub fails_run : (r : Rate) (x pc p k n q : ℕ) (a : Mask) (m : Payload) (s : State) (c : Conf) (sp : Span) → At w c pc → c.masks k ≡ a → k < n → Stands w s c → Holds r a x m c → 3 + q ≤ 32 * s.work → AreAt w.routine.code pc (fails_code r x pc p k n) → slice_get w.code.places p ≡ Some sp → DoneRuns w c (pc + length (fails_code r x pc p k n)) n q (checked (offender (gang_of w) is_false a m) Assert sp s tt)
+  pub fails_run : (r : Rate) (x pc p k n q : ℕ) (a : Mask) (m : Payload) (s : State) (c : Conf) (sp : Span) → At w c pc → c.masks k ≡ a → k < n
+      → Stands w s c → Holds r a x m c → 3 + q ≤ 32 * s.work → AreAt w.routine.code pc (fails_code r x pc p k n) → slice_get w.code.places p ≡ Some sp
+      → DoneRuns w c (pc + length (fails_code r x pc p k n)) n q (checked (offender (gang_of w) is_false a m) Assert sp s tt)
   fails_run Uniform x pc p k n q a m s c sp at em lk st hold le has place =
       subst (λ y. DoneRuns w c end n q (checked (offender (gang_of w) is_false a y) Assert sp s tt)) (sym hold)
       (done_after c c1 1 end n q _ (jump_comes w ready c pc jump.True (register Uniform x) to at has.0) (spares_all w n c) (λ r lt. refl) (go (is_true (c.scalars x)) refl))
@@ -106,7 +120,9 @@ module _ (w : Setting) (ready : IsSettled w) where
           (fail_runs (lowest (gang_of w) a) (pc + 1) k p n (1 + q) s c1 sp (ap (lowest (gang_of w)) em) (jump_at w ready c pc jump.True (register Uniform x) to false at e) has.1.0 place st (omega (arith, le)))
   fails_run Varying x pc p k n q a m s c sp at em lk st hold le has place =
       subst (λ o. DoneRuns w c end n q (checked o Assert sp s tt)) (sym (offender_kept (gang_of w) is_false a m ∙ ap (lowest (gang_of w)) (at_kept Varying a is_false m ∙ ap (kept_by is_false a) hold)))
-      (done_after c c2 2 end n q _ (comes_on w c c1 c2 1 1 (where_comes w ready c pc n x k at has.0) (others_comes w ready c1 (pc + 1) n k n (masked_at w ready c pc n t1 at) has.1.0)) (spares_all w n c) (λ r lt. let rn : r ≢ n = omega arith in put_other c1.masks n f2 r rn ∙ put_other c.masks n t1 r rn)
+      (done_after c c2 2 end n q _ (comes_on w c c1 c2 1 1 (where_comes w ready c pc n x k at has.0)
+      (others_comes w ready c1 (pc + 1) n k n (masked_at w ready c pc n t1 at) has.1.0)) (spares_all w n c)
+      (λ r lt. let rn : r ≢ n = omega arith in put_other c1.masks n f2 r rn ∙ put_other c.masks n t1 r rn)
       (subst (λ z. DoneRuns w c2 z n (2 + q) (checked (lowest (gang_of w) (where_true is_false (on a v))) Assert sp s tt)) ends
       (fail_runs (lowest (gang_of w) (where_true is_false (on a v))) (pc + 1 + 1) n p n (2 + q) s c2 sp (ap (lowest (gang_of w)) those) (masked_at w ready c1 (pc + 1) n f2 (masked_at w ready c pc n t1 at)) has.1.1.0 place st (omega (arith, le)))))
     where

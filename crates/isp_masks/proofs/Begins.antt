@@ -106,7 +106,9 @@ values_counted (p ∷ ps) (w ∷ vs) (AnArray y ∷ xs) are one e =
     let h = array_for p ps y xs e in
     values_counted ps vs xs are.1 one.1 h.1 ∙ sym (array_counts p w.holds (value_count Uniform vs) are.0 h.0)
 
-value_handed : (ps : List Parameter) (vs : List Variable) (xs : List Argument) (b v : ℕ) (x : Variable) → AreParams ps vs → AreOne vs → has_signature ps xs ≡ true → slice_get vs v ≡ Some x → HasRate Uniform x.holds → slice_index (values xs) (value_count Uniform (take v vs)) ≡ one_passed (Some x) (slice_get (handed b xs) v)
+value_handed : (ps : List Parameter) (vs : List Variable) (xs : List Argument) (b v : ℕ) (x : Variable) → AreParams ps vs → AreOne vs
+    → has_signature ps xs ≡ true → slice_get vs v ≡ Some x → HasRate Uniform x.holds
+    → slice_index (values xs) (value_count Uniform (take v vs)) ≡ one_passed (Some x) (slice_get (handed b xs) v)
 value_handed [] [] xs b v x are one e at has = absurd (cc)
 value_handed [] (w ∷ vs) xs b v x are one e at has = absurd are
 value_handed (p ∷ ps) [] xs b v x are one e at has = absurd are
@@ -121,7 +123,9 @@ value_handed (p ∷ ps) (w ∷ vs) (AnArray y ∷ xs) b (suc v) x are one e at h
     let h = array_for p ps y xs e in
     ap (slice_index (values xs)) (array_counts p w.holds (value_count Uniform (take v vs)) are.0 h.0) ∙ value_handed ps vs xs (suc b) v x are.1 one.1 h.1 at has
 
-module _ (program : Program) (code : Listing) (f : ℕ) (h : TFunction) (g : Routine) (l : Layout) (turns : ℕ) (xs : List Argument) (none : l.run ≡ None) (first : PassedFirst h l) (are : AreParams h.parameters (params_of h)) (one : AreOne (params_of h)) (sig : has_signature h.parameters xs ≡ true) where
+module _ (program : Program) (code : Listing) (f : ℕ) (h : TFunction) (g : Routine) (l : Layout) (turns : ℕ) (xs : List Argument)
+    (none : l.run ≡ None) (first : PassedFirst h l) (are : AreParams h.parameters (params_of h)) (one : AreOne (params_of h))
+    (sig : has_signature h.parameters xs ≡ true) where
   passes : Passes (params_of h) (λ r. slice_index (values xs) r) (λ r p. 0) (handed 0 xs) (everyone (gang_width program.gang))
   passes = record {
     ones = λ v x e has. value_handed h.parameters (params_of h) xs 0 v x are one sig e has;

@@ -73,7 +73,22 @@ module _ (w : Setting) (o : Option ℕ) (d : Bool) (m : Mask) (b : ℕ) where
     opened = ready.opened;
     sizes = ready.sizes;
     arrays = λ y h. let f = ready.arrays y h in record { is = array_same y.ty.rate y f.is; below = f.below; few = f.few };
-    calls = λ k g pc q sp a ps s c is. ready.calls k g pc q sp a ps s c (record { function = is.function; here = is.here; place = is.place; at = is.at; mask = is.mask; some = is.some; inside = is.inside; hands = is.hands; result = is.result; arrays_are = is.arrays_are; out_is = is.out_is; used = is.used });
+    calls = λ k g pc q sp a ps s c is. ready.calls k g pc q sp a ps s c
+        (record {
+          function = is.function;
+          here = is.here;
+          place = is.place;
+          at = is.at;
+          mask = is.mask;
+          some = is.some;
+          inside = is.inside;
+          hands =
+              is.hands;
+          result = is.result;
+          arrays_are = is.arrays_are;
+          out_is = is.out_is;
+          used = is.used;
+        });
     counter = counter;
     constants = ready.constants;
   }
@@ -84,7 +99,9 @@ module _ (w : Setting) (o : Option ℕ) (d : Bool) (m : Mask) (b : ℕ) where
   stands_back : (s : State) (c : Conf) → Stands there s c → RunHolds w.layout.run w.start w.members (c.scalars (w.layout.place Uniform)) s.varying → Stands w s c
   stands_back s c st h = record { uniforms = st.uniforms; varying = st.varying; result = st.result; results = st.results; own_arrays = st.own_arrays; arrays_are = st.arrays_are; out_is = st.out_is; run = h; constants = st.constants }
 
-  pub runs_back : (turns : ℕ) (c : Conf) (pc : ℕ) (spot : Spot) (q : ℕ) (v : Res) → ((s : State) (c1 : Conf) → Stands there s c1 → RunHolds w.layout.run w.start w.members (c1.scalars (w.layout.place Uniform)) s.varying) → StmtRuns there turns c pc spot q v → StmtRuns w turns c pc spot q v
+  pub runs_back : (turns : ℕ) (c : Conf) (pc : ℕ) (spot : Spot) (q : ℕ) (v : Res)
+      → ((s : State) (c1 : Conf) → Stands there s c1 → RunHolds w.layout.run w.start w.members (c1.scalars (w.layout.place Uniform)) s.varying)
+      → StmtRuns there turns c pc spot q v → StmtRuns w turns c pc spot q v
   runs_back turns c pc spot q (Went s g u ct rt) keep r = record {
     conf = r.conf;
     steps = r.steps;
@@ -153,7 +170,10 @@ body_run P l (r ∷ s ∷ rs) e p q = body_run P l (s ∷ rs) e p q
 -- what is shown of a statement, in any setting
 abbrev pub InBodySpot : TStmt → Setting → ℕ → Numbers → Type 0
 InBodySpot x w h z =
-    (a : Mask) (s : State) (c : Conf) (pc q : ℕ) → AreAt w.routine.code pc (stmt_code w.layout w.frame.answer x pc z (body_spot h)) → AreNamed w.code z (stmt_places w.layout x) (stmt_texts x) → EntersAt w pc (body_spot h) a s c q → StmtRuns w w.turns c (pc + length (stmt_code w.layout w.frame.answer x pc z (body_spot h))) (body_spot h) q (run (gang_of w) w.frame (calls_of w) w.turns x a s)
+    (a : Mask) (s : State) (c : Conf) (pc q : ℕ) → AreAt w.routine.code pc (stmt_code w.layout w.frame.answer x pc z (body_spot h))
+    → AreNamed w.code z (stmt_places w.layout x) (stmt_texts x) → EntersAt w pc (body_spot h) a s c q
+    → StmtRuns w w.turns c (pc + length (stmt_code w.layout w.frame.answer x pc z (body_spot h))) (body_spot h) q
+    (run (gang_of w) w.frame (calls_of w) w.turns x a s)
 
 module _ (w : Setting) (ready : IsSettled w) (none : w.layout.run ≡ None) where
   forgets : (o : Option ℕ) (d : Bool) (m : Mask) (b : ℕ) (s : State) (c : Conf) → Stands (with_layout w (run_as w.layout o d) m b) s c → RunHolds w.layout.run w.start w.members (c.scalars (w.layout.place Uniform)) s.varying
@@ -171,7 +191,9 @@ module _ (w : Setting) (ready : IsSettled w) (none : w.layout.run ≡ None) wher
   run_spares i m b n c c1 =
       within_as (λ l. Spares (with_layout w l m b) n c c1 → Spares w n c c1) w.layout i (λ o d sp. record { scalars_stay = sp.scalars_stay; vectors_stay = sp.vectors_stay })
 
-  pub foreach_body : (rs : List TRange) (i : ℕ) (x : TStmt) (h : ℕ) (z : Numbers) → last_index_of rs ≡ Some i → IsTyped w Varying (w.layout.variable Varying i) I32 → slice_get w.function.variables i ≡ Some foreach_index → AreNamed w.code z (stmt_places (body_layout w.layout rs) x) (stmt_texts x)
+  pub foreach_body : (rs : List TRange) (i : ℕ) (x : TStmt) (h : ℕ) (z : Numbers) → last_index_of rs ≡ Some i
+      → IsTyped w Varying (w.layout.variable Varying i) I32 → slice_get w.function.variables i ≡ Some foreach_index
+      → AreNamed w.code z (stmt_places (body_layout w.layout rs) x) (stmt_texts x)
       → ((m : Mask) (b : ℕ) → IsSettled (with_layout w (body_layout w.layout rs) m b) → InBodySpot x (with_layout w (body_layout w.layout rs) m b) h z)
       → RunBodyRuns w i h (λ pc. stmt_code (body_layout w.layout rs) w.frame.answer x pc z (body_spot h)) (run (gang_of w) w.frame (calls_of w) w.turns x)
   foreach_body rs i x h z last typed constant named law a s c pc q has e =
@@ -187,7 +209,8 @@ module _ (w : Setting) (ready : IsSettled w) (none : w.layout.run ≡ None) wher
       -- by the layout that the body has
       Body : Layout → Type 0
       Body l =
-          AreAt w.routine.code pc (stmt_code l w.frame.answer x pc z (body_spot h)) → AreNamed w.code z (stmt_places l x) (stmt_texts x) → ((m : Mask) (k : ℕ) → IsSettled (with_layout w l m k) → InBodySpot x (with_layout w l m k) h z) → RunHolds l.run b a b s.varying
+          AreAt w.routine.code pc (stmt_code l w.frame.answer x pc z (body_spot h)) → AreNamed w.code z (stmt_places l x) (stmt_texts x)
+          → ((m : Mask) (k : ℕ) → IsSettled (with_layout w l m k) → InBodySpot x (with_layout w l m k) h z) → RunHolds l.run b a b s.varying
           → StmtRuns (with_layout w l a b) w.turns c (pc + length (stmt_code l w.frame.answer x pc z (body_spot h))) (body_spot h) q (run (gang_of w) w.frame (calls_of w) w.turns x a s)
 
       is : (d : Bool) → w.layout.loaded i ≡ d → body_layout w.layout rs ≡ run_in d None w.layout i
@@ -211,7 +234,9 @@ module _ (w : Setting) (ready : IsSettled w) (none : w.layout.run ≡ None) wher
       holds : RunHolds (body_layout w.layout rs).run b a b s.varying
       holds = subst (λ l. RunHolds l.run b a b s.varying) (sym same) e.counts
 
-      go : (d : Bool) → w.layout.loaded i ≡ d → StmtRuns (with_layout w (body_layout w.layout rs) a b) w.turns c (pc + length (stmt_code (body_layout w.layout rs) w.frame.answer x pc z (body_spot h))) (body_spot h) q (run (gang_of w) w.frame (calls_of w) w.turns x a s)
+      go : (d : Bool) → w.layout.loaded i ≡ d → StmtRuns (with_layout w (body_layout w.layout rs) a b) w.turns c
+          (pc + length (stmt_code (body_layout w.layout rs) w.frame.answer x pc z (body_spot h))) (body_spot h) q
+          (run (gang_of w) w.frame (calls_of w) w.turns x a s)
       go false ed = subst Body (sym (is false ed)) (counted ed) has named law holds
       go true ed = subst Body (sym (is true ed)) (subst Body kept plain) has named law holds
 

@@ -38,7 +38,8 @@ use Rattle.isp_base.specs.declared.types.Value.{Value}
 use Rattle.isp_lower.specs.Runs.{Comes, Enters, Failed, Runs, Stopped}
 use Rattle.isp_lower.specs.Setting.{Setting, IsSettled, gang_of, calls_of, AreAt, At, Spares, Stands, Holds, at_rate, held_at}
 use Rattle.isp_lower.specs.Tables.{IsTyped}
-use Rattle.isp_lower.proofs.Lemmas.{are_front, are_back, put_same, put_other, comes_none, comes_on, step_go, at_to, spares_all, spares_less, spares_on, failed_less, stopped_less, masked, masked_at, set_at, set_comes, set_goes, set_spares, set_stands, bind_runs, runs_after, expr_runs, few, found_typed}
+use Rattle.isp_lower.proofs.Lemmas.{are_front, are_back, put_same, put_other, comes_none, comes_on, step_go, at_to, spares_all, spares_less, spares_on, failed_less, stopped_less, masked}
+use Rattle.isp_lower.proofs.Lemmas.{masked_at, set_at, set_comes, set_goes, set_spares, set_stands, bind_runs, runs_after, expr_runs, few, found_typed}
 use Rattle.isp_masks.specs.Ranges.{wide, narrow, lane, sum_lanes, lane_numbers, measures_code, bound_code, bounds_code, ranges_places}
 use Rattle.isp_masks.specs.Rounds.{fill_mask}
 use Rattle.isp_masks.proofs.Numbered.{small_number}
@@ -113,7 +114,11 @@ module _ (w : Setting) (ready : IsSettled w) where
   abbrev IsBound : ℕ → Payload → Conf → Type 0
   IsBound n m c = c.scalars (wide w.layout n) ≡ wrap I64 (number I32 (sole m))
 
-  value_runs : (x : TExpr) (pc p k n q : ℕ) (a : Mask) (s : State) (c : Conf) → BoundParts w x n → AreAt w.routine.code pc (expr_code w.layout x pc p k n ++ convert Uniform (wide w.layout n) (found w.layout x n) k ∷ []) → AreAt w.code.places p (expr_places w.layout x) → Enters w pc k n a s c q → Runs w c (pc + length (expr_code w.layout x pc p k n ++ convert Uniform (wide w.layout n) (found w.layout x n) k ∷ [])) n (0 + q) (IsBound n) (means x a s)
+  value_runs : (x : TExpr) (pc p k n q : ℕ) (a : Mask) (s : State) (c : Conf) → BoundParts w x n
+      → AreAt w.routine.code pc (expr_code w.layout x pc p k n ++ convert Uniform (wide w.layout n) (found w.layout x n) k ∷ [])
+      → AreAt w.code.places p (expr_places w.layout x) → Enters w pc k n a s c q
+      → Runs w c (pc + length (expr_code w.layout x pc p k n ++ convert Uniform (wide w.layout n) (found w.layout x n) k ∷ [])) n (0 + q) (IsBound n)
+      (means x a s)
   value_runs x pc p k n q a s c fit has places b =
       let fx : heads x ≤ 1 = few w x n fit.3 in
       go (means x a s) (expr_runs w ready x pc p k n q (1 + q) a s c fit.3 (are_front w.routine.code pc cx (last ∷ []) has) places (omega arith) b)
@@ -161,7 +166,9 @@ module _ (w : Setting) (ready : IsSettled w) where
       go (Stops s1) cut = stopped_less w ready w.turns c 1 (0 + q) s1 (let e : 1 + q ≡ 1 + (0 + q) = omega arith in subst (λ z. Stopped w w.turns c z s1) e cut)
 
   -- a constant is loaded
-  constant_runs : (v : Value) (sp : Span) (pc p k n q : ℕ) (a : Mask) (s : State) (c : Conf) → BoundParts w (t_constant v sp) n → AreAt w.routine.code pc (constant (wide w.layout n) I64 (converted v.elem I64 v.bits) ∷ []) → Enters w pc k n a s c q → Runs w c (pc + 1) n (0 + q) (IsBound n) (means (t_constant v sp) a s)
+  constant_runs : (v : Value) (sp : Span) (pc p k n q : ℕ) (a : Mask) (s : State) (c : Conf) → BoundParts w (t_constant v sp) n
+      → AreAt w.routine.code pc (constant (wide w.layout n) I64 (converted v.elem I64 v.bits) ∷ []) → Enters w pc k n a s c q
+      → Runs w c (pc + 1) n (0 + q) (IsBound n) (means (t_constant v sp) a s)
   constant_runs v sp pc p k n q a s c fit has b = record {
     conf = c1;
     steps = 1;
@@ -183,17 +190,24 @@ module _ (w : Setting) (ready : IsSettled w) where
       c1 : Conf
       c1 = set_at Uniform c d (One bits)
 
-  bound_runs : (x : TExpr) (pc p k n q : ℕ) (a : Mask) (s : State) (c : Conf) → BoundParts w x n → AreAt w.routine.code pc (bound_code w.layout x pc p k n) → AreAt w.code.places p (expr_places w.layout x) → Enters w pc k n a s c q → Runs w c (pc + length (bound_code w.layout x pc p k n)) n (0 + q) (IsBound n) (means x a s)
+  bound_runs : (x : TExpr) (pc p k n q : ℕ) (a : Mask) (s : State) (c : Conf) → BoundParts w x n
+      → AreAt w.routine.code pc (bound_code w.layout x pc p k n) → AreAt w.code.places p (expr_places w.layout x) → Enters w pc k n a s c q
+      → Runs w c (pc + length (bound_code w.layout x pc p k n)) n (0 + q) (IsBound n) (means x a s)
   bound_runs x pc p k n q a s c fit has places b =
       subst (λ code. AreAt w.routine.code pc code → Runs w c (pc + length code) n (0 + q) (IsBound n) (means x a s)) (sym (bound_is w.layout x pc p k n fit.0 fit.1)) (by (constant_of x) refl) has
     where
-      by : (o : Option Value) → constant_of x ≡ o → AreAt w.routine.code pc (convert_to w.layout o I64 Uniform (wide w.layout n) (found w.layout x n) k (expr_code w.layout x pc p k n)) → Runs w c (pc + length (convert_to w.layout o I64 Uniform (wide w.layout n) (found w.layout x n) k (expr_code w.layout x pc p k n))) n (0 + q) (IsBound n) (means x a s)
+      by : (o : Option Value) → constant_of x ≡ o → AreAt w.routine.code pc
+          (convert_to w.layout o I64 Uniform (wide w.layout n) (found w.layout x n) k (expr_code w.layout x pc p k n))
+          → Runs w c (pc + length (convert_to w.layout o I64 Uniform (wide w.layout n) (found w.layout x n) k (expr_code w.layout x pc p k n))) n
+          (0 + q) (IsBound n) (means x a s)
       by None e at = value_runs x pc p k n q a s c fit at places b
       by (Some v) e at =
           let one = constant_is_one x v e in
           subst (λ y. BoundParts w y n → Runs w c (pc + 1) n (0 + q) (IsBound n) (means y a s)) (sym one.1) (λ fits. constant_runs v one.0 pc p k n q a s c fits at b) fit
 
-  pub bounds_run : (rs : List TRange) (pc p k e q : ℕ) (a : Mask) (s : State) (c : Conf) → BoundsParts w rs e → AreAt w.routine.code pc (bounds_code w.layout rs pc p k e) → AreAt w.code.places p (ranges_places w.layout rs) → Enters w pc k e a s c q → Runs w c (pc + length (bounds_code w.layout rs pc p k e)) e q (λ xs c1. AreHeld w rs xs e c1) (ranges (gang_of w) w.frame (calls_of w) rs a s)
+  pub bounds_run : (rs : List TRange) (pc p k e q : ℕ) (a : Mask) (s : State) (c : Conf) → BoundsParts w rs e
+      → AreAt w.routine.code pc (bounds_code w.layout rs pc p k e) → AreAt w.code.places p (ranges_places w.layout rs) → Enters w pc k e a s c q
+      → Runs w c (pc + length (bounds_code w.layout rs pc p k e)) e q (λ xs c1. AreHeld w rs xs e c1) (ranges (gang_of w) w.frame (calls_of w) rs a s)
   bounds_run [] pc p k e q a s c fit has places b =
       record { conf = c; steps = 0; comes = comes_none w c; at = at_to w c pc (pc + 0) b.at (omega arith); stands = b.stands; spares = spares_all w e c; masks = λ r lt. refl; holds = tt; bound = omega (arith, b.used) }
   bounds_run (r ∷ rs) pc p k e q a s c fit has places b =
@@ -214,10 +228,31 @@ module _ (w : Setting) (ready : IsSettled w) where
       let qb = are_back w.code.places p pa (pb ++ pr) places in
       bind_runs w ready c pc1 e 0 q (IsBound e) (means r.start a s) _ end e held (bound_runs r.start pc p k e q a s c fit.0 (are_front w.routine.code pc ca (cb ++ cr) has) (are_front w.code.places p pa (pb ++ pr) places) b)
       (λ m s1 ok1. runs_after w ready c ok1.conf ok1.steps end e q held _ ok1.comes ok1.spares ok1.masks
-      (bind_runs w ready ok1.conf pc2 (e + 1) 0 (ok1.steps + q) (IsBound (e + 1)) (means r.end a s1) _ end e held (bound_runs r.end pc1 p1 k (e + 1) (ok1.steps + q) a s1 ok1.conf fit.1 (are_front w.routine.code pc1 cb cr hb) (are_front w.code.places p1 pb pr qb) (record { at = ok1.at; mask = ok1.masks k b.low ∙ b.mask; some = b.some; inside = b.inside; stands = ok1.stands; used = omega (arith, ok1.bound); low = omega (arith, b.low) }))
+      (bind_runs w ready ok1.conf pc2 (e + 1) 0 (ok1.steps + q) (IsBound (e + 1)) (means r.end a s1) _ end e held
+      (bound_runs r.end pc1 p1 k (e + 1) (ok1.steps + q) a s1 ok1.conf fit.1 (are_front w.routine.code pc1 cb cr hb)
+      (are_front w.code.places p1 pb pr qb) (record {
+        at = ok1.at;
+        mask = ok1.masks k b.low
+            ∙ b.mask;
+        some = b.some;
+        inside = b.inside;
+        stands = ok1.stands;
+        used = omega (arith, ok1.bound);
+        low = omega (arith, b.low);
+      }))
       (λ n s2 ok2. runs_after w ready ok1.conf ok2.conf ok2.steps end e (ok1.steps + q) held _ ok2.comes (spares_less w e (e + 1) ok1.conf ok2.conf (omega arith) ok2.spares) (λ i lt. ok2.masks i (omega (arith, lt)))
       (bind_runs w ready ok2.conf (pc2 + length cr) (e + 1 + 1) 0 (ok2.steps + (ok1.steps + q)) (λ xs c1. AreHeld w rs xs (e + 1 + 1) c1) (ranges (gang_of w) w.frame (calls_of w) rs a s2) _ end e held
-      (bounds_run rs pc2 p2 k (e + 1 + 1) (0 + (ok2.steps + (ok1.steps + q))) a s2 ok2.conf fit.2 (are_back w.routine.code pc1 cb cr hb) (are_back w.code.places p1 pb pr qb) (record { at = ok2.at; mask = ok2.masks k (omega (arith, b.low)) ∙ ok1.masks k b.low ∙ b.mask; some = b.some; inside = b.inside; stands = ok2.stands; used = omega (arith, ok2.bound); low = omega (arith, b.low) }))
+      (bounds_run rs pc2 p2 k (e + 1 + 1) (0 + (ok2.steps + (ok1.steps + q))) a s2 ok2.conf fit.2 (are_back w.routine.code pc1 cb cr hb)
+      (are_back w.code.places p1 pb pr qb) (record {
+        at = ok2.at;
+        mask = ok2.masks k (omega (arith, b.low)) ∙ ok1.masks k b.low
+            ∙ b.mask;
+        some = b.some;
+        inside = b.inside;
+        stands = ok2.stands;
+        used = omega (arith, ok2.bound);
+        low = omega (arith, b.low);
+      }))
       (λ xs s3 ok3. record {
         conf = ok3.conf;
         steps = ok3.steps;
@@ -355,26 +390,40 @@ module _ (w : Setting) (ready : IsSettled w) where
       comes5 : Comes w c 5 c5
       comes5 =
           comes_on w c c3 c5 3 2
-          (comes_on w c c1 c3 1 2 (step_go w c pc (fill_mask h) c1 ready at code.0 refl) (comes_on w c1 c2 c3 1 1 (set_comes w ready Uniform c1 a1 ones (pc + 1) (constant a1 I32 1) at1 code.1.0 (ap (λ t. Go (set_at Uniform c1 a1 (One (wrap t (number I32 1))))) typed.first)) (set_comes w ready Varying c2 v1 each (pc + 1 + 1) (splat v1 a1 h) at2 code.1.1.0 refl)))
+          (comes_on w c c1 c3 1 2 (step_go w c pc (fill_mask h) c1 ready at code.0 refl)
+          (comes_on w c1 c2 c3 1 1 (set_comes w ready Uniform c1 a1 ones (pc + 1) (constant a1 I32 1) at1 code.1.0
+          (ap (λ t. Go (set_at Uniform c1 a1 (One (wrap t (number I32 1))))) typed.first))
+          (set_comes w ready Varying c2 v1 each (pc + 1 + 1) (splat v1 a1 h) at2 code.1.1.0 refl)))
           (comes_on w c3 c4 c5 1 1 (set_comes w ready Uniform c3 w1 sum (pc + 1 + 1 + 1) (sum_lanes w1 v1 h) at3 code.1.1.1.0 sum_is) (set_comes w ready Varying c4 v1 own (pc + 1 + 1 + 1 + 1) (lane_numbers v1 h) at4 code.1.1.1.1.0 refl))
 
       comes8 : Comes w c 8 c8
       comes8 =
           comes_on w c c5 c8 5 3 comes5
           (comes_on w c5 c6 c8 1 2 (set_comes w ready Uniform c5 a2 short (pc + 1 + 1 + 1 + 1 + 1) (convert Uniform a2 w1 0) at5 code.1.1.1.1.1.0 short_is)
-          (comes_on w c6 c7 c8 1 1 (set_comes w ready Varying c6 v2 many (pc + 1 + 1 + 1 + 1 + 1 + 1) (splat v2 a2 h) at6 code.1.1.1.1.1.1.0 refl) (set_comes w ready Uniform c7 w2 unit (pc + 1 + 1 + 1 + 1 + 1 + 1 + 1) (constant w2 I64 1) at7 code.1.1.1.1.1.1.1.0 (ap (λ t. Go (set_at Uniform c7 w2 (One (wrap t (number I64 1))))) typed.one))))
+          (comes_on w c6 c7 c8 1 1 (set_comes w ready Varying c6 v2 many (pc + 1 + 1 + 1 + 1 + 1 + 1) (splat v2 a2 h) at6 code.1.1.1.1.1.1.0 refl)
+          (set_comes w ready Uniform c7 w2 unit (pc + 1 + 1 + 1 + 1 + 1 + 1 + 1) (constant w2 I64 1) at7 code.1.1.1.1.1.1.1.0
+          (ap (λ t. Go (set_at Uniform c7 w2 (One (wrap t (number I64 1))))) typed.one))))
 
       stands8 : Stands w s c8
       stands8 =
-          set_stands w ready Uniform c7 I64 (n + 1) unit s (set_stands w ready Varying c6 I32 (n + 1) many s (set_stands w ready Uniform c5 I32 (n + 1) short s (set_stands w ready Varying c4 I32 n own s (set_stands w ready Uniform c3 I64 n sum s (set_stands w ready Varying c2 I32 n each s (set_stands w ready Uniform c1 I32 n ones s st))))))
+          set_stands w ready Uniform c7 I64 (n + 1) unit s
+          (set_stands w ready Varying c6 I32 (n + 1) many s
+          (set_stands w ready Uniform c5 I32 (n + 1) short s
+          (set_stands w ready Varying c4 I32 n own s (set_stands w ready Uniform c3 I64 n sum s
+          (set_stands w ready Varying c2 I32 n each s (set_stands w ready Uniform c1 I32 n ones s st))))))
 
       -- what is in slot n stays behind the numbers of the lanes
       later : Spares w (n + 1) c5 c8
-      later = spares_on w (n + 1) c5 c6 c8 (set_spares w ready Uniform c5 I32 (n + 1) (n + 1) short (omega arith)) (spares_on w (n + 1) c6 c7 c8 (set_spares w ready Varying c6 I32 (n + 1) (n + 1) many (omega arith)) (set_spares w ready Uniform c7 I64 (n + 1) (n + 1) unit (omega arith)))
+      later = spares_on w (n + 1) c5 c6 c8 (set_spares w ready Uniform c5 I32 (n + 1) (n + 1) short (omega arith))
+          (spares_on w (n + 1) c6 c7 c8 (set_spares w ready Varying c6 I32 (n + 1) (n + 1) many (omega arith))
+          (set_spares w ready Uniform c7 I64 (n + 1) (n + 1) unit (omega arith)))
 
       low8 : Low w n c c8
       low8 = record {
-        spares = spares_on w n c c2 c8 (set_spares w ready Uniform c1 I32 n n ones (omega arith)) (spares_on w n c2 c3 c8 (set_spares w ready Varying c2 I32 n n each (omega arith)) (spares_on w n c3 c4 c8 (set_spares w ready Uniform c3 I64 n n sum (omega arith)) (spares_on w n c4 c5 c8 (set_spares w ready Varying c4 I32 n n own (omega arith)) (spares_less w n (n + 1) c5 c8 (omega arith) later))));
+        spares = spares_on w n c c2 c8 (set_spares w ready Uniform c1 I32 n n ones (omega arith))
+            (spares_on w n c2 c3 c8 (set_spares w ready Varying c2 I32 n n each (omega arith))
+            (spares_on w n c3 c4 c8 (set_spares w ready Uniform c3 I64 n n sum (omega arith))
+            (spares_on w n c4 c5 c8 (set_spares w ready Varying c4 I32 n n own (omega arith)) (spares_less w n (n + 1) c5 c8 (omega arith) later))));
         masks = λ r lt. let ne : r ≢ h = omega (arith, le) in put_other c.masks h all r ne;
       }
 
@@ -389,7 +438,10 @@ module _ (w : Setting) (ready : IsSettled w) where
 
       one_in : (p : ℕ) → p < g → on (c3.masks h) (c3.vectors v1) p ≡ Some 1
       one_in p lt =
-          ap (λ m. on m (c3.vectors v1) p) full ∙ on_at all (c3.vectors v1) p (in_all p lt) ∙ ap Some (ap (λ v. v p) (put_same c2.vectors v1 (over (on (c2.masks h) (λ r. c2.scalars a1)) (c2.vectors v1))) ∙ ap (λ m. over (on m (λ r. c2.scalars a1)) (c2.vectors v1) p) full ∙ over_at all (λ r. c2.scalars a1) (c2.vectors v1) p (in_all p lt) ∙ first)
+          ap (λ m. on m (c3.vectors v1) p) full ∙ on_at all (c3.vectors v1) p (in_all p lt)
+          ∙ ap Some (ap (λ v. v p) (put_same c2.vectors v1 (over (on (c2.masks h) (λ r. c2.scalars a1)) (c2.vectors v1)))
+          ∙ ap (λ m. over (on m (λ r. c2.scalars a1)) (c2.vectors v1) p) full ∙ over_at all (λ r. c2.scalars a1) (c2.vectors v1) p (in_all p lt)
+          ∙ first)
 
       lanes5 : number I64 (c5.scalars w1) ≡ pos g
       lanes5 =

@@ -70,7 +70,9 @@ module _ (l : Layout) (c : Conf) (k : Mask) (s : State) (done : Conf) (one : don
   put_is Uniform d a em ec =
       ap (λ z. put_result z done d (register Uniform (l.result Uniform)) k (next c)) ec ∙ ap (λ z. set_scalar c d z) one ∙ ap (λ z. given_in z d (One s.result) c) (sym ec)
   put_is Varying d a em ec =
-      ap (λ z. put_result z done d (register Varying (l.result Varying)) k (next c)) ec ∙ ap (λ z. set_vector c d (on z (done.vectors (l.result Varying)))) em ∙ ap (λ z. set_vector c d (on a z)) each ∙ ap (λ z. given_in z d (Each (on a s.results)) c) (sym ec)
+      ap (λ z. put_result z done d (register Varying (l.result Varying)) k (next c)) ec
+      ∙ ap (λ z. set_vector c d (on z (done.vectors (l.result Varying)))) em ∙ ap (λ z. set_vector c d (on a z)) each
+      ∙ ap (λ z. given_in z d (Each (on a s.results)) c) (sym ec)
 
   back_is : (t : Option Ty) (d : Option Register) (a : Mask) → k ≡ a → Takes t d → with_result done d (returned l t) k (next c) ≡ given_back d (answer_of t a s) c
   back_is None None a em takes = refl
@@ -85,7 +87,9 @@ module _ (program : Program) (code : Listing) (all : AreCompiled program code) w
     abbrev world : ℕ → Setting
     world n = call_setting program code f h g l names waiting handed caller turns n
 
-    module _ (levels : ℕ) (opened : (world levels).home.opened ≡ (world levels).frame.opened) (sizes : (world levels).home.sizes ≡ (world levels).frame.sizes) (k : Call) (h1 : TFunction) (pc q : ℕ) (sp : Span) (a : Mask) (ps : List Passed) (s : State) (c : Conf) (is : IsCalling (world levels) k h1 pc q sp a ps s c) where
+    module _ (levels : ℕ) (opened : (world levels).home.opened ≡ (world levels).frame.opened)
+        (sizes : (world levels).home.sizes ≡ (world levels).frame.sizes) (k : Call) (h1 : TFunction) (pc q : ℕ) (sp : Span) (a : Mask)
+        (ps : List Passed) (s : State) (c : Conf) (is : IsCalling (world levels) k h1 pc q sp a ps s c) where
       abbrev frame : Frame
       frame = (world levels).frame
 
@@ -107,7 +111,9 @@ module _ (program : Program) (code : Listing) (all : AreCompiled program code) w
       deep_trap : suc (length c.waiting) ≡ 256 → FailedIn code c q (trap Depth sp (or_zero (lowest (gang_width program.gang) a))) s
       deep_trap deep =
           let full : nat_lt (depth c) 256 ≡ false = le-ltb (depth c) 256 (omega (arith, deep)) in
-          let at : step code c ≡ machine.Fail (trap Depth (place_at code k.place) (or_zero (lowest (gang_width code.gang) (c.masks k.mask.number)))) = enters ∙ cond-false (nat_lt (depth c) 256) (Go (called c k g1)) (machine.Fail (trap Depth (place_at code k.place) (or_zero (lowest (gang_width code.gang) (c.masks k.mask.number))))) full in
+          let at : step code c ≡ machine.Fail (trap Depth (place_at code k.place) (or_zero (lowest (gang_width code.gang) (c.masks k.mask.number)))) =
+          enters ∙ cond-false (nat_lt (depth c) 256) (Go (called c k g1))
+          (machine.Fail (trap Depth (place_at code k.place) (or_zero (lowest (gang_width code.gang) (c.masks k.mask.number))))) full in
           record {
             conf = c;
             steps = 1;
@@ -198,7 +204,14 @@ module _ (program : Program) (code : Listing) (all : AreCompiled program code) w
           let own = passes a c (params_of h1) ps k.arguments (c.masks k.mask.number) is.mask is.hands in
           subst (λ z. StmtRuns (inner n) turns begun_conf (0 + length body) first_spot (1 + (1 + q)) (block (gang_width z) (frame_of h1 ps frame) (calls_at program turns n) turns h1.body a start)) compiled.compiled.gang
           (kept_body_runs (inner n) settled h1.body compiled.compiled.constants 0 compiled.numbers (1 + q) a start begun_conf
-          (block_parts (inner n) h1.body 3 (λ i e. (settled.counter i e).constant) (record { fine = compiled.compiled.fine.body; rated = compiled.compiled.rated; named = compiled.compiled.named; free = subst (λ o. BlockFree o h1.body) (sym compiled.compiled.run) compiled.compiled.free }))
+          (block_parts (inner n) h1.body 3 (λ i e. (settled.counter i e).constant)
+          (record {
+            fine = compiled.compiled.fine.body;
+            rated = compiled.compiled.rated;
+            named = compiled.compiled.named;
+            free = subst
+                (λ o. BlockFree o h1.body) (sym compiled.compiled.run) compiled.compiled.free;
+          }))
           compiled.compiled.keeps compiled.compiled.spares_typed (are_front g1.code 0 body (last ∷ []) compiled.compiled.code_is) compiled.compiled.names
           (record { home_is = ap (λ z. new_home g1 k.function (names_of a c k.arguments) z c.home.opened) home_sizes ∙ ap (λ z. new_home g1 k.function (names_of a c k.arguments) frame.sizes z) home_opened; waiting_is = refl; pc_is = refl })
           (put_same (λ j. nobody) 0 (c.masks k.mask.number) ∙ is.mask) is.some (λ p e. (is.inside p e, λ i. let no : true ≡ false = sym i ∙ compiled.compiled.outside in absurd (cc))) (begins n)
@@ -217,10 +230,18 @@ module _ (program : Program) (code : Listing) (all : AreCompiled program code) w
           let has : slice_get g1.code (0 + length body) ≡ Some last = (are_back g1.code 0 body (last ∷ []) compiled.compiled.code_is).0 in
           let here : Conf = record c { arrays = below c.home.opened c2.arrays; out = c2.out } in
           let there : Conf = record c { arrays = below frame.opened s1.arrays; out = s1.out } in
-          let acts : step code c2 ≡ Go (with_result c2 k.result (returned l1 h1.answer) (c.masks k.mask.number) (machine_calls.resumed c2 fr c.waiting)) = step_is (inner n) c2 (0 + length body) last settled r.at has ∙ ap (left g1 c2 (returned l1 h1.answer)) r.at.waiting_is in
-          let same : here ≡ there = ap (λ z. record c { arrays = below z c2.arrays; out = c2.out }) home_opened ∙ ap (λ z. record c { arrays = below frame.opened z; out = c2.out }) r.stands.arrays_are ∙ ap (λ z. record c { arrays = below frame.opened s1.arrays; out = z }) r.stands.out_is in
-          let back : with_result c2 k.result (returned l1 h1.answer) (c.masks k.mask.number) (next here) ≡ given_back k.result (answer_of h1.answer a s1) here = back_is l1 here (c.masks k.mask.number) s1 c2 r.stands.result r.stands.results h1.answer k.result a is.mask is.result in
-          let final : ComesIn code c2 1 (given_back k.result (answer_of h1.answer a s1) there) = ap (λ m. arrive code m c2) acts ∙ ap machine.Runs (kept_out h1.answer k.result c2 (c.masks k.mask.number) here is.result) ∙ ap machine.Runs (back ∙ ap (given_back k.result (answer_of h1.answer a s1)) same) in
+          let acts : step code c2 ≡ Go (with_result c2 k.result (returned l1 h1.answer) (c.masks k.mask.number)
+          (machine_calls.resumed c2 fr c.waiting)) = step_is (inner n) c2 (0 + length body) last settled r.at has
+          ∙ ap (left g1 c2 (returned l1 h1.answer)) r.at.waiting_is in
+          let same : here ≡ there = ap (λ z. record c { arrays = below z c2.arrays; out = c2.out }) home_opened
+          ∙ ap (λ z. record c { arrays = below frame.opened z; out = c2.out }) r.stands.arrays_are
+          ∙ ap (λ z. record c { arrays = below frame.opened s1.arrays; out = z }) r.stands.out_is in
+          let back : with_result c2 k.result (returned l1 h1.answer) (c.masks k.mask.number) (next here)
+          ≡ given_back k.result (answer_of h1.answer a s1) here = back_is l1 here (c.masks k.mask.number) s1 c2 r.stands.result
+          r.stands.results h1.answer k.result a is.mask is.result in
+          let final : ComesIn code c2 1 (given_back k.result (answer_of h1.answer a s1) there) = ap (λ m. arrive code m c2) acts
+          ∙ ap machine.Runs (kept_out h1.answer k.result c2 (c.masks k.mask.number) here is.result)
+          ∙ ap machine.Runs (back ∙ ap (given_back k.result (answer_of h1.answer a s1)) same) in
           record {
             steps = 1 + (r.steps + 1);
             comes = comes_on (inner n) c begun_conf _ 1 (r.steps + 1) (enters_there room) (comes_on (inner n) begun_conf c2 _ r.steps 1 r.comes final);
@@ -250,7 +271,13 @@ module _ (program : Program) (code : Listing) (all : AreCompiled program code) w
 
   -- ---- the levels
 
-  pub calls_run : (levels f : ℕ) (h : TFunction) (g : Routine) (l : Layout) (names : ℕ → ℕ) (waiting : List machine.Frame) (handed : List Passed) (caller : Frame) (turns : ℕ) → slice_get code.routines f ≡ Some g → (call_setting program code f h g l names waiting handed caller turns levels).home.opened ≡ (call_setting program code f h g l names waiting handed caller turns levels).frame.opened → (call_setting program code f h g l names waiting handed caller turns levels).home.sizes ≡ (call_setting program code f h g l names waiting handed caller turns levels).frame.sizes → levels + suc (length waiting) ≡ 256 → CallsRun (call_setting program code f h g l names waiting handed caller turns levels)
+  pub calls_run : (levels f : ℕ) (h : TFunction) (g : Routine) (l : Layout) (names : ℕ → ℕ) (waiting : List machine.Frame) (handed : List Passed)
+      (caller : Frame) (turns : ℕ) → slice_get code.routines f ≡ Some g
+      → (call_setting program code f h g l names waiting handed caller turns levels).home.opened
+      ≡ (call_setting program code f h g l names waiting handed caller turns levels).frame.opened
+      → (call_setting program code f h g l names waiting handed caller turns levels).home.sizes
+      ≡ (call_setting program code f h g l names waiting handed caller turns levels).frame.sizes → levels + suc (length waiting) ≡ 256
+      → CallsRun (call_setting program code f h g l names waiting handed caller turns levels)
   calls_run zero f h g l names waiting handed caller turns found opened sizes deep k h1 pc q sp a ps s c is =
       deep_trap f h g l names waiting handed caller turns found zero opened sizes k h1 pc q sp a ps s c is (ap (λ z. suc (length z)) is.at.waiting_is ∙ omega (arith, deep))
   calls_run (suc n) f h g l names waiting handed caller turns found opened sizes deep k h1 pc q sp a ps s c is =
@@ -260,6 +287,11 @@ module _ (program : Program) (code : Listing) (all : AreCompiled program code) w
       let there = routine f h g l names waiting handed caller turns found (suc n) opened sizes k h1 pc q sp a ps s c is in
       let own = compiled f h g l names waiting handed caller turns found (suc n) opened sizes k h1 pc q sp a ps s c is in
       let settled = inner_settled f h g l names waiting handed caller turns found (suc n) opened sizes k h1 pc q sp a ps s c is n inner_deep
-      (calls_run n k.function h1 there.0 own.layout (names_of a c k.arguments) (waits c k.result (c.masks k.mask.number) ∷ c.waiting) ps (frame_of h handed caller) turns there.1 (inner_opened f h g l names waiting handed caller turns found (suc n) opened sizes k h1 pc q sp a ps s c is n) (inner_sizes f h g l names waiting handed caller turns found (suc n) opened sizes k h1 pc q sp a ps s c is n) inner_deep) in
+      (calls_run n k.function h1 there.0 own.layout (names_of a c k.arguments) (waits c k.result (c.masks k.mask.number) ∷ c.waiting) ps
+      (frame_of h handed caller) turns there.1 (inner_opened f h g l names waiting handed caller turns found (suc n) opened sizes k h1 pc q sp a
+      ps s c is n) (inner_sizes f h g l names waiting handed caller turns found (suc n) opened sizes k h1 pc q sp a ps s c is n) inner_deep) in
       subst (λ o. CallRuns code turns c k q (meaning.called program turns (calls_at program turns n) o a ps (frame_of h handed caller) s)) (sym is.function)
-      (ends f h g l names waiting handed caller turns found (suc n) opened sizes k h1 pc q sp a ps s c is n settled room (block (gang_width program.gang) (frame_of h1 ps (frame_of h handed caller)) (calls_at program turns n) turns h1.body a (meaning.begun h1 ps (frame_of h handed caller) a s)) (body_runs f h g l names waiting handed caller turns found (suc n) opened sizes k h1 pc q sp a ps s c is n settled))
+      (ends f h g l names waiting handed caller turns found (suc n) opened sizes k h1 pc q sp a ps s c is n settled room
+      (block (gang_width program.gang) (frame_of h1 ps (frame_of h handed caller)) (calls_at program turns n) turns h1.body a
+      (meaning.begun h1 ps (frame_of h handed caller) a s))
+      (body_runs f h g l names waiting handed caller turns found (suc n) opened sizes k h1 pc q sp a ps s c is n settled))

@@ -11,8 +11,12 @@ use Rattle.isp_lex.specs.declared.fault.Fault.{Fault}
 use Rattle.isp_lex.specs.declared.fault.Rule.TheVariants.{VaryingToUniform, BadExport}
 use Rattle.isp_lex.specs.Faults.{fault}
 use Rattle.isp_typed.specs.Fine.{FineFunction, params_of}
-use Rattle.isp_typed.specs.Typed.{TExpr, t_constant, t_program_index, t_place, t_convert, t_cast, t_unary, t_binary, t_compare, t_logic, t_choose, t_call, t_library, t_packed_store, t_packed_load, TPlace, t_variable, t_element, TArgument, t_by_value, t_by_name, TCall, t_called, TArguments, t_no_arguments, t_argument_then, TExprs, t_no_exprs, t_expr_then, TItem, t_plain, t_with_value, t_with_size, TSimple, t_value, t_run, t_assign, t_update, t_step, TFirst, t_first_declare, t_first_simple, TFunction, Program, place_type, type_of, span_of, TBase, t_whole, t_from, TRange}
-use Rattle.isp_typed.specs.Typed.{TStmt, t_block, t_declare, t_simple, t_if, t_if_else, t_while, t_do, t_for, t_foreach, t_foreach_active, t_foreach_unique, t_unmasked, t_jump, t_return, t_print, t_assert, TBlock, t_braces, TStmts, t_no_stmts, t_stmt_then}
+use Rattle.isp_typed.specs.Typed.{TExpr, t_constant, t_program_index, t_place, t_convert, t_cast, t_unary, t_binary, t_compare, t_logic, t_choose, t_call, t_library, t_packed_store}
+use Rattle.isp_typed.specs.Typed.{t_packed_load, TPlace, t_variable, t_element, TArgument, t_by_value, t_by_name, TCall, t_called, TArguments, t_no_arguments, t_argument_then, TExprs}
+use Rattle.isp_typed.specs.Typed.{t_no_exprs, t_expr_then, TItem, t_plain, t_with_value, t_with_size, TSimple, t_value, t_run, t_assign, t_update, t_step, TFirst, t_first_declare}
+use Rattle.isp_typed.specs.Typed.{t_first_simple, TFunction, Program, place_type, type_of, span_of, TBase, t_whole, t_from, TRange}
+use Rattle.isp_typed.specs.Typed.{TStmt, t_block, t_declare, t_simple, t_if, t_if_else, t_while, t_do, t_for, t_foreach, t_foreach_active, t_foreach_unique}
+use Rattle.isp_typed.specs.Typed.{t_unmasked, t_jump, t_return, t_print, t_assert, TBlock, t_braces, TStmts, t_no_stmts, t_stmt_then}
 use Rattle.isp_typed.specs.declared.variable.Holds.{Holds}
 use Rattle.isp_typed.specs.declared.variable.Holds.TheVariants.{Value as AValue, Given, Local}
 use Rattle.isp_typed.specs.declared.variable.Variable.{Variable}
@@ -123,8 +127,12 @@ module _ (fs : List TFunction) where
     values_rated ps t_no_exprs clean = tt
     values_rated [] (t_expr_then x xs) clean =
         (demand_reaches Varying x (ExprBreach fs x) (λ e b. clean e (inl b)), expr_rated x (demand_own Varying x (ExprBreach fs x) (λ e b. clean e (inl b))), values_rated [] xs (λ e b. clean e (inr b)))
-    values_rated (p ∷ ps) (t_expr_then x xs) clean =
-        (subst (Reaches (type_of x).rate) (part_alike p) (demand_reaches (part_rate p) x (ExprBreach fs x) (λ e b. clean e (inl b))), expr_rated x (demand_own (part_rate p) x (ExprBreach fs x) (λ e b. clean e (inl b))), values_rated ps xs (λ e b. clean e (inr b)))
+    values_rated (p ∷ ps) (t_expr_then x xs) clean = (
+      subst (Reaches (type_of x).rate) (part_alike p) (demand_reaches (part_rate p) x (ExprBreach fs x) (λ e b. clean e (inl b))),
+      expr_rated x
+          (demand_own (part_rate p) x (ExprBreach fs x) (λ e b. clean e (inl b))),
+      values_rated ps xs (λ e b. clean e (inr b)),
+    )
 
     -- what an argument is asked of here it is asked of there: past the parameters nothing
     call_rated : (k : TCall) → NoneOf (CallBreach fs k) → CallRated fs k
@@ -210,8 +218,14 @@ module _ (fs : List TFunction) where
           (expr_rated e (λ g b. clean g (inl b)), stmt_rated v m (in_loop w) x at.2 (λ g b. clean g (inr b)))
       stmt_rated v m w (t_do k n x e sp) at clean =
           (stmt_rated v m (in_loop w) x at.1 (λ g b. clean g (inl b)), expr_rated e (λ g b. clean g (inr b)))
-      stmt_rated v m w (t_for k n first e step i x sp) at clean =
-          (first_rated first (λ g b. clean g (inl b)), test_rated e (λ g b. clean g (inr (inl b))), step_rated step (λ g b. clean g (inr (inr (inl b)))), stmt_rated (scope_after_first v m first) i (in_loop w) x at.5 (λ g b. clean g (inr (inr (inr b)))))
+      stmt_rated v m w (t_for k n first e step i x sp) at clean = (
+        first_rated first (λ g b. clean g (inl b)),
+        test_rated e (λ g b. clean g (inr (inl b))),
+        step_rated step
+            (λ g b. clean g (inr (inr (inl b)))),
+        stmt_rated (scope_after_first v m first) i (in_loop w) x at.5
+            (λ g b. clean g (inr (inr (inr b)))),
+      )
       stmt_rated v m w (t_foreach k n rs x sp) at clean =
           (at.2, ranges_rated rs (λ g b. clean g (inr (inl b))), stmt_rated (scope_after v m rs) (number_after m rs) (in_foreach w) x at.4 (λ g b. clean g (inr (inr b))), at.1)
       stmt_rated v m w (t_foreach_active k n i x sp) at clean = stmt_rated (declared m v) (suc m) (in_turns w) x at.2 clean

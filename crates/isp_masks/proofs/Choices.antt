@@ -21,7 +21,8 @@ use Rattle.isp_lower.specs.Pieces.{guard}
 use Rattle.isp_lower.specs.Layout.{register, mask_register}
 use Rattle.isp_lower.specs.Runs.{Comes}
 use Rattle.isp_lower.specs.Setting.{Setting, IsSettled, gang_of, AreAt, At, Stands, Holds, Allowed}
-use Rattle.isp_lower.proofs.Lemmas.{are_front, are_back, put_same, put_other, comes_none, comes_on, step_go, at_to, spares_all, spares_less, spares_on, failed_after, stopped_after, failed_less, stopped_less, jumped, jump_comes, jump_at, masked, where_comes, others_comes, masked_at, any_nobody, where_inside, at_kept}
+use Rattle.isp_lower.proofs.Lemmas.{are_front, are_back, put_same, put_other, comes_none, comes_on, step_go, at_to, spares_all, spares_less, spares_on, failed_after, stopped_after, failed_less}
+use Rattle.isp_lower.proofs.Lemmas.{stopped_less, jumped, jump_comes, jump_at, masked, where_comes, others_comes, masked_at, any_nobody, where_inside, at_kept}
 use Rattle.isp_masks.specs.Loops.{copy_mask, jump_all}
 use Rattle.isp_masks.specs.Sets.{unite}
 use Rattle.isp_masks.specs.Statements.{parted_code, wide_code, if_code, if_else_code}
@@ -38,10 +39,20 @@ use Rattle.isp_masks.proofs.KeptParts.{kept_runs, both_kept_runs, left_runs}
 module _ (w : Setting) (ready : IsSettled w) where
   -- ---- in lanes
 
-  pub parted_runs : (n x pc : ℕ) (spot : Spot) (q : ℕ) (a : Mask) (m : Payload) (s : State) (c : Conf) (first rest : ℕ → List Instr) (va vb : Mask → State → Res) → At w c pc → c.masks spot.on ≡ a → any (gang_of w) a ≡ true → Inside w a → Stands w s c → Holds Varying a x m c → 5 + q ≤ 32 * s.work → spot.slot < n → AreThree spot → AreAt w.routine.code pc (parted_code x pc spot.on spot.slot first rest) → ((T : Mask) (s1 : State) (c1 : Conf) (pc1 z : ℕ) → AreThree (deep n spot.slot spot) → AreAt w.routine.code pc1 (first pc1) → EntersAt w pc1 (deep n spot.slot spot) T s1 c1 z → StmtRuns w w.turns c1 (pc1 + length (first pc1)) (deep n spot.slot spot) z (va T s1)) → ((F : Mask) (s1 : State) (c1 : Conf) (pc1 z : ℕ) → AreThree (deep n spot.on spot) → AreAt w.routine.code pc1 (rest pc1) → At w c1 pc1 → c1.masks spot.on ≡ F → Inside w F → Stands w s1 c1 → 1 + z ≤ 32 * s1.work → StmtRuns w w.turns c1 (pc1 + length (rest pc1)) (deep n spot.on spot) z (unless_empty (gang_of w) F s1 vb)) → StmtRuns w w.turns c (pc + length (parted_code x pc spot.on spot.slot first rest)) spot q (branches (gang_of w) a va vb m s)
+  pub parted_runs : (n x pc : ℕ) (spot : Spot) (q : ℕ) (a : Mask) (m : Payload) (s : State) (c : Conf) (first rest : ℕ → List Instr)
+      (va vb : Mask → State → Res) → At w c pc → c.masks spot.on ≡ a → any (gang_of w) a ≡ true → Inside w a → Stands w s c → Holds Varying a x m c
+      → 5 + q ≤ 32 * s.work → spot.slot < n → AreThree spot → AreAt w.routine.code pc (parted_code x pc spot.on spot.slot first rest)
+      → ((T : Mask) (s1 : State) (c1 : Conf) (pc1 z : ℕ) → AreThree (deep n spot.slot spot) → AreAt w.routine.code pc1 (first pc1)
+      → EntersAt w pc1 (deep n spot.slot spot) T s1 c1 z → StmtRuns w w.turns c1 (pc1 + length (first pc1)) (deep n spot.slot spot) z (va T s1))
+      → ((F : Mask) (s1 : State) (c1 : Conf) (pc1 z : ℕ) → AreThree (deep n spot.on spot) → AreAt w.routine.code pc1 (rest pc1) → At w c1 pc1
+      → c1.masks spot.on ≡ F → Inside w F → Stands w s1 c1 → 1 + z ≤ 32 * s1.work
+      → StmtRuns w w.turns c1 (pc1 + length (rest pc1)) (deep n spot.on spot) z (unless_empty (gang_of w) F s1 vb))
+      → StmtRuns w w.turns c (pc + length (parted_code x pc spot.on spot.slot first rest)) spot q (branches (gang_of w) a va vb m s)
   parted_runs n x pc spot q a m s c first rest va vb at em some inside st hold le next three has fa fb =
       subst (λ v. StmtRuns w w.turns c end spot q v) (sym (branches_parts (gang_of w) a va vb m s some ∙ ap (λ z. both_sides (unless_empty (gang_of w) z s va) (λ s1. unless_empty (gang_of w) (without a z) s1 vb)) kept))
-      (stmt_after w ready w.turns c c2 2 end spot q _ (comes_on w c c1 c2 1 1 (where_comes w ready c pc spot.slot x spot.on at has.0) (others_comes w ready c1 (pc + 1) spot.on spot.on spot.slot (masked_at w ready c pc spot.slot t1 at) has.1.0)) (spares_all w spot.slot c) (λ r lt ne. let rn : r ≢ spot.slot = omega arith in put_other c1.masks spot.on f2 r ne ∙ put_other c.masks spot.slot t1 r rn) three
+      (stmt_after w ready w.turns c c2 2 end spot q _ (comes_on w c c1 c2 1 1 (where_comes w ready c pc spot.slot x spot.on at has.0)
+      (others_comes w ready c1 (pc + 1) spot.on spot.on spot.slot (masked_at w ready c pc spot.slot t1 at) has.1.0)) (spares_all w spot.slot c)
+      (λ r lt ne. let rn : r ≢ spot.slot = omega arith in put_other c1.masks spot.on f2 r ne ∙ put_other c.masks spot.slot t1 r rn) three
       (go_runs w ready w.turns c2 p2 (deep n spot.slot spot) 2 (2 + q) (unless_empty (gang_of w) T s va) _ end spot begin second))
     where
       v : Lanes
@@ -90,10 +101,27 @@ module _ (w : Setting) (ready : IsSettled w) where
       nrr = omega (arith, three.low_returned)
 
       three_n : AreThree (deep n spot.slot spot)
-      three_n = record { low_on = omega (arith, next); low_continued = omega (arith, next, three.low_continued); low_returned = omega (arith, next, three.low_returned); on_continued = nco; on_returned = nrr; continued_returned = three.continued_returned }
+      three_n = record {
+        low_on = omega (arith, next);
+        low_continued = omega (arith, next, three.low_continued);
+        low_returned = omega
+            (arith, next, three.low_returned);
+        on_continued = nco;
+        on_returned = nrr;
+        continued_returned = three.continued_returned;
+      }
 
       three_k : AreThree (deep n spot.on spot)
-      three_k = record { low_on = omega (arith, next, three.low_on); low_continued = omega (arith, next, three.low_continued); low_returned = omega (arith, next, three.low_returned); on_continued = three.on_continued; on_returned = three.on_returned; continued_returned = three.continued_returned }
+      three_k = record {
+        low_on = omega (arith, next, three.low_on);
+        low_continued = omega (arith, next, three.low_continued);
+        low_returned = omega
+            (arith, next, three.low_returned);
+        on_continued = three.on_continued;
+        on_returned = three.on_returned;
+        continued_returned =
+            three.continued_returned;
+      }
 
       t_is : c1.masks spot.slot ≡ T
       t_is = put_same c.masks spot.slot t1 ∙ ap (λ z. where_true is_true (on z v)) em
@@ -129,10 +157,19 @@ module _ (w : Setting) (ready : IsSettled w) where
       ends = omega (arith, length-append side (rest p2 ++ unite spot.on spot.slot spot.on ∷ []), length-append (rest p2) (unite spot.on spot.slot spot.on ∷ []))
 
       begin : StmtRuns w w.turns c2 p2 (deep n spot.slot spot) (2 + (2 + q)) (unless_empty (gang_of w) T s va)
-      begin = guard_runs w ready w.turns (pc + 1 + 1) (deep n spot.slot spot) (2 + (2 + q)) T s c2 first va (masked_at w ready c1 (pc + 1) spot.on f2 (masked_at w ready c pc spot.slot t1 at)) t_is2 (where_inside (Allowed w) a is_true v inside) st (omega (arith, le)) three_n at_side (λ c3 z en. fa T s c3 (pc + 1 + 1 + 1) z three_n at_side.1 en)
+      begin = guard_runs w ready w.turns (pc + 1 + 1) (deep n spot.slot spot) (2 + (2 + q)) T s c2 first va
+          (masked_at w ready c1 (pc + 1) spot.on f2 (masked_at w ready c pc spot.slot t1 at)) t_is2 (where_inside (Allowed w) a is_true v inside) st
+          (omega (arith, le)) three_n at_side (λ c3 z en. fa T s c3 (pc + 1 + 1 + 1) z three_n at_side.1 en)
 
-      second : (s1 : State) (g b ct rt : Mask) → unless_empty (gang_of w) T s va ≡ Went s1 g b ct rt → StmtOk w c2 p2 (deep n spot.slot spot) (2 + (2 + q)) s1 g ct rt → StmtRuns w w.turns c2 end spot (2 + q) (go_on (unless_empty (gang_of w) F s1 vb) (λ s' g' b' c' r'. Went s' (union g g') (union b b') (union ct c') (union rt r')))
-      second s1 g b ct rt ev ok = join (unless_empty (gang_of w) F s1 vb) (fb F s1 ok.conf p2 (1 + (ok.steps + (2 + q))) three_k (are_front w.routine.code p2 (rest p2) (unite spot.on spot.slot spot.on ∷ []) at_rest) ok.at (ok.masks spot.on (omega (arith, next, three.low_on)) kn three.on_continued three.on_returned ∙ f_is) (below_without (Allowed w) a T inside) ok.stands (omega (arith, ok.bound)))
+      second : (s1 : State) (g b ct rt : Mask) → unless_empty (gang_of w) T s va ≡ Went s1 g b ct rt
+          → StmtOk w c2 p2 (deep n spot.slot spot) (2 + (2 + q)) s1 g ct rt
+          → StmtRuns w w.turns c2 end spot (2 + q) (go_on (unless_empty (gang_of w) F s1 vb)
+          (λ s' g' b' c' r'. Went s' (union g g') (union b b') (union ct c') (union rt r')))
+      second s1 g b ct rt ev ok = join (unless_empty (gang_of w) F s1 vb)
+          (fb F s1 ok.conf p2 (1 + (ok.steps + (2 + q))) three_k
+          (are_front w.routine.code p2 (rest p2) (unite spot.on spot.slot spot.on ∷ []) at_rest) ok.at
+          (ok.masks spot.on (omega (arith, next, three.low_on)) kn three.on_continued three.on_returned ∙ f_is) (below_without (Allowed w) a T inside)
+          ok.stands (omega (arith, ok.bound)))
         where
           join : (u : Res) → StmtRuns w w.turns ok.conf p3 (deep n spot.on spot) (1 + (ok.steps + (2 + q))) u → StmtRuns w w.turns c2 end spot (2 + q) (go_on u (λ s' g' b' c' r'. Went s' (union g g') (union b b') (union ct c') (union rt r')))
           join (Went s' g' b' c' r') r = record {
@@ -165,7 +202,15 @@ module _ (w : Setting) (ready : IsSettled w) where
 
   -- ---- in lanes, in a c-form
 
-  pub wide_runs : (x pc : ℕ) (spot : Spot) (q : ℕ) (a : Mask) (m : Payload) (s : State) (c : Conf) (first rest : ℕ → List Instr) (va vb : Mask → State → Res) → At w c pc → c.masks spot.on ≡ a → any (gang_of w) a ≡ true → Inside w a → Stands w s c → Holds Varying a x m c → 8 + q ≤ 32 * s.work → AreThree spot → AreAt w.routine.code pc (wide_code x pc spot.on spot.slot first rest) → ((T : Mask) (s1 : State) (c1 : Conf) (pc1 z : ℕ) → AreThree (widely spot.on spot) → AreAt w.routine.code pc1 (first pc1) → EntersAt w pc1 (widely spot.on spot) T s1 c1 z → StmtRuns w w.turns c1 (pc1 + length (first pc1)) (widely spot.on spot) z (va T s1)) → ((F : Mask) (s1 : State) (c1 : Conf) (pc1 z : ℕ) → AreThree (widely (spot.slot + 1) spot) → AreAt w.routine.code pc1 (rest pc1) → At w c1 pc1 → c1.masks (spot.slot + 1) ≡ F → Inside w F → Stands w s1 c1 → 1 + z ≤ 32 * s1.work → StmtRuns w w.turns c1 (pc1 + length (rest pc1)) (widely (spot.slot + 1) spot) z (unless_empty (gang_of w) F s1 vb)) → StmtRuns w w.turns c (pc + length (wide_code x pc spot.on spot.slot first rest)) spot q (branches (gang_of w) a va vb m s)
+  pub wide_runs : (x pc : ℕ) (spot : Spot) (q : ℕ) (a : Mask) (m : Payload) (s : State) (c : Conf) (first rest : ℕ → List Instr)
+      (va vb : Mask → State → Res) → At w c pc → c.masks spot.on ≡ a → any (gang_of w) a ≡ true → Inside w a → Stands w s c → Holds Varying a x m c
+      → 8 + q ≤ 32 * s.work → AreThree spot → AreAt w.routine.code pc (wide_code x pc spot.on spot.slot first rest)
+      → ((T : Mask) (s1 : State) (c1 : Conf) (pc1 z : ℕ) → AreThree (widely spot.on spot) → AreAt w.routine.code pc1 (first pc1)
+      → EntersAt w pc1 (widely spot.on spot) T s1 c1 z → StmtRuns w w.turns c1 (pc1 + length (first pc1)) (widely spot.on spot) z (va T s1))
+      → ((F : Mask) (s1 : State) (c1 : Conf) (pc1 z : ℕ) → AreThree (widely (spot.slot + 1) spot) → AreAt w.routine.code pc1 (rest pc1) → At w c1 pc1
+      → c1.masks (spot.slot + 1) ≡ F → Inside w F → Stands w s1 c1 → 1 + z ≤ 32 * s1.work
+      → StmtRuns w w.turns c1 (pc1 + length (rest pc1)) (widely (spot.slot + 1) spot) z (unless_empty (gang_of w) F s1 vb))
+      → StmtRuns w w.turns c (pc + length (wide_code x pc spot.on spot.slot first rest)) spot q (branches (gang_of w) a va vb m s)
   wide_runs x pc spot q a m s c first rest va vb at em some inside st hold le three has fa fb =
       subst (λ v. StmtRuns w w.turns c end spot q v) (sym (branches_parts (gang_of w) a va vb m s some ∙ ap (λ z. both_sides (unless_empty (gang_of w) z s va) (λ s1. unless_empty (gang_of w) (without a z) s1 vb)) kept))
       (stmt_after w ready w.turns c c1 1 end spot q _ (where_comes w ready c pc n x k at has.0) (spares_all w n c) (λ r lt ne. let rn : r ≢ n = omega (arith, lt) in put_other c.masks n t1 r rn) three (tried (all_of (gang_of w) T) refl))
@@ -287,7 +332,16 @@ module _ (w : Setting) (ready : IsSettled w) where
       f_is = put_other c2.masks k (c2.masks n) (n + 1) sk ∙ put_same c1.masks (n + 1) f2 ∙ ap (λ z. without z (c1.masks n)) (put_other c.masks n t1 k kn ∙ em) ∙ ap (without a) t_is1
 
       three_k : AreThree (widely k spot)
-      three_k = record { low_on = omega (arith, three.low_on); low_continued = omega (arith, three.low_continued); low_returned = omega (arith, three.low_returned); on_continued = three.on_continued; on_returned = three.on_returned; continued_returned = three.continued_returned }
+      three_k = record {
+        low_on = omega (arith, three.low_on);
+        low_continued = omega (arith, three.low_continued);
+        low_returned = omega
+            (arith, three.low_returned);
+        on_continued = three.on_continued;
+        on_returned = three.on_returned;
+        continued_returned =
+            three.continued_returned;
+      }
 
       three_s : AreThree (widely (n + 1) spot)
       three_s = record { low_on = omega arith; low_continued = omega (arith, three.low_continued); low_returned = omega (arith, three.low_returned); on_continued = sco; on_returned = srr; continued_returned = three.continued_returned }
@@ -355,9 +409,23 @@ module _ (w : Setting) (ready : IsSettled w) where
           begin : StmtRuns w w.turns c1j p2 (widely k spot) (1 + (1 + (1 + q))) (unless_empty (gang_of w) T s va)
           begin =
               subst (λ d. StmtRuns w w.turns c1j p2 (widely k spot) (1 + (1 + (1 + q))) (if_so d (va T) (went_all T) s)) (sym some_t)
-              (subst (λ z. StmtRuns w w.turns c1j z (widely k spot) (1 + (1 + (1 + q))) (va T s)) behind (fa T s c1j (p1 + 1) (1 + (1 + (1 + q))) three_k at_side.1 (record { at = at1j true h; mask = k_all; some = some_t; inside = inside_t; stands = st; used = omega (arith, le); low = three_k.low_on })))
+              (subst (λ z. StmtRuns w w.turns c1j z (widely k spot) (1 + (1 + (1 + q))) (va T s)) behind
+              (fa T s c1j (p1 + 1) (1 + (1 + (1 + q))) three_k at_side.1
+              (record {
+                at = at1j true h;
+                mask = k_all;
+                some = some_t;
+                inside = inside_t;
+                stands = st;
+                used = omega (arith, le);
+                low =
+                    three_k.low_on;
+              })))
 
-          second : (s1 : State) (g b ct rt : Mask) → unless_empty (gang_of w) T s va ≡ Went s1 g b ct rt → StmtOk w c1j p2 (widely k spot) (1 + (1 + (1 + q))) s1 g ct rt → StmtRuns w w.turns c1j end spot (1 + (1 + q)) (go_on (unless_empty (gang_of w) F s1 vb) (λ s' g' b' c' r'. Went s' (union g g') (union b b') (union ct c') (union rt r')))
+          second : (s1 : State) (g b ct rt : Mask) → unless_empty (gang_of w) T s va ≡ Went s1 g b ct rt
+              → StmtOk w c1j p2 (widely k spot) (1 + (1 + (1 + q))) s1 g ct rt
+              → StmtRuns w w.turns c1j end spot (1 + (1 + q)) (go_on (unless_empty (gang_of w) F s1 vb)
+              (λ s' g' b' c' r'. Went s' (union g g') (union b b') (union ct c') (union rt r')))
           second s1 g b ct rt ev ok = subst (λ u. StmtRuns w w.turns c1j end spot (1 + (1 + q)) (go_on u (λ s' g' b' c' r'. Went s' (union g g') (union b b') (union ct c') (union rt r')))) (sym (skipped s1 h)) all_passed
             where
               c4 : Conf
@@ -387,8 +455,13 @@ module _ (w : Setting) (ready : IsSettled w) where
           begin : StmtRuns w w.turns c3 p2 (widely k spot) (3 + (3 + (1 + q))) (unless_empty (gang_of w) T s va)
           begin = guard_runs w ready w.turns p1 (widely k spot) (3 + (3 + (1 + q))) T s c3 first va (at3 h) k_is inside_t st (omega (arith, le)) three_k at_side (λ c4 z en. fa T s c4 (p1 + 1) z three_k at_side.1 en)
 
-          second : (s1 : State) (g b ct rt : Mask) → unless_empty (gang_of w) T s va ≡ Went s1 g b ct rt → StmtOk w c3 p2 (widely k spot) (3 + (3 + (1 + q))) s1 g ct rt → StmtRuns w w.turns c3 end spot (3 + (1 + q)) (go_on (unless_empty (gang_of w) F s1 vb) (λ s' g' b' c' r'. Went s' (union g g') (union b b') (union ct c') (union rt r')))
-          second s1 g b ct rt ev ok = joined (unless_empty (gang_of w) F s1 vb) (fb F s1 c4 (p2 + 1) (1 + (e + (3 + (1 + q)))) three_s at_rest at4 (ok.masks (n + 1) (omega arith) sk sco srr ∙ f_is) (below_without (Allowed w) a T inside) ok.stands (omega (arith, ok.bound)))
+          second : (s1 : State) (g b ct rt : Mask) → unless_empty (gang_of w) T s va ≡ Went s1 g b ct rt
+              → StmtOk w c3 p2 (widely k spot) (3 + (3 + (1 + q))) s1 g ct rt
+              → StmtRuns w w.turns c3 end spot (3 + (1 + q)) (go_on (unless_empty (gang_of w) F s1 vb)
+              (λ s' g' b' c' r'. Went s' (union g g') (union b b') (union ct c') (union rt r')))
+          second s1 g b ct rt ev ok = joined (unless_empty (gang_of w) F s1 vb)
+              (fb F s1 c4 (p2 + 1) (1 + (e + (3 + (1 + q)))) three_s at_rest at4 (ok.masks (n + 1) (omega arith) sk sco srr ∙ f_is)
+              (below_without (Allowed w) a T inside) ok.stands (omega (arith, ok.bound)))
             where
               e : ℕ
               e = ok.steps + 1
@@ -436,9 +509,15 @@ module _ (w : Setting) (ready : IsSettled w) where
 
   -- what a part is asked: it runs for a mask that has members, at the slots that the test leaves
   abbrev pub PartRuns : Form → Rate → Spot → (ℕ → Spot → List Instr) → (Mask → State → Res) → Type 0
-  PartRuns f r spot code v = (j : ℕ) (T : Mask) (s : State) (c : Conf) (pc z : ℕ) → AreThree (part_spot f r j spot) → AreAt w.routine.code pc (code pc (part_spot f r j spot)) → EntersAt w pc (part_spot f r j spot) T s c z → StmtRuns w w.turns c (pc + length (code pc (part_spot f r j spot))) (part_spot f r j spot) z (v T s)
+  PartRuns f r spot code v = (j : ℕ) (T : Mask) (s : State) (c : Conf) (pc z : ℕ) → AreThree (part_spot f r j spot)
+      → AreAt w.routine.code pc (code pc (part_spot f r j spot)) → EntersAt w pc (part_spot f r j spot) T s c z
+      → StmtRuns w w.turns c (pc + length (code pc (part_spot f r j spot))) (part_spot f r j spot) z (v T s)
 
-  pub if_runs : (v : Leaving) (f : Form) (r : Rate) (x pc : ℕ) (spot : Spot) (q : ℕ) (a : Mask) (m : Payload) (s : State) (c : Conf) (first : ℕ → Spot → List Instr) (va : Mask → State → Res) → At w c pc → c.masks spot.on ≡ a → any (gang_of w) a ≡ true → Inside w a → Stands w s c → Holds r a x m c → 8 + q ≤ 32 * s.work → AreThree spot → AreAt w.routine.code pc (if_code v f r x pc spot first) → Left v va → PartRuns f r spot first va → StmtRuns w w.turns c (pc + length (if_code v f r x pc spot first)) spot q (branches (gang_of w) a va went_all m s)
+  pub if_runs : (v : Leaving) (f : Form) (r : Rate) (x pc : ℕ) (spot : Spot) (q : ℕ) (a : Mask) (m : Payload) (s : State) (c : Conf)
+      (first : ℕ → Spot → List Instr) (va : Mask → State → Res) → At w c pc → c.masks spot.on ≡ a → any (gang_of w) a ≡ true → Inside w a
+      → Stands w s c → Holds r a x m c → 8 + q ≤ 32 * s.work → AreThree spot → AreAt w.routine.code pc (if_code v f r x pc spot first) → Left v va
+      → PartRuns f r spot first va → StmtRuns w w.turns c (pc + length (if_code v f r x pc spot first)) spot q
+      (branches (gang_of w) a va went_all m s)
   if_runs o f Uniform x pc spot q a m s c first va at em some inside st hold le three has left fa =
       subst (λ z. StmtRuns w w.turns c end spot q (branches (gang_of w) a va went_all z s)) (sym hold)
       (stmt_after w ready w.turns c c4 1 end spot q _ (jump_comes w ready c pc jump.False (register Uniform x) to at has.0) (spares_all w spot.slot c) (λ r lt ne. refl) three (go (is_true (c.scalars x)) refl))
@@ -456,7 +535,9 @@ module _ (w : Setting) (ready : IsSettled w) where
       c4 = jumped w ready c jump.False (register Uniform x) to
 
       go : (b : Bool) → is_true (c.scalars x) ≡ b → StmtRuns w w.turns c4 end spot (1 + q) (if_so b (va a) (went_all a) s)
-      go true e = subst (λ z. StmtRuns w w.turns c4 z spot (1 + q) (va a s)) ends (fa spot.on a s c4 (pc + 1) (1 + q) three has.1 (record { at = test_at c pc x to true at e; mask = em; some = some; inside = inside; stands = st; used = omega (arith, le); low = three.low_on }))
+      go true e = subst (λ z. StmtRuns w w.turns c4 z spot (1 + q) (va a s)) ends
+          (fa spot.on a s c4 (pc + 1) (1 + q) three has.1 (record
+          { at = test_at c pc x to true at e; mask = em; some = some; inside = inside; stands = st; used = omega (arith, le); low = three.low_on }))
       go false e = plain_ok w ready c4 c4 0 end spot (1 + q) a s (comes_none w c4) (at_to w c4 to end (test_at c pc x to false at e) ends) st (spares_all w spot.slot c4) (λ r h. refl) three em (omega (arith, le))
   if_runs o Coherent Varying x pc spot q a m s c first va at em some inside st hold le three has left fa =
       wide_runs x pc spot q a m s c (λ pc1. first pc1 (widely spot.on spot)) (λ pc1. []) va went_all at em some inside st hold le three has (λ T s1 c1 pc1 z th h en. fa spot.on T s1 c1 pc1 z th h en)
@@ -468,13 +549,18 @@ module _ (w : Setting) (ready : IsSettled w) where
       kept_runs w ready x pc spot q a m s c (λ pc1. first pc1 (under spot.slot spot)) va at em some inside st hold (omega (arith, le)) three has left (λ T s1 c1 pc1 z th h en. fa spot.slot T s1 c1 pc1 z th h en)
   if_runs (Always j) Plain Varying x pc spot q a m s c first va at em some inside st hold le three has left fa = left_runs w ready j x pc spot q a m s c va at em some inside st hold (omega (arith, le)) three has left
   if_runs Maybe Plain Varying x pc spot q a m s c first va at em some inside st hold le three has left fa =
-      parted_runs (spot.slot + 1) x pc spot q a m s c (λ pc1. first pc1 (under spot.slot spot)) (λ pc1. []) va went_all at em some inside st hold (omega (arith, le)) (omega arith) three has (λ T s1 c1 pc1 z th h en. fa spot.slot T s1 c1 pc1 z th h en)
+      parted_runs (spot.slot + 1) x pc spot q a m s c (λ pc1. first pc1 (under spot.slot spot)) (λ pc1. []) va went_all at em some inside st hold
+      (omega (arith, le)) (omega arith) three has (λ T s1 c1 pc1 z th h en. fa spot.slot T s1 c1 pc1 z th h en)
       (λ F s1 c1 pc1 z th h at1 em1 in1 st1 le1.
       let e : pc1 ≡ pc1 + 0 = omega arith in
       subst (λ v. StmtRuns w w.turns c1 (pc1 + 0) (under spot.on spot) z v) (nobody_left (gang_of w) F s1)
       (plain_ok w ready c1 c1 0 (pc1 + 0) (under spot.on spot) z F s1 (comes_none w c1) (at_to w c1 pc1 (pc1 + 0) at1 e) st1 (spares_all w (spot.slot + 1) c1) (λ r lt. refl) th em1 (omega (arith, le1))))
 
-  pub if_else_runs : (b : Bool) (f : Form) (r : Rate) (x pc : ℕ) (spot : Spot) (q : ℕ) (a : Mask) (m : Payload) (s : State) (c : Conf) (first second : ℕ → Spot → List Instr) (va vb : Mask → State → Res) → At w c pc → c.masks spot.on ≡ a → any (gang_of w) a ≡ true → Inside w a → Stands w s c → Holds r a x m c → 8 + q ≤ 32 * s.work → AreThree spot → AreAt w.routine.code pc (if_else_code b f r x pc spot first second) → BothLeft b va vb → PartRuns Coherent r spot first va → PartRuns Coherent r spot second vb → StmtRuns w w.turns c (pc + length (if_else_code b f r x pc spot first second)) spot q (branches (gang_of w) a va vb m s)
+  pub if_else_runs : (b : Bool) (f : Form) (r : Rate) (x pc : ℕ) (spot : Spot) (q : ℕ) (a : Mask) (m : Payload) (s : State) (c : Conf)
+      (first second : ℕ → Spot → List Instr) (va vb : Mask → State → Res) → At w c pc → c.masks spot.on ≡ a → any (gang_of w) a ≡ true → Inside w a
+      → Stands w s c → Holds r a x m c → 8 + q ≤ 32 * s.work → AreThree spot → AreAt w.routine.code pc (if_else_code b f r x pc spot first second)
+      → BothLeft b va vb → PartRuns Coherent r spot first va → PartRuns Coherent r spot second vb
+      → StmtRuns w w.turns c (pc + length (if_else_code b f r x pc spot first second)) spot q (branches (gang_of w) a va vb m s)
   if_else_runs o f Uniform x pc spot q a m s c first second va vb at em some inside st hold le three has left fa fb =
       subst (λ z. StmtRuns w w.turns c end spot q (branches (gang_of w) a va vb z s)) (sym hold)
       (stmt_after w ready w.turns c c4 1 end spot q _ (jump_comes w ready c pc jump.False (register Uniform x) pb at has.0) (spares_all w spot.slot c) (λ r lt ne. refl) three (go (is_true (c.scalars x)) refl))
@@ -503,13 +589,34 @@ module _ (w : Setting) (ready : IsSettled w) where
       go : (b : Bool) → is_true (c.scalars x) ≡ b → StmtRuns w w.turns c4 end spot (1 + q) (if_so b (va a) (vb a) s)
       go true e =
           subst (λ z. StmtRuns w w.turns c4 z spot (1 + q) (va a s)) ends
-          (jump_after w ready w.turns c4 (pc + 1 + length ca) to spot (1 + q) (va a s) at2.0 (fa spot.on a s c4 (pc + 1) (1 + (1 + q)) three (are_front w.routine.code (pc + 1) ca (instr.Jump to ∷ second pb spot) has.1) (record { at = test_at c pc x pb true at e; mask = em; some = some; inside = inside; stands = st; used = omega (arith, le); low = three.low_on })))
-      go false e = subst (λ z. StmtRuns w w.turns c4 z spot (1 + q) (vb a s)) ends (fb spot.on a s c4 pb (1 + q) three at2.1 (record { at = test_at c pc x pb false at e; mask = em; some = some; inside = inside; stands = st; used = omega (arith, le); low = three.low_on }))
+          (jump_after w ready w.turns c4 (pc + 1 + length ca) to spot (1 + q) (va a s) at2.0
+          (fa spot.on a s c4 (pc + 1) (1 + (1 + q)) three (are_front w.routine.code (pc + 1) ca (instr.Jump to ∷ second pb spot) has.1)
+          (record {
+            at = test_at c pc x pb true at e;
+            mask = em;
+            some = some;
+            inside = inside;
+            stands = st;
+            used = omega (arith, le);
+            low =
+                three.low_on;
+          })))
+      go false e = subst (λ z. StmtRuns w w.turns c4 z spot (1 + q) (vb a s)) ends
+          (fb spot.on a s c4 pb (1 + q) three at2.1 (record
+          { at = test_at c pc x pb false at e; mask = em; some = some; inside = inside; stands = st; used = omega (arith, le); low = three.low_on }))
   if_else_runs o Coherent Varying x pc spot q a m s c first second va vb at em some inside st hold le three has left fa fb =
-      wide_runs x pc spot q a m s c (λ pc1. first pc1 (widely spot.on spot)) (λ pc1. guard (jump_off (spot.slot + 1)) pc1 (λ pc2. second pc2 (widely (spot.slot + 1) spot))) va vb at em some inside st hold le three has (λ T s1 c1 pc1 z th h en. fa spot.on T s1 c1 pc1 z th h en)
-      (λ F s1 c1 pc1 z th h at1 em1 in1 st1 le1. guard_runs w ready w.turns pc1 (widely (spot.slot + 1) spot) z F s1 c1 (λ pc2. second pc2 (widely (spot.slot + 1) spot)) vb at1 em1 in1 st1 le1 th h (λ c2 z2 en. fb (spot.slot + 1) F s1 c2 (pc1 + 1) z2 th h.1 en))
+      wide_runs x pc spot q a m s c (λ pc1. first pc1 (widely spot.on spot))
+      (λ pc1. guard (jump_off (spot.slot + 1)) pc1 (λ pc2. second pc2 (widely (spot.slot + 1) spot))) va vb at em some inside st hold le three has
+      (λ T s1 c1 pc1 z th h en. fa spot.on T s1 c1 pc1 z th h en)
+      (λ F s1 c1 pc1 z th h at1 em1 in1 st1 le1. guard_runs w ready w.turns pc1 (widely (spot.slot + 1) spot) z F s1 c1
+      (λ pc2. second pc2 (widely (spot.slot + 1) spot)) vb at1 em1 in1 st1 le1 th h
+      (λ c2 z2 en. fb (spot.slot + 1) F s1 c2 (pc1 + 1) z2 th h.1 en))
   if_else_runs true Plain Varying x pc spot q a m s c first second va vb at em some inside st hold le three has left fa fb =
-      both_kept_runs w ready x pc spot q a m s c (λ pc1. first pc1 (widely spot.slot spot)) (λ pc1. second pc1 (widely (spot.slot + 1) spot)) va vb at em some inside st hold (omega (arith, le)) three has left (λ T s1 c1 pc1 z th h en. fa spot.slot T s1 c1 pc1 z th h en) (λ F s1 c1 pc1 z th h en. fb (spot.slot + 1) F s1 c1 pc1 z th h en)
+      both_kept_runs w ready x pc spot q a m s c (λ pc1. first pc1 (widely spot.slot spot)) (λ pc1. second pc1 (widely (spot.slot + 1) spot)) va vb at
+      em some inside st hold (omega (arith, le)) three has left (λ T s1 c1 pc1 z th h en. fa spot.slot T s1 c1 pc1 z th h en)
+      (λ F s1 c1 pc1 z th h en. fb (spot.slot + 1) F s1 c1 pc1 z th h en)
   if_else_runs false Plain Varying x pc spot q a m s c first second va vb at em some inside st hold le three has left fa fb =
-      parted_runs (spot.slot + 1 + 1) x pc spot q a m s c (λ pc1. first pc1 (widely spot.slot spot)) (λ pc1. guard (jump_off spot.on) pc1 (λ pc2. second pc2 (widely spot.on spot))) va vb at em some inside st hold (omega (arith, le)) (omega arith) three has (λ T s1 c1 pc1 z th h en. fa spot.slot T s1 c1 pc1 z th h en)
+      parted_runs (spot.slot + 1 + 1) x pc spot q a m s c (λ pc1. first pc1 (widely spot.slot spot))
+      (λ pc1. guard (jump_off spot.on) pc1 (λ pc2. second pc2 (widely spot.on spot))) va vb at em some inside st hold (omega (arith, le))
+      (omega arith) three has (λ T s1 c1 pc1 z th h en. fa spot.slot T s1 c1 pc1 z th h en)
       (λ F s1 c1 pc1 z th h at1 em1 in1 st1 le1. guard_runs w ready w.turns pc1 (widely spot.on spot) z F s1 c1 (λ pc2. second pc2 (widely spot.on spot)) vb at1 em1 in1 st1 le1 th h (λ c2 z2 en. fb spot.on F s1 c2 (pc1 + 1) z2 th h.1 en))

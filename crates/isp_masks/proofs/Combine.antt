@@ -34,7 +34,9 @@ deep n k spot = record spot { on = k; slot = n }
 module _ (w : Setting) (ready : IsSettled w) where
   -- ---- a stretch before
 
-  pub stmt_after : (t : ℕ) (c c1 : Conf) (d pc : ℕ) (spot : Spot) (q : ℕ) (v : Res) → Comes w c d c1 → Spares w spot.slot c c1 → ((r : ℕ) → r < spot.slot → r ≢ spot.on → c1.masks r ≡ c.masks r) → AreThree spot → StmtRuns w t c1 pc spot (d + q) v → StmtRuns w t c pc spot q v
+  pub stmt_after : (t : ℕ) (c c1 : Conf) (d pc : ℕ) (spot : Spot) (q : ℕ) (v : Res) → Comes w c d c1 → Spares w spot.slot c c1
+      → ((r : ℕ) → r < spot.slot → r ≢ spot.on → c1.masks r ≡ c.masks r) → AreThree spot → StmtRuns w t c1 pc spot (d + q) v
+      → StmtRuns w t c pc spot q v
   stmt_after t c c1 d pc spot q (Went s g b ct rt) h sp ma m r =
       let ck : spot.continued ≢ spot.on = λ e. m.on_continued (sym e) in
       let rk : spot.returned ≢ spot.on = λ e. m.on_returned (sym e) in
@@ -57,25 +59,43 @@ module _ (w : Setting) (ready : IsSettled w) where
   -- ---- what follows; d steps are set aside for it
 
   pub stmt_less : (t : ℕ) (c : Conf) (pc pc' : ℕ) (spot : Spot) (d q : ℕ) (v : Res) → pc ≡ pc' → StmtRuns w t c pc spot (d + q) v → StmtRuns w t c pc' spot q v
-  stmt_less t c pc pc' spot d q (Went s g b ct rt) e r = record { conf = r.conf; steps = r.steps; comes = r.comes; at = at_to w r.conf pc pc' r.at e; stands = r.stands; spares = r.spares; went = r.went; continued = r.continued; returned = r.returned; masks = r.masks; bound = omega (arith, r.bound) }
+  stmt_less t c pc pc' spot d q (Went s g b ct rt) e r = record {
+    conf = r.conf;
+    steps = r.steps;
+    comes = r.comes;
+    at = at_to w r.conf pc pc' r.at e;
+    stands = r.stands;
+    spares = r.spares;
+    went = r.went;
+    continued = r.continued;
+    returned = r.returned;
+    masks = r.masks;
+    bound = omega (arith, r.bound);
+  }
   stmt_less t c pc pc' spot d q (Trapped p s) e r = failed_less w ready c d q p s r
   stmt_less t c pc pc' spot d q (Cut s) e r = stopped_less w ready t c d q s r
 
   -- a value, and what follows it
-  pub with_runs : {A : Type 0} (c : Conf) (pc n d q : ℕ) (P : A → Conf → Type 0) (v : Val A) (go : A → State → Res) (pc' : ℕ) (spot : Spot) → Runs w c pc n (d + q) P v → ((x : A) (s : State) → Ok w c pc n (d + q) (P x) s → StmtRuns w w.turns c pc' spot q (go x s)) → StmtRuns w w.turns c pc' spot q (with_value v go)
+  pub with_runs : {A : Type 0} (c : Conf) (pc n d q : ℕ) (P : A → Conf → Type 0) (v : Val A) (go : A → State → Res) (pc' : ℕ) (spot : Spot)
+      → Runs w c pc n (d + q) P v → ((x : A) (s : State) → Ok w c pc n (d + q) (P x) s → StmtRuns w w.turns c pc' spot q (go x s))
+      → StmtRuns w w.turns c pc' spot q (with_value v go)
   with_runs c pc n d q P (Gives x s) go pc' spot r f = f x s r
   with_runs c pc n d q P (Fails p s) go pc' spot r f = failed_less w ready c d q p s r
   with_runs c pc n d q P (Stops s) go pc' spot r f = stopped_less w ready w.turns c d q s r
 
   -- a statement, and what follows it
-  pub go_runs : (t : ℕ) (c : Conf) (pc : ℕ) (spot : Spot) (d q : ℕ) (v : Res) (go : State → Mask → Mask → Mask → Mask → Res) (pc' : ℕ) (spot' : Spot) → StmtRuns w t c pc spot (d + q) v → ((s : State) (g b ct rt : Mask) → v ≡ Went s g b ct rt → StmtOk w c pc spot (d + q) s g ct rt → StmtRuns w t c pc' spot' q (go s g b ct rt)) → StmtRuns w t c pc' spot' q (go_on v go)
+  pub go_runs : (t : ℕ) (c : Conf) (pc : ℕ) (spot : Spot) (d q : ℕ) (v : Res) (go : State → Mask → Mask → Mask → Mask → Res) (pc' : ℕ) (spot' : Spot)
+      → StmtRuns w t c pc spot (d + q) v → ((s : State) (g b ct rt : Mask) → v ≡ Went s g b ct rt → StmtOk w c pc spot (d + q) s g ct rt
+      → StmtRuns w t c pc' spot' q (go s g b ct rt)) → StmtRuns w t c pc' spot' q (go_on v go)
   go_runs t c pc spot d q (Went s g b ct rt) go pc' spot' r f = f s g b ct rt refl r
   go_runs t c pc spot d q (Trapped p s) go pc' spot' r f = failed_less w ready c d q p s r
   go_runs t c pc spot d q (Cut s) go pc' spot' r f = stopped_less w ready t c d q s r
 
   -- ---- all go on
 
-  pub plain_ok : (c c1 : Conf) (d pc : ℕ) (spot : Spot) (q : ℕ) (a : Mask) (s : State) → Comes w c d c1 → At w c1 pc → Stands w s c1 → Spares w spot.slot c c1 → ((r : ℕ) → r < spot.slot → c1.masks r ≡ c.masks r) → AreThree spot → c.masks spot.on ≡ a → d + q ≤ 32 * s.work → StmtOk w c pc spot q s a nobody nobody
+  pub plain_ok : (c c1 : Conf) (d pc : ℕ) (spot : Spot) (q : ℕ) (a : Mask) (s : State) → Comes w c d c1 → At w c1 pc → Stands w s c1
+      → Spares w spot.slot c c1 → ((r : ℕ) → r < spot.slot → c1.masks r ≡ c.masks r) → AreThree spot → c.masks spot.on ≡ a → d + q ≤ 32 * s.work
+      → StmtOk w c pc spot q s a nobody nobody
   plain_ok c c1 d pc spot q a s h at st sp ma m em le = record {
     conf = c1;
     steps = d;
@@ -119,7 +139,11 @@ module _ (w : Setting) (ready : IsSettled w) where
 
   -- ---- code that is jumped over where its set is empty
 
-  pub guard_runs : (t pc : ℕ) (spot : Spot) (q : ℕ) (a : Mask) (s : State) (c : Conf) (body : ℕ → List Instr) (v : Mask → State → Res) → At w c pc → c.masks spot.on ≡ a → Inside w a → Stands w s c → 1 + q ≤ 32 * s.work → AreThree spot → AreAt w.routine.code pc (guard (jump_off spot.on) pc body) → ((c1 : Conf) (z : ℕ) → EntersAt w (pc + 1) spot a s c1 z → StmtRuns w t c1 (pc + 1 + length (body (pc + 1))) spot z (v a s)) → StmtRuns w t c (pc + length (guard (jump_off spot.on) pc body)) spot q (unless_empty (gang_of w) a s v)
+  pub guard_runs : (t pc : ℕ) (spot : Spot) (q : ℕ) (a : Mask) (s : State) (c : Conf) (body : ℕ → List Instr) (v : Mask → State → Res) → At w c pc
+      → c.masks spot.on ≡ a → Inside w a → Stands w s c → 1 + q ≤ 32 * s.work → AreThree spot
+      → AreAt w.routine.code pc (guard (jump_off spot.on) pc body)
+      → ((c1 : Conf) (z : ℕ) → EntersAt w (pc + 1) spot a s c1 z → StmtRuns w t c1 (pc + 1 + length (body (pc + 1))) spot z (v a s))
+      → StmtRuns w t c (pc + length (guard (jump_off spot.on) pc body)) spot q (unless_empty (gang_of w) a s v)
   guard_runs t pc spot q a s c body v at em inside st le m has rb =
       stmt_after t c c4 1 end spot q _ (jump_comes w ready c pc jump.Off (mask_register spot.on) to at has.0) (spares_all w spot.slot c) (λ r h ne. refl) m (go (any (gang_of w) a) refl)
     where
@@ -139,5 +163,15 @@ module _ (w : Setting) (ready : IsSettled w) where
       off_is b e = ap (λ z. not (any (gang_of w) z)) em ∙ ap not e
 
       go : (b : Bool) → any (gang_of w) a ≡ b → StmtRuns w t c4 end spot (1 + q) (if_so b (v a) (went_all a) s)
-      go true e = subst (λ z. StmtRuns w t c4 z spot (1 + q) (v a s)) ends (rb c4 (1 + q) (record { at = jump_at w ready c pc jump.Off (mask_register spot.on) to false at (off_is true e); mask = em; some = e; inside = inside; stands = st; used = le; low = m.low_on }))
+      go true e = subst (λ z. StmtRuns w t c4 z spot (1 + q) (v a s)) ends
+          (rb c4 (1 + q) (record {
+            at = jump_at w ready c pc jump.Off (mask_register spot.on) to false at (off_is true e);
+            mask = em;
+            some = e;
+            inside
+                = inside;
+            stands = st;
+            used = le;
+            low = m.low_on;
+          }))
       go false e = plain_ok c4 c4 0 end spot (1 + q) a s (comes_none w c4) (at_to w c4 to end (jump_at w ready c pc jump.Off (mask_register spot.on) to true at (off_is false e)) ends) st (spares_all w spot.slot c4) (λ r h. refl) m em (omega arith)

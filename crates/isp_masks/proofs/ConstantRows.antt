@@ -73,7 +73,8 @@ one_more a b c x xs one rest = record {
 }
 
 -- of the registers with which a function begins none keeps a constant
-pub keeps_them : (rates : ℕ → List Rate) (vars : List Variable) (answer : Option Ty) (z m r : Registers) (ks : List Constant) → rows_of z ≡ first_rows vars answer → Grows z m → KeepsAll m r ks → keep_steps ks ≤ 24 → KeepsThem (layout_of rates (rows_of r)) ks
+pub keeps_them : (rates : ℕ → List Rate) (vars : List Variable) (answer : Option Ty) (z m r : Registers) (ks : List Constant)
+    → rows_of z ≡ first_rows vars answer → Grows z m → KeepsAll m r ks → keep_steps ks ≤ 24 → KeepsThem (layout_of rates (rows_of r)) ks
 keeps_them rates vars answer z m r ks first grows keep short = record {
   all = keep.all;
   only = λ q t b e. ⊎_elim (λ before. let no : true ≡ false = sym before ∙ none q t b in absurd (cc)) (λ is. is) (keep.only q t b e);
@@ -102,7 +103,13 @@ some_begin l n [] ne a b c f g = absurd (ne refl)
 some_begin l n (x ∷ xs) ne a b c f g = appends_then a b c (λ pc p. fill_mask n ∷ []) (λ pc p. keep_code l n (x ∷ xs)) [] [] f g
 
 -- a function's body behind them, and what it gives back
-pub function_written : (on : Scope) (ks : List Constant) (b : TBlock) (x y z w : Body) → Appends x y (λ pc p. constants_code (layout on) 3 ks) [] → Writes y z (record { code = λ pc n. block_code (layout on) on.answer b pc n first_spot; places = block_places (layout on) b; texts = block_texts b })
+pub function_written : (on : Scope) (ks : List Constant) (b : TBlock) (x y z w : Body) → Appends x y (λ pc p. constants_code (layout on) 3 ks) []
+    → Writes y z (record {
+      code = λ pc n. block_code (layout on) on.answer b pc n first_spot;
+      places = block_places (layout on) b;
+      texts = block_texts
+          b;
+    })
     → Appends z w (λ pc p. instr.Return (returned (layout on) on.answer) ∷ []) [] → Writes x w (function_at on ks b)
 function_written on ks b x y z w f g h =
     writes_back x z w (record { code = λ pc n. two pc (constants_code (layout on) 3 ks) (λ pc1. block_code (layout on) on.answer b pc1 n first_spot); places = block_places (layout on) b; texts = block_texts b })

@@ -110,12 +110,16 @@ module _ (w : Setting) (ready : IsSettled w) (n : ℕ) where
         still = λ x kept has. stays x.rate x.elem x.bits kept has;
       }
     where
-      stays : (r : Rate) (u : Elem) (b : ℕ) → w.layout.kept r u b ≡ true → HasBits r (gang_of w) c.scalars c.vectors (w.layout.constant r u b) (b % 2 ^ width u) → HasBits r (gang_of w) (put c.scalars d (v % 2 ^ width t)) c.vectors (w.layout.constant r u b) (b % 2 ^ width u)
+      stays : (r : Rate) (u : Elem) (b : ℕ) → w.layout.kept r u b ≡ true
+          → HasBits r (gang_of w) c.scalars c.vectors (w.layout.constant r u b) (b % 2 ^ width u)
+          → HasBits r (gang_of w) (put c.scalars d (v % 2 ^ width t)) c.vectors (w.layout.constant r u b) (b % 2 ^ width u)
       stays Uniform u b kept has = put_has (λ y. y ≡ b % 2 ^ width u) c.scalars d (v % 2 ^ width t) (w.layout.constant Uniform u b) (same u b kept) has
       stays Varying u b kept has = has
 
   -- the vector of a constant is written
-  vector_goes : (t : Elem) (b f pc : ℕ) (s : State) (c : Conf) → w.layout.kept Varying t b ≡ true → c.scalars f ≡ b % 2 ^ width t → c.masks n ≡ everyone (gang_of w) → At w c pc → slice_get w.routine.code pc ≡ Some (splat (w.layout.constant Varying t b) f n) → Bare w s c → NoneOutside w c
+  vector_goes : (t : Elem) (b f pc : ℕ) (s : State) (c : Conf) → w.layout.kept Varying t b ≡ true → c.scalars f ≡ b % 2 ^ width t
+      → c.masks n ≡ everyone (gang_of w) → At w c pc → slice_get w.routine.code pc ≡ Some (splat (w.layout.constant Varying t b) f n) → Bare w s c
+      → NoneOutside w c
       → (c' : Conf) × Goes c c' 1 (pc + 1) s × (c'.vectors (w.layout.constant Varying t b) ≡ everywhere (gang_of w) (b % 2 ^ width t))
   vector_goes t b f pc s c kept ef em at has st none = (
     set_at Varying c d x,
@@ -156,7 +160,9 @@ module _ (w : Setting) (ready : IsSettled w) (n : ℕ) where
       filled : y ≡ everywhere (gang_of w) k
       filled = all_filled (gang_of w) k (c.vectors d) (λ p out. none t b p kept out)
 
-      stays : (r : Rate) (u : Elem) (v : ℕ) → w.layout.kept r u v ≡ true → HasBits r (gang_of w) c.scalars c.vectors (w.layout.constant r u v) (v % 2 ^ width u) → HasBits r (gang_of w) c.scalars (put c.vectors d y) (w.layout.constant r u v) (v % 2 ^ width u)
+      stays : (r : Rate) (u : Elem) (v : ℕ) → w.layout.kept r u v ≡ true
+          → HasBits r (gang_of w) c.scalars c.vectors (w.layout.constant r u v) (v % 2 ^ width u)
+          → HasBits r (gang_of w) c.scalars (put c.vectors d y) (w.layout.constant r u v) (v % 2 ^ width u)
       stays Uniform u v kept1 has1 = has1
       stays Varying u v kept1 has1 =
           put_has (λ g. g ≡ everywhere (gang_of w) (v % 2 ^ width u)) c.vectors d y (w.layout.constant Varying u v) (λ e. filled ∙ ap (everywhere (gang_of w)) (bits_same t u b v (ready.apart.constants Varying u t v b e))) has1
@@ -169,19 +175,26 @@ module _ (w : Setting) (ready : IsSettled w) (n : ℕ) where
   KeepAll [] = Unit {0}
   KeepAll (x ∷ xs) = KeepFits x × KeepAll xs
 
-  keep_one : (r : Rate) (t : Elem) (b pc : ℕ) (s : State) (c : Conf) → w.layout.kept r t b ≡ true → IsTyped w Uniform (w.layout.spare Uniform t n) t → At w c pc → AreAt w.routine.code pc (keep_at w.layout n r t b) → c.masks n ≡ everyone (gang_of w) → Bare w s c → NoneOutside w c
+  keep_one : (r : Rate) (t : Elem) (b pc : ℕ) (s : State) (c : Conf) → w.layout.kept r t b ≡ true → IsTyped w Uniform (w.layout.spare Uniform t n) t
+      → At w c pc → AreAt w.routine.code pc (keep_at w.layout n r t b) → c.masks n ≡ everyone (gang_of w) → Bare w s c → NoneOutside w c
       → (c' : Conf) × Goes c c' (length (keep_at w.layout n r t b)) (pc + length (keep_at w.layout n r t b)) s × HasBits r (gang_of w) c'.scalars c'.vectors (w.layout.constant r t b) (b % 2 ^ width t)
   keep_one Uniform t b pc s c kept ty at has em st none =
       let d = w.layout.constant Uniform t b in (
         set_at Uniform c d (One (b % 2 ^ width t)),
-        scalar_goes d b pc t s c (ready.constants Uniform t b kept) (λ u e. ready.apart.kept_variable Uniform t b u kept (sym e)) (λ e. ready.apart.kept_result Uniform t b kept (sym e)) (λ e. ready.apart.kept_place Uniform t b kept (sym e)) (λ u j lt e. ready.apart.kept_spare Uniform t b u j kept (sym e)) (λ u v kept1 e. bits_same t u b v (ready.apart.constants Uniform u t v b e)) at has.0 st none,
+        scalar_goes d b pc t s c (ready.constants Uniform t b kept) (λ u e. ready.apart.kept_variable Uniform t b u kept (sym e))
+            (λ e. ready.apart.kept_result Uniform t b kept (sym e)) (λ e. ready.apart.kept_place Uniform t b kept (sym e))
+            (λ u j lt e. ready.apart.kept_spare Uniform t b u j kept (sym e))
+            (λ u v kept1 e. bits_same t u b v (ready.apart.constants Uniform u t v b e)) at has.0 st none,
         put_same c.scalars d (b % 2 ^ width t),
       )
   keep_one Varying t b pc s c kept ty at has em st none =
       let f = w.layout.spare Uniform t n in
       let k = b % 2 ^ width t in
       let c1 = set_at Uniform c f (One k) in
-      let g : Goes c c1 1 (pc + 1) s = scalar_goes f b pc t s c ty (λ u. ready.apart.variable_spare Uniform t u n) (ready.apart.result_spare Uniform t n) (ready.apart.place_spare Uniform t n) (λ u j lt. let ne : j ≢ n = omega arith in ready.apart.spares Uniform u t j n ne) (λ u v kept1 e. absurd (ready.apart.kept_spare Uniform u v t n kept1 e)) at has.0 st none in
+      let g : Goes c c1 1 (pc + 1) s = scalar_goes f b pc t s c ty (λ u. ready.apart.variable_spare Uniform t u n)
+      (ready.apart.result_spare Uniform t n) (ready.apart.place_spare Uniform t n)
+      (λ u j lt. let ne : j ≢ n = omega arith in ready.apart.spares Uniform u t j n ne)
+      (λ u v kept1 e. absurd (ready.apart.kept_spare Uniform u v t n kept1 e)) at has.0 st none in
       let h = vector_goes t b f (pc + 1) s c1 kept (put_same c.scalars f k) em g.at has.1.0 g.bare g.none in
       let to : pc + 1 + 1 ≡ pc + 2 = omega arith in
       (h.0, subst (λ e. Goes c h.0 2 e s) to (goes_on c c1 h.0 1 1 (pc + 1) (pc + 1 + 1) s g h.1), h.2)
@@ -191,7 +204,9 @@ module _ (w : Setting) (ready : IsSettled w) (n : ℕ) where
   AllHave c [] = Unit {0}
   AllHave c (x ∷ xs) = HasIt c x × AllHave c xs
 
-  keep_all : (xs : List Constant) (pc : ℕ) (s : State) (c : Conf) → KeepAll xs → At w c pc → AreAt w.routine.code pc (keep_code w.layout n xs) → c.masks n ≡ everyone (gang_of w) → Bare w s c → NoneOutside w c → (c' : Conf) × Goes c c' (length (keep_code w.layout n xs)) (pc + length (keep_code w.layout n xs)) s × AllHave c' xs
+  keep_all : (xs : List Constant) (pc : ℕ) (s : State) (c : Conf) → KeepAll xs → At w c pc → AreAt w.routine.code pc (keep_code w.layout n xs)
+      → c.masks n ≡ everyone (gang_of w) → Bare w s c → NoneOutside w c
+      → (c' : Conf) × Goes c c' (length (keep_code w.layout n xs)) (pc + length (keep_code w.layout n xs)) s × AllHave c' xs
   keep_all [] pc s c fit at has em st none =
       (c, record { comes = comes_none w c; at = at_to w c pc (pc + 0) at (omega arith); bare = st; spares = spares_all w n c; masks = λ i. refl; none = none; still = λ x kept h. h }, tt)
   keep_all (x ∷ xs) pc s c fit at has em st none =
@@ -200,8 +215,13 @@ module _ (w : Setting) (ready : IsSettled w) (n : ℕ) where
       let g = keep_one x.rate x.elem x.bits pc s c fit.0.0 fit.0.1 at (are_front w.routine.code pc a b has) em st none in
       let h = keep_all xs (pc + length a) s g.0 fit.1 g.1.at (are_back w.routine.code pc a b has) (g.1.masks n ∙ em) g.1.bare g.1.none in
       let steps : length a + length b ≡ length (a ++ b) = sym (length-append a b) in
-      let to : pc + length a + length b ≡ pc + length (a ++ b) = omega (arith, length-append a b) in
-      (h.0, subst (λ m. Goes c h.0 m (pc + length (a ++ b)) s) steps (subst (λ e. Goes c h.0 (length a + length b) e s) to (goes_on c g.0 h.0 (length a) (length b) (pc + length a) (pc + length a + length b) s g.1 h.1)), (h.1.still x fit.0.0 g.2, h.2))
+      let to : pc + length a + length b ≡ pc + length (a ++ b) = omega (arith, length-append a b) in (
+        h.0,
+        subst (λ m. Goes c h.0 m (pc + length (a ++ b)) s) steps
+            (subst (λ e. Goes c h.0 (length a + length b) e s) to
+            (goes_on c g.0 h.0 (length a) (length b) (pc + length a) (pc + length a + length b) s g.1 h.1)),
+        (h.1.still x fit.0.0 g.2, h.2),
+      )
 
   all_have : (xs : List Constant) (c : Conf) (x : Constant) → AllHave c xs → IsIn xs x → HasIt c x
   all_have [] c x h is = absurd is
@@ -221,7 +241,10 @@ module _ (w : Setting) (ready : IsSettled w) (n : ℕ) where
   stands_with : (s : State) (c : Conf) → Bare w s c → ((r : Rate) (t : Elem) (b : ℕ) → w.layout.kept r t b ≡ true → HasBits r (gang_of w) c.scalars c.vectors (w.layout.constant r t b) (b % 2 ^ width t)) → Stands w s c
   stands_with s c st all = record { uniforms = st.uniforms; varying = st.varying; result = st.result; results = st.results; own_arrays = st.own_arrays; arrays_are = st.arrays_are; out_is = st.out_is; run = st.run; constants = all }
 
-  pub constants_run : (xs : List Constant) (pc : ℕ) (s : State) (c : Conf) → KeepAll xs → ((r : Rate) (t : Elem) (b : ℕ) → w.layout.kept r t b ≡ true → IsIn xs (record { rate = r; elem = t; bits = b })) → At w c pc → AreAt w.routine.code pc (constants_code w.layout n xs) → Bare w s c → NoneOutside w c → Kept c (length (constants_code w.layout n xs)) (pc + length (constants_code w.layout n xs)) s
+  pub constants_run : (xs : List Constant) (pc : ℕ) (s : State) (c : Conf) → KeepAll xs
+      → ((r : Rate) (t : Elem) (b : ℕ) → w.layout.kept r t b ≡ true → IsIn xs (record { rate = r; elem = t; bits = b })) → At w c pc
+      → AreAt w.routine.code pc (constants_code w.layout n xs) → Bare w s c → NoneOutside w c
+      → Kept c (length (constants_code w.layout n xs)) (pc + length (constants_code w.layout n xs)) s
   constants_run [] pc s c fit whole at has st none = record {
     conf = c;
     comes = comes_none w c;

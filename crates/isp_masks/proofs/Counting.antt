@@ -64,7 +64,8 @@ counts_runs g zero z end e = by (int_lt z end) refl
     by false h = h
 counts_runs g (suc n) z end e = by (counts_runs g n (z +ℤ pos (gang_width g)) end) (int_lt z end) refl
   where
-    by : (n ≡ runs_for (gang_width g) (from_zero (end -ℤ (z +ℤ pos (gang_width g)))) → CountsTo (gang_width g) n (z +ℤ pos (gang_width g)) end) → (b : Bool) → int_lt z end ≡ b → (int_lt z end ≡ true) × CountsTo (gang_width g) n (z +ℤ pos (gang_width g)) end
+    by : (n ≡ runs_for (gang_width g) (from_zero (end -ℤ (z +ℤ pos (gang_width g)))) → CountsTo (gang_width g) n (z +ℤ pos (gang_width g)) end)
+        → (b : Bool) → int_lt z end ≡ b → (int_lt z end ≡ true) × CountsTo (gang_width g) n (z +ℤ pos (gang_width g)) end
     by ih true h = let s = one_run (gang_width g) _ _ (some_width g) (far (gang_width g) z end h) in (h, ih (omega (arith, e, s)))
     by ih false h = let s : runs_for (gang_width g) (from_zero (end -ℤ z)) ≡ 0 = ap (runs_for (gang_width g)) (zero_from z end h) ∙ no_run (gang_width g) (some_width g) in absurd (omega (arith, e, s))
 
@@ -74,7 +75,9 @@ pub rounds_join : (body : Mask → State → Res) (all : Mask) (xs ys : List Rou
 rounds_join body all [] ys s = refl
 rounds_join body all (x ∷ xs) ys s = by (rounds_join body all xs ys) (body x.members (x.begins s))
   where
-    by : ((s1 : State) → go_on (rounds body all xs s1) (λ s2 g b c r. rounds body all ys s2) ≡ rounds body all (xs ++ ys) s1) → (v : Res) → go_on (go_on v (λ s1 g b c r. rounds body all xs s1)) (λ s2 g b c r. rounds body all ys s2) ≡ go_on v (λ s1 g b c r. rounds body all (xs ++ ys) s1)
+    by : ((s1 : State) → go_on (rounds body all xs s1) (λ s2 g b c r. rounds body all ys s2) ≡ rounds body all (xs ++ ys) s1) → (v : Res)
+        → go_on (go_on v (λ s1 g b c r. rounds body all xs s1)) (λ s2 g b c r. rounds body all ys s2)
+        ≡ go_on v (λ s1 g b c r. rounds body all (xs ++ ys) s1)
     by ih (Went s1 g b c r) = ih s1
     by ih (Trapped t s1) = refl
     by ih (Cut s1) = refl

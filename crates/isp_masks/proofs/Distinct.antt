@@ -39,7 +39,8 @@ use Rattle.isp_lower.specs.Layout.{mask_register, register}
 use Rattle.isp_lower.specs.Library.{reduce}
 use Rattle.isp_lower.specs.Runs.{Comes, Ok}
 use Rattle.isp_lower.specs.Setting.{Setting, IsSettled, gang_of, calls_of, AreAt, At, Stands, Spares, Allowed, Holds, held_at}
-use Rattle.isp_lower.proofs.Lemmas.{are_front, are_back, put_same, put_other, comes_on, comes_none, step_go, at_to, spares_all, spares_less, spares_on, jumped, jump_comes, jump_at, masked, masked_at, where_comes, others_comes, set_at, set_comes, set_goes, set_spares, set_stands, variable_spares, written_stands, expr_runs, few, enters_part, operand_runs}
+use Rattle.isp_lower.proofs.Lemmas.{are_front, are_back, put_same, put_other, comes_on, comes_none, step_go, at_to, spares_all, spares_less, spares_on, jumped, jump_comes, jump_at, masked, masked_at, where_comes}
+use Rattle.isp_lower.proofs.Lemmas.{others_comes, set_at, set_comes, set_goes, set_spares, set_stands, variable_spares, written_stands, expr_runs, few, enters_part, operand_runs}
 use Rattle.isp_masks.specs.LoopRuns.{BodyRuns}
 use Rattle.isp_masks.specs.Loops.{copy_mask}
 use Rattle.isp_masks.specs.Rounds.{Values, lowest_mask, rounds_code, unique_code, value_code, values_of}

@@ -5,7 +5,8 @@ use Rattle.isp_base.specs.Sets.{Mask, nobody, everyone, union, without, any}
 use Rattle.isp_base.specs.declared.trap.TrapKind.TheVariants.{Assert}
 use Rattle.isp_tree.specs.declared.stmt.Jump.{Jump}
 use Rattle.isp_tree.specs.declared.stmt.Jump.TheVariants.{Break, Continue}
-use Rattle.isp_typed.specs.Typed.{t_exprs, elem_of, TStmt, t_block, t_declare, t_simple, t_if, t_if_else, t_while, t_do, t_for, t_foreach, t_foreach_active, t_foreach_unique, t_unmasked, t_jump, t_return, t_print, t_assert, TBlock, t_braces, TStmts, t_no_stmts, t_stmt_then}
+use Rattle.isp_typed.specs.Typed.{t_exprs, elem_of, TStmt, t_block, t_declare, t_simple, t_if, t_if_else, t_while, t_do, t_for, t_foreach, t_foreach_active, t_foreach_unique}
+use Rattle.isp_typed.specs.Typed.{t_unmasked, t_jump, t_return, t_print, t_assert, TBlock, t_braces, TStmts, t_no_stmts, t_stmt_then}
 use Rattle.isp_meaning.specs.Expressions.{Calls, value, values}
 use Rattle.isp_meaning.specs.Loops.{loop_end, tested, stepped, turns}
 use Rattle.isp_meaning.specs.Outcomes.{Val, Gives, Fails, Stops, Done, Res, Went, Trapped, Cut, checked, with_value, go_on, went_all, then_run, both_sides, unless_empty, if_so}
@@ -99,7 +100,9 @@ module _ (e : Exits) where
     end_leaves : (r : Mask) (s : State) → Returned r → Leave (only_returns e) (loop_end gang test body step all r s)
     end_leaves r s h = (λ z. refl, λ z. refl, h)
 
-    tested_leave : (turn : Mask → Mask → State → Res) (live r : Mask) (s : State) → Returned r → ((kept r : Mask) (s : State) → Returned r → Leave (only_returns e) (turn kept r s)) → Leave (only_returns e) (tested gang test body step all turn live r s)
+    tested_leave : (turn : Mask → Mask → State → Res) (live r : Mask) (s : State) → Returned r
+        → ((kept r : Mask) (s : State) → Returned r → Leave (only_returns e) (turn kept r s))
+        → Leave (only_returns e) (tested gang test body step all turn live r s)
     tested_leave turn live r s h k = loop_leave (test live s) _ (λ m s1. by (any gang (kept_by is_true live m)) m s1)
       where
         by : (b : Bool) (m : Payload) (s1 : State) → Leave (only_returns e) (if_so b (turn (kept_by is_true live m) r) (loop_end gang test body step all r) s1)
@@ -110,7 +113,10 @@ module _ (e : Exits) where
     turns_leave zero kept r s h = tt
     turns_leave (suc n) kept r s h = by (turns_leave n) (body kept (tick s)) (in_body kept (tick s))
       where
-        by : ((kept r : Mask) (s : State) → Returned r → Leave (only_returns e) (turns gang test body step all n kept r s)) → (v : Res) → Leave e v → Leave (only_returns e) (go_on v (λ s1 g b c r1. if_so (any gang (union g c)) (stepped gang test body step all (turns gang test body step all n) (union g c) (union r r1)) (loop_end gang test body step all (union r r1)) s1))
+        by : ((kept r : Mask) (s : State) → Returned r → Leave (only_returns e) (turns gang test body step all n kept r s)) → (v : Res) → Leave e v
+            → Leave (only_returns e) (go_on v (λ s1 g b c r1. if_so (any gang (union g c))
+            (stepped gang test body step all (turns gang test body step all n) (union g c) (union r r1))
+            (loop_end gang test body step all (union r r1)) s1))
         by later (Went s1 g b c r1) k = again (any gang (union g c))
           where
             more : Returned (union r r1)
@@ -150,12 +156,20 @@ module _ (gang : ℕ) (frame : Frame) (calls : Calls) (most : ℕ) where
         with_leave (exits_of x) (value gang frame calls c a (tick s)) _ (λ m s1. branches_leave (exits_of x) gang a (run gang frame calls most x) went_all m s1 (run_leaves x) (all_leave (exits_of x)))
     run_leaves (t_if_else f g c x y sp) a s =
         let e = either_leaves (exits_of x) (exits_of y) in
-        with_leave e (value gang frame calls c a (tick s)) _ (λ m s1. branches_leave e gang a (run gang frame calls most x) (run gang frame calls most y) m s1 (λ t s2. leave_first (exits_of x) (exits_of y) (run gang frame calls most x t s2) (run_leaves x t s2)) (λ t s2. leave_second (exits_of x) (exits_of y) (run gang frame calls most y t s2) (run_leaves y t s2)))
+        with_leave e (value gang frame calls c a (tick s)) _
+        (λ m s1. branches_leave e gang a (run gang frame calls most x) (run gang frame calls most y) m s1
+        (λ t s2. leave_first (exits_of x) (exits_of y) (run gang frame calls most x t s2) (run_leaves x t s2))
+        (λ t s2. leave_second (exits_of x) (exits_of y) (run gang frame calls most y t s2) (run_leaves y t s2)))
     run_leaves (t_while f g c x sp) a s =
-        tested_leave (exits_of x) gang (value gang frame calls c) (run gang frame calls most x) (λ l s1. Gives tt s1) a (run_leaves x) _ a nobody (tick s) (λ z. refl) (turns_leave (exits_of x) gang (value gang frame calls c) (run gang frame calls most x) (λ l s1. Gives tt s1) a (run_leaves x) most)
+        tested_leave (exits_of x) gang (value gang frame calls c) (run gang frame calls most x) (λ l s1. Gives tt s1) a (run_leaves x) _ a nobody
+        (tick s) (λ z. refl) (turns_leave (exits_of x) gang (value gang frame calls c) (run gang frame calls most x) (λ l s1. Gives tt s1) a
+        (run_leaves x) most)
     run_leaves (t_do f g x c sp) a s = turns_leave (exits_of x) gang (value gang frame calls c) (run gang frame calls most x) (λ l s1. Gives tt s1) a (run_leaves x) most a nobody (tick s) (λ z. refl)
     run_leaves (t_for f g first c step i x sp) a s =
-        with_leave (only_returns (exits_of x)) (first_part gang frame calls first a (tick s)) _ (λ _ s1. tested_leave (exits_of x) gang (test_part gang frame calls c) (run gang frame calls most x) (step_part gang frame calls step) a (run_leaves x) _ a nobody s1 (λ z. refl) (turns_leave (exits_of x) gang (test_part gang frame calls c) (run gang frame calls most x) (step_part gang frame calls step) a (run_leaves x) most))
+        with_leave (only_returns (exits_of x)) (first_part gang frame calls first a (tick s)) _
+        (λ _ s1. tested_leave (exits_of x) gang (test_part gang frame calls c) (run gang frame calls most x) (step_part gang frame calls step) a
+        (run_leaves x) _ a nobody s1 (λ z. refl) (turns_leave (exits_of x) gang (test_part gang frame calls c) (run gang frame calls most x)
+        (step_part gang frame calls step) a (run_leaves x) most))
     run_leaves (t_foreach w g rs x sp) a s =
         with_leave none_leave (ranges gang frame calls rs a (tick s)) _ (λ xs s1. rounds_leave (run gang frame calls most x) a (foreach_rounds gang xs) (record s1 { work = s1.work + counted gang 1 xs }))
     run_leaves (t_foreach_active w g i x sp) a s = rounds_leave (run gang frame calls most x) a (active_rounds gang i a) (tick s)
@@ -175,5 +189,7 @@ module _ (gang : ℕ) (frame : Frame) (calls : Calls) (most : ℕ) where
     all_leaves : (xs : TStmts) (a : Mask) (s : State) → Leave (all_exits xs) (run_all gang frame calls most xs a s)
     all_leaves t_no_stmts a s = all_leave none_leave a s
     all_leaves (t_stmt_then x xs) a s =
-        then_leave (either_leaves (exits_of x) (all_exits xs)) (run gang frame calls most x a s) (λ g s1. unless_empty gang g s1 (run_all gang frame calls most xs)) (leave_first (exits_of x) (all_exits xs) (run gang frame calls most x a s) (run_leaves x a s))
+        then_leave (either_leaves (exits_of x) (all_exits xs)) (run gang frame calls most x a s)
+        (λ g s1. unless_empty gang g s1 (run_all gang frame calls most xs))
+        (leave_first (exits_of x) (all_exits xs) (run gang frame calls most x a s) (run_leaves x a s))
         (λ g s1. leave_second (exits_of x) (all_exits xs) (unless_empty gang g s1 (run_all gang frame calls most xs)) (unless_leave (all_exits xs) gang g s1 (run_all gang frame calls most xs) (all_leaves xs g s1)))

@@ -6,7 +6,9 @@ use Rattle.isp_base.specs.declared.types.Rate.{Rate}
 use Rattle.isp_base.specs.declared.types.Rate.TheVariants.{Uniform, Varying}
 use Rattle.isp_base.specs.declared.types.Ty.{Ty}
 use Rattle.isp_typed.specs.declared.variable.Variable as variable
-use Rattle.isp_typed.specs.Typed.{TExpr, t_exprs, type_of, elem_of, TSimple, TFirst, t_first_declare, t_first_simple, TRange, TStmt, t_block, t_declare, t_simple, t_if, t_if_else, t_while, t_do, t_for, t_foreach, t_foreach_active, t_foreach_unique, t_unmasked, t_jump, t_return, t_print, t_assert, TBlock, t_braces, TStmts, t_no_stmts, t_stmt_then, TItem, t_plain, t_with_value, t_with_size}
+use Rattle.isp_typed.specs.Typed.{TExpr, t_exprs, type_of, elem_of, TSimple, TFirst, t_first_declare, t_first_simple, TRange, TStmt, t_block, t_declare, t_simple, t_if}
+use Rattle.isp_typed.specs.Typed.{t_if_else, t_while, t_do, t_for, t_foreach, t_foreach_active, t_foreach_unique, t_unmasked, t_jump, t_return, t_print, t_assert, TBlock}
+use Rattle.isp_typed.specs.Typed.{t_braces, TStmts, t_no_stmts, t_stmt_then, TItem, t_plain, t_with_value, t_with_size}
 use Rattle.isp_lower.specs.Asks.{Ask}
 use Rattle.isp_lower.specs.Fits.{InTable, ItemsOther}
 use Rattle.isp_lower.specs.Rated.{Reaches}
@@ -117,7 +119,8 @@ named_same h l o d r (Kept u b) t f = f
 
 table_same : (h : Routine) (l : Layout) (vars : List variable.Variable) (o : Option ℕ) (d : Bool) (a : Ask) → Table h l vars a → Table h (run_as l o d) vars a
 table_same h l vars o d a f =
-    all_grow (IsNamedIn h l) (IsNamedIn h (run_as l o d)) (HoldsArray vars) (HoldsArray vars) (HoldsArray vars) (HoldsArray vars) AnyMask AnyMask (IsLoadedIn l) (IsLoadedIn l) (λ r x t. named_same h l o d r x t) (λ y f. f) (λ y f. f) (λ k f. f) (λ v f. f) a f
+    all_grow (IsNamedIn h l) (IsNamedIn h (run_as l o d)) (HoldsArray vars) (HoldsArray vars) (HoldsArray vars) (HoldsArray vars) AnyMask AnyMask
+    (IsLoadedIn l) (IsLoadedIn l) (λ r x t. named_same h l o d r x t) (λ y f. f) (λ y f. f) (λ k f. f) (λ v f. f) a f
 
 none_of : (o : Option ℕ) → NoneYet o → o ≡ None
 none_of None f = refl
@@ -134,7 +137,8 @@ body_constant w rs m b none f =
     body_run (λ o. (i : ℕ) → o ≡ Some i → slice_get w.function.variables i ≡ Some foreach_index) w.layout rs none (λ i e. absurd (cc)) (λ i e. last_constant w rs i e f)
 
 mutual
-  pub stmt_fits : (x : TStmt) (w : Setting) (n : ℕ) → RunConstant w → FineStmt w.program.functions w.function.variables w.frame.answer x → StmtFree w.layout.run x → StmtTree w.program.functions w.frame.answer x → InTable w (stmt_asks w.frame.answer x n) → StmtParts w x n
+  pub stmt_fits : (x : TStmt) (w : Setting) (n : ℕ) → RunConstant w → FineStmt w.program.functions w.function.variables w.frame.answer x
+      → StmtFree w.layout.run x → StmtTree w.program.functions w.frame.answer x → InTable w (stmt_asks w.frame.answer x n) → StmtParts w x n
   stmt_fits (t_block b) w n k f free t i = block_fits b w n k f free t i
   stmt_fits (t_declare xs sp) w n k f free t i = items_fit w xs n t i (items_other w xs free)
   stmt_fits (t_simple x sp) w n k f free t i = simple_fits w x n t i (simple_other w k x f)
@@ -152,7 +156,8 @@ mutual
         none,
         λ m b. stmt_fits x (with_layout w (body_layout w.layout rs) m b) (runs_slot n rs + 3) (body_constant w rs m b none fits.constants) f.2
             (body_run (λ o. StmtFree o x) w.layout rs none (subst (λ o. StmtFree o x) none free.1) free.2) t.2
-            (body_as (λ l. Table w.routine l w.function.variables (stmt_asks w.frame.answer x (runs_slot n rs + 3))) w.layout rs i.1 (λ o d. table_same w.routine w.layout w.function.variables o d (stmt_asks w.frame.answer x (runs_slot n rs + 3)) i.1)),
+            (body_as (λ l. Table w.routine l w.function.variables (stmt_asks w.frame.answer x (runs_slot n rs + 3))) w.layout rs i.1
+            (λ o d. table_same w.routine w.layout w.function.variables o d (stmt_asks w.frame.answer x (runs_slot n rs + 3)) i.1)),
       )
   stmt_fits (t_foreach_active g j z x sp) w n k f free t i = stmt_fits x w (n + 1 + 3) k f.2 free t i.1
   stmt_fits (t_foreach_unique g j z u e x sp) w n k f free t i = (unique_fits w z u e n t.0 t.1 i.0, stmt_fits x w (n + 1 + 3) k f.3 free t.2 i.1)
@@ -164,10 +169,12 @@ mutual
   stmt_fits (t_print g text xs sp) w n k f free t i = (t.0, values_fit w (own_rates xs) (t_exprs xs) n t.1 i)
   stmt_fits (t_assert x c sp) w n k f free t i = expr_fits w x n t.0 i.0
 
-  pub block_fits : (b : TBlock) (w : Setting) (n : ℕ) → RunConstant w → FineBlock w.program.functions w.function.variables w.frame.answer b → BlockFree w.layout.run b → BlockTree w.program.functions w.frame.answer b → InTable w (block_asks w.frame.answer b n) → BlockParts w b n
+  pub block_fits : (b : TBlock) (w : Setting) (n : ℕ) → RunConstant w → FineBlock w.program.functions w.function.variables w.frame.answer b
+      → BlockFree w.layout.run b → BlockTree w.program.functions w.frame.answer b → InTable w (block_asks w.frame.answer b n) → BlockParts w b n
   block_fits (t_braces xs sp) w n k f free t i = stmts_fit xs w n k f free t i
 
-  pub stmts_fit : (xs : TStmts) (w : Setting) (n : ℕ) → RunConstant w → FineStmts w.program.functions w.function.variables w.frame.answer xs → StmtsFree w.layout.run xs → StmtsTree w.program.functions w.frame.answer xs → InTable w (stmts_asks w.frame.answer xs n) → StmtsParts w xs n
+  pub stmts_fit : (xs : TStmts) (w : Setting) (n : ℕ) → RunConstant w → FineStmts w.program.functions w.function.variables w.frame.answer xs
+      → StmtsFree w.layout.run xs → StmtsTree w.program.functions w.frame.answer xs → InTable w (stmts_asks w.frame.answer xs n) → StmtsParts w xs n
   stmts_fit t_no_stmts w n k f free t i = tt
   stmts_fit (t_stmt_then x xs) w n k f free t i = (stmt_fits x w n k f.0 free.0 t.0 i.0, stmts_fit xs w n k f.1 free.1 t.1 i.1)
 

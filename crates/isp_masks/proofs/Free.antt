@@ -4,7 +4,8 @@ use Rattle.std.specs.Prelude.{not}
 use Rattle.isp_base.specs.declared.types.Span.{Span}
 use Rattle.isp_base.specs.declared.types.Ty.{Ty}
 use Rattle.isp_typed.specs.Scoped.{Scope, ItemsAt, RangesAt, StmtAt, BlockAt, StmtsAt, declared, scope_after, number_after, number_after_first, scope_after_stmt, number_after_stmt, number_after_block, number_after_stmts}
-use Rattle.isp_typed.specs.Typed.{TItem, t_plain, t_with_value, t_with_size, TFirst, t_first_declare, t_first_simple, TRange, TStmt, t_block, t_declare, t_simple, t_if, t_if_else, t_while, t_do, t_for, t_foreach, t_foreach_active, t_foreach_unique, t_unmasked, t_jump, t_return, t_print, t_assert, TBlock, t_braces, TStmts, t_no_stmts, t_stmt_then}
+use Rattle.isp_typed.specs.Typed.{TItem, t_plain, t_with_value, t_with_size, TFirst, t_first_declare, t_first_simple, TRange, TStmt, t_block, t_declare, t_simple, t_if, t_if_else, t_while, t_do, t_for, t_foreach}
+use Rattle.isp_typed.specs.Typed.{t_foreach_active, t_foreach_unique, t_unmasked, t_jump, t_return, t_print, t_assert, TBlock, t_braces, TStmts, t_no_stmts, t_stmt_then}
 use Rattle.isp_lex.specs.declared.fault.Fault.{Fault}
 use Rattle.isp_lex.specs.declared.fault.Rule.TheVariants.{NestedForeach}
 use Rattle.isp_lex.specs.Faults.{fault}
@@ -128,12 +129,22 @@ module _ (fs : List TFunction) (answer : Option Ty) where
         (tt, stmt_free o v m (in_loop u) x (let em = at.2 in before_more o n m (omega (arith, em)) b) (body_in o u (in_loop u) refl h) at.5 (λ g b. clean g (inr (inr (inr b)))))
     stmt_free o v n u (t_for f g (Some (t_first_simple y)) e step m x sp) b h at clean =
         (tt, stmt_free o v m (in_loop u) x (let em = at.2 in before_more o n m (omega (arith, em)) b) (body_in o u (in_loop u) refl h) at.5 (λ g b. clean g (inr (inr (inr b)))))
-    stmt_free o v n u (t_for f g (Some (t_first_declare xs s1)) e step m x sp) b h at clean =
-        (items_free o v n xs b at.1, stmt_free o (scope_after v n xs) m (in_loop u) x (let em = at.2 in let more = count_more n xs in before_more o n m (omega (arith, em, more)) b) (body_in o u (in_loop u) refl h) at.5 (λ g b. clean g (inr (inr (inr b)))))
+    stmt_free o v n u (t_for f g (Some (t_first_declare xs s1)) e step m x sp) b h at clean = (
+      items_free o v n xs b at.1,
+      stmt_free o (scope_after v n xs) m (in_loop u) x
+          (let em = at.2 in let more = count_more n xs in before_more o n m (omega (arith, em, more)) b) (body_in o u (in_loop u) refl h) at.5
+          (λ g b. clean g (inr (inr (inr b)))),
+    )
     stmt_free o v n u (t_foreach k g rs x sp) b h at clean =
         let more = count_more n rs in
-        let after = scope_after v n rs in
-        (none_yet o u k h (λ g b. clean g (inl b)), stmt_free o after (number_after n rs) (in_foreach u) x (before_more o n (number_after n rs) (omega (arith, more)) b) (body_of o u) at.4 (λ g b. clean g (inr (inr b))), stmt_free (last_index_of rs) after (number_after n rs) (in_foreach u) x (last_before v n rs at.3) (body_of (last_index_of rs) u) at.4 (λ g b. clean g (inr (inr b))))
+        let after = scope_after v n rs in (
+          none_yet o u k h (λ g b. clean g (inl b)),
+          stmt_free o after (number_after n rs) (in_foreach u) x
+              (before_more o n (number_after n rs) (omega (arith, more)) b) (body_of o u) at.4 (λ g b. clean g (inr (inr b))),
+          stmt_free
+              (last_index_of rs) after (number_after n rs) (in_foreach u) x (last_before v n rs at.3) (body_of (last_index_of rs) u) at.4
+              (λ g b. clean g (inr (inr b))),
+        )
     stmt_free o v n u (t_foreach_active k g i x sp) b h at clean = stmt_free o (declared n v) (suc n) (in_turns u) x (before_more o n (suc n) (omega arith) b) (body_in o u (in_turns u) refl h) at.2 clean
     stmt_free o v n u (t_foreach_unique k g i t e x sp) b h at clean =
         stmt_free o (declared n v) (suc n) (in_turns u) x (before_more o n (suc n) (omega arith) b) (body_in o u (in_turns u) refl h) at.3 (λ g b. clean g (inr b))

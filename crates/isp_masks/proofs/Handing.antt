@@ -99,7 +99,8 @@ module _ (a : Mask) (c : Conf) where
   value_longer r (holds.Local t m) (Values z) x xs n h e = absurd h
   value_longer r (holds.Local t m) (Store z) x xs n h e = absurd h
 
-  value_handed : (r : Rate) (vs : List Variable) (zs : List Passed) (xs : List Register) (v : ℕ) (y : Variable) → AreHanded a c vs zs xs → slice_get vs v ≡ Some y → HasRate r y.holds → IsValue r (slice_get (numbers (class_at r) xs) (value_count r (take v vs))) (slice_get zs v)
+  value_handed : (r : Rate) (vs : List Variable) (zs : List Passed) (xs : List Register) (v : ℕ) (y : Variable) → AreHanded a c vs zs xs
+      → slice_get vs v ≡ Some y → HasRate r y.holds → IsValue r (slice_get (numbers (class_at r) xs) (value_count r (take v vs))) (slice_get zs v)
   value_handed r [] zs xs v y h e has = absurd (cc)
   value_handed r (w ∷ vs) [] xs v y h e has = absurd h
   value_handed r (w ∷ vs) (z ∷ zs) [] v y h e has = absurd h
@@ -136,7 +137,15 @@ module _ (a : Mask) (c : Conf) where
   array_first (holds.Value t) e z x xs k h = absurd (cc)
   array_first (holds.Given u) e (Values m) x xs k h = absurd h
   array_first (holds.Given u) e (Store b) x xs k h =
-      record { number = x.number; at = ap (λ q. slice_get (if_number (same_class q class.Array) x.number (numbers class.Array xs)) 0) h.0; passed = ap (λ q. Some (Store q)) (sym h.1); below = subst (λ q. q < c.home.opened) (sym h.1) h.2; few = subst (λ q. c.home.sizes q ≤ 2 ^ 63) (sym h.1) h.3 }
+      record {
+        number = x.number;
+        at = ap (λ q. slice_get (if_number (same_class q class.Array) x.number (numbers class.Array xs)) 0) h.0;
+        passed = ap
+            (λ q. Some (Store q)) (sym h.1);
+        below = subst (λ q. q < c.home.opened) (sym h.1) h.2;
+        few = subst (λ q. c.home.sizes q ≤ 2 ^ 63) (sym h.1)
+            h.3;
+      }
   array_first (holds.Local t n) e z x xs k h = absurd (cc)
 
   array_past : (p : Parameter) (y : Held) (z : Passed) (x : Register) (xs : List Register) (n : ℕ) → IsParam p y → IsHanded a c y z x → slice_get (numbers class.Array (x ∷ xs)) (array_then p.is_array n) ≡ slice_get (numbers class.Array xs) n
@@ -150,7 +159,9 @@ module _ (a : Mask) (c : Conf) where
       ap (λ b. slice_get (numbers class.Array (x ∷ xs)) (array_then b n)) i.0 ∙ ap (λ q. slice_get (if_number (same_class q class.Array) x.number (numbers class.Array xs)) (suc n)) h.0
   array_past p (holds.Local t m) z x xs n i h = absurd i
 
-  array_handed : (ps : List Parameter) (vs : List Variable) (zs : List Passed) (xs : List Register) (v : ℕ) (y : Variable) (e : Elem) → AreParams ps vs → AreHanded a c vs zs xs → slice_get vs v ≡ Some y → y.holds ≡ holds.Given e → IsArray (slice_get (numbers class.Array xs) (array_count (take v ps))) (slice_get zs v)
+  array_handed : (ps : List Parameter) (vs : List Variable) (zs : List Passed) (xs : List Register) (v : ℕ) (y : Variable) (e : Elem)
+      → AreParams ps vs → AreHanded a c vs zs xs → slice_get vs v ≡ Some y → y.holds ≡ holds.Given e
+      → IsArray (slice_get (numbers class.Array xs) (array_count (take v ps))) (slice_get zs v)
   array_handed ps [] zs xs v y e are h g k = absurd (cc)
   array_handed [] (w ∷ vs) zs xs v y e are h g k = absurd are
   array_handed (p ∷ ps) (w ∷ vs) [] xs v y e are h g k = absurd h
@@ -221,7 +232,9 @@ module _ (a : Mask) (c : Conf) where
   abbrev pub names_of : List Register → ℕ → ℕ
   names_of xs k = from 0 c.home.named (slice_get (numbers class.Array xs) k)
 
-  pub opens : (h : TFunction) (g : Routine) (l : Layout) (zs : List Passed) (xs : List Register) (caller : Frame) → ArraysStand h g l → AreParams h.parameters (params_of h) → AreHanded a c (params_of h) zs xs → c.home.opened ≡ caller.opened → c.home.sizes ≡ caller.sizes → Opens h (names_of xs) zs caller
+  pub opens : (h : TFunction) (g : Routine) (l : Layout) (zs : List Passed) (xs : List Register) (caller : Frame) → ArraysStand h g l
+      → AreParams h.parameters (params_of h) → AreHanded a c (params_of h) zs xs → c.home.opened ≡ caller.opened → c.home.sizes ≡ caller.sizes
+      → Opens h (names_of xs) zs caller
   opens h g l zs xs caller stand are hands eo es = record {
     given = λ v y e ey k.
         let is = stand.given v y e ey k in

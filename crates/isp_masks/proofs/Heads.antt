@@ -72,7 +72,8 @@ differ_from before [] e = refl
 differ_from before (p ∷ ps) e =
     let later = map (λ (q : Parameter). q.name) (map parameter_of ps) in
     let h = both_so (not (list_any (λ m. bytes_eq m p.name) before)) (all_new (before ++ p.name ∷ []) later) e in
-    let none : list_any (is_named p.name) ps ≡ false = sym (any_map (λ (q : Parameter). bytes_eq q.name p.name) parameter_of ps) ∙ sym (any_map (λ w. bytes_eq w p.name) (λ (q : Parameter). q.name) (map parameter_of ps)) ∙ no_more before [] p.name later h.1 in
+    let none : list_any (is_named p.name) ps ≡ false = sym (any_map (λ (q : Parameter). bytes_eq q.name p.name) parameter_of ps)
+    ∙ sym (any_map (λ w. bytes_eq w p.name) (λ (q : Parameter). q.name) (map parameter_of ps)) ∙ no_more before [] p.name later h.1 in
     all_so (not (list_any (is_named p.name) ps)) (names_differ ps) (so_not (list_any (is_named p.name) ps) none) (differ_from (before ++ p.name ∷ []) ps h.1)
 
 pub names_apart : (g : Routine) (ps : List Parameter) → parameters_of g ≡ ps → all_new [] (map (λ p. p.name) ps) ≡ true → names_differ g.params ≡ true
@@ -129,9 +130,12 @@ no_vector_given : (answer : Option Ty) → GivesUniform answer → gives_vector 
 no_vector_given None u = refl
 no_vector_given (Some t) u = ap (λ r. gives_vector (value_returned r t.elem)) u
 
-pub exports : (n : ℕ) (ps : List Parameter) (vs : List Declared) (answer : Option Ty) (g : Routine) → AreParams ps (take n vs) → AreOne (take n vs) → GivesUniform answer → g.params ≡ params_of ps vs → g.returns ≡ returns_of answer → can_export g ≡ true
+pub exports : (n : ℕ) (ps : List Parameter) (vs : List Declared) (answer : Option Ty) (g : Routine) → AreParams ps (take n vs) → AreOne (take n vs)
+    → GivesUniform answer → g.params ≡ params_of ps vs → g.returns ≡ returns_of answer → can_export g ≡ true
 exports n ps vs answer g a one u params returns =
-    all_so (not (list_any is_vector g.params)) (not (gives_vector g.returns)) (so_not (list_any is_vector g.params) (ap (list_any is_vector) params ∙ no_vectors n ps vs a one)) (so_not (gives_vector g.returns) (ap gives_vector returns ∙ no_vector_given answer u))
+    all_so (not (list_any is_vector g.params)) (not (gives_vector g.returns))
+    (so_not (list_any is_vector g.params) (ap (list_any is_vector) params ∙ no_vectors n ps vs a one))
+    (so_not (gives_vector g.returns) (ap gives_vector returns ∙ no_vector_given answer u))
 
 -- ---- a header
 

@@ -29,7 +29,12 @@ use Rattle.isp_masks.proofs.Sides.{branches_parts, nobody_left}
 module _ (w : Setting) (ready : IsSettled w) where
   -- ---- in lanes, where nobody leaves the part, or neither part
 
-  pub kept_runs : (x pc : ℕ) (spot : Spot) (q : ℕ) (a : Mask) (m : Payload) (s : State) (c : Conf) (first : ℕ → List Instr) (va : Mask → State → Res) → At w c pc → c.masks spot.on ≡ a → any (gang_of w) a ≡ true → Inside w a → Stands w s c → Holds Varying a x m c → 5 + q ≤ 32 * s.work → AreThree spot → AreAt w.routine.code pc (kept_code x pc spot.on spot.slot first) → Stays va → ((T : Mask) (s1 : State) (c1 : Conf) (pc1 z : ℕ) → AreThree (under spot.slot spot) → AreAt w.routine.code pc1 (first pc1) → EntersAt w pc1 (under spot.slot spot) T s1 c1 z → StmtRuns w w.turns c1 (pc1 + length (first pc1)) (under spot.slot spot) z (va T s1)) → StmtRuns w w.turns c (pc + length (kept_code x pc spot.on spot.slot first)) spot q (branches (gang_of w) a va went_all m s)
+  pub kept_runs : (x pc : ℕ) (spot : Spot) (q : ℕ) (a : Mask) (m : Payload) (s : State) (c : Conf) (first : ℕ → List Instr) (va : Mask → State → Res)
+      → At w c pc → c.masks spot.on ≡ a → any (gang_of w) a ≡ true → Inside w a → Stands w s c → Holds Varying a x m c → 5 + q ≤ 32 * s.work
+      → AreThree spot → AreAt w.routine.code pc (kept_code x pc spot.on spot.slot first) → Stays va
+      → ((T : Mask) (s1 : State) (c1 : Conf) (pc1 z : ℕ) → AreThree (under spot.slot spot) → AreAt w.routine.code pc1 (first pc1)
+      → EntersAt w pc1 (under spot.slot spot) T s1 c1 z → StmtRuns w w.turns c1 (pc1 + length (first pc1)) (under spot.slot spot) z (va T s1))
+      → StmtRuns w w.turns c (pc + length (kept_code x pc spot.on spot.slot first)) spot q (branches (gang_of w) a va went_all m s)
   kept_runs x pc spot q a m s c first va at em some inside st hold le three has stay fa =
       subst (λ v. StmtRuns w w.turns c end spot q v) (sym (branches_parts (gang_of w) a va went_all m s some ∙ ap (λ z. both_sides (unless_empty (gang_of w) z s va) (λ s1. unless_empty (gang_of w) (without a z) s1 went_all)) kept))
       (stmt_after w ready w.turns c c1 1 end spot q _ (where_comes w ready c pc n x k at has.0) (spares_all w n c) (λ r lt ne. let rn : r ≢ n = omega (arith, lt) in put_other c.masks n t1 r rn) three
@@ -87,9 +92,13 @@ module _ (w : Setting) (ready : IsSettled w) where
       ends = omega arith
 
       begin : StmtRuns w w.turns c1 p2 (under n spot) (0 + (1 + q)) (unless_empty (gang_of w) T s va)
-      begin = guard_runs w ready w.turns (pc + 1) (under n spot) (0 + (1 + q)) T s c1 first va (masked_at w ready c pc n t1 at) t_is (where_inside (Allowed w) a is_true v inside) st (omega (arith, le)) three_n has.1 (λ c2 z en. fa T s c2 (pc + 1 + 1) z three_n has.1.1 en)
+      begin = guard_runs w ready w.turns (pc + 1) (under n spot) (0 + (1 + q)) T s c1 first va (masked_at w ready c pc n t1 at) t_is
+          (where_inside (Allowed w) a is_true v inside) st (omega (arith, le)) three_n has.1 (λ c2 z en. fa T s c2 (pc + 1 + 1) z three_n has.1.1 en)
 
-      second : (s1 : State) (g b ct rt : Mask) → unless_empty (gang_of w) T s va ≡ Went s1 g b ct rt → StmtOk w c1 p2 (under n spot) (0 + (1 + q)) s1 g ct rt → StmtRuns w w.turns c1 end spot (1 + q) (go_on (unless_empty (gang_of w) F s1 went_all) (λ s' g' b' c' r'. Went s' (union g g') (union b b') (union ct c') (union rt r')))
+      second : (s1 : State) (g b ct rt : Mask) → unless_empty (gang_of w) T s va ≡ Went s1 g b ct rt
+          → StmtOk w c1 p2 (under n spot) (0 + (1 + q)) s1 g ct rt
+          → StmtRuns w w.turns c1 end spot (1 + q) (go_on (unless_empty (gang_of w) F s1 went_all)
+          (λ s' g' b' c' r'. Went s' (union g g') (union b b') (union ct c') (union rt r')))
       second s1 g b ct rt ev ok = subst (λ u. StmtRuns w w.turns c1 end spot (1 + q) (go_on u (λ s' g' b' c' r'. Went s' (union g g') (union b b') (union ct c') (union rt r')))) (nobody_left (gang_of w) F s1) all_on
         where
           whole : union g F ≡ a
@@ -110,7 +119,15 @@ module _ (w : Setting) (ready : IsSettled w) where
             bound = omega (arith, ok.bound);
           }
 
-  pub both_kept_runs : (x pc : ℕ) (spot : Spot) (q : ℕ) (a : Mask) (m : Payload) (s : State) (c : Conf) (first other : ℕ → List Instr) (va vb : Mask → State → Res) → At w c pc → c.masks spot.on ≡ a → any (gang_of w) a ≡ true → Inside w a → Stands w s c → Holds Varying a x m c → 5 + q ≤ 32 * s.work → AreThree spot → AreAt w.routine.code pc (both_kept_code x pc spot.on spot.slot first other) → Stays va × Stays vb → ((T : Mask) (s1 : State) (c1 : Conf) (pc1 z : ℕ) → AreThree (widely spot.slot spot) → AreAt w.routine.code pc1 (first pc1) → EntersAt w pc1 (widely spot.slot spot) T s1 c1 z → StmtRuns w w.turns c1 (pc1 + length (first pc1)) (widely spot.slot spot) z (va T s1)) → ((F : Mask) (s1 : State) (c1 : Conf) (pc1 z : ℕ) → AreThree (widely (spot.slot + 1) spot) → AreAt w.routine.code pc1 (other pc1) → EntersAt w pc1 (widely (spot.slot + 1) spot) F s1 c1 z → StmtRuns w w.turns c1 (pc1 + length (other pc1)) (widely (spot.slot + 1) spot) z (vb F s1)) → StmtRuns w w.turns c (pc + length (both_kept_code x pc spot.on spot.slot first other)) spot q (branches (gang_of w) a va vb m s)
+  pub both_kept_runs : (x pc : ℕ) (spot : Spot) (q : ℕ) (a : Mask) (m : Payload) (s : State) (c : Conf) (first other : ℕ → List Instr)
+      (va vb : Mask → State → Res) → At w c pc → c.masks spot.on ≡ a → any (gang_of w) a ≡ true → Inside w a → Stands w s c → Holds Varying a x m c
+      → 5 + q ≤ 32 * s.work → AreThree spot → AreAt w.routine.code pc (both_kept_code x pc spot.on spot.slot first other) → Stays va × Stays vb
+      → ((T : Mask) (s1 : State) (c1 : Conf) (pc1 z : ℕ) → AreThree (widely spot.slot spot) → AreAt w.routine.code pc1 (first pc1)
+      → EntersAt w pc1 (widely spot.slot spot) T s1 c1 z → StmtRuns w w.turns c1 (pc1 + length (first pc1)) (widely spot.slot spot) z (va T s1))
+      → ((F : Mask) (s1 : State) (c1 : Conf) (pc1 z : ℕ) → AreThree (widely (spot.slot + 1) spot) → AreAt w.routine.code pc1 (other pc1)
+      → EntersAt w pc1 (widely (spot.slot + 1) spot) F s1 c1 z
+      → StmtRuns w w.turns c1 (pc1 + length (other pc1)) (widely (spot.slot + 1) spot) z (vb F s1))
+      → StmtRuns w w.turns c (pc + length (both_kept_code x pc spot.on spot.slot first other)) spot q (branches (gang_of w) a va vb m s)
   both_kept_runs x pc spot q a m s c first other va vb at em some inside st hold le three has stay fa fb =
       subst (λ v. StmtRuns w w.turns c end spot q v) (sym (branches_parts (gang_of w) a va vb m s some ∙ ap (λ z. both_sides (unless_empty (gang_of w) z s va) (λ s1. unless_empty (gang_of w) (without a z) s1 vb)) kept))
       (stmt_after w ready w.turns c c2 2 end spot q _ (comes_on w c c1 c2 1 1 (where_comes w ready c pc n x k at has.0) (others_comes w ready c1 (pc + 1) (n + 1) k n at1 has.1.0)) (spares_all w n c)
@@ -220,12 +237,20 @@ module _ (w : Setting) (ready : IsSettled w) where
       ends = omega (arith, length-append side last)
 
       begin : StmtRuns w w.turns c2 p2 (widely n spot) (1 + (2 + q)) (unless_empty (gang_of w) T s va)
-      begin = guard_runs w ready w.turns p1 (widely n spot) (1 + (2 + q)) T s c2 first va (masked_at w ready c1 (pc + 1) (n + 1) f2 at1) t_is (where_inside (Allowed w) a is_true v inside) st (omega (arith, le)) three_n at_side (λ c3 z en. fa T s c3 (p1 + 1) z three_n at_side.1 en)
+      begin = guard_runs w ready w.turns p1 (widely n spot) (1 + (2 + q)) T s c2 first va (masked_at w ready c1 (pc + 1) (n + 1) f2 at1) t_is
+          (where_inside (Allowed w) a is_true v inside) st (omega (arith, le)) three_n at_side (λ c3 z en. fa T s c3 (p1 + 1) z three_n at_side.1 en)
 
-      second : (s1 : State) (g b ct rt : Mask) → unless_empty (gang_of w) T s va ≡ Went s1 g b ct rt → StmtOk w c2 p2 (widely n spot) (1 + (2 + q)) s1 g ct rt → StmtRuns w w.turns c2 end spot (2 + q) (go_on (unless_empty (gang_of w) F s1 vb) (λ s' g' b' c' r'. Went s' (union g g') (union b b') (union ct c') (union rt r')))
-      second s1 g b ct rt ev ok = join (unless_empty (gang_of w) F s1 vb) refl (guard_runs w ready w.turns p2 (widely (n + 1) spot) (ok.steps + (2 + q)) F s1 ok.conf other vb ok.at (ok.masks (n + 1) (omega arith) sn sco srr ∙ f_is) (below_without (Allowed w) a T inside) ok.stands (omega (arith, ok.bound)) three_s at_last (λ c3 z en. fb F s1 c3 (p2 + 1) z three_s at_last.1 en))
+      second : (s1 : State) (g b ct rt : Mask) → unless_empty (gang_of w) T s va ≡ Went s1 g b ct rt
+          → StmtOk w c2 p2 (widely n spot) (1 + (2 + q)) s1 g ct rt
+          → StmtRuns w w.turns c2 end spot (2 + q) (go_on (unless_empty (gang_of w) F s1 vb)
+          (λ s' g' b' c' r'. Went s' (union g g') (union b b') (union ct c') (union rt r')))
+      second s1 g b ct rt ev ok = join (unless_empty (gang_of w) F s1 vb) refl
+          (guard_runs w ready w.turns p2 (widely (n + 1) spot) (ok.steps + (2 + q)) F s1 ok.conf other vb ok.at
+          (ok.masks (n + 1) (omega arith) sn sco srr ∙ f_is) (below_without (Allowed w) a T inside) ok.stands (omega (arith, ok.bound)) three_s
+          at_last (λ c3 z en. fb F s1 c3 (p2 + 1) z three_s at_last.1 en))
         where
-          join : (u : Res) → unless_empty (gang_of w) F s1 vb ≡ u → StmtRuns w w.turns ok.conf p3 (widely (n + 1) spot) (ok.steps + (2 + q)) u → StmtRuns w w.turns c2 end spot (2 + q) (go_on u (λ s' g' b' c' r'. Went s' (union g g') (union b b') (union ct c') (union rt r')))
+          join : (u : Res) → unless_empty (gang_of w) F s1 vb ≡ u → StmtRuns w w.turns ok.conf p3 (widely (n + 1) spot) (ok.steps + (2 + q)) u
+              → StmtRuns w w.turns c2 end spot (2 + q) (go_on u (λ s' g' b' c' r'. Went s' (union g g') (union b b') (union ct c') (union rt r')))
           join (Went s' g' b' c' r') eu r = record {
             conf = r.conf;
             steps = ok.steps + r.steps;
@@ -249,9 +274,15 @@ module _ (w : Setting) (ready : IsSettled w) where
 
   -- ---- in lanes, where the part is one jump
 
-  pub left_runs : (j : Jump) (x pc : ℕ) (spot : Spot) (q : ℕ) (a : Mask) (m : Payload) (s : State) (c : Conf) (va : Mask → State → Res) → At w c pc → c.masks spot.on ≡ a → any (gang_of w) a ≡ true → Inside w a → Stands w s c → Holds Varying a x m c → 5 + q ≤ 32 * s.work → AreThree spot → AreAt w.routine.code pc (left_code j x spot.on spot.continued spot.slot) → Jumps j va → StmtRuns w w.turns c (pc + length (left_code j x spot.on spot.continued spot.slot)) spot q (branches (gang_of w) a va went_all m s)
+  pub left_runs : (j : Jump) (x pc : ℕ) (spot : Spot) (q : ℕ) (a : Mask) (m : Payload) (s : State) (c : Conf) (va : Mask → State → Res) → At w c pc
+      → c.masks spot.on ≡ a → any (gang_of w) a ≡ true → Inside w a → Stands w s c → Holds Varying a x m c → 5 + q ≤ 32 * s.work → AreThree spot
+      → AreAt w.routine.code pc (left_code j x spot.on spot.continued spot.slot) → Jumps j va
+      → StmtRuns w w.turns c (pc + length (left_code j x spot.on spot.continued spot.slot)) spot q (branches (gang_of w) a va went_all m s)
   left_runs j x pc spot q a m s c va at em some inside st hold le three has jumps =
-      subst (λ v. StmtRuns w w.turns c (pc + length (left_code j x k co n)) spot q v) (sym (branches_parts (gang_of w) a va went_all m s some ∙ ap (λ z. both_sides (unless_empty (gang_of w) z s va) (λ s1. unless_empty (gang_of w) (without a z) s1 went_all)) kept ∙ ap (λ u. both_sides u (λ s1. unless_empty (gang_of w) F s1 went_all)) whole.2))
+      subst (λ v. StmtRuns w w.turns c (pc + length (left_code j x k co n)) spot q v)
+      (sym (branches_parts (gang_of w) a va went_all m s some
+      ∙ ap (λ z. both_sides (unless_empty (gang_of w) z s va) (λ s1. unless_empty (gang_of w) (without a z) s1 went_all)) kept
+      ∙ ap (λ u. both_sides u (λ s1. unless_empty (gang_of w) F s1 went_all)) whole.2))
       (done j has)
     where
       k : ℕ

@@ -33,7 +33,8 @@ use Rattle.isp_lower.specs.Layout.{Layout, mask_register, within}
 use Rattle.isp_lower.specs.Runs.{Comes, DoneOk}
 use Rattle.isp_lower.specs.Setting.{Setting, IsSettled, gang_of, AreAt, At, Stands, Spares, IsOther}
 use Rattle.isp_lower.specs.Tables.{IsTyped}
-use Rattle.isp_lower.proofs.Lemmas.{scalar_put, are_front, are_back, put_same, put_other, comes_on, comes_none, step_go, at_to, spares_all, spares_less, spares_on, failed_less, stopped_less, jumped, jump_comes, jump_at, masked, masked_at, set_at, set_comes, set_goes, set_spares, set_stands, variable_spares, written_stands, none_holds}
+use Rattle.isp_lower.proofs.Lemmas.{scalar_put, are_front, are_back, put_same, put_other, comes_on, comes_none, step_go, at_to, spares_all, spares_less, spares_on, failed_less, stopped_less, jumped}
+use Rattle.isp_lower.proofs.Lemmas.{jump_comes, jump_at, masked, masked_at, set_at, set_comes, set_goes, set_spares, set_stands, variable_spares, written_stands, none_holds}
 use Rattle.isp_masks.specs.Ranges.{goes_on, wide, narrow, lane, range_mask, last_index, next_index, run_back, run_place, run_step}
 use Rattle.isp_masks.specs.Spots.{body_spot}
 use Rattle.isp_masks.specs.StmtRuns.{StmtRuns}
@@ -252,7 +253,9 @@ module _ (w : Setting) (ready : IsSettled w) (none : w.layout.run ≡ None) (bod
         comes4 : Comes w c (length set + 3) c4
         comes4 =
             comes_on w c c1 c4 (length set) 3 o.comes
-            (comes_on w c1 c3 c4 2 1 (comes_on w c1 c2 c3 1 1 (set_comes w ready Uniform c1 g (One b) (first + length set) (convert Uniform g r 0) o.at tail.0 conv_is) (set_comes w ready Varying c2 u v3 (first + length set + 1) (splat u g h) at2 tail.1.0 refl))
+            (comes_on w c1 c3 c4 2 1 (comes_on w c1 c2 c3 1 1
+            (set_comes w ready Uniform c1 g (One b) (first + length set) (convert Uniform g r 0) o.at tail.0 conv_is)
+            (set_comes w ready Varying c2 u v3 (first + length set + 1) (splat u g h) at2 tail.1.0 refl))
             (set_comes w ready Varying c3 v v4 (first + length set + 1 + 1) (compute Varying plain.Add v u (lane w.layout n) h) at3 tail.1.1.0 add_is))
 
         spares3 : Spares w m c c3
@@ -312,7 +315,14 @@ module _ (w : Setting) (ready : IsSettled w) (none : w.layout.run ≡ None) (bod
 
     -- a jump that is taken
     jump_to : (z : ℤ) (s : State) (c : Conf) (pc to : ℕ) → int_lt z x.end ≡ true → Tested pc z s c → AreAt w.routine.code pc (instr.JumpIf jump.On (mask_register h) to ∷ []) → Tested to z s (jumped w ready c jump.On (mask_register h) to)
-    jump_to z s c pc to lt t has = record { at = jump_at w ready c pc jump.On (mask_register h) to true t.at (some_there z c t.mask ∙ lt); low = record { spares = t.low.spares; masks = t.low.masks }; place = t.place; mask = t.mask; stands = t.stands }
+    jump_to z s c pc to lt t has = record {
+      at = jump_at w ready c pc jump.On (mask_register h) to true t.at (some_there z c t.mask ∙ lt);
+      low =
+          record { spares = t.low.spares; masks = t.low.masks };
+      place = t.place;
+      mask = t.mask;
+      stands = t.stands;
+    }
 
     -- or not
     jump_past : (z : ℤ) (s : State) (c : Conf) (pc to : ℕ) → int_lt z x.end ≡ false → At w c pc → c.masks h ≡ members z → At w (jumped w ready c jump.On (mask_register h) to) (pc + 1)
@@ -356,7 +366,8 @@ module _ (w : Setting) (ready : IsSettled w) (none : w.layout.run ≡ None) (bod
         add_is = ap (λ u. Go (set_at Uniform c r (One (op_bits op.Add u (c.scalars r) (c.scalars (wide w.layout n)))))) it.place.typed
 
         comes2 : Comes w c 2 c2
-        comes2 = comes_on w c c1 c2 1 1 (set_comes w ready Uniform c r (One v) pc1 (compute Uniform plain.Add r r (wide w.layout n) 0) at code_behind.0 add_is) (step_go w c1 (pc1 + 1) (range_mask h r (wide w.layout (e + 1))) c2 ready at1 code_behind.1.0 refl)
+        comes2 = comes_on w c c1 c2 1 1 (set_comes w ready Uniform c r (One v) pc1 (compute Uniform plain.Add r r (wide w.layout n) 0) at
+            code_behind.0 add_is) (step_go w c1 (pc1 + 1) (range_mask h r (wide w.layout (e + 1))) c2 ready at1 code_behind.1.0 refl)
 
         lo1 : Spares w m c c1
         lo1 = it.place.spares c (One v)
@@ -452,16 +463,45 @@ module _ (w : Setting) (ready : IsSettled w) (none : w.layout.run ≡ None) (bod
         let c2 = c1 has z1 s c t in
         let c3 = jumped w ready c2 jump.On (mask_register h) top1 in
         let lo = added_low has z1 s c t in
-        let behind : Tested false [] before it (pc2 + 1) z1 (begins false [] before it z1 s) c2 = record { at = added_at has z1 s c t; low = low_on w m c0 c c2 t.low lo; place = t.place; mask = t.mask; stands = added_stands has z1 s c t z refl was } in
-        (c3, 2, omega arith, comes_on w c c2 c3 1 1 (added_comes has z1 s c t) (jump_comes w ready c2 (pc2 + 1) jump.On (mask_register h) top1 behind.at has.1.0), record { spares = lo.spares; masks = lo.masks }, record { is = jump_to false [] before it z1 (begins false [] before it z1 s) c2 (pc2 + 1) top1 lt behind has.1; work = (it.sets (members z1) s c pc2 tt t.at t.mask t.low t.stands).work; counts = set_there false [] before it z1 s (next_low (gang w) z low) })
+        let behind : Tested false [] before it (pc2 + 1) z1 (begins false [] before it z1 s) c2 = record {
+          at = added_at has z1 s c t;
+          low = low_on w m c0 c c2 t.low lo;
+          place = t.place;
+          mask = t.mask;
+          stands = added_stands has z1 s c t z
+              refl was;
+        } in (
+          c3,
+          2,
+          omega arith,
+          comes_on w c c2 c3 1 1 (added_comes has z1 s c t)
+              (jump_comes w ready c2 (pc2 + 1) jump.On (mask_register h) top1 behind.at has.1.0),
+          record { spares = lo.spares; masks = lo.masks },
+          record {
+            is = jump_to false [] before it z1 (begins false [] before it z1 s) c2 (pc2 + 1) top1 lt behind has.1;
+            work =
+                (it.sets (members z1) s c pc2 tt t.at t.mask t.low t.stands).work;
+            counts = set_there false [] before it z1 s (next_low (gang w) z low);
+          },
+        )
 
     own_ends : AreAt w.routine.code pc2 (next_index w.layout i n h ∷ instr.JumpIf jump.On (mask_register h) (top false [] before it) ∷ []) → pc2 + 1 + 1 ≡ stop → Ends false [] before it
     own_ends has is z s c lt t =
         let top1 = top false [] before it in
         let c2 = c1 has z s c t in
         let lo = added_low has z s c t in
-        let c3 = jumped w ready c2 jump.On (mask_register h) top1 in
-        (c3, 2, omega arith, comes_on w c c2 c3 1 1 (added_comes has z s c t) (jump_comes w ready c2 (pc2 + 1) jump.On (mask_register h) top1 (added_at has z s c t) has.1.0), record { spares = lo.spares; masks = lo.masks }, at_to w c3 (pc2 + 1 + 1) stop (jump_past false [] before it z s c2 (pc2 + 1) top1 lt (added_at has z s c t) t.mask) is, added_nobody has z s c t lt)
+        let c3 = jumped w ready c2 jump.On (mask_register h) top1 in (
+          c3,
+          2,
+          omega arith,
+          comes_on w c c2 c3 1 1 (added_comes has z s c t)
+              (jump_comes w ready c2 (pc2 + 1) jump.On (mask_register h) top1 (added_at has z s c t) has.1.0),
+          record
+              { spares = lo.spares; masks = lo.masks },
+          at_to w c3 (pc2 + 1 + 1) stop
+              (jump_past false [] before it z s c2 (pc2 + 1) top1 lt (added_at has z s c t) t.mask) is,
+          added_nobody has z s c t lt,
+        )
 
   -- ---- by what indices there are
 
@@ -483,7 +523,10 @@ module _ (w : Setting) (ready : IsSettled w) (none : w.layout.run ≡ None) (bod
 
   -- ---- by induction on the runs that are left
 
-  run_go : (c : Conf) (pc pc' m' k q : ℕ) (a : Mask) (b : ℕ) (v : Res) (go : State → Res) → StmtRuns (in_run w i a b) w.turns c pc (body_spot h) (k + q) v → ((s : State) (ok : DoneOk w c pc h (k + q) s) → Stands (in_run w i a b) s ok.conf → Passes w c pc' m' q (go s)) → Passes w c pc' m' q (go_on v (λ s g u ct rt. go s))
+  run_go : (c : Conf) (pc pc' m' k q : ℕ) (a : Mask) (b : ℕ) (v : Res) (go : State → Res)
+      → StmtRuns (in_run w i a b) w.turns c pc (body_spot h) (k + q) v
+      → ((s : State) (ok : DoneOk w c pc h (k + q) s) → Stands (in_run w i a b) s ok.conf → Passes w c pc' m' q (go s))
+      → Passes w c pc' m' q (go_on v (λ s g u ct rt. go s))
   run_go c pc pc' m' k q a b (Went s g gone ct rt) go ok f = f s (record {
     conf = ok.conf;
     steps = ok.steps;
@@ -510,7 +553,18 @@ module _ (w : Setting) (ready : IsSettled w) (none : w.layout.run ≡ None) (bod
         → Passes w c stop m q (go_on (body (members z) (begins d set before it z s)) (λ s1 g gone ct rt. rest s1))
     one_run k z s c q rest lt low b le next =
         run_go c (pc1 d set before it) stop m (2 + k) q a p (body a s4) rest
-        (runs a s4 c top1 (2 + k + q) (are_front w.routine.code top1 (code top1) _ (are_back w.routine.code first (indices d set before it) _ it.has)) (record { at = b.is.at; mask = b.is.mask; some = any_run (gang w) (gang w) x z (some_width w.code.gang) (omega arith) ∙ lt; inside = run_inside (gang w) x z; stands = b.is.stands; used = omega (arith, le, b.work); counts = it.place.begins a s4 c (subst (λ t. CountsFrom t a (s4.varying i)) (sym b.is.place) b.counts) }))
+        (runs a s4 c top1 (2 + k + q) (are_front w.routine.code top1 (code top1) _ (are_back w.routine.code first (indices d set before it) _ it.has))
+        (record {
+          at = b.is.at;
+          mask = b.is.mask;
+          some = any_run (gang w) (gang w) x z (some_width w.code.gang) (omega arith)
+              ∙ lt;
+          inside = run_inside (gang w) x z;
+          stands = b.is.stands;
+          used = omega (arith, le, b.work);
+          counts = it.place.begins a s4 c
+              (subst (λ t. CountsFrom t a (s4.varying i)) (sym b.is.place) b.counts);
+        }))
         (λ s1 ok st1. after s1 ok st1)
       where
         a : Mask
@@ -539,11 +593,22 @@ module _ (w : Setting) (ready : IsSettled w) (none : w.layout.run ≡ None) (bod
             t : (c1 : Conf) × Comes w ok.conf 2 c1 × Low w m ok.conf c1 × Tested d set before it (back d set before it) (z +ℤ pos (gang w)) s1 c1
             t = stepped d set before it z s1 ok.conf lt low ok.at (low_on w m c0 c ok.conf b.is.low low1) (ap (number I64) kept.0 ∙ b.is.place) ok.stands
 
-    runs_on : (k : ℕ) (z : ℤ) (s : State) (c : Conf) (q : ℕ) → int_lt z x.end ≡ true → CountsTo (gang w) k (z +ℤ pos (gang w)) x.end → IsNotLess z → Begun d set before it z s c → 4 + 32 * k + q ≤ 32 * s.work → Passes w c stop m q (rounds body all (round z ∷ later k z) s)
+    runs_on : (k : ℕ) (z : ℤ) (s : State) (c : Conf) (q : ℕ) → int_lt z x.end ≡ true → CountsTo (gang w) k (z +ℤ pos (gang w)) x.end → IsNotLess z
+        → Begun d set before it z s c → 4 + 32 * k + q ≤ 32 * s.work → Passes w c stop m q (rounds body all (round z ∷ later k z) s)
     runs_on zero z s c q lt counts low b le =
         one_run 2 z s c q (rounds body all []) lt low b (omega (arith, le))
         (λ s1 c1 j was t le1. let f = (ways d set before it).1 (z +ℤ pos (gang w)) s1 c1 counts t in
-        passes_after w ready c1 f.0 f.1 stop m (j + q) (went_all all s1) f.3 f.4 (record { conf = f.0; steps = 0; comes = comes_none w f.0; at = f.5; stands = f.6; spares = spares_all w m f.0; masks = λ r1 lt1. refl; bound = omega (arith, le1, f.2) }))
+        passes_after w ready c1 f.0 f.1 stop m (j + q) (went_all all s1) f.3 f.4
+        (record {
+          conf = f.0;
+          steps = 0;
+          comes = comes_none w f.0;
+          at = f.5;
+          stands = f.6;
+          spares = spares_all w m f.0;
+          masks = λ r1 lt1. refl;
+          bound = omega (arith, le1, f.2);
+        }))
     runs_on (suc k) z s c q lt counts low b le =
         let z1 = z +ℤ pos (gang w) in
         one_run (34 + 32 * k) z s c q (rounds body all (round z1 ∷ later k z1)) lt low b (omega (arith, le))
@@ -552,7 +617,10 @@ module _ (w : Setting) (ready : IsSettled w) (none : w.layout.run ≡ None) (bod
 
     -- ---- from the first on
 
-    pub runs_all : (pc count : ℕ) (z : ℤ) (s : State) (c : Conf) (q : ℕ) → AreAt w.routine.code pc (copy Uniform (r d set before it) (wide w.layout e) 0 ∷ range_mask h (r d set before it) (wide w.layout (e + 1)) ∷ jump_off h stop ∷ []) → pc + 1 + 1 + 1 ≡ first → number I64 (c.scalars (wide w.layout e)) ≡ z → IsNotLess z → CountsTo (gang w) count z x.end → At w c pc → Low w m c0 c → Stands w s c → 3 + 32 * count + q ≤ 32 * s.work
+    pub runs_all : (pc count : ℕ) (z : ℤ) (s : State) (c : Conf) (q : ℕ)
+        → AreAt w.routine.code pc (copy Uniform (r d set before it) (wide w.layout e) 0 ∷ range_mask h (r d set before it) (wide w.layout (e + 1)) ∷
+        jump_off h stop ∷ []) → pc + 1 + 1 + 1 ≡ first → number I64 (c.scalars (wide w.layout e)) ≡ z → IsNotLess z → CountsTo (gang w) count z x.end
+        → At w c pc → Low w m c0 c → Stands w s c → 3 + 32 * count + q ≤ 32 * s.work
         → Passes w c stop m q (rounds body all (map round (from_on (gang w) count z)) s)
     runs_all pc count z s c q has is start low counts at lo st le = go count counts le
       where
@@ -611,7 +679,19 @@ module _ (w : Setting) (ready : IsSettled w) (none : w.layout.run ≡ None) (bod
 
         go : (k : ℕ) → CountsTo (gang w) k z x.end → 3 + 32 * k + q ≤ 32 * s.work → Passes w c stop m q (rounds body all (map round (from_on (gang w) k z)) s)
         go zero counts1 le1 =
-            passes_after w ready c c3 3 stop m q (went_all all s) comes3 lo3 (record { conf = c3; steps = 0; comes = comes_none w c3; at = at3 false counts1; stands = stands; spares = spares_all w m c3; masks = λ j lt. refl; bound = omega (arith, le1) })
+            passes_after w ready c c3 3 stop m q (went_all all s) comes3 lo3
+            (record {
+              conf = c3;
+              steps = 0;
+              comes = comes_none w c3;
+              at = at3 false counts1;
+              stands = stands;
+              spares = spares_all w m c3;
+              masks =
+                  λ j lt. refl;
+              bound = omega (arith, le1);
+            })
         go (suc k) counts1 le1 =
             let f = first_part d set before it z s c3 low (record { at = at_to w c3 (pc + 1 + 1 + 1) first (at3 true counts1.0) is; low = low_on w m c0 c c3 lo lo3; place = place1; mask = mask; stands = stands }) in
-            passes_after w ready c f.0 (3 + (length set + 3)) stop m q _ (comes_on w c c3 f.0 3 (length set + 3) comes3 f.1) (low_on w m c c3 f.0 lo3 f.2) (runs_on k z s f.0 (3 + (length set + 3) + q) counts1.0 counts1.1 low f.3 (omega (arith, le1, it.few)))
+            passes_after w ready c f.0 (3 + (length set + 3)) stop m q _ (comes_on w c c3 f.0 3 (length set + 3) comes3 f.1)
+            (low_on w m c c3 f.0 lo3 f.2) (runs_on k z s f.0 (3 + (length set + 3) + q) counts1.0 counts1.1 low f.3 (omega (arith, le1, it.few)))

@@ -21,7 +21,8 @@ use Rattle.isp_lower.specs.Instructions.{copy}
 use Rattle.isp_lower.specs.Spans.{expr_places}
 use Rattle.isp_lower.specs.Runs.{Comes}
 use Rattle.isp_lower.specs.Setting.{Setting, IsSettled, gang_of, calls_of, AreAt, At, Stands, Spares, at_rate, held_at, Holds}
-use Rattle.isp_lower.proofs.Lemmas.{are_front, are_back, put_same, put_other, comes_on, step_go, at_to, spares_all, spares_on, set_comes, set_goes, set_masks, few, masked, masked_at, set_at, copy_line, enters_part, operand_runs, expr_runs, run_place, scalar_put, vector_put}
+use Rattle.isp_lower.proofs.Lemmas.{are_front, are_back, put_same, put_other, comes_on, step_go, at_to, spares_all, spares_on, set_comes, set_goes, set_masks, few, masked}
+use Rattle.isp_lower.proofs.Lemmas.{masked_at, set_at, copy_line, enters_part, operand_runs, expr_runs, run_place, scalar_put, vector_put}
 use Rattle.isp_masks.specs.Sets.{unite, clear_mask, leave_code, jump_code}
 use Rattle.isp_masks.specs.Statements.{answer_code}
 use Rattle.isp_masks.specs.Spots.{Spot}
@@ -49,7 +50,9 @@ module _ (w : Setting) (ready : IsSettled w) where
   gone_other : (c : Conf) (m k i : ℕ) → i ≢ k → i ≢ m → (gone c m k).masks i ≡ c.masks i
   gone_other c m k i nk nm = put_other (masked w ready c m (union (c.masks m) (c.masks k))).masks k nobody i nk ∙ put_other c.masks m (union (c.masks m) (c.masks k)) i nm
 
-  pub jump_runs : (j : Jump) (pc : ℕ) (spot : Spot) (q : ℕ) (a : Mask) (s : State) (c : Conf) → AreAt w.routine.code pc (jump_code j spot.on spot.continued) → AreThree spot → EntersAt w pc spot a s c q → StmtRuns w w.turns c (pc + length (jump_code j spot.on spot.continued)) spot (1 + q) (jumped j a (tick s))
+  pub jump_runs : (j : Jump) (pc : ℕ) (spot : Spot) (q : ℕ) (a : Mask) (s : State) (c : Conf)
+      → AreAt w.routine.code pc (jump_code j spot.on spot.continued) → AreThree spot → EntersAt w pc spot a s c q
+      → StmtRuns w w.turns c (pc + length (jump_code j spot.on spot.continued)) spot (1 + q) (jumped j a (tick s))
   jump_runs Break pc spot q a s c has three b =
       let ck : spot.continued ≢ spot.on = λ e. three.on_continued (sym e) in
       let rk : spot.returned ≢ spot.on = λ e. three.on_returned (sym e) in
@@ -86,7 +89,10 @@ module _ (w : Setting) (ready : IsSettled w) where
       }
 
   -- after t steps all of the set return
-  pub return_ok : (c c1 : Conf) (t pc : ℕ) (spot : Spot) (q : ℕ) (a : Mask) (s : State) → Comes w c t c1 → At w c1 pc → Stands w s c1 → Spares w spot.slot c c1 → ((r : ℕ) → r < spot.slot → c1.masks r ≡ c.masks r) → c.masks spot.on ≡ a → AreAt w.routine.code pc (leave_code spot.returned spot.on) → AreThree spot → t + 2 + q ≤ 32 * s.work → StmtOk w c (pc + 2) spot q s nobody nobody a
+  pub return_ok : (c c1 : Conf) (t pc : ℕ) (spot : Spot) (q : ℕ) (a : Mask) (s : State) → Comes w c t c1 → At w c1 pc → Stands w s c1
+      → Spares w spot.slot c c1 → ((r : ℕ) → r < spot.slot → c1.masks r ≡ c.masks r) → c.masks spot.on ≡ a
+      → AreAt w.routine.code pc (leave_code spot.returned spot.on) → AreThree spot → t + 2 + q ≤ 32 * s.work
+      → StmtOk w c (pc + 2) spot q s nobody nobody a
   return_ok c c1 t pc spot q a s h at st sp ma em has three le =
       let ck : spot.continued ≢ spot.on = λ e. three.on_continued (sym e) in
       let rk : spot.returned ≢ spot.on = λ e. three.on_returned (sym e) in
@@ -116,7 +122,9 @@ module _ (w : Setting) (ready : IsSettled w) where
     own_arrays = st.own_arrays;
     arrays_are = st.arrays_are;
     out_is = st.out_is;
-    run = run_place w.layout.run w.start w.members (c.scalars (w.layout.place Uniform)) (put c.scalars (w.layout.result Uniform) (sole y) (w.layout.place Uniform)) s.varying (sym (put_other c.scalars (w.layout.result Uniform) (sole y) (w.layout.place Uniform) (ready.apart.place_result Uniform))) st.run;
+    run = run_place w.layout.run w.start w.members (c.scalars (w.layout.place Uniform))
+        (put c.scalars (w.layout.result Uniform) (sole y) (w.layout.place Uniform)) s.varying
+        (sym (put_other c.scalars (w.layout.result Uniform) (sole y) (w.layout.place Uniform) (ready.apart.place_result Uniform))) st.run;
     constants = scalar_put w.layout (gang_of w) c.scalars c.vectors (w.layout.result Uniform) (sole y) (λ t b k. ready.apart.kept_result Uniform t b k) st.constants;
   }
   result_stands Varying c a m s y st e =
@@ -135,13 +143,22 @@ module _ (w : Setting) (ready : IsSettled w) where
 
   result_spares : (r : Rate) (n : ℕ) (c : Conf) (y : Payload) → Spares w n c (set_at r c (w.layout.result r) y)
   result_spares Uniform n c y = record { scalars_stay = λ t j lt. put_other c.scalars (w.layout.result Uniform) (sole y) (w.layout.spare Uniform t j) (λ e. ready.apart.result_spare Uniform t j (sym e)); vectors_stay = λ t j lt. refl }
-  result_spares Varying n c y = record { scalars_stay = λ t j lt. refl; vectors_stay = λ t j lt. put_other c.vectors (w.layout.result Varying) (over (spread nobody y) (c.vectors (w.layout.result Varying))) (w.layout.spare Varying t j) (λ e. ready.apart.result_spare Varying t j (sym e)) }
+  result_spares Varying n c y = record {
+    scalars_stay = λ t j lt. refl;
+    vectors_stay = λ t j lt. put_other c.vectors (w.layout.result Varying)
+        (over (spread nobody y) (c.vectors (w.layout.result Varying))) (w.layout.spare Varying t j) (λ e. ready.apart.result_spare Varying t j (sym e));
+  }
 
   answered_work : (r : Rate) (a : Mask) (m : Payload) (s : State) → (answered_at r a m s).work ≡ s.work
   answered_work Uniform a m s = refl
   answered_work Varying a m s = refl
 
-  pub return_runs : (answer : Option Ty) (x : TExpr) (pc p : ℕ) (spot : Spot) (q : ℕ) (a : Mask) (s : State) (c : Conf) → AnswerFits w answer x spot.slot → AreAt w.routine.code pc (answer_code w.layout answer x pc p spot.on spot.slot ++ leave_code spot.returned spot.on) → AreAt w.code.places p (expr_places w.layout x) → AreThree spot → EntersAt w pc spot a s c q → StmtRuns w w.turns c (pc + length (answer_code w.layout answer x pc p spot.on spot.slot ++ leave_code spot.returned spot.on)) spot (1 + q) (with_value (value (gang_of w) w.frame (calls_of w) x a (tick s)) (λ m s1. Went (answered answer a m s1) nobody nobody nobody a))
+  pub return_runs : (answer : Option Ty) (x : TExpr) (pc p : ℕ) (spot : Spot) (q : ℕ) (a : Mask) (s : State) (c : Conf)
+      → AnswerFits w answer x spot.slot → AreAt w.routine.code pc
+      (answer_code w.layout answer x pc p spot.on spot.slot ++ leave_code spot.returned spot.on) → AreAt w.code.places p (expr_places w.layout x)
+      → AreThree spot → EntersAt w pc spot a s c q → StmtRuns w w.turns c
+      (pc + length (answer_code w.layout answer x pc p spot.on spot.slot ++ leave_code spot.returned spot.on)) spot (1 + q)
+      (with_value (value (gang_of w) w.frame (calls_of w) x a (tick s)) (λ m s1. Went (answered answer a m s1) nobody nobody nobody a))
   return_runs None x pc p spot q a s c fit has places three b =
       let fx : heads x ≤ 1 = few w x spot.slot fit in
       let cx = expr_code w.layout x pc p spot.on spot.slot in
@@ -149,7 +166,9 @@ module _ (w : Setting) (ready : IsSettled w) where
       let to : pc1 + 2 ≡ pc + length (cx ++ leave_code spot.returned spot.on) = omega (arith, length-append cx (leave_code spot.returned spot.on)) in
       with_runs w ready c pc1 spot.slot 2 (1 + q) (Holds (type_of x).rate a (found w.layout x spot.slot)) _ _ (pc + length (cx ++ leave_code spot.returned spot.on)) spot
       (expr_runs w ready x pc p spot.on spot.slot (32 + q) (2 + (1 + q)) a (tick s) c fit (are_front w.routine.code pc cx _ has) places (omega arith) (enters_part w ready pc spot.on spot.slot (32 + q) q a s c (omega arith) b))
-      (λ m s1 ok. subst (λ z. StmtOk w c z spot (1 + q) s1 nobody nobody a) to (return_ok c ok.conf ok.steps pc1 spot (1 + q) a s1 ok.comes ok.at ok.stands ok.spares ok.masks b.mask (are_back w.routine.code pc cx _ has) three (omega (arith, ok.bound))))
+      (λ m s1 ok. subst (λ z. StmtOk w c z spot (1 + q) s1 nobody nobody a) to
+      (return_ok c ok.conf ok.steps pc1 spot (1 + q) a s1 ok.comes ok.at ok.stands ok.spares ok.masks b.mask (are_back w.routine.code pc cx _ has)
+      three (omega (arith, ok.bound))))
   return_runs (Some t) x pc p spot q a s c fit has places three b =
       let fx : heads x ≤ 1 = few w x spot.slot fit.1 in
       let cx = expr_code w.layout x pc p spot.on spot.slot in
@@ -175,4 +194,8 @@ module _ (w : Setting) (ready : IsSettled w) where
       let ew : (answered_at t.rate a m s1).work ≡ s1.work = answered_work t.rate a m s1 in
       let is = copy_line w.code w.routine c1 t.rate d u spot.on ∙ ap (λ z. Go (set_at t.rate c1 d (held_at t.rate c1.scalars c1.vectors z u))) em in
       subst (λ z. StmtOk w c z spot (1 + q) (answered_at t.rate a m s1) nobody nobody a) to
-      (return_ok c c2 (ok.steps + 1) (pc1 + 1) spot (1 + q) a (answered_at t.rate a m s1) (comes_on w c c1 c2 ok.steps 1 ok.comes (set_comes w ready t.rate c1 d y pc1 (copy t.rate d u spot.on) ok.at (are_back w.routine.code pc ca put_it h1).0 is)) (set_goes w ready t.rate c1 d y pc1 ok.at) (result_stands t.rate c1 a m s1 y ok.stands ok.holds) (spares_on w spot.slot c c1 c2 ok.spares (result_spares t.rate spot.slot c1 y)) (λ r lt. set_masks w ready t.rate c1 d y r ∙ ok.masks r lt) b.mask h2 three (omega (arith, ok.bound, ew))))
+      (return_ok c c2 (ok.steps + 1) (pc1 + 1) spot (1 + q) a (answered_at t.rate a m s1)
+      (comes_on w c c1 c2 ok.steps 1 ok.comes (set_comes w ready t.rate c1 d y pc1 (copy t.rate d u spot.on) ok.at
+      (are_back w.routine.code pc ca put_it h1).0 is)) (set_goes w ready t.rate c1 d y pc1 ok.at)
+      (result_stands t.rate c1 a m s1 y ok.stands ok.holds) (spares_on w spot.slot c c1 c2 ok.spares (result_spares t.rate spot.slot c1 y))
+      (λ r lt. set_masks w ready t.rate c1 d y r ∙ ok.masks r lt) b.mask h2 three (omega (arith, ok.bound, ew))))

@@ -76,7 +76,9 @@ routine_more callees fs at f old new low is same a x =
     ap (λ n. functions_of (take n fs)) (add-one at) ∙ ap functions_of (take-suc fs at f low ∙ ap (λ z. take at fs ++ z ∷ []) (sym is)) ∙ map-append function_of (take at fs) (f ∷ []) in
     subst (λ z. AreLowered callees z (all_routines new) new.places new.texts) (sym taken)
     (subst (λ z. AreLowered callees (functions_of (take at fs) ++ function_of f ∷ []) z new.places new.texts) (sym x.added)
-    (all_last callees (functions_of (take at fs)) (all_routines old) (function_of f) x.routine new.places new.texts (all_more callees (functions_of (take at fs)) (all_routines old) old.places new.places old.texts new.texts x.places x.texts a) (subst (λ z. IsLowered z (function_of f) x.routine new.places new.texts) same x.lowered)))
+    (all_last callees (functions_of (take at fs)) (all_routines old) (function_of f) x.routine new.places new.texts
+    (all_more callees (functions_of (take at fs)) (all_routines old) old.places new.places old.texts new.texts x.places x.texts a)
+    (subst (λ z. IsLowered z (function_of f) x.routine new.places new.texts) same x.lowered)))
 
 -- its places and its texts are more that the text of code can have
 pub tables_more : (h : TFunction) (old new : Draft) → TablesCanBeWritten old → AddsLowered h old new → TablesCanBeWritten new
@@ -91,7 +93,8 @@ same_count fs [] (g ∷ gs) places texts a = absurd a
 same_count fs (h ∷ hs) [] places texts a = absurd a
 same_count fs (h ∷ hs) (g ∷ gs) places texts a = ap suc (same_count fs hs gs places texts a.1)
 
-each_at : (fs hs : List TFunction) (gs : List Routine) (places : List Span) (texts : List (List ℕ)) → AreLowered fs hs gs places texts → (f : ℕ) (h : TFunction) (g : Routine) → slice_get hs f ≡ Some h → slice_get gs f ≡ Some g → IsLowered fs h g places texts
+each_at : (fs hs : List TFunction) (gs : List Routine) (places : List Span) (texts : List (List ℕ)) → AreLowered fs hs gs places texts
+    → (f : ℕ) (h : TFunction) (g : Routine) → slice_get hs f ≡ Some h → slice_get gs f ≡ Some g → IsLowered fs h g places texts
 each_at fs [] gs places texts a f h g e d = absurd (omega (arith, slice_get_within [] f h e))
 each_at fs (k ∷ hs) [] places texts a f h g e d = absurd a
 each_at fs (k ∷ hs) (m ∷ gs) places texts a zero h g e d = subst (λ z. IsLowered fs z g places texts) (some_is k h e) (subst (λ z. IsLowered fs k z places texts) (some_is m g d) a.0)

@@ -59,7 +59,9 @@ module _ (w : Setting) (ready : IsSettled w) where
 
   -- ---- the parts
 
-  test_runs : (e : TExpr) (n p : ℕ) → ExprParts w e (n + 3) → AreAt w.code.places p (expr_places w.layout e) → TestRuns w n (type_of e).rate (found w.layout e (n + 3)) (λ pc. expr_code w.layout e pc p n (n + 3)) (value (gang_of w) w.frame (calls_of w) e)
+  test_runs : (e : TExpr) (n p : ℕ) → ExprParts w e (n + 3) → AreAt w.code.places p (expr_places w.layout e)
+      → TestRuns w n (type_of e).rate (found w.layout e (n + 3)) (λ pc. expr_code w.layout e pc p n (n + 3))
+      (value (gang_of w) w.frame (calls_of w) e)
   test_runs e n p fit places T s c pc z has b =
       let fe : heads e ≤ 1 = few w e (n + 3) fit in
       expr_runs w ready e pc p n (n + 3) z (4 + z) T s c fit has places (omega arith) b
@@ -77,7 +79,9 @@ module _ (w : Setting) (ready : IsSettled w) where
   step_runs (Some x) n p fit places T s c pc z has b = simple_runs w ready x pc p n (n + 3) z T s c fit has places b
 
   -- the first part of a `for`, whose own unit of work leaves 32 steps
-  first_runs : (o : Option TFirst) (pc p k n q : ℕ) (a : Mask) (s : State) (c : Conf) → FirstFits w o n → AreAt w.routine.code pc (first_code w.layout o pc p k n) → AreAt w.code.places p (first_places w.layout o) → Enters w pc k n a s c q → DoneRuns w c (pc + length (first_code w.layout o pc p k n)) n q (first_part (gang_of w) w.frame (calls_of w) o a s)
+  first_runs : (o : Option TFirst) (pc p k n q : ℕ) (a : Mask) (s : State) (c : Conf) → FirstFits w o n
+      → AreAt w.routine.code pc (first_code w.layout o pc p k n) → AreAt w.code.places p (first_places w.layout o) → Enters w pc k n a s c q
+      → DoneRuns w c (pc + length (first_code w.layout o pc p k n)) n q (first_part (gang_of w) w.frame (calls_of w) o a s)
   first_runs None pc p k n q a s c fit has places b = none_done w ready pc k n q a s c b
   first_runs (Some (t_first_declare xs sp)) pc p k n q a s c fit has places b = items_run w ready xs pc p k n q a (tick s) c fit has places (enters_part w ready pc k n q q a s c (omega arith) b)
   first_runs (Some (t_first_simple x)) pc p k n q a s c fit has places b = simple_runs w ready x pc p k n q a s c fit has places b
@@ -89,7 +93,9 @@ module _ (w : Setting) (ready : IsSettled w) where
       let po = step_places w.layout o in
       are_back w.code.places (z.place + length px) po ps (are_back w.code.places z.place px (po ++ ps) names.places_are)
 
-  step_front : (x : TStmt) (o : Option TSimple) (z : Numbers) (ps : List Span) → AreNamed w.code z (stmt_places w.layout x ++ (step_places w.layout o ++ ps)) (stmt_texts x) → AreAt w.code.places (z.place + length (stmt_places w.layout x)) (step_places w.layout o)
+  step_front : (x : TStmt) (o : Option TSimple) (z : Numbers) (ps : List Span)
+      → AreNamed w.code z (stmt_places w.layout x ++ (step_places w.layout o ++ ps)) (stmt_texts x)
+      → AreAt w.code.places (z.place + length (stmt_places w.layout x)) (step_places w.layout o)
   step_front x o z ps names =
       let px = stmt_places w.layout x in
       let po = step_places w.layout o in
@@ -107,7 +113,10 @@ module _ (w : Setting) (ready : IsSettled w) where
       let wide = is_wide f (type_of e).rate in
       let l : LoopsRun w wide (exits_of x) spot a = loops_run w ready wide (exits_of x) spot a three in
       set_aside w ready (nobody_leaves (only_returns (exits_of x))) c _ spot q _
-      (l.while_loop (type_of e).rate (found w.layout e (n + 3)) pc q s c _ _ _ _ _ (test_runs e n z.place fit.0 (are_front w.code.places z.place pe _ names.places_are)) (test_runs e n (test_place w.layout x None z1) fit.0 (behind_step x None z1 pe rest)) (body_runs x n z1 r fit.1 (named_before w.code z1 px _ _ rest)) (is_body x) has b)
+      (l.while_loop (type_of e).rate (found w.layout e (n + 3)) pc q s c _ _ _ _ _
+      (test_runs e n z.place fit.0 (are_front w.code.places z.place pe _ names.places_are))
+      (test_runs e n (test_place w.layout x None z1) fit.0 (behind_step x None z1 pe rest))
+      (body_runs x n z1 r fit.1 (named_before w.code z1 px _ _ rest)) (is_body x) has b)
 
   pub do_runs : (f : Form) (g : ℕ) (x : TStmt) (e : TExpr) (sp : Span) → CodeRuns x → CodeRuns (t_do f g x e sp)
   do_runs f g x e sp r pc z spot q a s c fit has names three b =
@@ -116,14 +125,21 @@ module _ (w : Setting) (ready : IsSettled w) where
       let wide = is_wide f (type_of e).rate in
       let l : LoopsRun w wide (exits_of x) spot a = loops_run w ready wide (exits_of x) spot a three in
       set_aside w ready (nobody_leaves (only_returns (exits_of x))) c _ spot q _
-      (l.do_loop (type_of e).rate (found w.layout e (n + 3)) pc q (tick s) c _ _ _ _ (test_runs e n (test_place w.layout x None z) fit.0 (behind_step x None z (expr_places w.layout e) names)) (body_runs x n z r fit.1 (named_before w.code z px _ _ names)) (is_body x) has (enters_part w ready pc spot.on n (3 + q) q a s c (omega arith) b))
+      (l.do_loop (type_of e).rate (found w.layout e (n + 3)) pc q (tick s) c _ _ _ _
+      (test_runs e n (test_place w.layout x None z) fit.0 (behind_step x None z (expr_places w.layout e) names))
+      (body_runs x n z r fit.1 (named_before w.code z px _ _ names)) (is_body x) has
+      (enters_part w ready pc spot.on n (3 + q) q a s c (omega arith) b))
 
   -- the first part of a `for`, and what follows it
-  behind_first : (o : Option TFirst) (pc p : ℕ) (spot : Spot) (q : ℕ) (a : Mask) (s : State) (c : Conf) (code : ℕ → List Instr) (next : State → Res) → FirstFits w o spot.slot → AreAt w.routine.code pc (two pc (first_code w.layout o pc p spot.on spot.slot) code) → AreAt w.code.places p (first_places w.layout o) → AreThree spot → EntersAt w pc spot a s c q
+  behind_first : (o : Option TFirst) (pc p : ℕ) (spot : Spot) (q : ℕ) (a : Mask) (s : State) (c : Conf) (code : ℕ → List Instr) (next : State → Res)
+      → FirstFits w o spot.slot → AreAt w.routine.code pc (two pc (first_code w.layout o pc p spot.on spot.slot) code)
+      → AreAt w.code.places p (first_places w.layout o) → AreThree spot → EntersAt w pc spot a s c q
       → ((pc1 : ℕ) (s1 : State) (c1 : Conf) (z : ℕ) → AreAt w.routine.code pc1 (code pc1) → EntersAt w pc1 spot a s1 c1 (3 + z) → StmtRuns w w.turns c1 (pc1 + length (code pc1)) spot (1 + z) (next s1))
       → StmtRuns w w.turns c (pc + length (two pc (first_code w.layout o pc p spot.on spot.slot) code)) spot (1 + q) (with_value (first_part (gang_of w) w.frame (calls_of w) o a (tick s)) (λ u s1. next s1))
   behind_first o pc p spot q a s c code next fit has places three b f =
-      go (first_part (gang_of w) w.frame (calls_of w) o a (tick s)) (first_runs o pc p spot.on spot.slot (3 + q) a (tick s) c fit (are_front w.routine.code pc ca (code pc1) has) places (enters_part w ready pc spot.on spot.slot (3 + q) q a s c (omega arith) b))
+      go (first_part (gang_of w) w.frame (calls_of w) o a (tick s))
+      (first_runs o pc p spot.on spot.slot (3 + q) a (tick s) c fit (are_front w.routine.code pc ca (code pc1) has) places
+      (enters_part w ready pc spot.on spot.slot (3 + q) q a s c (omega arith) b))
     where
       ca : List Instr
       ca = first_code w.layout o pc p spot.on spot.slot
@@ -142,9 +158,21 @@ module _ (w : Setting) (ready : IsSettled w) where
 
       go : (v : Val Done) → DoneRuns w c pc1 spot.slot (3 + q) v → StmtRuns w w.turns c end spot (1 + q) (with_value v (λ u s1. next s1))
       go (Gives u s1) ok =
-          let r = f pc1 s1 ok.conf (ok.steps + q) (are_back w.routine.code pc ca (code pc1) has) (record { at = ok.at; mask = ok.masks spot.on b.low ∙ b.mask; some = b.some; inside = b.inside; stands = ok.stands; used = omega (arith, ok.bound); low = b.low }) in
+          let r = f pc1 s1 ok.conf (ok.steps + q) (are_back w.routine.code pc ca (code pc1) has)
+          (record {
+            at = ok.at;
+            mask = ok.masks spot.on b.low
+                ∙ b.mask;
+            some = b.some;
+            inside = b.inside;
+            stands = ok.stands;
+            used = omega (arith, ok.bound);
+            low = b.low;
+          }) in
           let e : 1 + (ok.steps + q) ≡ ok.steps + (1 + q) = omega arith in
-          stmt_after w ready w.turns c ok.conf ok.steps end spot (1 + q) (next s1) ok.comes ok.spares (λ y lt ne. ok.masks y lt) three (subst (λ z. StmtRuns w w.turns ok.conf z spot (ok.steps + (1 + q)) (next s1)) ends (subst (λ z. StmtRuns w w.turns ok.conf (pc1 + length (code pc1)) spot z (next s1)) e r))
+          stmt_after w ready w.turns c ok.conf ok.steps end spot (1 + q) (next s1) ok.comes ok.spares (λ y lt ne. ok.masks y lt) three
+          (subst (λ z. StmtRuns w w.turns ok.conf z spot (ok.steps + (1 + q)) (next s1)) ends
+          (subst (λ z. StmtRuns w w.turns ok.conf (pc1 + length (code pc1)) spot z (next s1)) e r))
       go (Fails t s1) bad = failed_less w ready c 2 (1 + q) t s1 (subst (λ z. Failed w c z t s1) three_is bad)
       go (Stops s1) cut = stopped_less w ready w.turns c 2 (1 + q) s1 (subst (λ z. Stopped w w.turns c z s1) three_is cut)
 
@@ -182,6 +210,12 @@ module _ (w : Setting) (ready : IsSettled w) where
       let l : LoopsRun w wide (exits_of x) spot a = loops_run w ready wide (exits_of x) spot a three in
       set_aside w ready (nobody_leaves (only_returns (exits_of x))) c _ spot q _
       (behind_first first pc z.place spot q a s c
-      (λ pc1. for_code wide (exits_of x) (type_of e).rate (found w.layout e (n + 3)) pc1 spot (λ pc2. expr_code w.layout e pc2 z1.place n (n + 3)) (λ pc2. expr_code w.layout e pc2 (test_place w.layout x step z2) n (n + 3)) (λ pc2. stmt_code w.layout w.frame.answer x pc2 z2 (body_spot n)) (λ pc2. step_code w.layout step pc2 (z2.place + length px) n (n + 3)))
+      (λ pc1. for_code wide (exits_of x) (type_of e).rate (found w.layout e (n + 3)) pc1 spot (λ pc2. expr_code w.layout e pc2 z1.place n (n + 3))
+      (λ pc2. expr_code w.layout e pc2 (test_place w.layout x step z2) n (n + 3))
+      (λ pc2. stmt_code w.layout w.frame.answer x pc2 z2 (body_spot n)) (λ pc2. step_code w.layout step pc2 (z2.place + length px) n (n + 3)))
       (λ s1. looped (Some e) x step a s1) fit.0 has (are_front w.code.places z.place pf _ names.places_are) three b
-      (λ pc1 s1 c1 y at en. l.for_loop (type_of e).rate (found w.layout e (n + 3)) pc1 y s1 c1 _ _ _ _ _ _ _ (test_runs e n z1.place fit.1 (are_front w.code.places z1.place pe _ own.places_are)) (test_runs e n (test_place w.layout x step z2) fit.1 (behind_step x step z2 pe rest)) (body_runs x n z2 r fit.3 (named_before w.code z2 px _ _ rest)) (step_runs step n (z2.place + length px) fit.2 (step_front x step z2 pe rest)) (is_body x) at en))
+      (λ pc1 s1 c1 y at en. l.for_loop (type_of e).rate (found w.layout e (n + 3)) pc1 y s1 c1 _ _ _ _ _ _ _
+      (test_runs e n z1.place fit.1 (are_front w.code.places z1.place pe _ own.places_are))
+      (test_runs e n (test_place w.layout x step z2) fit.1 (behind_step x step z2 pe rest))
+      (body_runs x n z2 r fit.3 (named_before w.code z2 px _ _ rest))
+      (step_runs step n (z2.place + length px) fit.2 (step_front x step z2 pe rest)) (is_body x) at en))

@@ -33,7 +33,9 @@ module _ (w : Setting) (ready : IsSettled w) (e : Exits) (spot : Spot) (three : 
       → StmtRuns w w.turns c (pc + length (loop_code e pc spot code)) spot (1 + q) (value all nobody s)
   loop_runs wide pc q s c code value has b f =
       subst (λ z. StmtRuns w w.turns c z spot (1 + q) (value all nobody s)) ends
-      (begin_runs w ready wide e spot three all pc (top + length (code top) + length last) q s c value (are_front w.routine.code pc begin (code top ++ last) has) b (f top (are_front w.routine.code top (code top) last inside) (are_back w.routine.code top (code top) last inside)))
+      (begin_runs w ready wide e spot three all pc (top + length (code top) + length last) q s c value
+      (are_front w.routine.code pc begin (code top ++ last) has) b
+      (f top (are_front w.routine.code top (code top) last inside) (are_back w.routine.code top (code top) last inside)))
     where
       begin : List Instr
       begin = enter_code e spot.on n
@@ -51,9 +53,16 @@ module _ (w : Setting) (ready : IsSettled w) (e : Exits) (spot : Spot) (three : 
   no_step_runs T s c pc z has b = none_done w ready pc n (n + 3) z T s c b
 
   -- a `for` whose test is left out
-  endless_runs : (pc q : ℕ) (s : State) (c : Conf) (body_code step_code : ℕ → List Instr) (body : Mask → State → Res) (step : Mask → State → Val Done) → BodyRuns w n body_code body → StepRuns w n step_code step → IsBody e body → AreAt w.routine.code pc (endless_code e pc spot body_code step_code) → EntersAt w pc spot all s c (3 + q) → StmtRuns w w.turns c (pc + length (endless_code e pc spot body_code step_code)) spot (1 + q) (tested (gang_of w) (λ l s1. Gives (One 1) s1) body step all (turns (gang_of w) (λ l s1. Gives (One 1) s1) body step all w.turns) all nobody s)
+  endless_runs : (pc q : ℕ) (s : State) (c : Conf) (body_code step_code : ℕ → List Instr) (body : Mask → State → Res) (step : Mask → State → Val Done)
+      → BodyRuns w n body_code body → StepRuns w n step_code step → IsBody e body
+      → AreAt w.routine.code pc (endless_code e pc spot body_code step_code) → EntersAt w pc spot all s c (3 + q)
+      → StmtRuns w w.turns c (pc + length (endless_code e pc spot body_code step_code)) spot (1 + q)
+      (tested (gang_of w) (λ l s1. Gives (One 1) s1) body step all (turns (gang_of w) (λ l s1. Gives (One 1) s1) body step all w.turns) all nobody s)
   endless_runs pc q s c body_code step_code body step run_body run_step is has b =
-      loop_runs false pc q s c (λ top. two top (turn_code false e top n body_code) (behind top)) (tested (gang_of w) test body step all (turns_here w.turns)) has b (λ top at at_end. from_top top (top + length (turn top top) + length last) w.turns (all_kept top (top + length (turn top top)) at at_end) at)
+      loop_runs false pc q s c (λ top. two top (turn_code false e top n body_code) (behind top))
+      (tested (gang_of w) test body step all (turns_here w.turns)) has b
+      (λ top at at_end. from_top top (top + length (turn top top) + length last) w.turns (all_kept top (top + length (turn top top)) at at_end)
+      at)
     where
       test : Mask → State → Val Payload
       test l s1 = Gives (One 1) s1
@@ -67,18 +76,24 @@ module _ (w : Setting) (ready : IsSettled w) (e : Exits) (spot : Spot) (three : 
       turn : ℕ → ℕ → List Instr
       turn top pc = two pc (turn_code false e pc n body_code) (behind top)
 
-      from_top : (top end t : ℕ) → KeptRuns w ready false e spot three all t (turn top) (top + length (turn top top)) end (turns_here t) → AreAt w.routine.code top (turn top top) → TopRuns w ready false e spot three all t top end (tested (gang_of w) test body step all (turns_here t))
+      from_top : (top end t : ℕ) → KeptRuns w ready false e spot three all t (turn top) (top + length (turn top top)) end (turns_here t)
+          → AreAt w.routine.code top (turn top top) → TopRuns w ready false e spot three all t top end
+          (tested (gang_of w) test body step all (turns_here t))
       from_top top end t f at q1 live returned s1 c1 i inside some used =
           subst (λ z. StmtRuns w t c1 end spot q1 (if_so z (turns_here t live returned) (loop_end (gang_of w) test body step all returned) s1)) (sym some) (f live returned s1 c1 top q1 at refl i some inside used)
 
-      all_kept : (top past : ℕ) → AreAt w.routine.code top (turn top top) → AreAt w.routine.code (top + length (turn top top)) last → KeptRuns w ready false e spot three all w.turns (turn top) (top + length (turn top top)) (top + length (turn top top) + length last) (turns_here w.turns)
+      all_kept : (top past : ℕ) → AreAt w.routine.code top (turn top top) → AreAt w.routine.code (top + length (turn top top)) last
+          → KeptRuns w ready false e spot three all w.turns (turn top) (top + length (turn top top)) (top + length (turn top top) + length last)
+          (turns_here w.turns)
       all_kept top past at at_end =
           let to = top + length (turn top top) in
           kept_runs w ready false e spot three all to (to + length last) body_code (behind top) test body step run_body (λ T s1. (is T s1).0) (λ T s1. (is T s1).1)
           (λ m le f. step_runs w ready false e spot three all m to (to + length last) step_code (λ pc1. instr.Jump top ∷ []) step (tested (gang_of w) test body step all (turns_here m)) le refl at_end run_step
           (jump_runs w ready false e spot three all m top to (to + length last) (tested (gang_of w) test body step all (turns_here m)) (from_top top (to + length last) m f at))) w.turns (omega arith)
 
-  module _ (wide : Bool) (r : Rate) (x : ℕ) (test_code body_code step_code : ℕ → List Instr) (test : Mask → State → Val Payload) (body : Mask → State → Res) (step : Mask → State → Val Done) (run_test : TestRuns w n r x test_code test) (run_body : BodyRuns w n body_code body) (run_step : StepRuns w n step_code step) (is : IsBody e body) where
+  module _ (wide : Bool) (r : Rate) (x : ℕ) (test_code body_code step_code : ℕ → List Instr) (test : Mask → State → Val Payload)
+      (body : Mask → State → Res) (step : Mask → State → Val Done) (run_test : TestRuns w n r x test_code test)
+      (run_body : BodyRuns w n body_code body) (run_step : StepRuns w n step_code step) (is : IsBody e body) where
     abbrev turns_here : ℕ → Mask → Mask → State → Res
     turns_here = turns (gang_of w) test body step all
 
@@ -105,22 +120,31 @@ module _ (w : Setting) (ready : IsSettled w) (e : Exits) (spot : Spot) (three : 
         turn pc = two pc (turn_code wide e pc n body_code) behind
 
     -- a loop that begins with a turn
-    turned_runs : (pc q : ℕ) (s : State) (c : Conf) → AreAt w.routine.code pc (loop_code e pc spot turns_from) → EntersAt w pc spot all s c (3 + q) → StmtRuns w w.turns c (pc + length (loop_code e pc spot turns_from)) spot (1 + q) (turns_here w.turns all nobody s)
+    turned_runs : (pc q : ℕ) (s : State) (c : Conf) → AreAt w.routine.code pc (loop_code e pc spot turns_from) → EntersAt w pc spot all s c (3 + q)
+        → StmtRuns w w.turns c (pc + length (loop_code e pc spot turns_from)) spot (1 + q) (turns_here w.turns all nobody s)
     turned_runs pc q s c has b =
         loop_runs wide pc q s c turns_from (turns_here w.turns) has b (λ top at at_end q1 live returned s1 c1 i inside some used. all_kept (top + length (turns_from top)) at_end live returned s1 c1 top q1 at refl i some inside used)
 
     -- and one that begins with the test
-    for_runs : (pc q : ℕ) (s : State) (c : Conf) (entry_code : ℕ → List Instr) → TestRuns w n r x entry_code test → AreAt w.routine.code pc (for_code wide e r x pc spot entry_code test_code body_code step_code) → EntersAt w pc spot all s c (3 + q) → StmtRuns w w.turns c (pc + length (for_code wide e r x pc spot entry_code test_code body_code step_code)) spot (1 + q) (tested (gang_of w) test body step all (turns_here w.turns) all nobody s)
+    for_runs : (pc q : ℕ) (s : State) (c : Conf) (entry_code : ℕ → List Instr) → TestRuns w n r x entry_code test
+        → AreAt w.routine.code pc (for_code wide e r x pc spot entry_code test_code body_code step_code) → EntersAt w pc spot all s c (3 + q)
+        → StmtRuns w w.turns c (pc + length (for_code wide e r x pc spot entry_code test_code body_code step_code)) spot (1 + q)
+        (tested (gang_of w) test body step all (turns_here w.turns) all nobody s)
     for_runs pc q s c entry_code run_entry has b =
         loop_runs wide pc q s c (λ top. entry_code top ++ sift top) (tested (gang_of w) test body step all (turns_here w.turns)) has b
-        (λ top at at_end q1 live returned s1 c1 i inside some used. tested_runs w ready wide e spot three all w.turns r x top (top + length (entry_code top ++ sift top)) q1 live returned s1 c1 entry_code turns_from test (turns_here w.turns) (omega arith) (omega (arith, length-append (entry_code top) (sift top))) i inside some used (are_front w.routine.code top (entry_code top) (sift top) at) (are_back w.routine.code top (entry_code top) (sift top) at) at_end run_entry (all_kept (top + length (entry_code top ++ sift top)) at_end))
+        (λ top at at_end q1 live returned s1 c1 i inside some used. tested_runs w ready wide e spot three all w.turns r x top
+        (top + length (entry_code top ++ sift top)) q1 live returned s1 c1 entry_code turns_from test (turns_here w.turns) (omega arith)
+        (omega (arith, length-append (entry_code top) (sift top))) i inside some used
+        (are_front w.routine.code top (entry_code top) (sift top) at) (are_back w.routine.code top (entry_code top) (sift top) at) at_end
+        run_entry (all_kept (top + length (entry_code top ++ sift top)) at_end))
       where
         sift : ℕ → List Instr
         sift top = sift_code r x (top + length (entry_code top)) n turns_from
 
 pub loops_run : AllLoopsRun
 loops_run w ready wide e spot a three = record {
-  while_loop = λ r x pc q s c ec tc bc test body re rt rb is has b. for_runs w ready e spot three a wide r x tc bc no_code test body no_step rt rb (no_step_runs w ready e spot three a) is pc q (tick s) c ec re has (enters_part w ready pc spot.on spot.slot (3 + q) q a s c (omega arith) b);
+  while_loop = λ r x pc q s c ec tc bc test body re rt rb is has b. for_runs w ready e spot three a wide r x tc bc no_code test body no_step rt rb
+      (no_step_runs w ready e spot three a) is pc q (tick s) c ec re has (enters_part w ready pc spot.on spot.slot (3 + q) q a s c (omega arith) b);
   for_loop = λ r x pc q s c ec tc bc sc test body step re rt rb rs is has b. for_runs w ready e spot three a wide r x tc bc sc test body step rt rb rs is pc q s c ec re has b;
   endless_loop = λ pc q s c bc sc body step rb rs is has b. endless_runs w ready e spot three a pc q s c bc sc body step rb rs is has b;
   do_loop = λ r x pc q s c tc bc test body rt rb is has b. turned_runs w ready e spot three a wide r x tc bc no_code test body no_step rt rb (no_step_runs w ready e spot three a) is pc q s c has b;

@@ -137,7 +137,9 @@ module _ (program : Program) (code : Listing) (accepted : IsAccepted program) (h
   entry f h g eh eg out =
       let low = has.each f h g eh eg in
       let own = fine_at f h eh in
-      made_entry program.functions code h g low.rows low.numbers own (is_made program.functions code h g own low) (ap result_of low.returns ∙ given_is h.answer ∙ sym own.gives) (record { takes = (fits_at f h eh).passed out; gives = gives_one h.answer ((fits_at f h eh).result out) })
+      made_entry program.functions code h g low.rows low.numbers own (is_made program.functions code h g own low)
+      (ap result_of low.returns ∙ given_is h.answer ∙ sym own.gives)
+      (record { takes = (fits_at f h eh).passed out; gives = gives_one h.answer ((fits_at f h eh).result out) })
 
   pub program_code : IsProgramCode program code
   program_code = record {
@@ -163,7 +165,11 @@ module _ (program : Program) (code : Listing) (accepted : IsAccepted program) (h
       let low = has.each f h.0 g h.1 eg in
       let own = fine_at f h.0 h.1 in
       let fits = fits_at f h.0 h.1 in
-      head_fits (take f code.routines) g (new_name code.routines f g all_differ eg) (names_apart g h.0.parameters (parameters program.functions code h.0 g own low) own.names) (λ out. let is : h.0.exported ≡ true = sym low.exported ∙ out in exports (length h.0.params) h.0.parameters h.0.variables h.0.answer g own.params (fits.passed is) (gives_one h.0.answer (fits.result is)) low.params low.returns) low.three
+      head_fits (take f code.routines) g (new_name code.routines f g all_differ eg)
+      (names_apart g h.0.parameters (parameters program.functions code h.0 g own low) own.names)
+      (λ out. let is : h.0.exported ≡ true = sym low.exported
+      ∙ out in exports (length h.0.params) h.0.parameters h.0.variables h.0.answer g own.params (fits.passed is)
+      (gives_one h.0.answer (fits.result is)) low.params low.returns) low.three
 
   pub code_passes : code_fault code ≡ None
   code_passes = code_accepted code headers bodies
@@ -180,7 +186,9 @@ routines_fit program code accepted has =
     (λ f g eg.
     let h = source program code accepted has f g eg in
     let low = has.each f h.0 g h.1 eg in
-    routine_parts_fit code g program.functions h.0 (fine_at program code accepted has f h.0 h.1) (fine_of ScopedFunction program.functions f h.0 accepted.scoped.each h.1) (body_sound code g (bodies program code accepted has f g eg)) low.name low.params low.locals)
+    routine_parts_fit code g program.functions h.0 (fine_at program code accepted has f h.0 h.1)
+    (fine_of ScopedFunction program.functions f h.0 accepted.scoped.each h.1) (body_sound code g (bodies program code accepted has f g eg))
+    low.name low.params low.locals)
 
 pub lowered_agrees : LoweredAgrees
 lowered_agrees = record {

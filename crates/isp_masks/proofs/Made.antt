@@ -57,7 +57,10 @@ at_low xs n (y ∷ ys) le is =
 module _ (fs : List TFunction) (code : Listing) (h : TFunction) (g : Routine) (rows : Rows) (z : Numbers) (fine : FineFunction fs h) (made : IsMade fs code h g rows z) where
   present : BodyPresent h g (layout_of (rates_in fs) rows) 3
   present =
-      body_present fs h g (layout_of (rates_in fs) rows) fine made.arrays made.parameters 3 (all_grow (HasRow rows) (HasRegister g (layout_of (rates_in fs) rows)) AnyArray AnyArray AnyArray AnyArray (HasMask g) (HasMask g) (IsLoaded rows) (IsLoadedIn (layout_of (rates_in fs) rows)) (register_there g (rates_in fs) rows made.types) (λ b z. z) (λ b z. z) (λ n z. z) (λ v z. z) (block_asks h.answer h.body 3) made.rows_are)
+      body_present fs h g (layout_of (rates_in fs) rows) fine made.arrays made.parameters 3
+      (all_grow (HasRow rows) (HasRegister g (layout_of (rates_in fs) rows)) AnyArray AnyArray AnyArray AnyArray (HasMask g) (HasMask g)
+      (IsLoaded rows) (IsLoadedIn (layout_of (rates_in fs) rows)) (register_there g (rates_in fs) rows made.types) (λ b z. z) (λ b z. z)
+      (λ n z. z) (λ v z. z) (block_asks h.answer h.body 3) made.rows_are)
 
   given_at : (r : Rate) (t : Elem) → HasRegister g (layout_of (rates_in fs) rows) r Result t → IsGiven g (value_returned r t) (Some (register r ((layout_of (rates_in fs) rows).result r)))
   given_at Uniform t is = is
@@ -69,11 +72,17 @@ module _ (fs : List TFunction) (code : Listing) (h : TFunction) (g : Routine) (r
       subst (λ z. IsGiven g z (Some (register t.rate ((layout_of (rates_in fs) rows).result t.rate)))) (sym e) (given_at t.rate t.elem (register_there g (rates_in fs) rows made.types t.rate Result t.elem row))
 
   -- what the code asks for that keeps constants
-  there : (ks : List Constant) → All (HasRow rows) AnyArray AnyArray (HasMask g) (IsLoaded rows) (constants_asks 3 ks) → All (HasRegister g (layout_of (rates_in fs) rows)) AnyArray AnyArray (HasMask g) (IsLoadedIn (layout_of (rates_in fs) rows)) (constants_asks 3 ks)
+  there : (ks : List Constant) → All (HasRow rows) AnyArray AnyArray (HasMask g) (IsLoaded rows) (constants_asks 3 ks)
+      → All (HasRegister g (layout_of (rates_in fs) rows)) AnyArray AnyArray (HasMask g) (IsLoadedIn (layout_of (rates_in fs) rows))
+      (constants_asks 3 ks)
   there ks f =
-      all_grow (HasRow rows) (HasRegister g (layout_of (rates_in fs) rows)) AnyArray AnyArray AnyArray AnyArray (HasMask g) (HasMask g) (IsLoaded rows) (IsLoadedIn (layout_of (rates_in fs) rows)) (register_there g (rates_in fs) rows made.types) (λ b z. z) (λ b z. z) (λ n z. z) (λ v z. z) (constants_asks 3 ks) f
+      all_grow (HasRow rows) (HasRegister g (layout_of (rates_in fs) rows)) AnyArray AnyArray AnyArray AnyArray (HasMask g) (HasMask g)
+      (IsLoaded rows) (IsLoadedIn (layout_of (rates_in fs) rows)) (register_there g (rates_in fs) rows made.types) (λ b z. z) (λ b z. z)
+      (λ n z. z) (λ v z. z) (constants_asks 3 ks) f
 
-  spares_typed : (ks : List Constant) → All (HasRegister g (layout_of (rates_in fs) rows)) AnyArray AnyArray (HasMask g) (IsLoadedIn (layout_of (rates_in fs) rows)) (constants_asks 3 ks) → Each (λ x. elem_of g (register Uniform ((layout_of (rates_in fs) rows).spare Uniform x.elem 3)) ≡ x.elem) ks
+  spares_typed : (ks : List Constant) → All (HasRegister g (layout_of (rates_in fs) rows)) AnyArray AnyArray (HasMask g)
+      (IsLoadedIn (layout_of (rates_in fs) rows)) (constants_asks 3 ks)
+      → Each (λ x. elem_of g (register Uniform ((layout_of (rates_in fs) rows).spare Uniform x.elem 3)) ≡ x.elem) ks
   spares_typed [] f = tt
   spares_typed (x ∷ xs) f = (f.1.0.1, spares_typed xs f.1.1)
 
@@ -107,7 +116,11 @@ module _ (fs : List TFunction) (code : Listing) (h : TFunction) (g : Routine) (r
   pub made_entry : result_of g.returns ≡ h.gives → IsUniform h → IsEntry h g (layout_of (rates_in fs) rows)
   made_entry result uniform = record { parameters = made.parameters; result = result; one = uniform.takes; gives = result_fits h.answer fine.gives made.result uniform.gives }
 
-pub made_compiled : (program : Program) (code : Listing) (f : ℕ) (h : TFunction) (g : Routine) (rows : Rows) (z : Numbers) → code.gang ≡ program.gang → slice_get program.functions f ≡ Some h → slice_get code.routines f ≡ Some g → FineFunction program.functions h → BlockRated program.functions h.answer h.body → BlockFree None h.body → IsMade program.functions code h g rows z → Begins (first_rows h.variables h.answer).scalars rows.scalars → Begins (first_rows h.variables h.answer).vectors rows.vectors → IsCompiled program code f h g (layout_of (rates_in program.functions) rows) z
+pub made_compiled : (program : Program) (code : Listing) (f : ℕ) (h : TFunction) (g : Routine) (rows : Rows) (z : Numbers) → code.gang ≡ program.gang
+    → slice_get program.functions f ≡ Some h → slice_get code.routines f ≡ Some g → FineFunction program.functions h
+    → BlockRated program.functions h.answer h.body → BlockFree None h.body → IsMade program.functions code h g rows z
+    → Begins (first_rows h.variables h.answer).scalars rows.scalars → Begins (first_rows h.variables h.answer).vectors rows.vectors
+    → IsCompiled program code f h g (layout_of (rates_in program.functions) rows) z
 made_compiled program code f h g rows z gang source found fine plain free made scalars vectors = record {
   gang = gang;
   source = source;
@@ -116,7 +129,8 @@ made_compiled program code f h g rows z gang source found fine plain free made s
   rates = refl;
   fine = fine;
   passed = passed_first h (rates_in program.functions) rows scalars vectors;
-  code_is = subst (λ c. AreAt c 0 (function_code (layout_of (rates_in program.functions) rows) h.answer made.constants h.body 0 z)) (sym made.code_is) (at_whole (function_code (layout_of (rates_in program.functions) rows) h.answer made.constants h.body 0 z));
+  code_is = subst (λ c. AreAt c 0 (function_code (layout_of (rates_in program.functions) rows) h.answer made.constants h.body 0 z)) (sym made.code_is)
+      (at_whole (function_code (layout_of (rates_in program.functions) rows) h.answer made.constants h.body 0 z));
   names = made.names;
   rated = plain;
   free = free;

@@ -36,7 +36,8 @@ pub index_bits : (z : ℤ) (p : ℕ) → p < widest → op_bits op.Add I32 (wrap
 index_bits z p lt = ap (λ n. wrap I32 (number I32 (wrap I32 z) +ℤ n)) (small_number p lt) ∙ wrapped_sum z p
 
 -- the place in each lane of a set, and the lane's number added
-pub index_is : (z : ℤ) (a : Mask) (old numbers : Lanes) → ((p : ℕ) → a p ≡ true → p < widest) → ((p : ℕ) → a p ≡ true → numbers p ≡ p) → map2 (op_bits op.Add I32) (on a (over (on a (λ p. wrap I32 z)) old)) (on a numbers) ≡ on a (λ p. wrap I32 (z +ℤ pos p))
+pub index_is : (z : ℤ) (a : Mask) (old numbers : Lanes) → ((p : ℕ) → a p ≡ true → p < widest) → ((p : ℕ) → a p ≡ true → numbers p ≡ p)
+    → map2 (op_bits op.Add I32) (on a (over (on a (λ p. wrap I32 z)) old)) (on a numbers) ≡ on a (λ p. wrap I32 (z +ℤ pos p))
 index_is z a old numbers few are = fun_ext (λ p. at p (a p) refl)
   where
     at : (p : ℕ) (b : Bool) → a p ≡ b → map2 (op_bits op.Add I32) (on a (over (on a (λ q. wrap I32 z)) old)) (on a numbers) p ≡ on a (λ q. wrap I32 (z +ℤ pos q)) p
@@ -44,7 +45,9 @@ index_is z a old numbers few are = fun_ext (λ p. at p (a p) refl)
     at p false e = rw e refl
 
 -- the index of a run, and so much more
-pub next_is : (z : ℤ) (g : ℕ) (a : Mask) (v counts : Lanes) → g ≤ widest → ((p : ℕ) → a p ≡ true → v p ≡ wrap I32 (z +ℤ pos p)) → ((p : ℕ) → a p ≡ true → counts p ≡ wrap I32 (pos g)) → map2 (op_bits op.Add I32) (on a v) (on a counts) ≡ on a (λ p. wrap I32 ((z +ℤ pos g) +ℤ pos p))
+pub next_is : (z : ℤ) (g : ℕ) (a : Mask) (v counts : Lanes) → g ≤ widest → ((p : ℕ) → a p ≡ true → v p ≡ wrap I32 (z +ℤ pos p))
+    → ((p : ℕ) → a p ≡ true → counts p ≡ wrap I32 (pos g))
+    → map2 (op_bits op.Add I32) (on a v) (on a counts) ≡ on a (λ p. wrap I32 ((z +ℤ pos g) +ℤ pos p))
 next_is z g a v counts few is are = fun_ext (λ p. at p (a p) refl)
   where
     back : number I32 (wrap I32 (pos g)) ≡ pos g

@@ -99,7 +99,9 @@ more_counted r (holds.Given t) m n le = le
 more_counted r (holds.Local t k) m n le = le
 
 -- every other name comes behind those of the first n
-other_number : (r : Rate) (n : ℕ) (vs : List Declared) (more : List Row) (k : ℕ) (x : Name) → ((v : ℕ) (w : Declared) → slice_get (take n vs) v ≡ Some w → HasRate r w.holds → name_number (Variable (k + v)) ≢ name_number x) → value_count r (take n vs) ≤ number_in (value_rows r k vs ++ more) x
+other_number : (r : Rate) (n : ℕ) (vs : List Declared) (more : List Row) (k : ℕ) (x : Name)
+    → ((v : ℕ) (w : Declared) → slice_get (take n vs) v ≡ Some w → HasRate r w.holds → name_number (Variable (k + v)) ≢ name_number x)
+    → value_count r (take n vs) ≤ number_in (value_rows r k vs ++ more) x
 other_number r zero [] more k x ne = omega arith
 other_number r zero (w ∷ vs) more k x ne = omega arith
 other_number r (suc n) [] more k x ne = omega arith
@@ -113,7 +115,8 @@ other_number r (suc n) (w ∷ vs) more k x ne =
     moved : (v : ℕ) → k + suc v ≡ suc k + v
     moved v = omega arith
 
-values_begin : (vs : List Declared) (h : TFunction) (rows : Rows) → vs ≡ h.variables → Begins (first_rows vs h.answer).scalars rows.scalars → Begins (first_rows vs h.answer).vectors rows.vectors → (r : Rate) → (more : List Row) × (rows_at rows r ≡ value_rows r 0 vs ++ more)
+values_begin : (vs : List Declared) (h : TFunction) (rows : Rows) → vs ≡ h.variables → Begins (first_rows vs h.answer).scalars rows.scalars
+    → Begins (first_rows vs h.answer).vectors rows.vectors → (r : Rate) → (more : List Row) × (rows_at rows r ≡ value_rows r 0 vs ++ more)
 values_begin vs h rows e s v Uniform = (result_rows Uniform h.answer ++ s.more, s.is ∙ append_assoc (value_rows Uniform 0 vs) (result_rows Uniform h.answer) s.more)
 values_begin vs h rows e s v Varying = (result_rows Varying h.answer ++ v.more, v.is ∙ append_assoc (value_rows Varying 0 vs) (result_rows Varying h.answer) v.more)
 
@@ -125,7 +128,9 @@ passed_first h rates rows s v = record {
       ap (λ z. number_in z (Variable y)) b.1 ∙ value_number r h.variables b.0 0 y y x own (taken_at h.variables (length h.params) y x e) has ∙ ap (value_count r) (sym (take_taken h.variables (length h.params) y x e));
   other = λ r y lacks.
       let b = begun r in
-      subst (λ z. value_count r (params_of h) ≤ number_in z (Variable y)) (sym b.1) (other_number r (length h.params) h.variables b.0 0 (Variable y) (λ u w e has same. lacks w (subst (λ z. slice_get (params_of h) z ≡ Some w) (let is : u ≡ y = omega (arith, same) in is) e) has));
+      subst (λ z. value_count r (params_of h) ≤ number_in z (Variable y)) (sym b.1)
+      (other_number r (length h.params) h.variables b.0 0 (Variable y)
+      (λ u w e has same. lacks w (subst (λ z. slice_get (params_of h) z ≡ Some w) (let is : u ≡ y = omega (arith, same) in is) e) has));
   result = λ r.
       let b = begun r in
       subst (λ z. value_count r (params_of h) ≤ number_in z Result) (sym b.1) (other_number r (length h.params) h.variables b.0 0 Result (λ u w e has same. omega (arith, same)));

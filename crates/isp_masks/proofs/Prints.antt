@@ -85,7 +85,9 @@ words_few : (text : List ℕ) → length (words_of (parts text)) ≤ values_in (
 words_few [] = omega arith
 words_few (b ∷ bs) = go (words_few bs) (b == percent)
   where
-    go : length (words_of (parts bs)) ≤ values_in (parts bs) + begins (parts bs) → (z : Bool) → length (words_of (if z then Value ∷ parts bs else before b (parts bs))) ≤ values_in (if z then Value ∷ parts bs else before b (parts bs)) + begins (if z then Value ∷ parts bs else before b (parts bs))
+    go : length (words_of (parts bs)) ≤ values_in (parts bs) + begins (parts bs) → (z : Bool)
+        → length (words_of (if z then Value ∷ parts bs else before b (parts bs))) ≤ values_in (if z then Value ∷ parts bs else before b (parts bs)) +
+        begins (if z then Value ∷ parts bs else before b (parts bs))
     go ih true = omega (arith, ih, begins_few (parts bs))
     go ih false = before_few b (parts bs) ih
 
@@ -149,7 +151,13 @@ module _ (w : Setting) (ready : IsSettled w) where
       ∙ ap (λ b. Say (list_text t (gang_of w) (on b (c.vectors x))) (next c)) em
       ∙ ap (λ y. Say (list_text t (gang_of w) (spread a y)) (next c)) (sym h)
 
-  parts_come : (ps : List Part) (xs : List TExpr) (ms : List Payload) (pc t k n : ℕ) (a : Mask) (c : Conf) → At w c pc → AreAt w.routine.code pc (parts_code ps (own_rates xs) (value_registers w.layout (own_rates xs) (t_exprs xs) n) t k) → AreAt w.code.texts t (words_of ps) → c.masks k ≡ a → AllHold (own_rates xs) a (value_registers w.layout (own_rates xs) (t_exprs xs) n) ms c → ValuesParts w (own_rates xs) (t_exprs xs) n → Comes w c (length (parts_code ps (own_rates xs) (value_registers w.layout (own_rates xs) (t_exprs xs) n) t k)) (wrote c (length (parts_code ps (own_rates xs) (value_registers w.layout (own_rates xs) (t_exprs xs) n) t k)) (parts_text ps (shown_all (gang_of w) a xs ms)))
+  parts_come : (ps : List Part) (xs : List TExpr) (ms : List Payload) (pc t k n : ℕ) (a : Mask) (c : Conf) → At w c pc
+      → AreAt w.routine.code pc (parts_code ps (own_rates xs) (value_registers w.layout (own_rates xs) (t_exprs xs) n) t k)
+      → AreAt w.code.texts t (words_of ps) → c.masks k ≡ a → AllHold (own_rates xs) a (value_registers w.layout (own_rates xs) (t_exprs xs) n) ms c
+      → ValuesParts w (own_rates xs) (t_exprs xs) n → Comes w c
+      (length (parts_code ps (own_rates xs) (value_registers w.layout (own_rates xs) (t_exprs xs) n) t k))
+      (wrote c (length (parts_code ps (own_rates xs) (value_registers w.layout (own_rates xs) (t_exprs xs) n) t k))
+      (parts_text ps (shown_all (gang_of w) a xs ms)))
   parts_come [] xs ms pc t k n a c at has texts em hold fit = wrote_none c
   parts_come (Words u ∷ ps) xs ms pc t k n a c at has texts em hold fit =
       let regs = value_registers w.layout (own_rates xs) (t_exprs xs) n in
@@ -169,7 +177,13 @@ module _ (w : Setting) (ready : IsSettled w) where
 
   -- ---- the statement
 
-  pub print_runs : (text : List ℕ) (xs : List TExpr) (pc : ℕ) (z : Numbers) (spot : Spot) (q : ℕ) (a : Mask) (s : State) (c : Conf) → count_by (λ c. c == percent) text ≡ length xs → ValuesParts w (own_rates xs) (t_exprs xs) spot.slot → AreAt w.routine.code pc (print_code w.layout text xs pc z.place z.text spot.on spot.slot) → AreAt w.code.places z.place (print_places w.layout xs) → AreAt w.code.texts z.text (print_texts text) → AreThree spot → EntersAt w pc spot a s c q → StmtRuns w w.turns c (pc + length (print_code w.layout text xs pc z.place z.text spot.on spot.slot)) spot q (with_value (values (gang_of w) w.frame (calls_of w) (t_exprs xs) a (tick s)) (λ ms s1. went_all a (record s1 { out = s1.out ++ print_text text (shown_all (gang_of w) a xs ms) })))
+  pub print_runs : (text : List ℕ) (xs : List TExpr) (pc : ℕ) (z : Numbers) (spot : Spot) (q : ℕ) (a : Mask) (s : State) (c : Conf)
+      → count_by (λ c. c == percent) text ≡ length xs → ValuesParts w (own_rates xs) (t_exprs xs) spot.slot
+      → AreAt w.routine.code pc (print_code w.layout text xs pc z.place z.text spot.on spot.slot)
+      → AreAt w.code.places z.place (print_places w.layout xs) → AreAt w.code.texts z.text (print_texts text) → AreThree spot
+      → EntersAt w pc spot a s c q → StmtRuns w w.turns c (pc + length (print_code w.layout text xs pc z.place z.text spot.on spot.slot)) spot q
+      (with_value (values (gang_of w) w.frame (calls_of w) (t_exprs xs) a (tick s))
+      (λ ms s1. went_all a (record s1 { out = s1.out ++ print_text text (shown_all (gang_of w) a xs ms) })))
   print_runs text xs pc z spot q a s c count fit has places texts three b =
       go (values (gang_of w) w.frame (calls_of w) (t_exprs xs) a (tick s))
       (values_leave w ready (t_exprs xs) rs pc z.place spot.on n (32 + q) a (tick s) c fit (are_front w.routine.code pc ca cb has) places (enters_part w ready pc spot.on n (32 + q) q a s c (omega arith) b))
@@ -196,13 +210,29 @@ module _ (w : Setting) (ready : IsSettled w) where
       short : length cb ≤ 3 * count_of (t_exprs xs) + 32
       short = omega (arith, code_short (parts text) rs regs z.text spot.on, words_few text, begins_few (parts text), values_counted text, count, exprs_count xs)
 
-      go : (v : Val (List Payload)) → RunsLeaving w ready c (pc + length ca) n (3 * count_of (t_exprs xs)) (32 + q) (λ ms c'. AllHold rs a regs ms c') v → StmtRuns w w.turns c (pc + length (ca ++ cb)) spot q (with_value v (λ ms s1. went_all a (record s1 { out = s1.out ++ print_text text (shown_all (gang_of w) a xs ms) })))
+      go : (v : Val (List Payload)) → RunsLeaving w ready c (pc + length ca) n (3 * count_of (t_exprs xs)) (32 + q) (λ ms c'. AllHold rs a regs ms c')
+          v → StmtRuns w w.turns c (pc + length (ca ++ cb)) spot q
+          (with_value v (λ ms s1. went_all a (record s1 { out = s1.out ++ print_text text (shown_all (gang_of w) a xs ms) })))
       go (Gives ms s1) ok =
           let vs = shown_all (gang_of w) a xs ms in
           let c2 = wrote ok.conf (length cb) (parts_text (parts text) vs) in
           let come = parts_come (parts text) xs ms (pc + length ca) z.text spot.on n a ok.conf ok.at (are_back w.routine.code pc ca cb has) texts (ok.masks spot.on b.low ∙ b.mask) ok.holds fit in
-          plain_ok w ready c c2 (ok.steps + length cb) (pc + length (ca ++ cb)) spot q a (record s1 { out = s1.out ++ print_text text vs }) (comes_on w c ok.conf c2 ok.steps (length cb) ok.comes come) (record { home_is = ok.at.home_is; waiting_is = ok.at.waiting_is; pc_is = ap (λ i. i + length cb) ok.at.pc_is ∙ to })
-          (record { uniforms = ok.stands.uniforms; varying = ok.stands.varying; result = ok.stands.result; results = ok.stands.results; own_arrays = ok.stands.own_arrays; arrays_are = ok.stands.arrays_are; out_is = ap (λ o. o ++ parts_text (parts text) vs) ok.stands.out_is ∙ ap (λ u. s1.out ++ u) (text_is text vs); run = ok.stands.run; constants = ok.stands.constants })
+          plain_ok w ready c c2 (ok.steps + length cb) (pc + length (ca ++ cb)) spot q a (record s1 { out = s1.out ++ print_text text vs })
+          (comes_on w c ok.conf c2 ok.steps (length cb) ok.comes come)
+          (record { home_is = ok.at.home_is; waiting_is = ok.at.waiting_is; pc_is = ap (λ i. i + length cb) ok.at.pc_is ∙ to })
+          (record {
+            uniforms = ok.stands.uniforms;
+            varying = ok.stands.varying;
+            result = ok.stands.result;
+            results = ok.stands.results;
+            own_arrays =
+                ok.stands.own_arrays;
+            arrays_are = ok.stands.arrays_are;
+            out_is = ap (λ o. o ++ parts_text (parts text) vs) ok.stands.out_is
+                ∙ ap (λ u. s1.out ++ u) (text_is text vs);
+            run = ok.stands.run;
+            constants = ok.stands.constants;
+          })
           ok.spares ok.masks three b.mask (omega (arith, ok.bound, short))
       go (Fails t s1) r = failed_less w ready c 32 q t s1 r
       go (Stops s1) r = stopped_less w ready w.turns c 32 q s1 r

@@ -45,7 +45,11 @@ module _ (w : Setting) (ready : IsSettled w) (body : Mask → State → Res) (al
   -- what the ranges from one on do, whose bounds begin at slot e and whose places begin at slot m
   abbrev pub RangesRun : List TRange → List Range → Type 0
   RangesRun rs xs =
-      last_index_of rs ≡ Some counter → (set : List Instr) (before : Mask → State → State) (e m pc : ℕ) (c0 : Conf) (s : State) (q : ℕ) → length set + length rs ≤ 3 → n + 1 < e → e + (length rs + length rs) ≤ m → m + (length rs + length rs) ≤ h → RangesTyped w rs m → AreHeld w rs xs e c0 → HasMeasures w n c0 → Sets w h m c0 set before → AreAt w.routine.code pc (ranges_code w.layout n h code rs set e m pc) → At w c0 pc → Stands w s c0 → 3 + 32 * counted (gang w) 1 xs + q ≤ 32 * s.work
+      last_index_of rs ≡ Some counter → (set : List Instr) (before : Mask → State → State) (e m pc : ℕ) (c0 : Conf) (s : State) (q : ℕ)
+      → length set + length rs ≤ 3 → n + 1 < e → e + (length rs + length rs) ≤ m → m + (length rs + length rs) ≤ h → RangesTyped w rs m
+      → AreHeld w rs xs e c0 → HasMeasures w n c0 → Sets w h m c0 set before
+      → AreAt w.routine.code pc (ranges_code w.layout n h code rs set e m pc) → At w c0 pc → Stands w s c0
+      → 3 + 32 * counted (gang w) 1 xs + q ≤ 32 * s.work
       → Passes w c0 (pc + length (ranges_code w.layout n h code rs set e m pc)) m q (rounds body all (map (round_after before) (runs_of (gang w) xs)) s)
 
   flipped : (b : Bool) (x y : ℕ) → (if not b then x else y) ≡ (if b then y else x)
@@ -75,7 +79,9 @@ module _ (w : Setting) (ready : IsSettled w) (body : Mask → State → Res) (al
   last_range : (r : TRange) (x : Range) → RangesRun (r ∷ []) (x ∷ [])
   last_range r x li set before e m pc c0 s q few ne em mh typed held measures sets has at st le =
       subst (λ rs. Passes w c0 stop m q (rounds body all rs s)) (sym (map_of_map (round_after before) (last_run (gang w) x) (from_on (gang w) count x.start)))
-      (runs_all w ready none body all n h r.index code own x e m c0 first stop d set before it pc count x.start s c0 q (has.0, (has.1.0, (jump_has, tt))) refl held.0.start held.0.low (counts_runs w.code.gang count x.start x.end refl) at (low_all w m c0) st (omega (arith, le, one-mul count)))
+      (runs_all w ready none body all n h r.index code own x e m c0 first stop d set before it pc count x.start s c0 q
+      (has.0, (has.1.0, (jump_has, tt))) refl held.0.start held.0.low (counts_runs w.code.gang count x.start x.end refl) at (low_all w m c0) st
+      (omega (arith, le, one-mul count)))
     where
       d : Bool
       d = w.layout.loaded r.index
@@ -127,7 +133,15 @@ module _ (w : Setting) (ready : IsSettled w) (body : Mask → State → Res) (al
       passes_after w ready c0 c1 1 stop' m u _ (begun_comes e m pc c0 below has.0 at) lo1
       (passes_to w ready c1 stop stop' m m (1 + u) _ ends (omega arith)
       (subst (λ rs. Passes w c1 stop m (1 + u) (rounds body all rs s)) lists
-      (sweep_runs w ready body all m (n + 1) 1 x.end inside turn (32 + 32 * cost) (4 + 32 * cost) top stop c1 it count x.start s c1 (1 + u) (counts_ones count x.start x.end refl) held.0.low (record { at = begun_at e m pc c0 below has.0 at; low = low_all w m c1; place = ap (number I64) (begun_place e m pc c0 below has.0 at) ∙ held.0.start; stands = begun_stands e m pc c0 below has.0 at s st }) (omega (arith, le, paid, turns_cost count cost)))))
+      (sweep_runs w ready body all m (n + 1) 1 x.end inside turn (32 + 32 * cost) (4 + 32 * cost) top stop c1 it count x.start s c1 (1 + u)
+      (counts_ones count x.start x.end refl) held.0.low
+      (record {
+        at = begun_at e m pc c0 below has.0 at;
+        low = low_all w m c1;
+        place = ap (number I64) (begun_place e m pc c0 below has.0 at)
+            ∙ held.0.start;
+        stands = begun_stands e m pc c0 below has.0 at s st;
+      }) (omega (arith, le, paid, turns_cost count cost)))))
     where
       below : e + 1 < m
       below = omega (arith, em)
@@ -182,7 +196,9 @@ module _ (w : Setting) (ready : IsSettled w) (body : Mask → State → Res) (al
 
       lists : joined_lists (map turn (from_on 1 count x.start)) ≡ map (round_after before) (joined_lists (map (λ z. map (with_outer x.index z) runs') (from_on 1 count x.start)))
       lists =
-          sym (map_of_joined (round_after before) (λ z. map (with_outer x.index z) runs') (from_on 1 count x.start) ∙ ap (λ f. joined_lists (map f (from_on 1 count x.start))) (fun_ext (λ z. map_of_map (round_after before) (with_outer x.index z) runs')))
+          sym (map_of_joined (round_after before) (λ z. map (with_outer x.index z) runs') (from_on 1 count x.start)
+          ∙ ap (λ f. joined_lists (map f (from_on 1 count x.start)))
+          (fun_ext (λ z. map_of_map (round_after before) (with_outer x.index z) runs')))
 
       tested : (z : ℤ) (c : Conf) → At w c top → Low w m c1 c → number I64 (c.scalars (wide w.layout m)) ≡ z
           → (c4 : Conf) × Comes w c 2 c4 × At w c4 (if int_lt z x.end then top + 1 + 1 else stop) × Low w m c c4 × (c4.scalars (wide w.layout m) ≡ c.scalars (wide w.layout m)) × ((s1 : State) → Stands w s1 c → Stands w s1 c4) × Unit {0}
@@ -195,18 +211,37 @@ module _ (w : Setting) (ready : IsSettled w) (body : Mask → State → Res) (al
           let the_end : number I64 (c.scalars (wide w.layout (e + 1))) ≡ x.end = ap (number I64) (lo.spares.scalars_stay I64 (e + 1) below ∙ lo1.spares.scalars_stay I64 (e + 1) below) ∙ held.0.end in
           let is : act w.code w.routine c i ≡ Go (set_at Uniform c d (One b)) = ap (λ t. Go (set_at Uniform c d (One (if int_lt (number t (c.scalars (wide w.layout m))) (number t (c.scalars (wide w.layout (e + 1)))) then 1 else 0)))) typed.0.place in
           let so : is_true (c3.scalars d) ≡ int_lt z x.end = ap is_true (put_same c.scalars d b) ∙ ap₂ (λ v t. is_true (if int_lt v t then 1 else 0)) place the_end ∙ true_so (int_lt z x.end) in
-          let apart : m ≢ m + 1 = omega arith in
-          (jumped w ready c3 jump.False (register Uniform d) stop, comes_on w c c3 _ 1 1 (set_comes w ready Uniform c d (One b) top i at1 has.1.0 is) (jump_comes w ready c3 (top + 1) jump.False (register Uniform d) stop at3 has.1.1.0), subst (λ v. At w (jumped w ready c3 jump.False (register Uniform d) stop) v) (flipped (int_lt z x.end) stop (top + 1 + 1)) (jump_at w ready c3 (top + 1) jump.False (register Uniform d) stop (not (int_lt z x.end)) at3 (ap not so)), record { spares = set_spares w ready Uniform c Truth m (m + 1) (One b) (omega arith); masks = λ j lt. refl }, put_other c.scalars d b (wide w.layout m) (ready.apart.spares Uniform I64 Truth m (m + 1) apart), (λ s1 st1. set_stands w ready Uniform c Truth (m + 1) (One b) s1 st1), tt)
+          let apart : m ≢ m + 1 = omega arith in (
+            jumped w ready c3 jump.False (register Uniform d) stop,
+            comes_on w c c3 _ 1 1 (set_comes w ready Uniform c d (One b) top i at1 has.1.0 is)
+                (jump_comes w ready c3 (top + 1) jump.False (register Uniform d) stop at3 has.1.1.0),
+            subst
+                (λ v. At w (jumped w ready c3 jump.False (register Uniform d) stop) v) (flipped (int_lt z x.end) stop (top + 1 + 1))
+                (jump_at w ready c3 (top + 1) jump.False (register Uniform d) stop (not (int_lt z x.end)) at3 (ap not so)),
+            record
+                { spares = set_spares w ready Uniform c Truth m (m + 1) (One b) (omega arith); masks = λ j lt. refl },
+            put_other c.scalars d b
+                (wide w.layout m) (ready.apart.spares Uniform I64 Truth m (m + 1) apart),
+            (λ s1 st1. set_stands w ready Uniform c Truth (m + 1) (One b) s1 st1),
+            tt,
+          )
         where
           true_so : (v : Bool) → is_true (if v then 1 else 0) ≡ v
           true_so true = refl
           true_so false = refl
 
-      turned : (z : ℤ) (s1 : State) (c : Conf) (v : ℕ) → At w c (top + 1 + 1) → Low w m c1 c → number I64 (c.scalars (wide w.layout m)) ≡ z → Stands w s1 c → 4 + 32 * cost + v ≤ 32 * s1.work → Passes w c (top + 1 + 1 + length (inside (top + 1 + 1))) (m + 1) v (rounds body all (turn z) s1)
+      turned : (z : ℤ) (s1 : State) (c : Conf) (v : ℕ) → At w c (top + 1 + 1) → Low w m c1 c → number I64 (c.scalars (wide w.layout m)) ≡ z
+          → Stands w s1 c → 4 + 32 * cost + v ≤ 32 * s1.work
+          → Passes w c (top + 1 + 1 + length (inside (top + 1 + 1))) (m + 1) v (rounds body all (turn z) s1)
       turned z s1 c v at1 lo place st1 le1 =
-          passes_after w ready c c2 1 (top + 1 + 1 + length (inside (top + 1 + 1))) (m + 1) v _ (set_comes w ready Uniform c g (One b) (top + 1 + 1) (convert Uniform g (wide w.layout m) 0) at1 body_code.0 conv_is) (record { spares = set_spares w ready Uniform c I32 (m + 1) (m + 1) (One b) (omega arith); masks = λ j lt. refl })
+          passes_after w ready c c2 1 (top + 1 + 1 + length (inside (top + 1 + 1))) (m + 1) v _
+          (set_comes w ready Uniform c g (One b) (top + 1 + 1) (convert Uniform g (wide w.layout m) 0) at1 body_code.0 conv_is)
+          (record { spares = set_spares w ready Uniform c I32 (m + 1) (m + 1) (One b) (omega arith); masks = λ j lt. refl })
           (passes_to w ready c2 (top + 1 + 1 + 1 + length (inner_code (top + 1 + 1 + 1))) (top + 1 + 1 + length (inside (top + 1 + 1))) (m + 1 + 1) (m + 1) (1 + v) _ (omega arith) (omega arith)
-          (inner li more (with_index x.index z before) (e + 1 + 1) (m + 1 + 1) (top + 1 + 1 + 1) c2 s1 (1 + v) (omega (arith, few, length-append set (outer_index w.layout r.index (m + 1) h ∷ []))) (omega (arith, ne)) (omega (arith, em)) (omega (arith, mh)) typed.1 (held_on w (q ∷ rs) (y ∷ ys) (e + 1 + 1) m c0 c2 (omega (arith, em)) lo02 held.1) (measures_on w n m c0 c2 (omega (arith, ne, below)) lo02 measures)
+          (inner li more (with_index x.index z before) (e + 1 + 1) (m + 1 + 1) (top + 1 + 1 + 1) c2 s1 (1 + v)
+          (omega (arith, few, length-append set (outer_index w.layout r.index (m + 1) h ∷ []))) (omega (arith, ne)) (omega (arith, em))
+          (omega (arith, mh)) typed.1 (held_on w (q ∷ rs) (y ∷ ys) (e + 1 + 1) m c0 c2 (omega (arith, em)) lo02 held.1)
+          (measures_on w n m c0 c2 (omega (arith, ne, below)) lo02 measures)
           (subst (λ j. Sets w h (m + 1 + 1) c2 more (with_index j z before)) (sym held.0.index) (sets_more w ready h m r.index z c0 c2 set before (no_other r.index) lo02 bits sets))
           body_code.1 (set_goes w ready Uniform c g (One b) (top + 1 + 1) at1) (set_stands w ready Uniform c I32 (m + 1) (One b) s1 st1) (omega (arith, le1))))
         where
@@ -250,4 +285,5 @@ module _ (w : Setting) (ready : IsSettled w) (body : Mask → State → Res) (al
   ranges_run (r ∷ []) (x ∷ []) li set before e m pc c0 s q few ne em mh typed held measures sets has at st le = last_range r x li set before e m pc c0 s q few ne em mh typed held measures sets has at st le
   ranges_run (r ∷ []) (x ∷ y ∷ ys) li set before e m pc c0 s q few ne em mh typed held measures sets has at st le = absurd held.1
   ranges_run (r ∷ p ∷ rs) (x ∷ []) li set before e m pc c0 s q few ne em mh typed held measures sets has at st le = absurd held.1
-  ranges_run (r ∷ p ∷ rs) (x ∷ y ∷ ys) li set before e m pc c0 s q few ne em mh typed held measures sets has at st le = outer_range r p rs x y ys (ranges_run (p ∷ rs) (y ∷ ys)) li set before e m pc c0 s q few ne em mh typed held measures sets has at st le
+  ranges_run (r ∷ p ∷ rs) (x ∷ y ∷ ys) li set before e m pc c0 s q few ne em mh typed held measures sets has at st le = outer_range r p rs x y ys
+      (ranges_run (p ∷ rs) (y ∷ ys)) li set before e m pc c0 s q few ne em mh typed held measures sets has at st le

@@ -51,8 +51,17 @@ module _ (w : Setting) where
   held_on [] [] e m c c1 le lo h = tt
   held_on [] (x ∷ xs) e m c c1 le lo h = absurd h
   held_on (r ∷ rs) [] e m c c1 le lo h = absurd h
-  held_on (r ∷ rs) (x ∷ xs) e m c c1 le lo h =
-      (record { index = h.0.index; start = ap (number I64) (lo.spares.scalars_stay I64 e (omega (arith, le))) ∙ h.0.start; end = ap (number I64) (lo.spares.scalars_stay I64 (e + 1) (omega (arith, le))) ∙ h.0.end; low = h.0.low; high = h.0.high }, held_on rs xs (e + 1 + 1) m c c1 (omega (arith, le)) lo h.1)
+  held_on (r ∷ rs) (x ∷ xs) e m c c1 le lo h = (
+    record {
+      index = h.0.index;
+      start = ap (number I64) (lo.spares.scalars_stay I64 e (omega (arith, le)))
+          ∙ h.0.start;
+      end = ap (number I64) (lo.spares.scalars_stay I64 (e + 1) (omega (arith, le))) ∙ h.0.end;
+      low = h.0.low;
+      high = h.0.high;
+    },
+    held_on rs xs (e + 1 + 1) m c c1 (omega (arith, le)) lo h.1,
+  )
 
   -- how many lanes there are, 1, and the lanes' numbers; and how many there are, in each lane
   pub record HasMeasures (n : ℕ) (c : Conf) : Type 0 where
@@ -91,7 +100,9 @@ module _ (w : Setting) where
     pub sets_none : (h m : ℕ) (c0 : Conf) → Sets h m c0 [] (λ a s. s)
     sets_none h m c0 a s c pc has at em lo st = record { conf = c; comes = comes_none w c; at = at_to w c pc (pc + 0) at (omega arith); spares = λ j. spares_all w j c; masks = refl; scalars = refl; stands = st; none = λ e. refl; work = refl }
 
-    pub sets_more : (h m i : ℕ) (z : ℤ) (c0 c1 : Conf) (set : List Instr) (before : Mask → State → State) → IsOther w i → Low w m c0 c1 → c1.scalars (narrow w.layout (m + 1)) ≡ wrap I32 z → Sets h m c0 set before → Sets h (m + 1 + 1) c1 (set ++ outer_index w.layout i (m + 1) h ∷ []) (with_index i z before)
+    pub sets_more : (h m i : ℕ) (z : ℤ) (c0 c1 : Conf) (set : List Instr) (before : Mask → State → State) → IsOther w i → Low w m c0 c1
+        → c1.scalars (narrow w.layout (m + 1)) ≡ wrap I32 z → Sets h m c0 set before
+        → Sets h (m + 1 + 1) c1 (set ++ outer_index w.layout i (m + 1) h ∷ []) (with_index i z before)
     sets_more h m i z c0 c1 set before other lo is f a s c pc has at em lo1 st =
         let last = outer_index w.layout i (m + 1) h ∷ [] in
         let o = f a s c pc (are_front w.routine.code pc set last has) at em (low_on w m c0 c1 c lo (low_less w m (m + 1 + 1) c1 c (omega arith) lo1)) st in

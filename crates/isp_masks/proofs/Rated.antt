@@ -8,7 +8,8 @@ use Rattle.isp_base.specs.declared.types.Rate.TheVariants.{Uniform, Varying}
 use Rattle.isp_base.specs.declared.types.Ty.{Ty}
 use Rattle.isp_tree.specs.Sound.{IfAny}
 use Rattle.isp_typed.specs.Fine.{FineExpr, FineValue, FineSimple, FineFirst, FineRange, FineReturned, FineStmt, FineBlock, FineStmts}
-use Rattle.isp_typed.specs.Typed.{TFunction, TExpr, t_exprs, type_of, TSimple, TFirst, t_first_declare, t_first_simple, TRange, TStmt, t_block, t_declare, t_simple, t_if, t_if_else, t_while, t_do, t_for, t_foreach, t_foreach_active, t_foreach_unique, t_unmasked, t_jump, t_return, t_print, t_assert, TBlock, t_braces, TStmts, t_no_stmts, t_stmt_then}
+use Rattle.isp_typed.specs.Typed.{TFunction, TExpr, t_exprs, type_of, TSimple, TFirst, t_first_declare, t_first_simple, TRange, TStmt, t_block, t_declare, t_simple, t_if, t_if_else, t_while, t_do, t_for}
+use Rattle.isp_typed.specs.Typed.{t_foreach, t_foreach_active, t_foreach_unique, t_unmasked, t_jump, t_return, t_print, t_assert, TBlock, t_braces, TStmts, t_no_stmts, t_stmt_then}
 use Rattle.isp_typed.specs.declared.variable.Variable.{Variable}
 use Rattle.isp_lower.specs.Rated.{Reaches}
 use Rattle.isp_lower.proofs.Lemmas.{ValuesTree, expr_tree, operand_tree, simple_tree, items_tree}
@@ -20,8 +21,14 @@ module _ (fs : List TFunction) (vars : List Variable) where
   ranges_tree : (rs : List TRange) → All (FineRange fs vars) rs → RangesRated fs rs → RangesTree fs rs
   ranges_tree [] f r = tt
   ranges_tree (x ∷ xs) f r =
-      let g = f 0 x (omega arith) in
-      (operand_tree fs vars Uniform I32 x.start g.start.1 r.0, expr_tree fs vars x.start g.start.0 r.0.1, operand_tree fs vars Uniform I32 x.end g.end.1 r.1, expr_tree fs vars x.end g.end.0 r.1.1, ranges_tree xs (λ k d lt. f (suc k) d (omega (arith, lt))) r.2)
+      let g = f 0 x (omega arith) in (
+        operand_tree fs vars Uniform I32 x.start g.start.1 r.0,
+        expr_tree fs vars x.start g.start.0 r.0.1,
+        operand_tree fs vars Uniform I32 x.end
+            g.end.1 r.1,
+        expr_tree fs vars x.end g.end.0 r.1.1,
+        ranges_tree xs (λ k d lt. f (suc k) d (omega (arith, lt))) r.2,
+      )
 
   -- the values of a `print`, each wanted at its own rate
   own_reaches : (r : Rate) → Reaches r r

@@ -157,6 +157,8 @@ adds h ks old d z r a b is code places texts rows masks grows more keeps has y f
       callees = ap (λ (x : Draft). x.callees) is;
       places_fit = block_placed fs h.variables h.answer l h.body fine.body;
       texts_fit = block_told h.body;
-      lowered = subst (λ fs. IsLowered fs h (routine_with (heading_of h) (rows_of r.registers) r.masks b.code.items) b.places.items (texts_of b)) (ap (λ (x : Draft). x.callees) is) (lowered d.callees h (routine_with (heading_of h) (rows_of r.registers) r.masks b.code.items) ks z.registers r.registers a b (code ∙ ap (λ (x : Draft). x.code) is)
+      lowered = subst (λ fs. IsLowered fs h (routine_with (heading_of h) (rows_of r.registers) r.masks b.code.items) b.places.items (texts_of b))
+          (ap (λ (x : Draft). x.callees) is) (lowered d.callees h (routine_with (heading_of h) (rows_of r.registers) r.masks b.code.items) ks
+          z.registers r.registers a b (code ∙ ap (λ (x : Draft). x.code) is)
           (rows ∙ ap (λ (x : Draft). x.rows) is) grows keeps y refl refl refl refl refl refl refl has three refl);
     }

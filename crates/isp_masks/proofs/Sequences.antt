@@ -27,17 +27,28 @@ module _ (w : Setting) (ready : IsSettled w) where
   abbrev all_of : TStmts → Mask → State → Res
   all_of = run_all (gang_of w) w.frame (calls_of w) w.turns
 
-  pub rest_runs : (b : Bool) (xs : TStmts) (pc : ℕ) (spot : Spot) (q : ℕ) (g : Mask) (s : State) (c : Conf) (code : ℕ → List Instr) → (b ≡ true → any (gang_of w) g ≡ true) → At w c pc → c.masks spot.on ≡ g → Inside w g → Stands w s c → aside b + q ≤ 32 * s.work → AreThree spot → AreAt w.routine.code pc (rest_code b xs spot.on pc code) → ((pc1 : ℕ) (c1 : Conf) (z : ℕ) → AreAt w.routine.code pc1 (code pc1) → EntersAt w pc1 spot g s c1 z → StmtRuns w w.turns c1 (pc1 + length (code pc1)) spot z (run_all (gang_of w) w.frame (calls_of w) w.turns xs g s)) → StmtRuns w w.turns c (pc + length (rest_code b xs spot.on pc code)) spot q (unless_empty (gang_of w) g s (run_all (gang_of w) w.frame (calls_of w) w.turns xs))
+  pub rest_runs : (b : Bool) (xs : TStmts) (pc : ℕ) (spot : Spot) (q : ℕ) (g : Mask) (s : State) (c : Conf) (code : ℕ → List Instr)
+      → (b ≡ true → any (gang_of w) g ≡ true) → At w c pc → c.masks spot.on ≡ g → Inside w g → Stands w s c → aside b + q ≤ 32 * s.work
+      → AreThree spot → AreAt w.routine.code pc (rest_code b xs spot.on pc code)
+      → ((pc1 : ℕ) (c1 : Conf) (z : ℕ) → AreAt w.routine.code pc1 (code pc1) → EntersAt w pc1 spot g s c1 z
+      → StmtRuns w w.turns c1 (pc1 + length (code pc1)) spot z (run_all (gang_of w) w.frame (calls_of w) w.turns xs g s))
+      → StmtRuns w w.turns c (pc + length (rest_code b xs spot.on pc code)) spot q
+      (unless_empty (gang_of w) g s (run_all (gang_of w) w.frame (calls_of w) w.turns xs))
   rest_runs true xs pc spot q g s c code some at em inside st le three has f =
-      subst (λ z. StmtRuns w w.turns c (pc + length (code pc)) spot q (if_so z (all_of xs g) (went_all g) s)) (sym (some refl)) (f pc c q has (record { at = at; mask = em; some = some refl; inside = inside; stands = st; used = omega (arith, le); low = three.low_on }))
+      subst (λ z. StmtRuns w w.turns c (pc + length (code pc)) spot q (if_so z (all_of xs g) (went_all g) s)) (sym (some refl))
+      (f pc c q has (record { at = at; mask = em; some = some refl; inside = inside; stands = st; used = omega (arith, le); low = three.low_on }))
   rest_runs false t_no_stmts pc spot q g s c code some at em inside st le three has f =
       let e : pc ≡ pc + 0 = omega arith in
-      subst (λ v. StmtRuns w w.turns c (pc + 0) spot q v) (nobody_left (gang_of w) g s) (plain_ok w ready c c 0 (pc + 0) spot q g s (comes_none w c) (at_to w c pc (pc + 0) at e) st (spares_all w spot.slot c) (λ r lt. refl) three em (omega (arith, le)))
+      subst (λ v. StmtRuns w w.turns c (pc + 0) spot q v) (nobody_left (gang_of w) g s)
+      (plain_ok w ready c c 0 (pc + 0) spot q g s (comes_none w c) (at_to w c pc (pc + 0) at e) st (spares_all w spot.slot c) (λ r lt. refl) three
+      em (omega (arith, le)))
   rest_runs false (t_stmt_then x xs) pc spot q g s c code some at em inside st le three has f =
       guard_runs w ready w.turns pc spot q g s c code (all_of (t_stmt_then x xs)) at em inside st le three has (λ c1 z en. f (pc + 1) c1 z has.1 en)
 
   -- the second's sets are added to the first's
-  then_join : (c : Conf) (pc end : ℕ) (spot : Spot) (d q : ℕ) (s : State) (g b ct rt : Mask) (ok : StmtOk w c pc spot (d + q) s g ct rt) (v : Res) → StmtRuns w w.turns ok.conf end spot (ok.steps + q) v → StmtRuns w w.turns c end spot q (go_on v (λ s' g' b' c' r'. Went s' g' (union b b') (union ct c') (union rt r')))
+  then_join : (c : Conf) (pc end : ℕ) (spot : Spot) (d q : ℕ) (s : State) (g b ct rt : Mask) (ok : StmtOk w c pc spot (d + q) s g ct rt) (v : Res)
+      → StmtRuns w w.turns ok.conf end spot (ok.steps + q) v
+      → StmtRuns w w.turns c end spot q (go_on v (λ s' g' b' c' r'. Went s' g' (union b b') (union ct c') (union rt r')))
   then_join c pc end spot d q s g b ct rt ok (Went s' g' b' c' r') r = record {
     conf = r.conf;
     steps = ok.steps + r.steps;
@@ -54,7 +65,11 @@ module _ (w : Setting) (ready : IsSettled w) where
   then_join c pc end spot d q s g b ct rt ok (Trapped t s') r = failed_after w ready c ok.conf ok.steps q t s' ok.comes r
   then_join c pc end spot d q s g b ct rt ok (Cut s') r = stopped_after w ready w.turns c ok.conf ok.steps q s' ok.comes r
 
-  pub then_runs : (pc : ℕ) (spot : Spot) (d q : ℕ) (ca : List Instr) (cb : ℕ → List Instr) (c : Conf) (va : Res) (vb : Mask → State → Res) → StmtRuns w w.turns c (pc + length ca) spot (d + q) va → ((s : State) (g b ct rt : Mask) → va ≡ Went s g b ct rt → (ok : StmtOk w c (pc + length ca) spot (d + q) s g ct rt) → StmtRuns w w.turns ok.conf (pc + length ca + length (cb (pc + length ca))) spot (ok.steps + q) (vb g s)) → StmtRuns w w.turns c (pc + length (two pc ca cb)) spot q (then_run va vb)
+  pub then_runs : (pc : ℕ) (spot : Spot) (d q : ℕ) (ca : List Instr) (cb : ℕ → List Instr) (c : Conf) (va : Res) (vb : Mask → State → Res)
+      → StmtRuns w w.turns c (pc + length ca) spot (d + q) va
+      → ((s : State) (g b ct rt : Mask) → va ≡ Went s g b ct rt → (ok : StmtOk w c (pc + length ca) spot (d + q) s g ct rt)
+      → StmtRuns w w.turns ok.conf (pc + length ca + length (cb (pc + length ca))) spot (ok.steps + q) (vb g s))
+      → StmtRuns w w.turns c (pc + length (two pc ca cb)) spot q (then_run va vb)
   then_runs pc spot d q ca cb c va vb ra rb =
       let pc1 = pc + length ca in
       let to : pc1 + length (cb pc1) ≡ pc + length (ca ++ cb pc1) = omega (arith, length-append ca (cb pc1)) in

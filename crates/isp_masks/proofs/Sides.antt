@@ -22,7 +22,9 @@ second_alone (Went s g b c r) = refl
 second_alone (Trapped t s) = refl
 second_alone (Cut s) = refl
 
-pub branches_parts : (gang : ℕ) (a : Mask) (first second : Mask → State → Res) (m : Payload) (s : State) → any gang a ≡ true → branches gang a first second m s ≡ both_sides (unless_empty gang (kept_by is_true a m) s first) (λ s1. unless_empty gang (without a (kept_by is_true a m)) s1 second)
+pub branches_parts : (gang : ℕ) (a : Mask) (first second : Mask → State → Res) (m : Payload) (s : State) → any gang a ≡ true
+    → branches gang a first second m s ≡ both_sides (unless_empty gang (kept_by is_true a m) s first)
+    (λ s1. unless_empty gang (without a (kept_by is_true a m)) s1 second)
 branches_parts gang a first second (Each c) s some = refl
 branches_parts gang a first second (One c) s some = go (is_true c)
   where

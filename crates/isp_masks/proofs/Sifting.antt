@@ -59,7 +59,13 @@ sifted a b c r x n y f g = go r (writes_past a b c (λ pc m. sift_begin r x n) [
     }
 
 pub turns_written : (on : Scope) (a b : Body) (e : Option TExpr) (step : Option TSimple) (x : TStmt) (it : Loop) (top : ℕ) → top ≡ length a.code.items
-    → Writes a b (record { code = λ pc z. two pc ((turn_at on x it).code pc z) (λ pc1. (next_at on (nobody_leaves it.exits) e step it.slot.number top).code pc1 (z.place + length (stmt_places (layout on) x))); places = stmt_places (layout on) x ++ (step_places (layout on) step ++ test_places (layout on) e); texts = stmt_texts x })
+    → Writes a b (record {
+      code = λ pc z. two pc ((turn_at on x it).code pc z)
+          (λ pc1. (next_at on (nobody_leaves it.exits) e step it.slot.number top).code pc1 (z.place + length (stmt_places (layout on) x)));
+      places =
+          stmt_places (layout on) x ++ (step_places (layout on) step ++ test_places (layout on) e);
+      texts = stmt_texts x;
+    })
     → Writes a b (turning_at on e step x it)
 turns_written on a b e step x it top is w =
     let pc = length a.code.items in
@@ -71,7 +77,13 @@ turns_written on a b e step x it top is w =
     }
 
 pub for_written : (a b : Body) (l : Layout) (answer : Option Ty) (f : Form) (g : ℕ) (first : Option TFirst) (o : Option TExpr) (step : Option TSimple) (i : ℕ) (x : TStmt) (sp : Span) (spot : Spot)
-    → Writes a b (record { code = λ pc z. first_code l first pc z.place spot.on spot.slot ++ turns_code l answer f o step x (pc + length (first_code l first pc z.place spot.on spot.slot)) (past (first_places l first) z) spot; places = stmt_places l (t_for f g first o step i x sp); texts = stmt_texts x })
+    → Writes a b (record {
+      code = λ pc z. first_code l first pc z.place spot.on spot.slot
+          ++ turns_code l answer f o step x (pc + length (first_code l first pc z.place spot.on spot.slot)) (past (first_places l first) z) spot;
+      places
+          = stmt_places l (t_for f g first o step i x sp);
+      texts = stmt_texts x;
+    })
     → Writes a b (record { code = λ pc z. stmt_code l answer (t_for f g first o step i x sp) pc z spot; places = stmt_places l (t_for f g first o step i x sp); texts = stmt_texts x })
 for_written a b l answer f g first None step i x sp spot z = z
 for_written a b l answer f g first (Some e) step i x sp spot z = z

@@ -23,7 +23,9 @@ module _ (code : Listing) (h : Routine) (l : Layout) where
       ((((refl, f), ((hx.0, hx.1), ((refl, lk), tt))), tt), ((((refl, f), ((refl, lk), ((refl, f), tt))), tt), ((((refl, f), (lp, tt)), tt), tt)))
 
   module _ (fs : List TFunction) (links : Links fs code h l) where
-    pub assert_sound : (x : TExpr) (c : Span) (pc p k n : ℕ) → ExprTree fs x → (type_of x).elem ≡ Truth → Granted h l (assert_asks x n) → k < h.masks → p + length (assert_places l x c) ≤ length code.places → pc + length (assert_code l x pc p k n) < length h.code → AreSound code h (assert_code l x pc p k n)
+    pub assert_sound : (x : TExpr) (c : Span) (pc p k n : ℕ) → ExprTree fs x → (type_of x).elem ≡ Truth → Granted h l (assert_asks x n) → k < h.masks
+        → p + length (assert_places l x c) ≤ length code.places → pc + length (assert_code l x pc p k n) < length h.code
+        → AreSound code h (assert_code l x pc p k n)
     assert_sound x c pc p k n is bool f lk pl lt =
         let ce = expr_code l x pc p k n in
         let pe = expr_places l x in
@@ -31,4 +33,6 @@ module _ (code : Listing) (h : Routine) (l : Layout) where
         let e1 = length-append ce rest in
         let e2 = length-append pe (c ∷ []) in
         let test = found_there fs h l links.constants x n is f.0 in
-        sound_both code h ce rest (value_sound fs code h l links x n is f.0 pc p k lk (omega (arith, e2, pl)) (omega (arith, e1, lt))) (fails_sound (type_of x).rate (found l x n) (pc + length ce) (p + length pe) k n lk (test.0, test.1 ∙ bool) f.1 (omega (arith, e2, pl)) (omega (arith, e1, lt)))
+        sound_both code h ce rest (value_sound fs code h l links x n is f.0 pc p k lk (omega (arith, e2, pl)) (omega (arith, e1, lt)))
+        (fails_sound (type_of x).rate (found l x n) (pc + length ce) (p + length pe) k n lk (test.0, test.1 ∙ bool) f.1 (omega (arith, e2, pl))
+        (omega (arith, e1, lt)))

@@ -59,8 +59,20 @@ module _ (code : Listing) (h : Routine) where
   pub active_sound : (i k n : ℕ) (body : ℕ → List Instr) → IsRegister h Uniform i I64 → k < h.masks → n < h.masks → n + 1 < h.masks → HereSound body → HereSound (λ pc. active_code i pc k n body)
   active_sound i k n body there lk ln lone f pc lt =
       let last = instr.JumpIf jump.On (mask_register n) (pc + 1) ∷ [] in
-      let e = length-append (body (pc + 1 + 3)) last in
-      ((((refl, ln), ((refl, lk), tt)), tt), ((((refl, lone), ((refl, ln), tt)), tt), ((((refl, ln), ((refl, ln), ((refl, lone), tt))), tt), (((there, ((refl, lone), tt)), tt), sound_both code h (body (pc + 1 + 3)) last (f (pc + 1 + 3) (omega (arith, e, lt))) ((((refl, ln), (omega (arith, e, lt), tt)), tt), tt)))))
+      let e = length-append (body (pc + 1 + 3)) last in (
+        (((refl, ln), ((refl, lk), tt)), tt),
+        (
+          (((refl, lone), ((refl, ln), tt)), tt),
+          (
+            (((refl, ln), ((refl, ln), ((refl, lone), tt))), tt),
+            (
+              ((there, ((refl, lone), tt)), tt),
+              sound_both code h (body (pc + 1 + 3)) last (f (pc + 1 + 3) (omega (arith, e, lt)))
+                  ((((refl, ln), (omega (arith, e, lt), tt)), tt), tt),
+            ),
+          ),
+        ),
+      )
 
   -- values of type u, and an index of type t
   pub record ValuesThere (v : Values) (u t : Elem) : Type 0 where
@@ -183,7 +195,9 @@ module _ (code : Listing) (h : Routine) where
     pub endless_sound : (body step : ℕ → List Instr) → HereSound body → HereSound step → HereSound (λ pc. endless_code e pc spot body step)
     endless_sound body step fb fs =
         let back = λ (top pc : ℕ). instr.Jump top ∷ [] in
-        looped (λ top. two top (turn_code false e top n body) (λ pc. next_code e n pc step (back top))) (λ top lt. two_sound (λ pc. turn_code false e pc n body) (λ pc. next_code e n pc step (back top)) (turn_sound false body fb) (next_sound step (back top) fs (λ pc lt1. (((lt, tt), tt), tt))) top)
+        looped (λ top. two top (turn_code false e top n body) (λ pc. next_code e n pc step (back top)))
+        (λ top lt. two_sound (λ pc. turn_code false e pc n body) (λ pc. next_code e n pc step (back top)) (turn_sound false body fb)
+        (next_sound step (back top) fs (λ pc lt1. (((lt, tt), tt), tt))) top)
 
     module _ (wide : Bool) (r : Rate) (x : ℕ) (test body step : ℕ → List Instr) (there : IsThere h (class_at r) (register r x)) (bool : elem_of h (register r x) ≡ Truth) (ft : HereSound test) (fb : HereSound body) (fs : HereSound step) where
       abbrev turns_from : ℕ → List Instr

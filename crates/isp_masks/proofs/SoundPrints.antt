@@ -20,7 +20,9 @@ module _ (code : Listing) (h : Routine) where
 
   module _ (l : Layout) (fs : List TFunction) (links : Links fs code h l) where
     -- the values in registers of their own, and the texts that are named, are there
-    parts_sound : (ps : List Part) (xs : List TExpr) (t k n : ℕ) → ValuesTree fs (own_rates xs) (t_exprs xs) → Granted h l (values_asks (own_rates xs) (t_exprs xs) n) → k < h.masks → t + length (words_of ps) ≤ length code.texts → AreSound code h (parts_code ps (own_rates xs) (value_registers l (own_rates xs) (t_exprs xs) n) t k)
+    parts_sound : (ps : List Part) (xs : List TExpr) (t k n : ℕ) → ValuesTree fs (own_rates xs) (t_exprs xs)
+        → Granted h l (values_asks (own_rates xs) (t_exprs xs) n) → k < h.masks → t + length (words_of ps) ≤ length code.texts
+        → AreSound code h (parts_code ps (own_rates xs) (value_registers l (own_rates xs) (t_exprs xs) n) t k)
     parts_sound [] xs t k n is f lk le = tt
     parts_sound (Words u ∷ ps) xs t k n is f lk le = (((omega (arith, le), tt), tt), parts_sound ps xs (t + 1) k n is f lk (omega (arith, le)))
     parts_sound (Value ∷ ps) [] t k n is f lk le = parts_sound ps [] t k n is f lk le
@@ -28,7 +30,10 @@ module _ (code : Listing) (h : Routine) where
         let r = (type_of x).rate in
         (show_sound r (type_of x).elem (operand l r x n) k (operand_there fs h l links.constants r (type_of x).elem x n is.0 is.1 f.1.0) lk, parts_sound ps xs t k (n + 1) is.2 f.1.1 lk le)
 
-    pub print_sound : (text : List ℕ) (xs : List TExpr) (pc p t k n : ℕ) → ValuesTree fs (own_rates xs) (t_exprs xs) → Granted h l (values_asks (own_rates xs) (t_exprs xs) n) → k < h.masks → p + length (print_places l xs) ≤ length code.places → t + length (print_texts text) ≤ length code.texts → pc + length (print_code l text xs pc p t k n) < length h.code → AreSound code h (print_code l text xs pc p t k n)
+    pub print_sound : (text : List ℕ) (xs : List TExpr) (pc p t k n : ℕ) → ValuesTree fs (own_rates xs) (t_exprs xs)
+        → Granted h l (values_asks (own_rates xs) (t_exprs xs) n) → k < h.masks → p + length (print_places l xs) ≤ length code.places
+        → t + length (print_texts text) ≤ length code.texts → pc + length (print_code l text xs pc p t k n) < length h.code
+        → AreSound code h (print_code l text xs pc p t k n)
     print_sound text xs pc p t k n is f lk pl tx lt =
         let ca = values_code l (own_rates xs) (t_exprs xs) pc p k n in
         let cb = parts_code (parts text) (own_rates xs) (value_registers l (own_rates xs) (t_exprs xs) n) t k in

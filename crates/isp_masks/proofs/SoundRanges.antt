@@ -25,7 +25,8 @@ use Rattle.isp_lower.specs.Rated.{Reaches}
 use Rattle.isp_lower.specs.Sound.{AreSound, Granted, IsRegister, IsSound, Links}
 use Rattle.isp_lower.proofs.Lemmas.{sound_both, compare_sound, constant_sound, convert_sound, copy_sound, splat_sound, found_there, value_sound, ExprTree, OperandTree}
 use Rattle.isp_masks.specs.Asks.{bound_asks, bounds_asks, measures_asks, place_asks, places_asks}
-use Rattle.isp_masks.specs.Ranges.{goes_on, wide, narrow, test, lane, lane_numbers, sum_lanes, range_mask, places_slot, runs_slot, measures_code, bound_code, bounds_code, ranges_places, sweep_code, outer_index, last_index, run_back, run_place, run_step, runs_code, ranges_code, foreach_code}
+use Rattle.isp_masks.specs.Ranges.{goes_on, wide, narrow, test, lane, lane_numbers, sum_lanes, range_mask, places_slot, runs_slot, measures_code, bound_code, bounds_code}
+use Rattle.isp_masks.specs.Ranges.{ranges_places, sweep_code, outer_index, last_index, run_back, run_place, run_step, runs_code, ranges_code, foreach_code}
 use Rattle.isp_masks.proofs.Bounds.{bound_is}
 use Rattle.isp_masks.proofs.SoundLoops.{HereSound, two_sound}
 use Rattle.isp_masks.proofs.Trees.{RangesTree}
@@ -48,16 +49,38 @@ module _ (code : Listing) (h : Routine) (l : Layout) where
       let count = f.1.1.1.1.1.0 in
       let sum_is : IsSound code h (sum_lanes (wide l n) (lane l n) k) = (((sum.0, ap is_sum sum.1), ((each.0, (λ e. let g : I32 ≡ Truth = sym each.1 ∙ e in cc, ap widened each.1 ∙ sym sum.1)), ((refl, lk), tt))), tt) in
       let numbers_are : IsSound code h (lane_numbers (lane l n) k) = (((each.0, each.1), ((refl, lk), tt)), tt) in
-      let last : AreSound code h (convert Uniform (narrow l (n + 1)) (wide l n) 0 ∷ splat (lane l (n + 1)) (narrow l (n + 1)) k ∷ constant (wide l (n + 1)) I64 1 ∷ []) = (convert_sound code h Uniform I32 I64 (narrow l (n + 1)) (wide l n) 0 short sum some, (splat_sound code h I32 (lane l (n + 1)) (narrow l (n + 1)) k count short lk, (constant_sound code h I64 (wide l (n + 1)) 1 f.1.1.1.1.1.1.0, tt))) in
+      let last : AreSound code h (convert Uniform (narrow l (n + 1)) (wide l n) 0 ∷ splat (lane l (n + 1)) (narrow l (n + 1)) k ∷ constant
+      (wide l (n + 1)) I64 1 ∷ []) = (
+        convert_sound code h Uniform I32 I64 (narrow l (n + 1)) (wide l n) 0 short sum some,
+        (
+          splat_sound code h I32 (lane l (n + 1)) (narrow l (n + 1)) k count short lk,
+          (constant_sound code h I64 (wide l (n + 1)) 1 f.1.1.1.1.1.1.0, tt),
+        ),
+      ) in
       ((((refl, lk), tt), tt), (constant_sound code h I32 (narrow l n) 1 first, (splat_sound code h I32 (lane l n) (narrow l n) k each first lk, (sum_is, (numbers_are, last)))))
 
   -- ---- a range before the last
 
-  sweep_sound : (e m u : ℕ) (tested : Instr) (past : ℕ → Instr) (inside : ℕ → List Instr) → 0 < h.masks → IsRegister h Uniform (wide l e) I64 → IsRegister h Uniform (wide l m) I64 → IsRegister h Uniform (wide l u) I64 → IsSound code h tested → ((to : ℕ) → to < length h.code → IsSound code h (past to)) → HereSound code h inside → HereSound code h (λ pc. sweep_code l e m u tested past pc inside)
+  sweep_sound : (e m u : ℕ) (tested : Instr) (past : ℕ → Instr) (inside : ℕ → List Instr) → 0 < h.masks → IsRegister h Uniform (wide l e) I64
+      → IsRegister h Uniform (wide l m) I64 → IsRegister h Uniform (wide l u) I64 → IsSound code h tested
+      → ((to : ℕ) → to < length h.code → IsSound code h (past to)) → HereSound code h inside
+      → HereSound code h (λ pc. sweep_code l e m u tested past pc inside)
   sweep_sound e m u tested past inside some he hm hu ht hp f pc lt =
       let tail = compute Uniform plain.Add (wide l m) (wide l m) (wide l u) 0 ∷ instr.Jump (pc + 1) ∷ [] in
-      let e1 = length-append (inside (pc + 1 + 1 + 1)) tail in
-      (copy_sound code h Uniform I64 (wide l m) (wide l e) 0 hm he some, (ht, (hp (pc + 1 + 1 + 1 + length (inside (pc + 1 + 1 + 1) ++ tail)) (omega (arith, lt)), sound_both code h (inside (pc + 1 + 1 + 1)) tail (f (pc + 1 + 1 + 1) (omega (arith, e1, lt))) (add_uniform (wide l m) (wide l m) (wide l u) hm hm hu, (((omega (arith, e1, lt), tt), tt), tt)))))
+      let e1 = length-append (inside (pc + 1 + 1 + 1)) tail in (
+        copy_sound code h Uniform I64 (wide l m) (wide l e) 0 hm he some,
+        (
+          ht,
+          (
+            hp (pc + 1 + 1 + 1 + length (inside (pc + 1 + 1 + 1) ++ tail)) (omega (arith, lt)),
+            sound_both code h (inside (pc + 1 + 1 + 1)) tail
+                (f (pc + 1 + 1 + 1) (omega (arith, e1, lt))) (
+                  add_uniform (wide l m) (wide l m) (wide l u) hm hm hu,
+                  (((omega (arith, e1, lt), tt), tt), tt),
+                ),
+          ),
+        ),
+      )
 
   -- ---- the last range
 
@@ -72,7 +95,9 @@ module _ (code : Listing) (h : Routine) (l : Layout) where
   place_there false m hp hw = hp
   place_there true m hp hw = hw
 
-  runs_sound : (d : Bool) (set : List Instr) (r : TRange) (rs : List TRange) (e m n k : ℕ) (body : ℕ → List Instr) → 0 < h.masks → k < h.masks → AreSound code h set → Granted h l (measures_asks n) → Granted h l (bounds_asks (r ∷ rs) e) → Granted h l (place_asks r m) → HereSound code h body → HereSound code h (λ pc. runs_code l d set r.index e m n k body pc)
+  runs_sound : (d : Bool) (set : List Instr) (r : TRange) (rs : List TRange) (e m n k : ℕ) (body : ℕ → List Instr) → 0 < h.masks → k < h.masks
+      → AreSound code h set → Granted h l (measures_asks n) → Granted h l (bounds_asks (r ∷ rs) e) → Granted h l (place_asks r m)
+      → HereSound code h body → HereSound code h (λ pc. runs_code l d set r.index e m n k body pc)
   runs_sound d set r rs e m n k body some lk fs fm b p fb pc lt =
       let x = run_place l d m in
       let hx = place_there d m p.1.1.1.1.1.1 p.1.0 in
@@ -81,12 +106,27 @@ module _ (code : Listing) (h : Routine) (l : Layout) where
       let top = first + length (set ++ own) in
       let step = run_step l x e n k in
       let back = run_back l (goes_on d set) r.index n k first top in
-      let index : AreSound code h own = (convert_sound code h Uniform I32 I64 (narrow l (m + 1)) x 0 p.1.1.1.0 hx some, (splat_sound code h I32 (lane l (m + 1)) (narrow l (m + 1)) k p.1.1.1.1.0 p.1.1.1.0 lk, (add_varying (l.variable Varying r.index) (lane l (m + 1)) (lane l n) k p.0 p.1.1.1.1.0 fm.1.0 lk, tt))) in
+      let index : AreSound code h own = (
+        convert_sound code h Uniform I32 I64 (narrow l (m + 1)) x 0 p.1.1.1.0 hx some,
+        (
+          splat_sound code h I32 (lane l (m + 1)) (narrow l (m + 1)) k p.1.1.1.1.0 p.1.1.1.0 lk,
+          (add_varying (l.variable Varying r.index) (lane l (m + 1)) (lane l n) k p.0 p.1.1.1.1.0 fm.1.0 lk, tt),
+        ),
+      ) in
       let lanes : IsSound code h (range_mask k x (wide l (e + 1))) = (((refl, lk), ((hx.0, hx.1), ((b.1.1.0.0.0, b.1.1.0.0.1), tt))), tt) in
       let e1 = length-append (set ++ own) (body top ++ (step ++ back)) in
       let e2 = length-append (body top) (step ++ back) in
-      let stepped : AreSound code h (step ++ back) = (add_uniform x x (wide l n) hx hx fm.1.1.0, (lanes, back_sound (goes_on d set) r.index n k first top p.0 fm.1.1.1.1.1.0 lk (omega (arith, e1, lt)) (omega (arith, e1, lt)))) in
-      (copy_sound code h Uniform I64 x (wide l e) 0 hx b.0.0 some, (lanes, ((((refl, lk), (omega (arith, lt), tt)), tt), sound_both code h (set ++ own) (body top ++ (step ++ back)) (sound_both code h set own fs index) (sound_both code h (body top) (step ++ back) (fb top (omega (arith, e1, e2, lt))) stepped))))
+      let stepped : AreSound code h (step ++ back) = (add_uniform x x (wide l n) hx hx fm.1.1.0, (lanes, back_sound (goes_on d set) r.index n k first top p.0 fm.1.1.1.1.1.0 lk (omega (arith, e1, lt)) (omega (arith, e1, lt)))) in (
+        copy_sound code h Uniform I64 x (wide l e) 0 hx b.0.0 some,
+        (
+          lanes,
+          (
+            (((refl, lk), (omega (arith, lt), tt)), tt),
+            sound_both code h (set ++ own) (body top ++ (step ++ back))
+                (sound_both code h set own fs index) (sound_both code h (body top) (step ++ back) (fb top (omega (arith, e1, e2, lt))) stepped),
+          ),
+        ),
+      )
 
   -- ---- all of them
 
@@ -98,7 +138,11 @@ module _ (code : Listing) (h : Routine) (l : Layout) where
         let outer = outer_index l r.index (m + 1) k ∷ [] in
         let t = test l (m + 1) in
         let more : AreSound code h (set ++ outer) = sound_both code h set outer fs (splat_sound code h I32 (l.variable Varying r.index) (narrow l (m + 1)) k p.0.0 p.0.1.1.1.0 lk, tt) in
-        sweep_sound e m (n + 1) (compare Uniform Less t (wide l m) (wide l (e + 1)) 0) (jump_on jump.False t) (λ pc1. convert Uniform (narrow l (m + 1)) (wide l m) 0 ∷ ranges_code l n k body (q ∷ rs) (set ++ outer) (e + 1 + 1) (m + 1 + 1) (pc1 + 1)) some b.0.0 p.0.1.0 measures.1.1.1.1.1.1.0 (compare_sound code h Uniform Less I64 t (wide l m) (wide l (e + 1)) 0 p.0.1.1.1.1.1.0 p.0.1.0 b.1.1.0.0 some) (λ to lt1. ((((p.0.1.1.1.1.1.0).0, (p.0.1.1.1.1.1.0).1), (lt1, tt)), tt))
+        sweep_sound e m (n + 1) (compare Uniform Less t (wide l m) (wide l (e + 1)) 0) (jump_on jump.False t)
+        (λ pc1. convert Uniform (narrow l (m + 1)) (wide l m) 0 ∷ ranges_code l n k body (q ∷ rs) (set ++ outer) (e + 1 + 1) (m + 1 + 1)
+        (pc1 + 1)) some b.0.0 p.0.1.0 measures.1.1.1.1.1.1.0
+        (compare_sound code h Uniform Less I64 t (wide l m) (wide l (e + 1)) 0 p.0.1.1.1.1.1.0 p.0.1.0 b.1.1.0.0 some)
+        (λ to lt1. ((((p.0.1.1.1.1.1.0).0, (p.0.1.1.1.1.1.0).1), (lt1, tt)), tt))
         (λ pc1 lt1. (convert_sound code h Uniform I32 I64 (narrow l (m + 1)) (wide l m) 0 p.0.1.1.1.0 p.0.1.0 some, ranges_sound (q ∷ rs) (set ++ outer) (e + 1 + 1) (m + 1 + 1) more b.1.1.1.1 p.1.1 (pc1 + 1) (omega (arith, lt1)))) pc lt
 
   -- ---- the bounds
@@ -112,7 +156,9 @@ module _ (code : Listing) (h : Routine) (l : Layout) where
     one_rate Uniform re = refl
     one_rate Varying re = absurd re
 
-    bound_sound : (x : TExpr) (pc p k n : ℕ) → OperandTree Uniform I32 x → ExprTree fs x → Granted h l (bound_asks x n) → k < h.masks → p + length (expr_places l x) ≤ length code.places → pc + length (bound_code l x pc p k n) < length h.code → AreSound code h (bound_code l x pc p k n)
+    bound_sound : (x : TExpr) (pc p k n : ℕ) → OperandTree Uniform I32 x → ExprTree fs x → Granted h l (bound_asks x n) → k < h.masks
+        → p + length (expr_places l x) ≤ length code.places → pc + length (bound_code l x pc p k n) < length h.code
+        → AreSound code h (bound_code l x pc p k n)
     bound_sound x pc p k n o is f lk pl lt =
         subst (λ z. pc + length z < length h.code → AreSound code h z) (sym (bound_is l x pc p k n (one_rate (type_of x).rate o.reaches) o.elem)) (by (constant_of x)) lt
       where
@@ -126,10 +172,16 @@ module _ (code : Listing) (h : Routine) (l : Layout) where
         by None lt1 =
             let e = length-append cx last in
             let there = found_there fs h l links.constants x n is f.1.1.1 in
-            sound_both code h cx last (value_sound fs code h l links x n is f.1.1.1 pc p k lk pl (omega (arith, e, lt1))) (convert_sound code h Uniform I64 I32 (wide l n) (found l x n) k f.0 (one_there (type_of x).rate (found l x n) o.reaches (there.0, there.1 ∙ o.elem)) lk, tt)
+            sound_both code h cx last (value_sound fs code h l links x n is f.1.1.1 pc p k lk pl (omega (arith, e, lt1))) (
+              convert_sound code h Uniform I64 I32 (wide l n) (found l x n) k f.0
+                  (one_there (type_of x).rate (found l x n) o.reaches (there.0, there.1 ∙ o.elem)) lk,
+              tt,
+            )
         by (Some v) lt1 = (constant_sound code h I64 (wide l n) (converted v.elem I64 v.bits) f.0, tt)
 
-    bounds_sound : (rs : List TRange) (pc p k n : ℕ) → RangesTree fs rs → Granted h l (bounds_asks rs n) → k < h.masks → p + length (ranges_places l rs) ≤ length code.places → pc + length (bounds_code l rs pc p k n) < length h.code → AreSound code h (bounds_code l rs pc p k n)
+    bounds_sound : (rs : List TRange) (pc p k n : ℕ) → RangesTree fs rs → Granted h l (bounds_asks rs n) → k < h.masks
+        → p + length (ranges_places l rs) ≤ length code.places → pc + length (bounds_code l rs pc p k n) < length h.code
+        → AreSound code h (bounds_code l rs pc p k n)
     bounds_sound [] pc p k n is f lk pl lt = tt
     bounds_sound (r ∷ rs) pc p k n is f lk pl lt =
         let pa = expr_places l r.start in
@@ -146,9 +198,18 @@ module _ (code : Listing) (h : Routine) (l : Layout) where
         let g1 = length-append pa (pb ++ ranges_places l rs) in
         let g2 = length-append pb (ranges_places l rs) in
         sound_both code h ca (cb ++ cr) (bound_sound r.start pc p k n is.0 is.1 f.0 lk (omega (arith, g1, g2, pl)) (omega (arith, e1, e2, lt)))
-        (sound_both code h cb cr (bound_sound r.end pc1 p1 k (n + 1) is.2 is.3 f.1.1.0 lk (omega (arith, g1, g2, pl)) (omega (arith, e1, e2, lt))) (bounds_sound rs pc2 p2 k (n + 1 + 1) is.4 f.1.1.1.1 lk (omega (arith, g1, g2, pl)) (omega (arith, e1, e2, lt))))
+        (sound_both code h cb cr (bound_sound r.end pc1 p1 k (n + 1) is.2 is.3 f.1.1.0 lk (omega (arith, g1, g2, pl)) (omega (arith, e1, e2, lt)))
+        (bounds_sound rs pc2 p2 k (n + 1 + 1) is.4 f.1.1.1.1 lk (omega (arith, g1, g2, pl)) (omega (arith, e1, e2, lt))))
 
-    pub foreach_sound : (rs : List TRange) (p k n : ℕ) (body : ℕ → List Instr) → RangesTree fs rs → Granted h l (measures_asks n) → Granted h l (bounds_asks rs (n + 1 + 1)) → Granted h l (places_asks rs (places_slot n rs)) → k < h.masks → runs_slot n rs < h.masks → p + length (ranges_places l rs) ≤ length code.places → HereSound code h body → HereSound code h (λ pc. foreach_code l rs pc p k n body)
+    pub foreach_sound : (rs : List TRange) (p k n : ℕ) (body : ℕ → List Instr) → RangesTree fs rs → Granted h l (measures_asks n)
+        → Granted h l (bounds_asks rs (n + 1 + 1)) → Granted h l (places_asks rs (places_slot n rs)) → k < h.masks → runs_slot n rs < h.masks
+        → p + length (ranges_places l rs) ≤ length code.places → HereSound code h body → HereSound code h (λ pc. foreach_code l rs pc p k n body)
     foreach_sound rs p k n body is fm fb fp lk lh pl f =
-        two_sound code h (λ pc. measures_code l n (runs_slot n rs)) (λ pc1. two pc1 (bounds_code l rs pc1 p k (n + 1 + 1)) (λ pc2. ranges_code l n (runs_slot n rs) body rs [] (n + 1 + 1) (places_slot n rs) pc2)) (λ pc lt. measures_sound n (runs_slot n rs) fm (omega (arith, lk)) lh)
-        (two_sound code h (λ pc1. bounds_code l rs pc1 p k (n + 1 + 1)) (λ pc2. ranges_code l n (runs_slot n rs) body rs [] (n + 1 + 1) (places_slot n rs) pc2) (λ pc1 lt1. bounds_sound rs pc1 p k (n + 1 + 1) is fb lk pl lt1) (ranges_sound n (runs_slot n rs) body (omega (arith, lk)) lh fm f rs [] (n + 1 + 1) (places_slot n rs) tt fb fp))
+        two_sound code h (λ pc. measures_code l n (runs_slot n rs))
+        (λ pc1. two pc1 (bounds_code l rs pc1 p k (n + 1 + 1))
+        (λ pc2. ranges_code l n (runs_slot n rs) body rs [] (n + 1 + 1) (places_slot n rs) pc2))
+        (λ pc lt. measures_sound n (runs_slot n rs) fm (omega (arith, lk)) lh)
+        (two_sound code h (λ pc1. bounds_code l rs pc1 p k (n + 1 + 1))
+        (λ pc2. ranges_code l n (runs_slot n rs) body rs [] (n + 1 + 1) (places_slot n rs) pc2)
+        (λ pc1 lt1. bounds_sound rs pc1 p k (n + 1 + 1) is fb lk pl lt1)
+        (ranges_sound n (runs_slot n rs) body (omega (arith, lk)) lh fm f rs [] (n + 1 + 1) (places_slot n rs) tt fb fp))

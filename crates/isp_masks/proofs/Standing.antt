@@ -31,7 +31,9 @@ passed_count : (ps : List Param) → length (param_elems class.Array ps) ≡ arr
 passed_count [] = refl
 passed_count (p ∷ ps) = go p.kind (passed_count ps)
   where
-    go : (k : ParamKind) → length (param_elems class.Array ps) ≡ array_count (map parameter_of ps) → length (if_class (same_class (class_of k) class.Array) p.elem (param_elems class.Array ps)) ≡ array_then (is_array k) (array_count (map parameter_of ps))
+    go : (k : ParamKind) → length (param_elems class.Array ps) ≡ array_count (map parameter_of ps)
+        → length (if_class (same_class (class_of k) class.Array) p.elem (param_elems class.Array ps))
+        ≡ array_then (is_array k) (array_count (map parameter_of ps))
     go kind.Scalar e = e
     go kind.Vector e = e
     go kind.Array e = ap suc e

@@ -77,13 +77,33 @@ module _ (w : Setting) where
     passes_go c pc pc' m m' d q (Cut s) go r f = stopped_less w ready w.turns c d q s r
 
     pub passes_to : (c : Conf) (pc pc' m m' q : ℕ) (v : Res) → pc ≡ pc' → m' ≤ m → Passes c pc m q v → Passes c pc' m' q v
-    passes_to c pc pc' m m' q (Went s g b ct rt) e le r = record { conf = r.conf; steps = r.steps; comes = r.comes; at = at_to w r.conf pc pc' r.at e; stands = r.stands; spares = spares_less w m' m c r.conf le r.spares; masks = λ i lt. r.masks i (omega arith); bound = r.bound }
+    passes_to c pc pc' m m' q (Went s g b ct rt) e le r = record {
+      conf = r.conf;
+      steps = r.steps;
+      comes = r.comes;
+      at = at_to w r.conf pc pc' r.at e;
+      stands = r.stands;
+      spares = spares_less w m' m c r.conf
+          le r.spares;
+      masks = λ i lt. r.masks i (omega arith);
+      bound = r.bound;
+    }
     passes_to c pc pc' m m' q (Trapped t s) e le r = r
     passes_to c pc pc' m m' q (Cut s) e le r = r
 
     -- a body under masks of its own
     pub passes_body : (c : Conf) (pc h q : ℕ) (v : Res) → StmtRuns w w.turns c pc (body_spot h) q v → Passes c pc h q v
-    passes_body c pc h q (Went s g b ct rt) r = record { conf = r.conf; steps = r.steps; comes = r.comes; at = r.at; stands = r.stands; spares = spares_less w h (h + 3) c r.conf (omega arith) r.spares; masks = λ i lt. masks_stay w ready c pc h q s g ct rt r i lt; bound = r.bound }
+    passes_body c pc h q (Went s g b ct rt) r = record {
+      conf = r.conf;
+      steps = r.steps;
+      comes = r.comes;
+      at = r.at;
+      stands = r.stands;
+      spares = spares_less w h (h + 3) c r.conf (omega arith)
+          r.spares;
+      masks = λ i lt. masks_stay w ready c pc h q s g ct rt r i lt;
+      bound = r.bound;
+    }
     passes_body c pc h q (Trapped t s) r = r
     passes_body c pc h q (Cut s) r = r
 
@@ -123,7 +143,8 @@ pub record IsSweep (w : Setting) (body : Mask → State → Res) (all : Mask) (m
   pub turns : (z : ℤ) (s : State) (c : Conf) (q : ℕ) → IsNotLess z → int_lt z end ≡ true → At w c (top + 1 + 1) → Low w m c0 c → number I64 (c.scalars (wide w.layout m)) ≡ z → Good z c → Stands w s c → extra + q ≤ 32 * s.work
       → Passes w c (top + 1 + 1 + length (inside (top + 1 + 1))) (m + 1) q (rounds body all (turn z) s)
 
-module _ (w : Setting) (ready : IsSettled w) (body : Mask → State → Res) (all : Mask) (m u k : ℕ) (end : ℤ) (inside : ℕ → List Instr) (turn : ℤ → List Round) (cost extra top stop : ℕ) (c0 : Conf) (it : IsSweep w body all m u k end inside turn cost extra top stop c0) where
+module _ (w : Setting) (ready : IsSettled w) (body : Mask → State → Res) (all : Mask) (m u k : ℕ) (end : ℤ) (inside : ℕ → List Instr)
+    (turn : ℤ → List Round) (cost extra top stop : ℕ) (c0 : Conf) (it : IsSweep w body all m u k end inside turn cost extra top stop c0) where
   -- the machine stands before the test of a place
   pub record InSweep (z : ℤ) (s : State) (c : Conf) : Type 0 where
     pub at : At w c top
@@ -132,7 +153,8 @@ module _ (w : Setting) (ready : IsSettled w) (body : Mask → State → Res) (al
     pub stands : Stands w s c
 
   -- behind a turn the place goes on, and it is tested again
-  next_turn : (z : ℤ) (s1 : State) (c : Conf) (d q : ℕ) (rest : State → Res) → IsNotLess z → int_lt z end ≡ true → Low w m c0 c → number I64 (c.scalars (wide w.layout m)) ≡ z → (ok : DoneOk w c (top + 1 + 1 + length (inside (top + 1 + 1))) (m + 1) (d + q) s1)
+  next_turn : (z : ℤ) (s1 : State) (c : Conf) (d q : ℕ) (rest : State → Res) → IsNotLess z → int_lt z end ≡ true → Low w m c0 c
+      → number I64 (c.scalars (wide w.layout m)) ≡ z → (ok : DoneOk w c (top + 1 + 1 + length (inside (top + 1 + 1))) (m + 1) (d + q) s1)
       → ((c6 : Conf) → InSweep (z +ℤ pos k) s1 c6 → Passes w c6 stop m (ok.steps + 2 + q) (rest s1)) → Passes w c stop m q (rest s1)
   next_turn z s1 c d q rest low lt lo place ok again =
       passes_after w ready c c6 (ok.steps + 2) stop m q (rest s1) comes6 low6 (again c6 (record { at = at6; low = low_on w m c0 c c6 lo low6; place = place6; stands = stands6 }))
@@ -165,7 +187,10 @@ module _ (w : Setting) (ready : IsSettled w) (body : Mask → State → Res) (al
       at5 = set_goes w ready Uniform c4 p (One x) pc4 ok.at
 
       comes6 : Comes w c (ok.steps + 2) c6
-      comes6 = comes_on w c c4 c6 ok.steps 2 ok.comes (comes_on w c4 c5 c6 1 1 (set_comes w ready Uniform c4 p (One x) pc4 (compute Uniform plain.Add p p v 0) ok.at tail.0 (ap (λ t. Go (set_at Uniform c4 p (One (op_bits op.Add t (c4.scalars p) (c4.scalars v))))) it.typed)) (step_go w c5 (pc4 + 1) (instr.Jump top) c6 ready at5 tail.1.0 refl))
+      comes6 = comes_on w c c4 c6 ok.steps 2 ok.comes (comes_on w c4 c5 c6 1 1
+          (set_comes w ready Uniform c4 p (One x) pc4 (compute Uniform plain.Add p p v 0) ok.at tail.0
+          (ap (λ t. Go (set_at Uniform c4 p (One (op_bits op.Add t (c4.scalars p) (c4.scalars v))))) it.typed))
+          (step_go w c5 (pc4 + 1) (instr.Jump top) c6 ready at5 tail.1.0 refl))
 
       at6 : At w c6 top
       at6 = record { home_is = at5.home_is; waiting_is = at5.waiting_is; pc_is = refl }
@@ -191,7 +216,18 @@ module _ (w : Setting) (ready : IsSettled w) (body : Mask → State → Res) (al
   pub sweep_runs : (n : ℕ) (z : ℤ) (s : State) (c : Conf) (q : ℕ) → CountsTo k n z end → IsNotLess z → InSweep z s c → 2 + n * cost + q ≤ 32 * s.work → Passes w c stop m q (rounds body all (joined_lists (map turn (from_on k n z))) s)
   sweep_runs zero z s c q counts low i le =
       let t = it.test z c i.at i.low i.place in
-      passes_after w ready c t.0 2 stop m q (went_all all s) t.1 t.3 (record { conf = t.0; steps = 0; comes = comes_none w t.0; at = subst (λ b. At w t.0 (if b then top + 1 + 1 else stop)) counts t.2; stands = t.5 s i.stands; spares = spares_all w m t.0; masks = λ r lt. refl; bound = omega (arith, le) })
+      passes_after w ready c t.0 2 stop m q (went_all all s) t.1 t.3
+      (record {
+        conf = t.0;
+        steps = 0;
+        comes = comes_none w t.0;
+        at = subst (λ b. At w t.0 (if b then top + 1 + 1 else stop)) counts t.2;
+        stands =
+            t.5 s i.stands;
+        spares = spares_all w m t.0;
+        masks = λ r lt. refl;
+        bound = omega (arith, le);
+      })
   sweep_runs (suc n) z s c q counts low i le =
       let t = it.test z c i.at i.low i.place in
       let rest = joined_lists (map turn (from_on k n (z +ℤ pos k))) in

@@ -56,7 +56,9 @@ glue_on : (b : ℕ) (bs : List ℕ) → before b (glued (first_word bs) (parts (
 glue_on b [] = refl
 glue_on b (c ∷ bs) = go (c == percent) refl
   where
-    go : (z : Bool) → (c == percent) ≡ z → before b (glued (if z then [] else c ∷ first_word bs) (parts (drop (length (if z then [] else c ∷ first_word bs)) (c ∷ bs)))) ≡ Words (b ∷ (if z then [] else c ∷ first_word bs)) ∷ parts (drop (length (if z then [] else c ∷ first_word bs)) (c ∷ bs))
+    go : (z : Bool) → (c == percent) ≡ z → before b (glued (if z then [] else c ∷ first_word bs)
+        (parts (drop (length (if z then [] else c ∷ first_word bs)) (c ∷ bs))))
+        ≡ Words (b ∷ (if z then [] else c ∷ first_word bs)) ∷ parts (drop (length (if z then [] else c ∷ first_word bs)) (c ∷ bs))
     go true e = subst (λ y. before b (if y then Value ∷ parts bs else before c (parts bs)) ≡ Words (b ∷ []) ∷ (if y then Value ∷ parts bs else before c (parts bs))) (sym e) refl
     go false e = refl
 

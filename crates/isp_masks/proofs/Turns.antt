@@ -21,7 +21,8 @@ use Rattle.isp_lower.specs.Pieces.{two}
 use Rattle.isp_lower.specs.Layout.{register, mask_register}
 use Rattle.isp_lower.specs.Runs.{Comes, Enters, Runs, DoneOk, DoneRuns, Stopped}
 use Rattle.isp_lower.specs.Setting.{Setting, IsSettled, gang_of, AreAt, At, Stands, Spares, Holds, Allowed}
-use Rattle.isp_lower.proofs.Lemmas.{are_front, are_back, put_same, put_other, comes_none, comes_on, step_go, at_to, spares_all, spares_less, spares_on, failed_after, stopped_after, failed_less, stopped_less, jumped, jump_comes, jump_at, masked, where_comes, others_comes, masked_at, any_nobody, where_inside, at_kept}
+use Rattle.isp_lower.proofs.Lemmas.{are_front, are_back, put_same, put_other, comes_none, comes_on, step_go, at_to, spares_all, spares_less, spares_on, failed_after, stopped_after, failed_less}
+use Rattle.isp_lower.proofs.Lemmas.{stopped_less, jumped, jump_comes, jump_at, masked, where_comes, others_comes, masked_at, any_nobody, where_inside, at_kept}
 use Rattle.isp_masks.specs.LoopRuns.{TestRuns, BodyRuns, StepRuns}
 use Rattle.isp_masks.specs.Loops.{copy_mask, if_needed, enter_code, loop_end_code, rejoin_code, turn_code, sift_code, live_code, again_code, next_code}
 use Rattle.isp_masks.specs.Sets.{unite, clear_mask}
@@ -81,7 +82,9 @@ module _ (w : Setting) (ready : IsSettled w) where
   stmt_fewer t m c pc spot q (Cut s) le r = fewer t m c q s le r
 
   -- after a step that came before, it is one past one more
-  stmt_further : (m : ℕ) (c c1 : Conf) (d pc : ℕ) (spot : Spot) (q : ℕ) (v : Res) → Comes w c (suc d) c1 → Spares w spot.slot c c1 → ((r : ℕ) → r < spot.slot → r ≢ spot.on → c1.masks r ≡ c.masks r) → AreThree spot → StmtRuns w m c1 pc spot (suc d + q) v → StmtRuns w (suc m) c pc spot q v
+  stmt_further : (m : ℕ) (c c1 : Conf) (d pc : ℕ) (spot : Spot) (q : ℕ) (v : Res) → Comes w c (suc d) c1 → Spares w spot.slot c c1
+      → ((r : ℕ) → r < spot.slot → r ≢ spot.on → c1.masks r ≡ c.masks r) → AreThree spot → StmtRuns w m c1 pc spot (suc d + q) v
+      → StmtRuns w (suc m) c pc spot q v
   stmt_further m c c1 d pc spot q (Went s g b ct rt) h sp ma th r = stmt_after w ready m c c1 (suc d) pc spot q (Went s g b ct rt) h sp ma th r
   stmt_further m c c1 d pc spot q (Trapped p s) h sp ma th r = failed_after w ready c c1 (suc d) q p s h r
   stmt_further m c c1 d pc spot q (Cut s) h sp ma th r =
@@ -129,7 +132,9 @@ module _ (w : Setting) (ready : IsSettled w) where
 
     -- ---- the end
 
-    pub end_runs : (t pc q : ℕ) (live returned : Mask) (s : State) (c : Conf) → InLoop pc live returned s c → 2 + q ≤ 32 * s.work → AreAt w.routine.code pc (loop_end_code e k rr n) → StmtRuns w t c (pc + length (loop_end_code e k rr n)) spot q (Went s (without all returned) nobody nobody returned)
+    pub end_runs : (t pc q : ℕ) (live returned : Mask) (s : State) (c : Conf) → InLoop pc live returned s c → 2 + q ≤ 32 * s.work
+        → AreAt w.routine.code pc (loop_end_code e k rr n)
+        → StmtRuns w t c (pc + length (loop_end_code e k rr n)) spot q (Went s (without all returned) nobody nobody returned)
     end_runs t pc q live returned s c i le has = go e.returns i.gone has
       where
         ck : co ≢ k
@@ -141,7 +146,9 @@ module _ (w : Setting) (ready : IsSettled w) where
         m2k : n + 2 ≢ k
         m2k = omega arith
 
-        go : (b : Bool) → Gone b returned c → AreAt w.routine.code pc (if_needed b (the_others k k (n + 2) ∷ unite rr rr (n + 2) ∷ [])) → StmtOk w c (pc + length (if_needed b (the_others k k (n + 2) ∷ unite rr rr (n + 2) ∷ []))) spot q s (without all returned) nobody returned
+        go : (b : Bool) → Gone b returned c → AreAt w.routine.code pc (if_needed b (the_others k k (n + 2) ∷ unite rr rr (n + 2) ∷ []))
+            → StmtOk w c (pc + length (if_needed b (the_others k k (n + 2) ∷ unite rr rr (n + 2) ∷ []))) spot q s (without all returned) nobody
+            returned
         go false g h = record {
           conf = c;
           steps = 0;
@@ -197,7 +204,10 @@ module _ (w : Setting) (ready : IsSettled w) where
       pub loop : InLoop pc live returned s conf
 
     -- nobody has continued yet
-    cleared : (pc : ℕ) (kept returned : Mask) (s : State) (c : Conf) → InLoop pc kept returned s c → AreAt w.routine.code pc (if_needed e.continues (clear_mask (n + 1) ∷ [])) → (m : Moved (pc + length (if_needed e.continues (clear_mask (n + 1) ∷ []))) kept returned s c 1) × (e.continues ≡ true → m.conf.masks (n + 1) ≡ nobody)
+    cleared : (pc : ℕ) (kept returned : Mask) (s : State) (c : Conf) → InLoop pc kept returned s c
+        → AreAt w.routine.code pc (if_needed e.continues (clear_mask (n + 1) ∷ []))
+        → (m : Moved (pc + length (if_needed e.continues (clear_mask (n + 1) ∷ []))) kept returned s c 1)
+        × (e.continues ≡ true → m.conf.masks (n + 1) ≡ nobody)
     cleared pc kept returned s c i has = go e.continues has
       where
         c1 : Conf
@@ -230,12 +240,23 @@ module _ (w : Setting) (ready : IsSettled w) where
           λ z. put_same c.masks (n + 1) nobody,
         )
         go false h = (
-          record { conf = c; steps = 0; comes = comes_none w c; few = omega arith; spares = spares_all w n c; masks = λ r lt. refl; loop = record { at = at_to w c pc (pc + 0) i.at (omega arith); all_is = i.all_is; live_is = i.live_is; gone = i.gone; stands = i.stands } },
+          record {
+            conf = c;
+            steps = 0;
+            comes = comes_none w c;
+            few = omega arith;
+            spares = spares_all w n c;
+            masks = λ r lt. refl;
+            loop = record
+                { at = at_to w c pc (pc + 0) i.at (omega arith); all_is = i.all_is; live_is = i.live_is; gone = i.gone; stands = i.stands };
+          },
           λ z. absurd (cc),
         )
 
     -- those that continued come back
-    joined : (pc : ℕ) (live returned ct : Mask) (s : State) (c : Conf) → InLoop pc live returned s c → (e.continues ≡ true → c.masks (n + 1) ≡ ct) → (e.continues ≡ false → ct ≡ nobody) → AreAt w.routine.code pc (if_needed e.continues (unite n n (n + 1) ∷ [])) → Moved (pc + length (if_needed e.continues (unite n n (n + 1) ∷ []))) (union live ct) returned s c 1
+    joined : (pc : ℕ) (live returned ct : Mask) (s : State) (c : Conf) → InLoop pc live returned s c → (e.continues ≡ true → c.masks (n + 1) ≡ ct)
+        → (e.continues ≡ false → ct ≡ nobody) → AreAt w.routine.code pc (if_needed e.continues (unite n n (n + 1) ∷ []))
+        → Moved (pc + length (if_needed e.continues (unite n n (n + 1) ∷ []))) (union live ct) returned s c 1
     joined pc live returned ct s c i those none has = go e.continues those none has
       where
         go : (x : Bool) → (x ≡ true → c.masks (n + 1) ≡ ct) → (x ≡ false → ct ≡ nobody) → AreAt w.routine.code pc (if_needed x (unite n n (n + 1) ∷ [])) → Moved (pc + length (if_needed x (unite n n (n + 1) ∷ []))) (union live ct) returned s c 1
@@ -246,7 +267,14 @@ module _ (w : Setting) (ready : IsSettled w) where
           few = omega arith;
           spares = spares_all w n c;
           masks = λ r lt. let ne : r ≢ n = omega arith in put_other c.masks n u3 r ne;
-          loop = record { at = masked_at w ready c pc n u3 i.at; all_is = put_other c.masks n u3 k kn ∙ i.all_is; live_is = put_same c.masks n u3 ∙ ap (λ m. union m (c.masks (n + 1))) i.live_is ∙ ap (union live) (those refl); gone = gone_put e.returns i.gone; stands = i.stands };
+          loop = record {
+            at = masked_at w ready c pc n u3 i.at;
+            all_is = put_other c.masks n u3 k kn ∙ i.all_is;
+            live_is = put_same c.masks n u3
+                ∙ ap (λ m. union m (c.masks (n + 1))) i.live_is ∙ ap (union live) (those refl);
+            gone = gone_put e.returns i.gone;
+            stands = i.stands;
+          };
         }
           where
             u3 : Mask
@@ -275,7 +303,9 @@ module _ (w : Setting) (ready : IsSettled w) where
         }
 
     -- a wide loop jumps past this where all lanes are live
-    rejoined : (pc : ℕ) (live returned ct : Mask) (s : State) (c : Conf) → InLoop pc live returned s c → (e.continues ≡ true → c.masks (n + 1) ≡ ct) → (e.continues ≡ false → ct ≡ nobody) → Inside w ct → AreAt w.routine.code pc (rejoin_code wide e pc n) → Moved (pc + length (rejoin_code wide e pc n)) (union live ct) returned s c 2
+    rejoined : (pc : ℕ) (live returned ct : Mask) (s : State) (c : Conf) → InLoop pc live returned s c → (e.continues ≡ true → c.masks (n + 1) ≡ ct)
+        → (e.continues ≡ false → ct ≡ nobody) → Inside w ct → AreAt w.routine.code pc (rejoin_code wide e pc n)
+        → Moved (pc + length (rejoin_code wide e pc n)) (union live ct) returned s c 2
     rejoined pc live returned ct s c i those none inside has = by wide has
       where
         join : List Instr
@@ -310,13 +340,38 @@ module _ (w : Setting) (ready : IsSettled w) where
                 record { conf = c1; steps = 1; comes = comes; few = omega arith; spares = spares_all w n c; masks = λ r lt. refl; loop = subst (λ z. InLoop (pc + suc (length join)) z returned s c1) (sym same) (here (pc + suc (length join)) at) }
             go false full =
                 let m = joined (pc + 1) live returned ct s c1 (here (pc + 1) (jump_at w ready c pc jump.All (mask_register n) out false i.at (full_is false full))) those none h.1 in
-                record { conf = m.conf; steps = 1 + m.steps; comes = comes_on w c c1 m.conf 1 m.steps comes m.comes; few = omega (arith, m.few); spares = m.spares; masks = m.masks; loop = subst (λ z. InLoop z (union live ct) returned s m.conf) ends m.loop }
+                record {
+                  conf = m.conf;
+                  steps = 1 + m.steps;
+                  comes = comes_on w c c1 m.conf 1 m.steps comes m.comes;
+                  few = omega (arith, m.few);
+                  spares = m.spares;
+                  masks = m.masks;
+                  loop = subst (λ z. InLoop z (union live ct) returned s m.conf) ends m.loop;
+                }
 
     -- where a turn begins with some kept: the body runs, and what follows goes on from those that are live
-    pub turn_runs : (m pc end q : ℕ) (kept returned : Mask) (s : State) (c : Conf) (code : ℕ → List Instr) (body : Mask → State → Res) (go : Mask → Mask → State → Res) → m ≤ w.turns → InLoop pc kept returned s c → any (gang_of w) kept ≡ true → Inside w kept → q ≤ 32 * s.work → AreAt w.routine.code pc (turn_code wide e pc n code) → BodyRuns w n code body → ((T : Mask) (s : State) → Parted T (body T s)) → ((T : Mask) (s : State) → Leave e (body T s)) → ((live returned : Mask) (s1 : State) (c1 : Conf) (q1 : ℕ) → InLoop (pc + length (turn_code wide e pc n code)) live returned s1 c1 → ((p : ℕ) → live p ≡ true → kept p ≡ true) → (nobody_leaves e ≡ true → live ≡ kept) → 10 + q1 ≤ 32 * s1.work → StmtRuns w m c1 end spot q1 (go live returned s1)) → StmtRuns w m c end spot q (go_on (body kept (tick s)) (λ s1 g b c r. go (union g c) (union returned r) s1))
+    pub turn_runs : (m pc end q : ℕ) (kept returned : Mask) (s : State) (c : Conf) (code : ℕ → List Instr) (body : Mask → State → Res)
+        (go : Mask → Mask → State → Res) → m ≤ w.turns → InLoop pc kept returned s c → any (gang_of w) kept ≡ true → Inside w kept → q ≤ 32 * s.work
+        → AreAt w.routine.code pc (turn_code wide e pc n code) → BodyRuns w n code body → ((T : Mask) (s : State) → Parted T (body T s))
+        → ((T : Mask) (s : State) → Leave e (body T s)) →
+        ((live returned : Mask) (s1 : State) (c1 : Conf) (q1 : ℕ) → InLoop (pc + length (turn_code wide e pc n code)) live returned s1 c1
+        → ((p : ℕ) → live p ≡ true → kept p ≡ true) → (nobody_leaves e ≡ true → live ≡ kept) → 10 + q1 ≤ 32 * s1.work
+        → StmtRuns w m c1 end spot q1 (go live returned s1))
+        → StmtRuns w m c end spot q (go_on (body kept (tick s)) (λ s1 g b c r. go (union g c) (union returned r) s1))
     turn_runs m pc end q kept returned s c code body go le i some inside used has run parts leaves next =
         let first = cleared pc kept returned s c i (are_front w.routine.code pc (if_needed e.continues (clear_mask (n + 1) ∷ [])) _ has) in
-        with_body first (body kept (tick s)) (run kept (tick s) first.0.conf p1 (first.0.steps + (12 + q)) at_body (record { at = first.0.loop.at; mask = first.0.loop.live_is; some = some; inside = inside; stands = first.0.loop.stands; used = omega (arith, used, first.0.few); low = omega arith })) (parts kept (tick s)) (leaves kept (tick s))
+        with_body first (body kept (tick s)) (run kept (tick s) first.0.conf p1 (first.0.steps + (12 + q)) at_body
+        (record {
+          at = first.0.loop.at;
+          mask = first.0.loop.live_is;
+          some = some;
+          inside = inside;
+          stands = first.0.loop.stands;
+          used = omega
+              (arith, used, first.0.few);
+          low = omega arith;
+        })) (parts kept (tick s)) (leaves kept (tick s))
       where
         clear : List Instr
         clear = if_needed e.continues (clear_mask (n + 1) ∷ [])
@@ -356,9 +411,18 @@ module _ (w : Setting) (ready : IsSettled w) where
             gone2 true er h = ok.returned ∙ ap (λ m. union m rt) h
             gone2 false er h = ap (λ m. union m rt) h ∙ ap (union nobody) (leave.2 er)
 
-        with_body : (first : (m : Moved p1 kept returned s c 1) × (e.continues ≡ true → m.conf.masks (n + 1) ≡ nobody)) (v : Res) → StmtRuns w w.turns first.0.conf p2 (body_spot n) (first.0.steps + (12 + q)) v → Parted kept v → Leave e v → StmtRuns w m c end spot q (go_on v (λ s1 g b c r. go (union g c) (union returned r) s1))
-        with_body first (Trapped t s1) r pa lv = failed_after w ready c first.0.conf first.0.steps q t s1 first.0.comes (failed_less w ready first.0.conf 12 (first.0.steps + q) t s1 (let eq : first.0.steps + (12 + q) ≡ 12 + (first.0.steps + q) = omega arith in subst (λ z. StmtRuns w w.turns first.0.conf p2 (body_spot n) z (Trapped t s1)) eq r))
-        with_body first (Cut s1) r pa lv = fewer w.turns m c q s1 le (stopped_after w ready w.turns c first.0.conf first.0.steps q s1 first.0.comes (stopped_less w ready w.turns first.0.conf 12 (first.0.steps + q) s1 (let eq : first.0.steps + (12 + q) ≡ 12 + (first.0.steps + q) = omega arith in subst (λ z. StmtRuns w w.turns first.0.conf p2 (body_spot n) z (Cut s1)) eq r)))
+        with_body : (first : (m : Moved p1 kept returned s c 1) × (e.continues ≡ true → m.conf.masks (n + 1) ≡ nobody)) (v : Res)
+            → StmtRuns w w.turns first.0.conf p2 (body_spot n) (first.0.steps + (12 + q)) v → Parted kept v → Leave e v
+            → StmtRuns w m c end spot q (go_on v (λ s1 g b c r. go (union g c) (union returned r) s1))
+        with_body first (Trapped t s1) r pa lv = failed_after w ready c first.0.conf first.0.steps q t s1 first.0.comes
+            (failed_less w ready first.0.conf 12 (first.0.steps + q) t s1
+            (let eq : first.0.steps + (12 + q) ≡ 12 + (first.0.steps + q) = omega arith in subst
+            (λ z. StmtRuns w w.turns first.0.conf p2 (body_spot n) z (Trapped t s1)) eq r))
+        with_body first (Cut s1) r pa lv = fewer w.turns m c q s1 le
+            (stopped_after w ready w.turns c first.0.conf first.0.steps q s1 first.0.comes
+            (stopped_less w ready w.turns first.0.conf 12 (first.0.steps + q) s1
+            (let eq : first.0.steps + (12 + q) ≡ 12 + (first.0.steps + q) = omega arith in subst
+            (λ z. StmtRuns w w.turns first.0.conf p2 (body_spot n) z (Cut s1)) eq r)))
         with_body first (Went s1 g b ct rt) r pa lv =
             let f = first.0 in
             let i2 = behind_body g b ct rt s1 (f.steps + (12 + q)) f.conf r f.loop.all_is f.loop.gone lv in
@@ -368,18 +432,31 @@ module _ (w : Setting) (ready : IsSettled w) where
             let d = f.steps + (r.steps + j.steps) in
             let low : (x : ℕ) → x < n → j.conf.masks x ≡ c.masks x =
             (λ x lt. (let x0 : x ≢ n = omega arith in let x1 : x ≢ n + 1 = omega arith in let x2 : x ≢ n + 2 = omega arith in j.masks x lt ∙ r.masks x (omega arith) x0 x1 x2) ∙ f.masks x lt) in
-            stmt_after w ready m c j.conf d end spot q (go (union g ct) (union returned rt) s1) (comes_on w c f.conf j.conf f.steps (r.steps + j.steps) f.comes (comes_on w f.conf r.conf j.conf r.steps j.steps r.comes j.comes)) (spares_on w n c f.conf j.conf f.spares (spares_on w n f.conf r.conf j.conf (spares_less w n (n + 3) f.conf r.conf (omega arith) r.spares) j.spares)) (λ x lt ne. low x lt) three
-            (next (union g ct) (union returned rt) s1 j.conf (d + q) (subst (λ z. InLoop z (union g ct) (union returned rt) s1 j.conf) ends j.loop) (live_in kept g b ct rt s1 pa) (λ none. ap (union g) (lv.1 (none_of e.breaks e.continues e.returns none).1) ∙ union_nobody g ∙ whole e kept g b ct rt s1 pa lv none) (omega (arith, r.bound, j.few)))
+            stmt_after w ready m c j.conf d end spot q (go (union g ct) (union returned rt) s1)
+            (comes_on w c f.conf j.conf f.steps (r.steps + j.steps) f.comes (comes_on w f.conf r.conf j.conf r.steps j.steps r.comes j.comes))
+            (spares_on w n c f.conf j.conf f.spares (spares_on w n f.conf r.conf j.conf
+            (spares_less w n (n + 3) f.conf r.conf (omega arith) r.spares) j.spares)) (λ x lt ne. low x lt) three
+            (next (union g ct) (union returned rt) s1 j.conf (d + q) (subst (λ z. InLoop z (union g ct) (union returned rt) s1 j.conf) ends j.loop)
+            (live_in kept g b ct rt s1 pa) (λ none. ap (union g) (lv.1 (none_of e.breaks e.continues e.returns none).1) ∙ union_nobody g
+            ∙ whole e kept g b ct rt s1 pa lv none) (omega (arith, r.bound, j.few)))
 
     -- ---- the test
 
     -- what goes on behind a test, for those that pass
     abbrev pub KeptRuns : ℕ → (ℕ → List Instr) → ℕ → ℕ → (Mask → Mask → State → Res) → Type 0
     KeptRuns t rest past end turn =
-        (kept returned : Mask) (s : State) (c : Conf) (pc q : ℕ) → AreAt w.routine.code pc (rest pc) → pc + length (rest pc) ≡ past → InLoop pc kept returned s c → any (gang_of w) kept ≡ true → Inside w kept → q ≤ 32 * s.work → StmtRuns w t c end spot q (turn kept returned s)
+        (kept returned : Mask) (s : State) (c : Conf) (pc q : ℕ) → AreAt w.routine.code pc (rest pc) → pc + length (rest pc) ≡ past
+        → InLoop pc kept returned s c → any (gang_of w) kept ≡ true → Inside w kept → q ≤ 32 * s.work
+        → StmtRuns w t c end spot q (turn kept returned s)
 
     -- the test's value is known
-    sifted : (t : ℕ) (r : Rate) (x pc past q : ℕ) (live returned : Mask) (m : Payload) (s : State) (c : Conf) (rest : ℕ → List Instr) (turn : Mask → Mask → State → Res) → pc + length (sift_code r x pc n rest) ≡ past → InLoop pc live returned s c → Inside w live → any (gang_of w) live ≡ true → Holds r live x m c → 4 + q ≤ 32 * s.work → AreAt w.routine.code pc (sift_code r x pc n rest) → AreAt w.routine.code past (loop_end_code e k rr n) → KeptRuns t rest past (past + length (loop_end_code e k rr n)) turn → StmtRuns w t c (past + length (loop_end_code e k rr n)) spot q (if_so (any (gang_of w) (kept_by is_true live m)) (turn (kept_by is_true live m) returned) (λ s1. Went s1 (without all returned) nobody nobody returned) s)
+    sifted : (t : ℕ) (r : Rate) (x pc past q : ℕ) (live returned : Mask) (m : Payload) (s : State) (c : Conf) (rest : ℕ → List Instr)
+        (turn : Mask → Mask → State → Res) → pc + length (sift_code r x pc n rest) ≡ past → InLoop pc live returned s c → Inside w live
+        → any (gang_of w) live ≡ true → Holds r live x m c → 4 + q ≤ 32 * s.work → AreAt w.routine.code pc (sift_code r x pc n rest)
+        → AreAt w.routine.code past (loop_end_code e k rr n) → KeptRuns t rest past (past + length (loop_end_code e k rr n)) turn
+        → StmtRuns w t c (past + length (loop_end_code e k rr n)) spot q
+        (if_so (any (gang_of w) (kept_by is_true live m)) (turn (kept_by is_true live m) returned)
+        (λ s1. Went s1 (without all returned) nobody nobody returned) s)
     sifted t Uniform x pc past q live returned m s c rest turn eq i inside some hold used has has_end f =
         subst (λ z. StmtRuns w t c end spot q (if_so (any (gang_of w) (kept_by is_true live z)) (turn (kept_by is_true live z) returned) (λ s1. Went s1 (without all returned) nobody nobody returned) s)) (sym hold)
         (stmt_after w ready t c c4 1 end spot q _ (jump_comes w ready c pc jump.False (register Uniform x) to i.at has.0) (spares_all w n c) (λ y lt ne. refl) three (go (is_true (c.scalars x)) refl))
@@ -405,10 +482,19 @@ module _ (w : Setting) (ready : IsSettled w) where
             (f live returned s c4 (pc + 1) (1 + q) has.1 to_past (record { at = at4 true h; all_is = i.all_is; live_is = i.live_is; gone = gone_moved e.returns returned c c4 refl i.gone; stands = i.stands }) some inside (omega (arith, used)))
         go false h =
             subst (λ z. StmtRuns w t c4 end spot (1 + q) (if_so z (turn nobody returned) (λ s1. Went s1 (without all returned) nobody nobody returned) s)) (sym (any_nobody (gang_of w)))
-            (end_runs t past (1 + q) live returned s c4 (record { at = at_to w c4 to past (at4 false h) to_past; all_is = i.all_is; live_is = i.live_is; gone = gone_moved e.returns returned c c4 refl i.gone; stands = i.stands }) (omega (arith, used)) has_end)
+            (end_runs t past (1 + q) live returned s c4 (record {
+              at = at_to w c4 to past (at4 false h) to_past;
+              all_is = i.all_is;
+              live_is = i.live_is;
+              gone = gone_moved e.returns returned c c4
+                  refl i.gone;
+              stands = i.stands;
+            }) (omega (arith, used)) has_end)
     sifted t Varying x pc past q live returned m s c rest turn eq i inside some hold used has has_end f =
         subst (λ z. StmtRuns w t c end spot q (if_so (any (gang_of w) z) (turn z returned) (λ s1. Went s1 (without all returned) nobody nobody returned) s)) (sym (at_kept Varying live is_true m ∙ ap (kept_by is_true live) hold))
-        (stmt_after w ready t c c4 2 end spot q _ (comes_on w c c3 c4 1 1 (where_comes w ready c pc n x n i.at has.0) (jump_comes w ready c3 (pc + 1) jump.Off (mask_register n) to at3 has.1.0)) (spares_all w n c) (λ y lt ne. low y lt) three (go (any (gang_of w) kept) refl))
+        (stmt_after w ready t c c4 2 end spot q _ (comes_on w c c3 c4 1 1 (where_comes w ready c pc n x n i.at has.0)
+        (jump_comes w ready c3 (pc + 1) jump.Off (mask_register n) to at3 has.1.0)) (spares_all w n c) (λ y lt ne. low y lt) three
+        (go (any (gang_of w) kept) refl))
       where
         kept : Mask
         kept = where_true is_true (on live (c.vectors x))
@@ -454,12 +540,23 @@ module _ (w : Setting) (ready : IsSettled w) where
 
         go : (b : Bool) → any (gang_of w) kept ≡ b → StmtRuns w t c4 end spot (2 + q) (if_so b (turn kept returned) (λ s1. Went s1 (without all returned) nobody nobody returned) s)
         go true h =
-            f kept returned s c4 (pc + 1 + 1) (2 + q) has.1.1 to_past (record { at = at4 true h; all_is = low k lk ∙ i.all_is; live_is = kept_is; gone = gone4; stands = i.stands }) h (where_inside (Allowed w) live is_true (c.vectors x) inside) (omega (arith, used))
+            f kept returned s c4 (pc + 1 + 1) (2 + q) has.1.1 to_past
+            (record { at = at4 true h; all_is = low k lk ∙ i.all_is; live_is = kept_is; gone = gone4; stands = i.stands }) h
+            (where_inside (Allowed w) live is_true (c.vectors x) inside) (omega (arith, used))
         go false h =
             end_runs t past (2 + q) kept returned s c4 (record { at = at_to w c4 to past (at4 false h) to_past; all_is = low k lk ∙ i.all_is; live_is = kept_is; gone = gone4; stands = i.stands }) (omega (arith, used)) has_end
 
     -- from where the test begins
-    pub tested_runs : (t : ℕ) (r : Rate) (x top past q : ℕ) (live returned : Mask) (s : State) (c : Conf) (code rest : ℕ → List Instr) (test : Mask → State → Val Payload) (turn : Mask → Mask → State → Res) → t ≤ w.turns → top + length (code top) + length (sift_code r x (top + length (code top)) n rest) ≡ past → InLoop top live returned s c → Inside w live → any (gang_of w) live ≡ true → q ≤ 32 * s.work → AreAt w.routine.code top (code top) → AreAt w.routine.code (top + length (code top)) (sift_code r x (top + length (code top)) n rest) → AreAt w.routine.code past (loop_end_code e k rr n) → TestRuns w n r x code test → KeptRuns t rest past (past + length (loop_end_code e k rr n)) turn → StmtRuns w t c (past + length (loop_end_code e k rr n)) spot q (with_value (test live s) (λ m s1. if_so (any (gang_of w) (kept_by is_true live m)) (turn (kept_by is_true live m) returned) (λ s2. Went s2 (without all returned) nobody nobody returned) s1))
+    pub tested_runs : (t : ℕ) (r : Rate) (x top past q : ℕ) (live returned : Mask) (s : State) (c : Conf) (code rest : ℕ → List Instr)
+        (test : Mask → State → Val Payload) (turn : Mask → Mask → State → Res) → t ≤ w.turns
+        → top + length (code top) + length (sift_code r x (top + length (code top)) n rest) ≡ past → InLoop top live returned s c → Inside w live
+        → any (gang_of w) live ≡ true → q ≤ 32 * s.work → AreAt w.routine.code top (code top)
+        → AreAt w.routine.code (top + length (code top)) (sift_code r x (top + length (code top)) n rest)
+        → AreAt w.routine.code past (loop_end_code e k rr n) → TestRuns w n r x code test
+        → KeptRuns t rest past (past + length (loop_end_code e k rr n)) turn
+        → StmtRuns w t c (past + length (loop_end_code e k rr n)) spot q
+        (with_value (test live s) (λ m s1. if_so (any (gang_of w) (kept_by is_true live m)) (turn (kept_by is_true live m) returned)
+        (λ s2. Went s2 (without all returned) nobody nobody returned) s1))
     tested_runs t r x top past q live returned s c code rest test turn le eq i inside some used at_test at_sift at_end run f =
         go (test live s) (run live s c top q at_test (record { at = i.at; mask = i.live_is; some = some; inside = inside; stands = i.stands; used = used; low = omega arith }))
       where
@@ -469,12 +566,23 @@ module _ (w : Setting) (ready : IsSettled w) where
         end : ℕ
         end = past + length (loop_end_code e k rr n)
 
-        go : (v : Val Payload) → Runs w c pc1 (n + 3) (4 + q) (Holds r live x) v → StmtRuns w t c end spot q (with_value v (λ m s1. if_so (any (gang_of w) (kept_by is_true live m)) (turn (kept_by is_true live m) returned) (λ s2. Went s2 (without all returned) nobody nobody returned) s1))
+        go : (v : Val Payload) → Runs w c pc1 (n + 3) (4 + q) (Holds r live x) v
+            → StmtRuns w t c end spot q (with_value v (λ m s1. if_so (any (gang_of w) (kept_by is_true live m))
+            (turn (kept_by is_true live m) returned) (λ s2. Went s2 (without all returned) nobody nobody returned) s1))
         go (Gives m s1) ok =
             let c1 = ok.conf in
             let same : (y : ℕ) → y < n + 3 → c1.masks y ≡ c.masks y = ok.masks in
             stmt_after w ready t c c1 ok.steps end spot q _ ok.comes (spares_less w n (n + 3) c c1 (omega arith) ok.spares) (λ y lt ne. ok.masks y (omega arith)) three
-            (sifted t r x pc1 past (ok.steps + q) live returned m s1 c1 rest turn eq (record { at = ok.at; all_is = ok.masks k (omega (arith, three.low_on)) ∙ i.all_is; live_is = ok.masks n (omega arith) ∙ i.live_is; gone = gone_moved e.returns returned c c1 (ok.masks (n + 2) (omega arith)) i.gone; stands = ok.stands }) inside some ok.holds (omega (arith, ok.bound)) at_sift at_end f)
+            (sifted t r x pc1 past (ok.steps + q) live returned m s1 c1 rest turn eq
+            (record {
+              at = ok.at;
+              all_is = ok.masks k (omega (arith, three.low_on)) ∙ i.all_is;
+              live_is = ok.masks n (omega arith)
+                  ∙ i.live_is;
+              gone = gone_moved e.returns returned c c1 (ok.masks (n + 2) (omega arith)) i.gone;
+              stands = ok.stands;
+            }) inside some
+            ok.holds (omega (arith, ok.bound)) at_sift at_end f)
         go (Fails p s1) bad = failed_less w ready c 4 q p s1 bad
         go (Stops s1) cut = fewer w.turns t c q s1 le (stopped_less w ready w.turns c 4 q s1 cut)
 
@@ -484,7 +592,10 @@ module _ (w : Setting) (ready : IsSettled w) where
     -- else the end
     abbrev pub Behind : ℕ → (ℕ → List Instr) → ℕ → ℕ → (Mask → Mask → State → Res) → Type 0
     Behind m code past end next =
-        (live returned : Mask) (s : State) (c : Conf) (pc q : ℕ) → AreAt w.routine.code pc (code pc) → pc + length (code pc) ≡ past → InLoop pc live returned s c → Inside w live → (nobody_leaves e ≡ true → any (gang_of w) live ≡ true) → 10 + q ≤ 32 * s.work → StmtRuns w (suc m) c end spot q (if_so (any (gang_of w) live) (next live returned) (λ s1. Went s1 (without all returned) nobody nobody returned) s)
+        (live returned : Mask) (s : State) (c : Conf) (pc q : ℕ) → AreAt w.routine.code pc (code pc) → pc + length (code pc) ≡ past
+        → InLoop pc live returned s c → Inside w live → (nobody_leaves e ≡ true → any (gang_of w) live ≡ true) → 10 + q ≤ 32 * s.work
+        → StmtRuns w (suc m) c end spot q (if_so (any (gang_of w) live) (next live returned)
+        (λ s1. Went s1 (without all returned) nobody nobody returned) s)
 
     module _ (past end : ℕ) (body_code behind : ℕ → List Instr) (test : Mask → State → Val Payload) (body : Mask → State → Res) (step : Mask → State → Val Done) where
       abbrev pub turns_of : ℕ → Mask → Mask → State → Res
@@ -493,10 +604,16 @@ module _ (w : Setting) (ready : IsSettled w) where
       abbrev pub rest : ℕ → List Instr
       rest pc = two pc (turn_code wide e pc n body_code) behind
 
-      pub kept_runs : BodyRuns w n body_code body → ((T : Mask) (s : State) → Parted T (body T s)) → ((T : Mask) (s : State) → Leave e (body T s)) → ((m : ℕ) → suc m ≤ w.turns → KeptRuns m rest past end (turns_of m) → Behind m behind past end (stepped (gang_of w) test body step all (turns_of m))) → (m : ℕ) → m ≤ w.turns → KeptRuns m rest past end (turns_of m)
+      pub kept_runs : BodyRuns w n body_code body → ((T : Mask) (s : State) → Parted T (body T s)) → ((T : Mask) (s : State) → Leave e (body T s))
+          → ((m : ℕ) → suc m ≤ w.turns → KeptRuns m rest past end (turns_of m)
+          → Behind m behind past end (stepped (gang_of w) test body step all (turns_of m))) → (m : ℕ) → m ≤ w.turns
+          → KeptRuns m rest past end (turns_of m)
       kept_runs run_body parts leaves next zero le kept returned s c pc q has to i some inside used = record { conf = c; steps = 0; far = omega arith; goes = comes_none w c; out_is = i.stands.out_is; bound = omega (arith, used) }
       kept_runs run_body parts leaves next (suc m) le kept returned s c pc q has to i some inside used =
-          turn_runs (suc m) pc end q kept returned s c body_code body (λ live ret s1. if_so (any (gang_of w) live) (stepped (gang_of w) test body step all (turns_of m) live ret) (loop_end (gang_of w) test body step all ret) s1) le i some inside used (are_front w.routine.code pc (turn_code wide e pc n body_code) _ has) run_body parts leaves
+          turn_runs (suc m) pc end q kept returned s c body_code body
+          (λ live ret s1. if_so (any (gang_of w) live) (stepped (gang_of w) test body step all (turns_of m) live ret)
+          (loop_end (gang_of w) test body step all ret) s1) le i some inside used
+          (are_front w.routine.code pc (turn_code wide e pc n body_code) _ has) run_body parts leaves
           (on_from (next m le (kept_runs run_body parts leaves next m (omega (arith, le)))))
         where
           turn : List Instr
@@ -505,16 +622,33 @@ module _ (w : Setting) (ready : IsSettled w) where
           pc1 : ℕ
           pc1 = pc + length turn
 
-          on_from : Behind m behind past end (stepped (gang_of w) test body step all (turns_of m)) → (live ret : Mask) (s1 : State) (c1 : Conf) (q1 : ℕ) → InLoop pc1 live ret s1 c1 → ((p : ℕ) → live p ≡ true → kept p ≡ true) → (nobody_leaves e ≡ true → live ≡ kept) → 10 + q1 ≤ 32 * s1.work → StmtRuns w (suc m) c1 end spot q1 (if_so (any (gang_of w) live) (stepped (gang_of w) test body step all (turns_of m) live ret) (loop_end (gang_of w) test body step all ret) s1)
+          on_from : Behind m behind past end (stepped (gang_of w) test body step all (turns_of m))
+              → (live ret : Mask) (s1 : State) (c1 : Conf) (q1 : ℕ) → InLoop pc1 live ret s1 c1 → ((p : ℕ) → live p ≡ true → kept p ≡ true)
+              → (nobody_leaves e ≡ true → live ≡ kept) → 10 + q1 ≤ 32 * s1.work
+              → StmtRuns w (suc m) c1 end spot q1 (if_so (any (gang_of w) live) (stepped (gang_of w) test body step all (turns_of m) live ret)
+              (loop_end (gang_of w) test body step all ret) s1)
           on_from f live ret s1 c1 q1 j sub whole le1 =
               f live ret s1 c1 pc1 q1 (are_back w.routine.code pc turn (behind pc1) has) (omega (arith, to, length-append turn (behind pc1))) j (λ p h. inside p (sub p h)) (λ h. ap (any (gang_of w)) (whole h) ∙ some) le1
 
     -- a step of the machine to another instruction of the loop
     moved_on : (pc : ℕ) (live returned : Mask) (s : State) (c : Conf) (to : ℕ) → InLoop pc live returned s c → InLoop to live returned s (record c { pc = to })
-    moved_on pc live returned s c to i = record { at = record { home_is = i.at.home_is; waiting_is = i.at.waiting_is; pc_is = refl }; all_is = i.all_is; live_is = i.live_is; gone = gone_moved e.returns returned c (record c { pc = to }) refl i.gone; stands = i.stands }
+    moved_on pc live returned s c to i = record {
+      at = record { home_is = i.at.home_is; waiting_is = i.at.waiting_is; pc_is = refl };
+      all_is =
+          i.all_is;
+      live_is = i.live_is;
+      gone = gone_moved e.returns returned c (record c { pc = to }) refl i.gone;
+      stands = i.stands;
+    }
 
     -- what is for those that are live
-    live_runs : (t : ℕ) (d : Bool) (past end pc q : ℕ) (live returned : Mask) (s : State) (c : Conf) (code : ℕ → List Instr) (go : Mask → Mask → State → Res) → end ≡ past + length (loop_end_code e k rr n) → (d ≡ true → any (gang_of w) live ≡ true) → AreAt w.routine.code pc (live_code d n pc code) → pc + length (live_code d n pc code) ≡ past → AreAt w.routine.code past (loop_end_code e k rr n) → InLoop pc live returned s c → 10 + q ≤ 32 * s.work → ((c1 : Conf) (pc1 q1 : ℕ) → AreAt w.routine.code pc1 (code pc1) → pc1 + length (code pc1) ≡ past → InLoop pc1 live returned s c1 → any (gang_of w) live ≡ true → 9 + q1 ≤ 32 * s.work → StmtRuns w t c1 end spot q1 (go live returned s)) → StmtRuns w t c end spot q (if_so (any (gang_of w) live) (go live returned) (λ s1. Went s1 (without all returned) nobody nobody returned) s)
+    live_runs : (t : ℕ) (d : Bool) (past end pc q : ℕ) (live returned : Mask) (s : State) (c : Conf) (code : ℕ → List Instr)
+        (go : Mask → Mask → State → Res) → end ≡ past + length (loop_end_code e k rr n) → (d ≡ true → any (gang_of w) live ≡ true)
+        → AreAt w.routine.code pc (live_code d n pc code) → pc + length (live_code d n pc code) ≡ past
+        → AreAt w.routine.code past (loop_end_code e k rr n) → InLoop pc live returned s c → 10 + q ≤ 32 * s.work
+        → ((c1 : Conf) (pc1 q1 : ℕ) → AreAt w.routine.code pc1 (code pc1) → pc1 + length (code pc1) ≡ past → InLoop pc1 live returned s c1
+        → any (gang_of w) live ≡ true → 9 + q1 ≤ 32 * s.work → StmtRuns w t c1 end spot q1 (go live returned s))
+        → StmtRuns w t c end spot q (if_so (any (gang_of w) live) (go live returned) (λ s1. Went s1 (without all returned) nobody nobody returned) s)
     live_runs t true past end pc q live returned s c code go ends must has to at_end i used f =
         subst (λ z. StmtRuns w t c end spot q (if_so z (go live returned) (λ s1. Went s1 (without all returned) nobody nobody returned) s)) (sym (must refl)) (f c pc q has to i (must refl) (omega (arith, used)))
     live_runs t false past end pc q live returned s c code go ends must has to at_end i used f =
@@ -551,19 +685,47 @@ module _ (w : Setting) (ready : IsSettled w) where
     -- what leads back to the next turn, behind the step
     abbrev pub BackRuns : ℕ → (ℕ → List Instr) → ℕ → ℕ → (Mask → Mask → State → Res) → Type 0
     BackRuns m back past end next =
-        (live returned : Mask) (s : State) (c : Conf) (pc q : ℕ) → AreAt w.routine.code pc (back pc) → pc + length (back pc) ≡ past → InLoop pc live returned s c → Inside w live → any (gang_of w) live ≡ true → 4 + q ≤ 32 * s.work → StmtRuns w (suc m) c end spot q (next live returned s)
+        (live returned : Mask) (s : State) (c : Conf) (pc q : ℕ) → AreAt w.routine.code pc (back pc) → pc + length (back pc) ≡ past
+        → InLoop pc live returned s c → Inside w live → any (gang_of w) live ≡ true → 4 + q ≤ 32 * s.work
+        → StmtRuns w (suc m) c end spot q (next live returned s)
 
-    pub step_runs : (m past end : ℕ) (step_code back : ℕ → List Instr) (step : Mask → State → Val Done) (next : Mask → Mask → State → Res) → suc m ≤ w.turns → end ≡ past + length (loop_end_code e k rr n) → AreAt w.routine.code past (loop_end_code e k rr n) → StepRuns w n step_code step → BackRuns m back past end next → Behind m (λ pc. next_code e n pc step_code back) past end (λ live returned s. with_value (step live s) (λ _ s1. next live returned s1))
+    pub step_runs : (m past end : ℕ) (step_code back : ℕ → List Instr) (step : Mask → State → Val Done) (next : Mask → Mask → State → Res)
+        → suc m ≤ w.turns → end ≡ past + length (loop_end_code e k rr n) → AreAt w.routine.code past (loop_end_code e k rr n)
+        → StepRuns w n step_code step → BackRuns m back past end next
+        → Behind m (λ pc. next_code e n pc step_code back) past end (λ live returned s. with_value (step live s) (λ _ s1. next live returned s1))
     step_runs m past end step_code back step next le ends at_end run f live returned s c pc q has to i inside must used =
         live_runs (suc m) (nobody_leaves e) past end pc q live returned s c (λ pc1. two pc1 (step_code pc1) back) (λ live returned s. with_value (step live s) (λ _ s1. next live returned s1)) ends must has to at_end i used
-        (λ c1 pc1 q1 at1 to1 i1 some used1. go c1 pc1 q1 i1 some (step live s) at1 to1 (run live s c1 pc1 (4 + q1) (are_front w.routine.code pc1 (step_code pc1) (back (pc1 + length (step_code pc1))) at1) (record { at = i1.at; mask = i1.live_is; some = some; inside = inside; stands = i1.stands; used = omega (arith, used1); low = omega arith })))
+        (λ c1 pc1 q1 at1 to1 i1 some used1. go c1 pc1 q1 i1 some (step live s) at1 to1
+        (run live s c1 pc1 (4 + q1) (are_front w.routine.code pc1 (step_code pc1) (back (pc1 + length (step_code pc1))) at1)
+        (record {
+          at = i1.at;
+          mask = i1.live_is;
+          some = some;
+          inside = inside;
+          stands = i1.stands;
+          used = omega (arith, used1);
+          low = omega arith;
+        })))
       where
-        go : (c1 : Conf) (pc1 q1 : ℕ) → InLoop pc1 live returned s c1 → any (gang_of w) live ≡ true → (v : Val Done) → AreAt w.routine.code pc1 (two pc1 (step_code pc1) back) → pc1 + length (two pc1 (step_code pc1) back) ≡ past → DoneRuns w c1 (pc1 + length (step_code pc1)) (n + 3) (4 + q1) v → StmtRuns w (suc m) c1 end spot q1 (with_value v (λ _ s1. next live returned s1))
+        go : (c1 : Conf) (pc1 q1 : ℕ) → InLoop pc1 live returned s c1 → any (gang_of w) live ≡ true → (v : Val Done)
+            → AreAt w.routine.code pc1 (two pc1 (step_code pc1) back) → pc1 + length (two pc1 (step_code pc1) back) ≡ past
+            → DoneRuns w c1 (pc1 + length (step_code pc1)) (n + 3) (4 + q1) v
+            → StmtRuns w (suc m) c1 end spot q1 (with_value v (λ _ s1. next live returned s1))
         go c1 pc1 q1 i1 some (Gives u s1) at to1 ok =
             let c2 = ok.conf in
             let pc2 = pc1 + length (step_code pc1) in
             stmt_after w ready (suc m) c1 c2 ok.steps end spot q1 _ ok.comes (spares_less w n (n + 3) c1 c2 (omega arith) ok.spares) (λ y lt ne. ok.masks y (omega arith)) three
-            (f live returned s1 c2 pc2 (ok.steps + q1) (are_back w.routine.code pc1 (step_code pc1) (back pc2) at) (omega (arith, to1, length-append (step_code pc1) (back pc2))) (record { at = ok.at; all_is = ok.masks k (omega (arith, three.low_on)) ∙ i1.all_is; live_is = ok.masks n (omega arith) ∙ i1.live_is; gone = gone_moved e.returns returned c1 c2 (ok.masks (n + 2) (omega arith)) i1.gone; stands = ok.stands }) inside some (omega (arith, ok.bound)))
+            (f live returned s1 c2 pc2 (ok.steps + q1) (are_back w.routine.code pc1 (step_code pc1) (back pc2) at)
+            (omega (arith, to1, length-append (step_code pc1) (back pc2)))
+            (record {
+              at = ok.at;
+              all_is = ok.masks k (omega (arith, three.low_on)) ∙ i1.all_is;
+              live_is = ok.masks n (omega arith)
+                  ∙ i1.live_is;
+              gone = gone_moved e.returns returned c1 c2 (ok.masks (n + 2) (omega arith)) i1.gone;
+              stands = ok.stands;
+            }) inside some
+            (omega (arith, ok.bound)))
         go c1 pc1 q1 i1 some (Fails p s1) at to1 bad = failed_less w ready c1 4 q1 p s1 bad
         go c1 pc1 q1 i1 some (Stops s1) at to1 cut = fewer w.turns (suc m) c1 q1 s1 le (stopped_less w ready w.turns c1 4 q1 s1 cut)
 
@@ -575,15 +737,27 @@ module _ (w : Setting) (ready : IsSettled w) where
         (f (1 + q) live returned s c1 (moved_on pc live returned s c top i) inside some (omega (arith, used)))
 
     -- a test, and a jump back to the body
-    pub again_runs : (m : ℕ) (r : Rate) (x top past end : ℕ) (test_code rest_code : ℕ → List Instr) (test : Mask → State → Val Payload) (turn : Mask → Mask → State → Res) → suc m ≤ w.turns → end ≡ past + length (loop_end_code e k rr n) → AreAt w.routine.code past (loop_end_code e k rr n) → AreAt w.routine.code top (rest_code top) → top + length (rest_code top) ≡ past → TestRuns w n r x test_code test → KeptRuns m rest_code past end turn → BackRuns m (λ pc. test_code pc ++ again_code r x n top) past end (λ live returned s. with_value (test live s) (λ v s1. if_so (any (gang_of w) (kept_by is_true live v)) (turn (kept_by is_true live v) returned) (λ s2. Went s2 (without all returned) nobody nobody returned) s1))
+    pub again_runs : (m : ℕ) (r : Rate) (x top past end : ℕ) (test_code rest_code : ℕ → List Instr) (test : Mask → State → Val Payload)
+        (turn : Mask → Mask → State → Res) → suc m ≤ w.turns → end ≡ past + length (loop_end_code e k rr n)
+        → AreAt w.routine.code past (loop_end_code e k rr n) → AreAt w.routine.code top (rest_code top) → top + length (rest_code top) ≡ past
+        → TestRuns w n r x test_code test → KeptRuns m rest_code past end turn
+        → BackRuns m (λ pc. test_code pc ++ again_code r x n top) past end
+        (λ live returned s. with_value (test live s) (λ v s1. if_so (any (gang_of w) (kept_by is_true live v))
+        (turn (kept_by is_true live v) returned) (λ s2. Went s2 (without all returned) nobody nobody returned) s1))
     again_runs m r x top past end test_code rest_code test turn le ends at_end at_top top_past run f live returned s c pc q has to i inside some used =
-        go c pc q i some (test live s) (are_back w.routine.code pc (test_code pc) (again_code r x n top) has) (omega (arith, to, length-append (test_code pc) (again_code r x n top))) (run live s c pc q (are_front w.routine.code pc (test_code pc) (again_code r x n top) has) (record { at = i.at; mask = i.live_is; some = some; inside = inside; stands = i.stands; used = omega (arith, used); low = omega arith }))
+        go c pc q i some (test live s) (are_back w.routine.code pc (test_code pc) (again_code r x n top) has)
+        (omega (arith, to, length-append (test_code pc) (again_code r x n top)))
+        (run live s c pc q (are_front w.routine.code pc (test_code pc) (again_code r x n top) has)
+        (record { at = i.at; mask = i.live_is; some = some; inside = inside; stands = i.stands; used = omega (arith, used); low = omega arith }))
       where
         finish : State → Res
         finish s2 = Went s2 (without all returned) nobody nobody returned
 
         -- the jump is taken, or the end follows; the test's value is known
-        jump_back : (r : Rate) (pc2 q2 : ℕ) (v : Payload) (s1 : State) (c2 : Conf) → InLoop pc2 live returned s1 c2 → any (gang_of w) live ≡ true → Holds r live x v c2 → 4 + q2 ≤ 32 * s1.work → AreAt w.routine.code pc2 (again_code r x n top) → pc2 + length (again_code r x n top) ≡ past → StmtRuns w (suc m) c2 end spot q2 (if_so (any (gang_of w) (kept_by is_true live v)) (turn (kept_by is_true live v) returned) finish s1)
+        jump_back : (r : Rate) (pc2 q2 : ℕ) (v : Payload) (s1 : State) (c2 : Conf) → InLoop pc2 live returned s1 c2 → any (gang_of w) live ≡ true
+            → Holds r live x v c2 → 4 + q2 ≤ 32 * s1.work → AreAt w.routine.code pc2 (again_code r x n top)
+            → pc2 + length (again_code r x n top) ≡ past → StmtRuns w (suc m) c2 end spot q2
+            (if_so (any (gang_of w) (kept_by is_true live v)) (turn (kept_by is_true live v) returned) finish s1)
         jump_back Uniform pc2 q2 v s1 c2 j some hold used2 at to2 =
             subst (λ z. StmtRuns w (suc m) c2 end spot q2 (if_so (any (gang_of w) (kept_by is_true live z)) (turn (kept_by is_true live z) returned) finish s1)) (sym hold) (by (is_true (c2.scalars x)) refl)
           where
@@ -604,7 +778,10 @@ module _ (w : Setting) (ready : IsSettled w) where
             by false h =
                 subst (λ z. StmtRuns w (suc m) c2 end spot q2 (if_so z (turn nobody returned) finish s1)) (sym (any_nobody (gang_of w)))
                 (stmt_after w ready (suc m) c2 c3 1 end spot q2 (finish s1) comes (spares_all w n c2) (λ y lt ne. refl) three
-                (subst (λ z. StmtRuns w (suc m) c3 z spot (1 + q2) (finish s1)) (sym ends) (end_runs (suc m) past (1 + q2) live returned s1 c3 (in3 past (at_to w c3 (pc2 + 1) past (jump_at w ready c2 pc2 jump.True (register Uniform x) top false j.at h) (omega (arith, to2)))) (omega (arith, used2)) at_end)))
+                (subst (λ z. StmtRuns w (suc m) c3 z spot (1 + q2) (finish s1)) (sym ends)
+                (end_runs (suc m) past (1 + q2) live returned s1 c3
+                (in3 past (at_to w c3 (pc2 + 1) past (jump_at w ready c2 pc2 jump.True (register Uniform x) top false j.at h)
+                (omega (arith, to2)))) (omega (arith, used2)) at_end)))
         jump_back Varying pc2 q2 v s1 c2 j some hold used2 at to2 =
             subst (λ z. StmtRuns w (suc m) c2 end spot q2 (if_so (any (gang_of w) z) (turn z returned) finish s1)) (sym (at_kept Varying live is_true v ∙ ap (kept_by is_true live) hold)) (by (any (gang_of w) kept) refl)
           where
@@ -647,13 +824,30 @@ module _ (w : Setting) (ready : IsSettled w) where
                 (f kept returned s1 c4 top (2 + q2) at_top top_past (in4 top (jump_at w ready c3 (pc2 + 1) jump.On (mask_register n) top true at3 (on_is true h))) h (where_inside (Allowed w) live is_true (c2.vectors x) inside) (omega (arith, used2)))
             by false h =
                 stmt_after w ready (suc m) c2 c4 2 end spot q2 (finish s1) comes (spares_all w n c2) (λ y lt ne. low y lt) three
-                (subst (λ z. StmtRuns w (suc m) c4 z spot (2 + q2) (finish s1)) (sym ends) (end_runs (suc m) past (2 + q2) kept returned s1 c4 (in4 past (at_to w c4 (pc2 + 1 + 1) past (jump_at w ready c3 (pc2 + 1) jump.On (mask_register n) top false at3 (on_is false h)) (omega (arith, to2)))) (omega (arith, used2)) at_end))
+                (subst (λ z. StmtRuns w (suc m) c4 z spot (2 + q2) (finish s1)) (sym ends)
+                (end_runs (suc m) past (2 + q2) kept returned s1 c4
+                (in4 past (at_to w c4 (pc2 + 1 + 1) past (jump_at w ready c3 (pc2 + 1) jump.On (mask_register n) top false at3 (on_is false h))
+                (omega (arith, to2)))) (omega (arith, used2)) at_end))
 
-        go : (c1 : Conf) (pc1 q1 : ℕ) → InLoop pc1 live returned s c1 → any (gang_of w) live ≡ true → (v : Val Payload) → AreAt w.routine.code (pc1 + length (test_code pc1)) (again_code r x n top) → pc1 + length (test_code pc1) + length (again_code r x n top) ≡ past → Runs w c1 (pc1 + length (test_code pc1)) (n + 3) (4 + q1) (Holds r live x) v → StmtRuns w (suc m) c1 end spot q1 (with_value v (λ v1 s1. if_so (any (gang_of w) (kept_by is_true live v1)) (turn (kept_by is_true live v1) returned) finish s1))
+        go : (c1 : Conf) (pc1 q1 : ℕ) → InLoop pc1 live returned s c1 → any (gang_of w) live ≡ true → (v : Val Payload)
+            → AreAt w.routine.code (pc1 + length (test_code pc1)) (again_code r x n top)
+            → pc1 + length (test_code pc1) + length (again_code r x n top) ≡ past
+            → Runs w c1 (pc1 + length (test_code pc1)) (n + 3) (4 + q1) (Holds r live x) v
+            → StmtRuns w (suc m) c1 end spot q1 (with_value v
+            (λ v1 s1. if_so (any (gang_of w) (kept_by is_true live v1)) (turn (kept_by is_true live v1) returned) finish s1))
         go c1 pc1 q1 i1 some (Gives v1 s1) at to2 ok =
             let c2 = ok.conf in
             stmt_after w ready (suc m) c1 c2 ok.steps end spot q1 _ ok.comes (spares_less w n (n + 3) c1 c2 (omega arith) ok.spares) (λ y lt ne. ok.masks y (omega arith)) three
-            (jump_back r (pc1 + length (test_code pc1)) (ok.steps + q1) v1 s1 c2 (record { at = ok.at; all_is = ok.masks k (omega (arith, three.low_on)) ∙ i1.all_is; live_is = ok.masks n (omega arith) ∙ i1.live_is; gone = gone_moved e.returns returned c1 c2 (ok.masks (n + 2) (omega arith)) i1.gone; stands = ok.stands }) some ok.holds (omega (arith, ok.bound)) at to2)
+            (jump_back r (pc1 + length (test_code pc1)) (ok.steps + q1) v1 s1 c2
+            (record {
+              at = ok.at;
+              all_is = ok.masks k (omega (arith, three.low_on)) ∙ i1.all_is;
+              live_is = ok.masks n (omega arith)
+                  ∙ i1.live_is;
+              gone = gone_moved e.returns returned c1 c2 (ok.masks (n + 2) (omega arith)) i1.gone;
+              stands = ok.stands;
+            }) some ok.holds
+            (omega (arith, ok.bound)) at to2)
         go c1 pc1 q1 i1 some (Fails p s1) at to2 bad = failed_less w ready c1 4 q1 p s1 bad
         go c1 pc1 q1 i1 some (Stops s1) at to2 cut = fewer w.turns (suc m) c1 q1 s1 le (stopped_less w ready w.turns c1 4 q1 s1 cut)
 
@@ -712,11 +906,21 @@ module _ (w : Setting) (ready : IsSettled w) where
           few = omega arith;
           spares = spares_all w n c;
           masks = λ y lt. (let ne : y ≢ n + 2 = omega arith in put_other c1.masks (n + 2) nobody y ne) ∙ low1 y lt;
-          loop = record { at = at_to w c2 (pc + 1 + 1) _ (masked_at w ready c1 (pc + 1) (n + 2) nobody at1) (omega arith); all_is = put_other c1.masks (n + 2) nobody k k2 ∙ low1 k lk ∙ ek; live_is = put_other c1.masks (n + 2) nobody n n2 ∙ put_same c.masks n (c.masks k) ∙ ek; gone = gone2 e.returns; stands = st };
+          loop = record {
+            at = at_to w c2 (pc + 1 + 1) _ (masked_at w ready c1 (pc + 1) (n + 2) nobody at1) (omega arith);
+            all_is = put_other c1.masks
+                (n + 2) nobody k k2 ∙ low1 k lk ∙ ek;
+            live_is = put_other c1.masks (n + 2) nobody n n2 ∙ put_same c.masks n (c.masks k)
+                ∙ ek;
+            gone = gone2 e.returns;
+            stands = st;
+          };
         }
 
     -- a loop begins
-    pub begin_runs : (pc end q : ℕ) (s : State) (c : Conf) (value : Mask → Mask → State → Res) → AreAt w.routine.code pc (enter_code e k n) → EntersAt w pc spot all s c (3 + q) → TopRuns w.turns (pc + length (enter_code e k n)) end value → StmtRuns w w.turns c end spot (1 + q) (value all nobody s)
+    pub begin_runs : (pc end q : ℕ) (s : State) (c : Conf) (value : Mask → Mask → State → Res) → AreAt w.routine.code pc (enter_code e k n)
+        → EntersAt w pc spot all s c (3 + q) → TopRuns w.turns (pc + length (enter_code e k n)) end value
+        → StmtRuns w w.turns c end spot (1 + q) (value all nobody s)
     begin_runs pc end q s c value has b f =
         let m = entered pc s c b.at b.mask b.stands has in
         stmt_after w ready w.turns c m.conf m.steps end spot (1 + q) (value all nobody s) m.comes m.spares (λ y lt ne. m.masks y lt) three (f (m.steps + (1 + q)) all nobody s m.conf m.loop b.inside b.some (omega (arith, m.few, b.used)))

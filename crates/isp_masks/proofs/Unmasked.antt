@@ -41,7 +41,10 @@ module _ (w : Setting) (ready : IsSettled w) where
       ok.masks r (omega arith) ne0 ne1 ne2
 
   -- the set that came goes on
-  pub unmasked_runs : (pc : ℕ) (spot : Spot) (q : ℕ) (a : Mask) (s : State) (c : Conf) (code : ℕ → List Instr) (body : Mask → State → Res) → AllRuns w spot.slot code body → AreAt w.routine.code pc (unmasked_code spot.slot pc code) → AreThree spot → EntersAt w pc spot a s c q → StmtRuns w w.turns c (pc + length (unmasked_code spot.slot pc code)) spot q (go_on (body (everyone (gang_of w)) (tick s)) (λ s1 g b ct rt. went_all a s1))
+  pub unmasked_runs : (pc : ℕ) (spot : Spot) (q : ℕ) (a : Mask) (s : State) (c : Conf) (code : ℕ → List Instr) (body : Mask → State → Res)
+      → AllRuns w spot.slot code body → AreAt w.routine.code pc (unmasked_code spot.slot pc code) → AreThree spot → EntersAt w pc spot a s c q
+      → StmtRuns w w.turns c (pc + length (unmasked_code spot.slot pc code)) spot q
+      (go_on (body (everyone (gang_of w)) (tick s)) (λ s1 g b ct rt. went_all a s1))
   unmasked_runs pc spot q a s c code body runs has three b =
       let n = spot.slot in
       let all = everyone (gang_of w) in
@@ -50,5 +53,16 @@ module _ (w : Setting) (ready : IsSettled w) where
       let to : pc + 1 + length (code (pc + 1)) ≡ pc + length (unmasked_code n pc code) = omega arith in
       stmt_after w ready w.turns c c1 1 (pc + length (unmasked_code n pc code)) spot q _ (step_go w c pc (fill_mask n) c1 ready b.at has.0 refl) (spares_all w n c) (λ r lt ne. let rn : r ≢ n = omega arith in put_other c.masks n all r rn) three
       (go_runs w ready w.turns c1 (pc + 1 + length (code (pc + 1))) (body_spot n) 0 (1 + q) (body all (tick s)) _ (pc + length (unmasked_code n pc code)) spot
-      (runs all (tick s) c1 (pc + 1) (0 + (1 + q)) has.1 (record { at = masked_at w ready c pc n all b.at; mask = put_same c.masks n all; some = someone w.code.gang; inside = everyone_inside (gang_of w); stands = b.stands; used = omega (arith, b.used) }))
-      (λ s1 g u ct rt e ok. plain_ok w ready c1 ok.conf ok.steps (pc + length (unmasked_code n pc code)) spot (1 + q) a s1 ok.comes (at_to w ok.conf _ _ ok.at to) ok.stands (spares_less w n (n + 3) c1 ok.conf (omega arith) ok.spares) (λ r lt. masks_stay c1 _ n _ s1 g ct rt ok r lt) three (put_other c.masks n all spot.on kn ∙ b.mask) (omega (arith, ok.bound))))
+      (runs all (tick s) c1 (pc + 1) (0 + (1 + q)) has.1
+      (record {
+        at = masked_at w ready c pc n all b.at;
+        mask = put_same c.masks n all;
+        some = someone w.code.gang;
+        inside = everyone_inside
+            (gang_of w);
+        stands = b.stands;
+        used = omega (arith, b.used);
+      }))
+      (λ s1 g u ct rt e ok. plain_ok w ready c1 ok.conf ok.steps (pc + length (unmasked_code n pc code)) spot (1 + q) a s1 ok.comes
+      (at_to w ok.conf _ _ ok.at to) ok.stands (spares_less w n (n + 3) c1 ok.conf (omega arith) ok.spares)
+      (λ r lt. masks_stay c1 _ n _ s1 g ct rt ok r lt) three (put_other c.masks n all spot.on kn ∙ b.mask) (omega (arith, ok.bound))))

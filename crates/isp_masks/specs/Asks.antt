@@ -8,7 +8,8 @@ use Rattle.isp_base.specs.declared.types.Rate.TheVariants.{Uniform, Varying}
 use Rattle.isp_base.specs.declared.types.Ty.{Ty}
 use Rattle.isp_tree.specs.declared.stmt.Form.{Form}
 use Rattle.isp_tree.specs.declared.stmt.Form.TheVariants.{Plain, Coherent}
-use Rattle.isp_typed.specs.Typed.{TExpr, t_exprs, type_of, elem_of, TSimple, TFirst, t_first_declare, t_first_simple, TRange, TStmt, t_block, t_declare, t_simple, t_if, t_if_else, t_while, t_do, t_for, t_foreach, t_foreach_active, t_foreach_unique, t_unmasked, t_jump, t_return, t_print, t_assert, TBlock, t_braces, TStmts, t_no_stmts, t_stmt_then}
+use Rattle.isp_typed.specs.Typed.{TExpr, t_exprs, type_of, elem_of, TSimple, TFirst, t_first_declare, t_first_simple, TRange, TStmt, t_block, t_declare, t_simple, t_if, t_if_else, t_while, t_do, t_for, t_foreach}
+use Rattle.isp_typed.specs.Typed.{t_foreach_active, t_foreach_unique, t_unmasked, t_jump, t_return, t_print, t_assert, TBlock, t_braces, TStmts, t_no_stmts, t_stmt_then}
 use Rattle.isp_lower.specs.Asks.{Ask, Nothing, Both, Register, MaskOf, Number, expr_asks, index_asks, operand_asks, simple_asks, spare_ask, items_asks, test_asks, values_asks}
 use Rattle.isp_lower.specs.Rows.{Result, Variable, Place}
 use Rattle.isp_masks.specs.Prints.{own_rates}
@@ -62,7 +63,9 @@ unique_asks i t e n =
 
 abbrev pub measures_asks : ℕ → Ask
 measures_asks n =
-    Both (spare_ask Uniform I32 n) (Both (spare_ask Varying I32 n) (Both (spare_ask Uniform I64 n) (Both (Number (n + 1)) (Both (spare_ask Uniform I32 (n + 1)) (Both (spare_ask Varying I32 (n + 1)) (Both (spare_ask Uniform I64 (n + 1)) (Number (n + 1 + 1))))))))
+    Both (spare_ask Uniform I32 n) (Both (spare_ask Varying I32 n)
+    (Both (spare_ask Uniform I64 n) (Both (Number (n + 1))
+    (Both (spare_ask Uniform I32 (n + 1)) (Both (spare_ask Varying I32 (n + 1)) (Both (spare_ask Uniform I64 (n + 1)) (Number (n + 1 + 1))))))))
 
 abbrev pub bound_asks : TExpr → ℕ → Ask
 bound_asks x n = Both (spare_ask Uniform I64 n) (index_asks Uniform x n (expr_asks x n))
@@ -74,7 +77,9 @@ bounds_asks (r ∷ rs) n =
 
 abbrev pub place_asks : TRange → ℕ → Ask
 place_asks r m =
-    Both (Register Varying (Variable r.index) I32) (Both (spare_ask Uniform I64 m) (Both (Number (m + 1)) (Both (spare_ask Uniform I32 (m + 1)) (Both (spare_ask Varying I32 (m + 1)) (Both (spare_ask Uniform Truth (m + 1)) (Register Uniform Place I64))))))
+    Both (Register Varying (Variable r.index) I32) (Both (spare_ask Uniform I64 m)
+    (Both (Number (m + 1)) (Both (spare_ask Uniform I32 (m + 1))
+    (Both (spare_ask Varying I32 (m + 1)) (Both (spare_ask Uniform Truth (m + 1)) (Register Uniform Place I64))))))
 
 abbrev pub places_asks : List TRange → ℕ → Ask
 places_asks [] m = Nothing

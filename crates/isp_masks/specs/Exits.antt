@@ -5,7 +5,8 @@ use Rattle.isp_base.specs.Sets.{nobody}
 use Rattle.isp_meaning.specs.Outcomes.{Res, Went, Trapped, Cut}
 use Rattle.isp_tree.specs.declared.stmt.Jump.{Jump}
 use Rattle.isp_tree.specs.declared.stmt.Jump.TheVariants.{Break, Continue}
-use Rattle.isp_typed.specs.Typed.{TStmt, t_block, t_declare, t_simple, t_if, t_if_else, t_while, t_do, t_for, t_foreach, t_foreach_active, t_foreach_unique, t_unmasked, t_jump, t_return, t_print, t_assert, TBlock, t_braces, TStmts, t_no_stmts, t_stmt_then}
+use Rattle.isp_typed.specs.Typed.{TStmt, t_block, t_declare, t_simple, t_if, t_if_else, t_while, t_do, t_for, t_foreach, t_foreach_active, t_foreach_unique}
+use Rattle.isp_typed.specs.Typed.{t_unmasked, t_jump, t_return, t_print, t_assert, TBlock, t_braces, TStmts, t_no_stmts, t_stmt_then}
 use Rattle.isp_masks.specs.declared.exits.Exits.{Exits}
 use Rattle.isp_masks.specs.declared.exits.Leaving.{Leaving}
 use Rattle.isp_masks.specs.declared.exits.Leaving.TheVariants.{Never, Always, Maybe}

@@ -46,18 +46,23 @@ IsBody e v = (T : Mask) (s : State) → Parted T (v T s) × Leave e (v T s)
 -- loop means: its own unit of work pays for its beginning and its end, and each turn's for what a turn needs besides its
 -- parts. A step is left.
 pub record LoopsRun (w : Setting) (wide : Bool) (e : Exits) (spot : Spot) (a : Mask) : Type 0 where
-  pub while_loop : (r : Rate) (x pc q : ℕ) (s : State) (c : Conf) (entry_code test_code body_code : ℕ → List Instr) (test : Mask → State → Val Payload) (body : Mask → State → Res) → TestRuns w spot.slot r x entry_code test → TestRuns w spot.slot r x test_code test → BodyRuns w spot.slot body_code body → IsBody e body
+  pub while_loop : (r : Rate) (x pc q : ℕ) (s : State) (c : Conf) (entry_code test_code body_code : ℕ → List Instr)
+      (test : Mask → State → Val Payload) (body : Mask → State → Res) → TestRuns w spot.slot r x entry_code test
+      → TestRuns w spot.slot r x test_code test → BodyRuns w spot.slot body_code body → IsBody e body
       → AreAt w.routine.code pc (while_code wide e r x pc spot entry_code test_code body_code) → EntersAt w pc spot a s c q
       → StmtRuns w w.turns c (pc + length (while_code wide e r x pc spot entry_code test_code body_code)) spot (1 + q) (while_turns (gang_of w) test body no_step a w.turns (tick s))
   -- behind its first part
-  pub for_loop : (r : Rate) (x pc q : ℕ) (s : State) (c : Conf) (entry_code test_code body_code step_code : ℕ → List Instr) (test : Mask → State → Val Payload) (body : Mask → State → Res) (step : Mask → State → Val Done) → TestRuns w spot.slot r x entry_code test → TestRuns w spot.slot r x test_code test → BodyRuns w spot.slot body_code body → StepRuns w spot.slot step_code step → IsBody e body
+  pub for_loop : (r : Rate) (x pc q : ℕ) (s : State) (c : Conf) (entry_code test_code body_code step_code : ℕ → List Instr)
+      (test : Mask → State → Val Payload) (body : Mask → State → Res) (step : Mask → State → Val Done) → TestRuns w spot.slot r x entry_code test
+      → TestRuns w spot.slot r x test_code test → BodyRuns w spot.slot body_code body → StepRuns w spot.slot step_code step → IsBody e body
       → AreAt w.routine.code pc (for_code wide e r x pc spot entry_code test_code body_code step_code) → EntersAt w pc spot a s c (3 + q)
       → StmtRuns w w.turns c (pc + length (for_code wide e r x pc spot entry_code test_code body_code step_code)) spot (1 + q) (while_turns (gang_of w) test body step a w.turns s)
   -- and with its test left out
   pub endless_loop : (pc q : ℕ) (s : State) (c : Conf) (body_code step_code : ℕ → List Instr) (body : Mask → State → Res) (step : Mask → State → Val Done) → BodyRuns w spot.slot body_code body → StepRuns w spot.slot step_code step → IsBody e body
       → AreAt w.routine.code pc (endless_code e pc spot body_code step_code) → EntersAt w pc spot a s c (3 + q)
       → StmtRuns w w.turns c (pc + length (endless_code e pc spot body_code step_code)) spot (1 + q) (while_turns (gang_of w) (λ l s1. Gives (One 1) s1) body step a w.turns s)
-  pub do_loop : (r : Rate) (x pc q : ℕ) (s : State) (c : Conf) (test_code body_code : ℕ → List Instr) (test : Mask → State → Val Payload) (body : Mask → State → Res) → TestRuns w spot.slot r x test_code test → BodyRuns w spot.slot body_code body → IsBody e body
+  pub do_loop : (r : Rate) (x pc q : ℕ) (s : State) (c : Conf) (test_code body_code : ℕ → List Instr) (test : Mask → State → Val Payload)
+      (body : Mask → State → Res) → TestRuns w spot.slot r x test_code test → BodyRuns w spot.slot body_code body → IsBody e body
       → AreAt w.routine.code pc (do_code wide e r x pc spot test_code body_code) → EntersAt w pc spot a s c (3 + q)
       → StmtRuns w w.turns c (pc + length (do_code wide e r x pc spot test_code body_code)) spot (1 + q) (do_turns (gang_of w) test body no_step a w.turns s)
 

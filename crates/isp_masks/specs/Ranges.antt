@@ -63,7 +63,8 @@ module _ (l : Layout) where
 
   abbrev pub measures_code : ℕ → ℕ → List Instr
   measures_code n h =
-      fill_mask h ∷ constant (narrow n) I32 1 ∷ splat (lane n) (narrow n) h ∷ sum_lanes (wide n) (lane n) h ∷ lane_numbers (lane n) h ∷ convert Uniform (narrow (n + 1)) (wide n) 0 ∷ splat (lane (n + 1)) (narrow (n + 1)) h ∷ constant (wide (n + 1)) I64 1 ∷ []
+      fill_mask h ∷ constant (narrow n) I32 1 ∷ splat (lane n) (narrow n) h ∷ sum_lanes (wide n) (lane n) h ∷ lane_numbers (lane n) h ∷ convert
+      Uniform (narrow (n + 1)) (wide n) 0 ∷ splat (lane (n + 1)) (narrow (n + 1)) h ∷ constant (wide (n + 1)) I64 1 ∷ []
 
   -- ---- the bounds, from left to right, each as int64 in a slot, as a uniform index is: a constant is loaded as one
 

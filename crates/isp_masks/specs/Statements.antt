@@ -12,7 +12,8 @@ use Rattle.isp_code.specs.declared.register.Register.{Register}
 use Rattle.isp_tree.specs.declared.stmt.Form.{Form}
 use Rattle.isp_tree.specs.declared.stmt.Form.TheVariants.{Plain, Coherent}
 use Rattle.isp_tree.specs.declared.stmt.Jump.{Jump}
-use Rattle.isp_typed.specs.Typed.{TExpr, type_of, elem_of, TRange, TSimple, TStmt, t_block, t_declare, t_simple, t_if, t_if_else, t_while, t_do, t_for, t_foreach, t_foreach_active, t_foreach_unique, t_unmasked, t_jump, t_return, t_print, t_assert, TBlock, t_braces, TStmts, t_no_stmts, t_stmt_then}
+use Rattle.isp_typed.specs.Typed.{TExpr, type_of, elem_of, TRange, TSimple, TStmt, t_block, t_declare, t_simple, t_if, t_if_else, t_while, t_do, t_for, t_foreach, t_foreach_active}
+use Rattle.isp_typed.specs.Typed.{t_foreach_unique, t_unmasked, t_jump, t_return, t_print, t_assert, TBlock, t_braces, TStmts, t_no_stmts, t_stmt_then}
 use Rattle.isp_lower.specs.Layout.{Layout, register, outside, within}
 use Rattle.isp_lower.specs.Code.{expr_code}
 use Rattle.isp_lower.specs.Found.{found, operand, operand_of}
@@ -190,11 +191,14 @@ abbrev mutual
       two pc (expr_code l e pc z.place spot.on spot.slot) (λ pc1. if_code (leaving_of x) f (type_of e).rate (found l e spot.slot) pc1 spot (λ pc2 part. stmt_code l answer x pc2 z1 part))
   stmt_code l answer (t_if_else f g e x y sp) pc z spot =
       let z1 = past (expr_places l e) z in
-      two pc (expr_code l e pc z.place spot.on spot.slot) (λ pc1. if_else_code (both_go_on x y) f (type_of e).rate (found l e spot.slot) pc1 spot (λ pc2 part. stmt_code l answer x pc2 z1 part) (λ pc2 part. stmt_code l answer y pc2 (behind l x z1) part))
+      two pc (expr_code l e pc z.place spot.on spot.slot)
+      (λ pc1. if_else_code (both_go_on x y) f (type_of e).rate (found l e spot.slot) pc1 spot (λ pc2 part. stmt_code l answer x pc2 z1 part)
+      (λ pc2 part. stmt_code l answer y pc2 (behind l x z1) part))
   stmt_code l answer (t_while f g e x sp) pc z spot =
       let n = spot.slot in
       let z1 = past (expr_places l e) z in
-      while_code (is_wide f (type_of e).rate) (exits_of x) (type_of e).rate (found l e (n + 3)) pc spot (λ pc1. expr_code l e pc1 z.place n (n + 3)) (λ pc1. expr_code l e pc1 (test_place l x None z1) n (n + 3)) (λ pc1. stmt_code l answer x pc1 z1 (body_spot n))
+      while_code (is_wide f (type_of e).rate) (exits_of x) (type_of e).rate (found l e (n + 3)) pc spot (λ pc1. expr_code l e pc1 z.place n (n + 3))
+      (λ pc1. expr_code l e pc1 (test_place l x None z1) n (n + 3)) (λ pc1. stmt_code l answer x pc1 z1 (body_spot n))
   stmt_code l answer (t_do f g x e sp) pc z spot =
       let n = spot.slot in
       do_code (is_wide f (type_of e).rate) (exits_of x) (type_of e).rate (found l e (n + 3)) pc spot (λ pc1. expr_code l e pc1 (test_place l x None z) n (n + 3)) (λ pc1. stmt_code l answer x pc1 z (body_spot n))
@@ -206,7 +210,10 @@ abbrev mutual
       let n = spot.slot in
       let z1 = past (first_places l first) z in
       let z2 = past (expr_places l e) z1 in
-      two pc (first_code l first pc z.place spot.on n) (λ pc1. for_code (is_wide f (type_of e).rate) (exits_of x) (type_of e).rate (found l e (n + 3)) pc1 spot (λ pc2. expr_code l e pc2 z1.place n (n + 3)) (λ pc2. expr_code l e pc2 (test_place l x step z2) n (n + 3)) (λ pc2. stmt_code l answer x pc2 z2 (body_spot n)) (λ pc2. step_code l step pc2 (behind l x z2).place n (n + 3)))
+      two pc (first_code l first pc z.place spot.on n)
+      (λ pc1. for_code (is_wide f (type_of e).rate) (exits_of x) (type_of e).rate (found l e (n + 3)) pc1 spot
+      (λ pc2. expr_code l e pc2 z1.place n (n + 3)) (λ pc2. expr_code l e pc2 (test_place l x step z2) n (n + 3))
+      (λ pc2. stmt_code l answer x pc2 z2 (body_spot n)) (λ pc2. step_code l step pc2 (behind l x z2).place n (n + 3)))
   stmt_code l answer (t_foreach w g rs x sp) pc z spot =
       foreach_code l rs pc z.place spot.on spot.slot (λ pc1. stmt_code (body_layout l rs) answer x pc1 (past (ranges_places l rs) z) (body_spot (runs_slot spot.slot rs)))
   stmt_code l answer (t_foreach_active w g i x sp) pc z spot =
@@ -249,7 +256,9 @@ module _ (l : Layout) (answer : Option Ty) where
   turns_code f (Some e) step x pc z spot =
       let n = spot.slot in
       let z1 = past (expr_places l e) z in
-      for_code (is_wide f (type_of e).rate) (exits_of x) (type_of e).rate (found l e (n + 3)) pc spot (λ pc1. expr_code l e pc1 z.place n (n + 3)) (λ pc1. expr_code l e pc1 (test_place l x step z1) n (n + 3)) (body_code x n z1) (λ pc1. step_code l step pc1 (behind l x z1).place n (n + 3))
+      for_code (is_wide f (type_of e).rate) (exits_of x) (type_of e).rate (found l e (n + 3)) pc spot (λ pc1. expr_code l e pc1 z.place n (n + 3))
+      (λ pc1. expr_code l e pc1 (test_place l x step z1) n (n + 3)) (body_code x n z1)
+      (λ pc1. step_code l step pc1 (behind l x z1).place n (n + 3))
 
   -- the constants that are kept, the body, and what it gives back
   abbrev pub function_code : List Constant → TBlock → ℕ → Numbers → List Instr

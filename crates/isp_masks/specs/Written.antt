@@ -107,7 +107,12 @@ abbrev pub first_widely_at : Scope → ℕ → TStmt → Spot → Piece
 first_widely_at on c x spot =
     let k = spot.masks.on.number in
     let n = spot.slot.number in
-    record { code = λ pc z. where_so n c k ∷ jump_all n (pc + 1 + 1 + 1 + 1 + 1) ∷ the_others (n + 1) k n ∷ copy_mask k n ∷ guard (jump_off k) (pc + 1 + 1 + 1 + 1) (λ pc1. part_code on x z pc1 (widely k (spot_of spot))); places = stmt_places (layout on) x; texts = stmt_texts x }
+    record {
+      code = λ pc z. where_so n c k ∷ jump_all n (pc + 1 + 1 + 1 + 1 + 1) ∷ the_others (n + 1) k n ∷ copy_mask k n ∷ guard (jump_off k)
+          (pc + 1 + 1 + 1 + 1) (λ pc1. part_code on x z pc1 (widely k (spot_of spot)));
+      places = stmt_places (layout on) x;
+      texts = stmt_texts x;
+    }
 
 -- the second part of a c-form, and those that went on from it come back: jumped past where a mask has all lanes
 abbrev pub others_at : Scope → TStmt → Spot → ℕ → ℕ → ℕ → Piece
@@ -172,7 +177,13 @@ entered_at on test e step x it =
     let l = layout on in
     let n = it.slot.number in
     let turns = turning_at on e step x it in
-    record { code = λ pc z. two pc (expr_code l test pc z.place n (n + 3)) (λ pc1. sift_code (type_of test).rate (found l test (n + 3)) pc1 n (λ pc2. turns.code pc2 (past (expr_places l test) z))); places = expr_places l test ++ turns.places; texts = turns.texts }
+    record {
+      code = λ pc z. two pc (expr_code l test pc z.place n (n + 3))
+          (λ pc1. sift_code (type_of test).rate (found l test (n + 3)) pc1 n (λ pc2. turns.code pc2 (past (expr_places l test) z)));
+      places =
+          expr_places l test ++ turns.places;
+      texts = turns.texts;
+    }
 
 -- a `while`, and a `for` behind its first part
 abbrev pub turns_at : Scope → Form → Option TExpr → Option TSimple → TStmt → Spot → Piece
@@ -184,7 +195,13 @@ abbrev pub do_at : Scope → Form → TStmt → TExpr → Spot → Piece
 do_at on f x e spot =
     let l = layout on in
     let n = spot.slot.number in
-    record { code = λ pc z. do_code (is_wide f (type_of e).rate) (exits_of x) (type_of e).rate (found l e (n + 3)) pc (spot_of spot) (λ pc1. expr_code l e pc1 (test_place l x None z) n (n + 3)) (body_code l on.answer x n z); places = stmt_places l x ++ expr_places l e; texts = stmt_texts x }
+    record {
+      code = λ pc z. do_code (is_wide f (type_of e).rate) (exits_of x) (type_of e).rate (found l e (n + 3)) pc (spot_of spot)
+          (λ pc1. expr_code l e pc1 (test_place l x None z) n (n + 3)) (body_code l on.answer x n z);
+      places = stmt_places l x
+          ++ expr_places l e;
+      texts = stmt_texts x;
+    }
 
 -- ---- bodies that run over sets of their own
 
@@ -210,7 +227,13 @@ unique_at on i e x spot =
     let l = layout on in
     let k = spot.masks.on.number in
     let n = spot.slot.number in
-    record { code = λ pc z. unique_code (values_of l (elem_of e) i n) (operand_of l Varying e k n (expr_code l e pc z.place k n)) (operand l Varying e n) pc k n (λ pc1. stmt_code l on.answer x pc1 (past (expr_places l e) z) (body_spot (n + 1))); places = expr_places l e ++ stmt_places l x; texts = stmt_texts x }
+    record {
+      code = λ pc z. unique_code (values_of l (elem_of e) i n) (operand_of l Varying e k n (expr_code l e pc z.place k n))
+          (operand l Varying e n) pc k n (λ pc1. stmt_code l on.answer x pc1 (past (expr_places l e) z) (body_spot (n + 1)));
+      places = expr_places l e
+          ++ stmt_places l x;
+      texts = stmt_texts x;
+    }
 
 -- ---- parts of a `for`
 
@@ -236,7 +259,9 @@ sweep_asks it =
 
 abbrev pub last_asks : ℕ → Sweep → Ask
 last_asks i it =
-    Both (Register Varying (Variable i) I32) (Both (spare_ask Varying I32 (it.place.number + 1)) (Both (spare_ask Varying I32 it.measures.number) (Both (spare_ask Varying I32 (it.measures.number + 1)) (Both (Register Uniform Place I64) (Number (it.masks.number + 3))))))
+    Both (Register Varying (Variable i) I32) (Both (spare_ask Varying I32 (it.place.number + 1))
+    (Both (spare_ask Varying I32 it.measures.number)
+    (Both (spare_ask Varying I32 (it.measures.number + 1)) (Both (Register Uniform Place I64) (Number (it.masks.number + 3))))))
 
 abbrev pub sweeps_asks : List TRange → Sweep → Ask
 sweeps_asks rs it =
@@ -310,4 +335,10 @@ abbrev pub foreach_at : Scope → List TRange → TStmt → Spot → Piece
 foreach_at on rs x spot =
     let l = layout on in
     let n = spot.slot.number in
-    record { code = λ pc z. foreach_code l rs pc z.place spot.masks.on.number n (body_code (body_layout l rs) on.answer x (runs_slot n rs) (past (ranges_places l rs) z)); places = ranges_places l rs ++ stmt_places (body_layout l rs) x; texts = stmt_texts x }
+    record {
+      code = λ pc z. foreach_code l rs pc z.place spot.masks.on.number n
+          (body_code (body_layout l rs) on.answer x (runs_slot n rs) (past (ranges_places l rs) z));
+      places = ranges_places l rs
+          ++ stmt_places (body_layout l rs) x;
+      texts = stmt_texts x;
+    }

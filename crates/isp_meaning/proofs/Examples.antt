@@ -16,9 +16,11 @@ use Rattle.isp_tree.specs.declared.stmt.Form.TheVariants.{Plain}
 use Rattle.isp_typed.specs.declared.library.Library.TheVariants as library
 use Rattle.isp_typed.specs.declared.variable.Holds.TheVariants.{Local}
 use Rattle.isp_typed.specs.declared.variable.Logic.TheVariants.{And}
-use Rattle.isp_typed.specs.Typed.{t_binary, t_logic, t_choose, t_library, t_exprs, t_packed_store, t_packed_load, t_whole, t_called, t_arguments, TStmt, t_declare, t_with_size, t_simple, t_run, t_value, t_step, t_update, t_variable, t_element, t_do, t_unmasked, t_foreach_active, t_foreach_unique, t_assert, TFunction, t_by_value, t_by_name, ty_of, t_convert, t_place}
+use Rattle.isp_typed.specs.Typed.{t_binary, t_logic, t_choose, t_library, t_exprs, t_packed_store, t_packed_load, t_whole, t_called, t_arguments, TStmt, t_declare, t_with_size, t_simple, t_run, t_value, t_step, t_update}
+use Rattle.isp_typed.specs.Typed.{t_variable, t_element, t_do, t_unmasked, t_foreach_active, t_foreach_unique, t_assert, TFunction, t_by_value, t_by_name, ty_of, t_convert, t_place}
 use Rattle.isp_meaning.specs.Runs.{run_of, work_of}
-use Rattle.isp_meaning.proofs.Programs.{at, number, truth, index, varying, uniform, array, item, own_item, join, plus, test, call, set, set_item, set_own, body, block, if_then, if_else, while, count, range, foreach, break, continue, return, print, holding, each, one, given, function, program, row, with_row}
+use Rattle.isp_meaning.proofs.Programs.{at, number, truth, index, varying, uniform, array, item, own_item, join, plus, test, call, set, set_item, set_own, body, block, if_then, if_else, while}
+use Rattle.isp_meaning.proofs.Programs.{count, range, foreach, break, continue, return, print, holding, each, one, given, function, program, row, with_row}
 
 -- a[programIndex] = x
 abbrev give : TStmt
@@ -69,13 +71,17 @@ unfolding digits number_to wrap_to
 breaks_of_count = refl
 
 -- int f(int k) { for (u = 0; u < 3; u++) { if (u == k) return u + 10; } return 99; }, x = f(programIndex + 1)
-returns : with_calls (function (Some (ty_of Varying I32)) (each ∷ one ∷ []) (count Less 1 3 (if_then (test Equal (uniform 1) (varying 0)) (return (plus (uniform 1) (number 10)) ∷ []) ∷ []) ∷ return (number 99) ∷ [])) (set 1 (call 1 (t_by_value (plus index (number 1)) ∷ [])) ∷ give ∷ []) 9 ≡ gives 11 12 99 99
+returns : with_calls (function (Some (ty_of Varying I32)) (each ∷ one ∷ [])
+    (count Less 1 3 (if_then (test Equal (uniform 1) (varying 0)) (return (plus (uniform 1) (number 10)) ∷ []) ∷ []) ∷ return (number 99) ∷ []))
+    (set 1 (call 1 (t_by_value (plus index (number 1)) ∷ [])) ∷ give ∷ []) 9 ≡ gives 11 12 99 99
 unfolding digits number_to wrap_to
 returns = refl
 
 -- x = 5; if (programIndex < 2) x = f(7), where f returns its parameter by an unmasked block in x of its own: the others
 -- keep 5; within f the parameter of those that did not call is 0, as the sum over all shows: 14
-calls : with_calls (function (Some (ty_of Varying I32)) (each ∷ each ∷ []) (t_unmasked at (body (set 1 (t_library library.ReduceAdd I32 (t_exprs (varying 0 ∷ [])) (ty_of Uniform I32) at) ∷ [])) at ∷ return (varying 1) ∷ [])) (set 1 (number 5) ∷ if_then (test Less index (number 2)) (set 1 (call 1 (t_by_value (number 7) ∷ [])) ∷ []) ∷ give ∷ []) 9 ≡ gives 14 14 5 5
+calls : with_calls (function (Some (ty_of Varying I32)) (each ∷ each ∷ [])
+    (t_unmasked at (body (set 1 (t_library library.ReduceAdd I32 (t_exprs (varying 0 ∷ [])) (ty_of Uniform I32) at) ∷ [])) at ∷ return (varying 1) ∷
+    [])) (set 1 (number 5) ∷ if_then (test Less index (number 2)) (set 1 (call 1 (t_by_value (number 7) ∷ [])) ∷ []) ∷ give ∷ []) 9 ≡ gives 14 14 5 5
 unfolding digits number_to wrap_to
 calls = refl
 
@@ -97,12 +103,16 @@ foreach_work = refl
 
 -- foreach (v = 0 ... 2, w = 0 ... 5) x += 1: two times the runs {0 .. 3} and {0}: 4, 2, 2, 2; v and w are declared as
 -- variables 1 and 2 of such a function, x is variable 3
-foreach_of_two : run_of (program (function None (given ∷ each ∷ each ∷ each ∷ []) (foreach (range 1 0 2 ∷ range 2 0 5 ∷ []) (set 3 (plus (varying 3) (number 1)) ∷ []) ∷ set_item 0 index (varying 3) ∷ []) ∷ [])) 0 0 (with_row (0 ∷ 0 ∷ 0 ∷ 0 ∷ [])) ≡ gives 4 2 2 2
+foreach_of_two : run_of (program (function None (given ∷ each ∷ each ∷ each ∷ [])
+    (foreach (range 1 0 2 ∷ range 2 0 5 ∷ []) (set 3 (plus (varying 3) (number 1)) ∷ []) ∷ set_item 0 index (varying 3) ∷ []) ∷ [])) 0 0
+    (with_row (0 ∷ 0 ∷ 0 ∷ 0 ∷ [])) ≡ gives 4 2 2 2
 unfolding digits number_to wrap_to
 foreach_of_two = refl
 
 -- its work: body 1, foreach 1, bounds 4, lengths 2 + 2 * 2 = 6, four times block 1 and x = x + 1 5 = 24; 4
-foreach_of_two_work : work_of (program (function None (given ∷ each ∷ each ∷ each ∷ []) (foreach (range 1 0 2 ∷ range 2 0 5 ∷ []) (set 3 (plus (varying 3) (number 1)) ∷ []) ∷ set_item 0 index (varying 3) ∷ []) ∷ [])) 0 0 (with_row (0 ∷ 0 ∷ 0 ∷ 0 ∷ [])) ≡ 40
+foreach_of_two_work : work_of (program (function None (given ∷ each ∷ each ∷ each ∷ [])
+    (foreach (range 1 0 2 ∷ range 2 0 5 ∷ []) (set 3 (plus (varying 3) (number 1)) ∷ []) ∷ set_item 0 index (varying 3) ∷ []) ∷ [])) 0 0
+    (with_row (0 ∷ 0 ∷ 0 ∷ 0 ∷ [])) ≡ 40
 unfolding digits number_to wrap_to
 foreach_of_two_work = refl
 
@@ -153,12 +163,15 @@ unfolding digits number_to wrap_to
 assert_traps = refl
 
 -- void f() { f(); } called by instances 2 and 3: the call at depth 256 traps, after 255 that were let through
-depth : with_calls (function None [] (t_simple (t_run (t_called 1 (t_arguments []) (place 3))) at ∷ [])) (if_then (test Greater index (number 1)) (t_simple (t_run (t_called 1 (t_arguments []) at)) at ∷ []) ∷ []) 9 ≡ Traps (trap kind.Depth (place 3) 2) (row (0 ∷ 0 ∷ 0 ∷ 0 ∷ []) ∷ []) []
+depth : with_calls (function None [] (t_simple (t_run (t_called 1 (t_arguments []) (place 3))) at ∷ []))
+    (if_then (test Greater index (number 1)) (t_simple (t_run (t_called 1 (t_arguments []) at)) at ∷ []) ∷ []) 9
+    ≡ Traps (trap kind.Depth (place 3) 2) (row (0 ∷ 0 ∷ 0 ∷ 0 ∷ []) ∷ []) []
 unfolding digits number_to wrap_to
 depth = refl
 
 -- void f() { print("y"); f(); }: it runs 255 times below the entry
-depth_counted : with_calls (function None [] (print (codes "y") [] ∷ t_simple (t_run (t_called 1 (t_arguments []) (place 3))) at ∷ [])) (t_simple (t_run (t_called 1 (t_arguments []) at)) at ∷ []) 9 ≡ Traps (trap kind.Depth (place 3) 0) (row (0 ∷ 0 ∷ 0 ∷ 0 ∷ []) ∷ []) (ys 255)
+depth_counted : with_calls (function None [] (print (codes "y") [] ∷ t_simple (t_run (t_called 1 (t_arguments []) (place 3))) at ∷ []))
+    (t_simple (t_run (t_called 1 (t_arguments []) at)) at ∷ []) 9 ≡ Traps (trap kind.Depth (place 3) 0) (row (0 ∷ 0 ∷ 0 ∷ 0 ∷ []) ∷ []) (ys 255)
 unfolding digits number_to wrap_to
 depth_counted = refl
 
@@ -168,18 +181,24 @@ unfolding digits number_to wrap_to
 active_in_order = refl
 
 -- x = a[programIndex]; foreach_unique (v in x) print("% % ", v, x); of 7, 3, 7, 3: in the order of the lowest instances
-unique : run_of (program (entry (set 1 (item 0 index) ∷ t_foreach_unique at 0 3 I32 (varying 1) (print (codes "% % ") (uniform 3 ∷ varying 1 ∷ [])) at ∷ []) ∷ [])) 0 9 (with_row (7 ∷ 3 ∷ 7 ∷ 3 ∷ [])) ≡ Ends (row (7 ∷ 3 ∷ 7 ∷ 3 ∷ []) ∷ []) None (codes "7 [7,_,7,_] 3 [_,3,_,3] ")
+unique : run_of (program (entry (set 1 (item 0 index) ∷ t_foreach_unique at 0 3 I32 (varying 1) (print (codes "% % ") (uniform 3 ∷ varying 1 ∷ [])) at
+    ∷ []) ∷ [])) 0 9 (with_row (7 ∷ 3 ∷ 7 ∷ 3 ∷ [])) ≡ Ends (row (7 ∷ 3 ∷ 7 ∷ 3 ∷ []) ∷ []) None (codes "7 [7,_,7,_] 3 [_,3,_,3] ")
 unfolding digits number_to wrap_to
 unique = refl
 
 -- x = programIndex & 1; foreach_unique (v in x) { if (programIndex == 0) continue; x = 5; } x = x + 1: the value is taken
 -- once, so 3, whose x is 5 only behind the second turn, has its turn; who continued goes on behind the statement
-unique_once : answers (set 1 (join op.And index (number 1)) ∷ t_foreach_unique at 0 3 I32 (varying 1) (block (if_then (test Equal index (number 0)) (continue ∷ []) ∷ set 1 (number 5) ∷ [])) at ∷ set 1 (plus (varying 1) (number 1)) ∷ give ∷ []) 9 ≡ gives 1 6 6 6
+unique_once : answers (set 1 (join op.And index (number 1)) ∷ t_foreach_unique at 0 3 I32 (varying 1)
+    (block (if_then (test Equal index (number 0)) (continue ∷ []) ∷ set 1 (number 5) ∷ [])) at ∷ set 1 (plus (varying 1) (number 1)) ∷ give ∷ []) 9
+    ≡ gives 1 6 6 6
 unfolding digits number_to wrap_to
 unique_once = refl
 
 -- if (programIndex > 0) foreach_unique (v in programIndex < 2) print("%: % ", v, programIndex): 1 is true, 2 and 3 are not
-unique_bool : answers (if_then (test Greater index (number 0)) (t_foreach_unique at 0 3 Truth (t_convert I32 (test Less index (number 2))) (print (codes "%: % ") (t_place (t_variable 3 (ty_of Uniform Truth) at) ∷ index ∷ [])) at ∷ []) ∷ []) 9 ≡ prints (codes "true: [_,1,_,_] false: [_,_,2,3] ")
+unique_bool : answers (if_then (test Greater index (number 0))
+    (t_foreach_unique at 0 3 Truth (t_convert I32 (test Less index (number 2)))
+    (print (codes "%: % ") (t_place (t_variable 3 (ty_of Uniform Truth) at) ∷ index ∷ [])) at ∷ []) ∷ []) 9
+    ≡ prints (codes "true: [_,1,_,_] false: [_,_,2,3] ")
 unfolding digits not_zero number_to wrap_to
 unique_bool = refl
 
@@ -232,7 +251,9 @@ unfolding digits number_to wrap_to
 own_arrays = refl
 
 -- a shared local array is passed on: void f(int b[]) { b[0] = b[0] + 5; } on t twice; x = t[0] = 10, as t is not renewed
-shared_local : with_calls (function None (given ∷ []) (set_item 0 (number 0) (plus (item 0 (number 0)) (number 5)) ∷ [])) (t_simple (t_run (t_called 1 (t_arguments (t_by_name (array Uniform 4) at ∷ [])) at)) at ∷ t_simple (t_run (t_called 1 (t_arguments (t_by_name (array Uniform 4) at ∷ [])) at)) at ∷ set 1 (item 4 (number 0)) ∷ give ∷ []) 9 ≡ gives 10 10 10 10
+shared_local : with_calls (function None (given ∷ []) (set_item 0 (number 0) (plus (item 0 (number 0)) (number 5)) ∷ []))
+    (t_simple (t_run (t_called 1 (t_arguments (t_by_name (array Uniform 4) at ∷ [])) at)) at ∷ t_simple
+    (t_run (t_called 1 (t_arguments (t_by_name (array Uniform 4) at ∷ [])) at)) at ∷ set 1 (item 4 (number 0)) ∷ give ∷ []) 9 ≡ gives 10 10 10 10
 unfolding digits number_to wrap_to
 shared_local = refl
 
@@ -247,7 +268,10 @@ unfolding digits number_to wrap_to
 rotates = refl
 
 -- if (programIndex != 1) u = packed_store_active(a, programIndex + 5); x = u
-packed : answers (if_then (test NotEqual index (number 1)) (t_simple (t_step op.Add I32 (t_variable 2 (ty_of Uniform I32) at) at) at ∷ set 1 (t_packed_store (t_whole (array Uniform 0) at) (plus index (number 5)) at) ∷ set 1 (plus (varying 1) (uniform 2)) ∷ []) ∷ set_item 0 (number 3) (t_library library.ReduceAdd I32 (t_exprs (varying 1 ∷ [])) (ty_of Uniform I32) at) ∷ []) 9 ≡ gives 5 7 8 12
+packed : answers (if_then (test NotEqual index (number 1))
+    (t_simple (t_step op.Add I32 (t_variable 2 (ty_of Uniform I32) at) at) at ∷ set 1
+    (t_packed_store (t_whole (array Uniform 0) at) (plus index (number 5)) at) ∷ set 1 (plus (varying 1) (uniform 2)) ∷ []) ∷ set_item 0 (number 3)
+    (t_library library.ReduceAdd I32 (t_exprs (varying 1 ∷ [])) (ty_of Uniform I32) at) ∷ []) 9 ≡ gives 5 7 8 12
 unfolding digits number_to wrap_to
 packed = refl
 

@@ -16,8 +16,12 @@ use Rattle.isp_base.specs.declared.types.Ty.{Ty}
 use Rattle.isp_base.specs.declared.trap.TrapKind.TheVariants.{Divide, Index, Assert}
 use Rattle.isp_tree.specs.declared.stmt.Jump.{Jump}
 use Rattle.isp_tree.specs.declared.stmt.Jump.TheVariants.{Break, Continue}
-use Rattle.isp_typed.specs.Typed.{TExpr, t_constant, t_program_index, t_place, t_convert, t_cast, t_unary, t_binary, t_compare, t_logic, t_choose, t_call, t_library, t_packed_store, t_packed_load, TPlace, t_variable, t_element, TBase, t_whole, t_from, TArgument, t_by_value, t_by_name, TCall, t_called, TArguments, t_no_arguments, t_argument_then, TExprs, t_exprs, t_no_exprs, t_expr_then, place_span, elem_of}
-use Rattle.isp_typed.specs.Typed.{TItem, t_plain, t_with_value, t_with_size, TSimple, t_value, t_run, t_assign, t_update, t_step, TFirst, t_first_declare, t_first_simple, TRange, TStmt, t_block, t_declare, t_simple, t_if, t_if_else, t_while, t_do, t_for, t_foreach, t_foreach_active, t_foreach_unique, t_unmasked, t_jump, t_return, t_print, t_assert, TBlock, t_braces, TStmts, t_no_stmts, t_stmt_then, TFunction, Program}
+use Rattle.isp_typed.specs.Typed.{TExpr, t_constant, t_program_index, t_place, t_convert, t_cast, t_unary, t_binary, t_compare, t_logic, t_choose, t_call, t_library}
+use Rattle.isp_typed.specs.Typed.{t_packed_store, t_packed_load, TPlace, t_variable, t_element, TBase, t_whole, t_from, TArgument, t_by_value, t_by_name, TCall, t_called}
+use Rattle.isp_typed.specs.Typed.{TArguments, t_no_arguments, t_argument_then, TExprs, t_exprs, t_no_exprs, t_expr_then, place_span, elem_of}
+use Rattle.isp_typed.specs.Typed.{TItem, t_plain, t_with_value, t_with_size, TSimple, t_value, t_run, t_assign, t_update, t_step, TFirst, t_first_declare, t_first_simple, TRange}
+use Rattle.isp_typed.specs.Typed.{TStmt, t_block, t_declare, t_simple, t_if, t_if_else, t_while, t_do, t_for, t_foreach, t_foreach_active, t_foreach_unique, t_unmasked, t_jump}
+use Rattle.isp_typed.specs.Typed.{t_return, t_print, t_assert, TBlock, t_braces, TStmts, t_no_stmts, t_stmt_then, TFunction, Program}
 use Rattle.isp_meaning.specs.State.{State, Frame, tick, extent}
 use Rattle.isp_meaning.specs.Payloads.{Payload, One, Each, is_true, is_false, kept_by, offender, spread}
 use Rattle.isp_meaning.specs.Outcomes.{Val, Gives, Fails, Stops, Res, Went, Trapped, Cut, Done, go_on, if_so}
@@ -92,11 +96,16 @@ module _ (gang : ℕ) (frame : Frame) (calls calls' : Calls) (grow : CallsGrow c
     value_grows (t_logic l x y r sp) a s =
         bind_grown s.out _ _ _ _ (value_grows x a (tick s)) (λ m s1. bind_grown s1.out _ _ _ _ (value_unless_grown gang (kept_by (needs l) a m) s1 _ _ (value_grows y)) (λ n s2. gives_grown _ s2))
     value_grows (t_choose c x y t sp) a s =
-        bind_grown s.out _ _ _ _ (value_grows c a (tick s)) (λ k s1. bind_grown s1.out _ _ _ _ (value_unless_grown gang (kept_by is_true a k) s1 _ _ (value_grows x)) (λ m s2. bind_grown s2.out _ _ _ _ (value_unless_grown gang (kept_by is_false a k) s2 _ _ (value_grows y)) (λ n s3. gives_grown _ s3)))
+        bind_grown s.out _ _ _ _ (value_grows c a (tick s))
+        (λ k s1. bind_grown s1.out _ _ _ _ (value_unless_grown gang (kept_by is_true a k) s1 _ _ (value_grows x))
+        (λ m s2. bind_grown s2.out _ _ _ _ (value_unless_grown gang (kept_by is_false a k) s2 _ _ (value_grows y)) (λ n s3. gives_grown _ s3)))
     value_grows (t_call c t) a s = call_grows c a s
     value_grows (t_library f e xs t sp) a s = bind_grown s.out _ _ _ _ (values_grow xs a (tick s)) (λ ms s1. gives_grown _ s1)
     value_grows (t_packed_store b x sp) a s =
-        bind_grown s.out _ _ _ _ (first_grows b a (tick s)) (λ z s1. bind_grown s1.out _ _ _ _ (value_grows x a s1) (λ m s2. bind_grown s2.out _ _ _ _ (checked_grown (lowest gang (packed_outside (extent frame (base_array b)) z a)) Index sp s2 m) (λ n s3. gives_on s3.out _ _ (prefix_self s3.out))))
+        bind_grown s.out _ _ _ _ (first_grows b a (tick s))
+        (λ z s1. bind_grown s1.out _ _ _ _ (value_grows x a s1)
+        (λ m s2. bind_grown s2.out _ _ _ _ (checked_grown (lowest gang (packed_outside (extent frame (base_array b)) z a)) Index sp s2 m)
+        (λ n s3. gives_on s3.out _ _ (prefix_self s3.out))))
     value_grows (t_packed_load b v sp) a s =
         bind_grown s.out _ _ _ _ (first_grows b a (tick s)) (λ z s1. bind_grown s1.out _ _ _ _ (checked_grown (lowest gang (packed_outside (extent frame (base_array b)) z a)) Index sp (tick s1) _) (λ n s2. gives_on s2.out _ _ (prefix_self s2.out)))
 
@@ -129,13 +138,18 @@ module _ (gang : ℕ) (frame : Frame) (calls calls' : Calls) (grow : CallsGrow c
 
   update_grows : (op : BinOp) (t : Elem) (p : TPlace) (q : Place) (y : Payload) (sp : Span) (a : Mask) (s : State) → Grown s.out (update gang frame calls op t p q y sp a s) (update gang frame calls' op t p q y sp a s)
   update_grows op t p q y sp a s =
-      bind_grown s.out _ _ _ _ (checked_grown (outside gang frame q a) Index (place_span p) s _) (λ x s1. bind_grown s1.out _ _ _ _ (checked_grown (offender gang (is_zero op t) a y) Divide sp s1 _) (λ z s2. gives_on s2.out _ _ (elements_out gang frame q a _ s2)))
+      bind_grown s.out _ _ _ _ (checked_grown (outside gang frame q a) Index (place_span p) s _)
+      (λ x s1. bind_grown s1.out _ _ _ _ (checked_grown (offender gang (is_zero op t) a y) Divide sp s1 _)
+      (λ z s2. gives_on s2.out _ _ (elements_out gang frame q a _ s2)))
 
   simple_grows : (x : TSimple) (a : Mask) (s : State) → Grown s.out (simple gang frame calls x a s) (simple gang frame calls' x a s)
   simple_grows (t_value x) a s = bind_grown s.out _ _ _ _ (value_grows x a (tick s)) (λ m s1. gives_grown _ s1)
   simple_grows (t_run c) a s = bind_grown s.out _ _ _ _ (call_grows c a (tick s)) (λ m s1. gives_grown _ s1)
   simple_grows (t_assign p x sp) a s =
-      bind_grown s.out _ _ _ _ (place_grows p a (tick s)) (λ q s1. bind_grown s1.out _ _ _ _ (value_grows x a s1) (λ m s2. bind_grown s2.out _ _ _ _ (checked_grown (outside gang frame q a) Index (place_span p) s2 m) (λ n s3. gives_on s3.out _ _ (elements_out gang frame q a n s3))))
+      bind_grown s.out _ _ _ _ (place_grows p a (tick s))
+      (λ q s1. bind_grown s1.out _ _ _ _ (value_grows x a s1)
+      (λ m s2. bind_grown s2.out _ _ _ _ (checked_grown (outside gang frame q a) Index (place_span p) s2 m)
+      (λ n s3. gives_on s3.out _ _ (elements_out gang frame q a n s3))))
   simple_grows (t_update op t p x sp) a s =
       bind_grown s.out _ _ _ _ (place_grows p a (tick s)) (λ q s1. bind_grown s1.out _ _ _ _ (value_grows x a s1) (λ y s2. update_grows op t p q y sp a s2))
   simple_grows (t_step op t p sp) a s = bind_grown s.out _ _ _ _ (place_grows p a (tick s)) (λ q s1. update_grows op t p q (One 1) sp a s1)
@@ -193,7 +207,8 @@ module _ (gang : ℕ) (test test' : Mask → State → Val Payload) (body body' 
       (go_on (body k (tick s)) (λ s1 g b c r1. if_so (any gang (union g c)) (stepped gang test body step all turn (union g c) (union r r1)) (loop_end gang test body step all (union r r1)) s1))
       (go_on (body' k (tick s)) (λ s1 g b c r1. if_so (any gang (union g c)) (stepped gang test' body' step' all turn' (union g c) (union r r1)) (loop_end gang test' body' step' all (union r r1)) s1))
   turn_grows turn turn' go k r s =
-      go_grown s.out _ _ _ _ (bodies k (tick s)) (λ s1 g b c r1. if_res_grown s1.out (any gang (union g c)) _ _ _ _ s1 (with_grown s1.out _ _ _ _ (steps (union g c) s1) (λ _ s2. tested_grows turn turn' go (union g c) (union r r1) s2)) (went_grown s1 _ _ _ _))
+      go_grown s.out _ _ _ _ (bodies k (tick s)) (λ s1 g b c r1. if_res_grown s1.out (any gang (union g c)) _ _ _ _ s1
+      (with_grown s1.out _ _ _ _ (steps (union g c) s1) (λ _ s2. tested_grows turn turn' go (union g c) (union r r1) s2)) (went_grown s1 _ _ _ _))
 
   turns_same : (n : ℕ) → Turns (turns gang test body step all n) (turns gang test' body' step' all n)
   turns_same zero k r s = record { from = prefix_self s.out; later = prefix_self s.out }
@@ -249,16 +264,24 @@ module _ (gang : ℕ) (frame : Frame) (calls calls' : Calls) (grow : CallsGrow c
     run_grows (t_if_else f k e x y sp) a s =
         with_grown s.out _ _ _ _ (value_grows gang frame calls calls' grow e a (tick s)) (λ m s1. branches_grow gang a _ _ _ _ (run_grows x) (run_grows y) m s1)
     run_grows (t_while f k e x sp) a s =
-        tested_grows gang _ _ _ _ _ _ a (value_grows gang frame calls calls' grow e) (run_grows x) (λ l s1. gives_grown tt s1) _ _ (turns_grow gang _ _ _ _ _ _ a (value_grows gang frame calls calls' grow e) (run_grows x) (λ l s1. gives_grown tt s1) n n' le) a nobody (tick s)
+        tested_grows gang _ _ _ _ _ _ a (value_grows gang frame calls calls' grow e) (run_grows x) (λ l s1. gives_grown tt s1) _ _
+        (turns_grow gang _ _ _ _ _ _ a (value_grows gang frame calls calls' grow e) (run_grows x) (λ l s1. gives_grown tt s1) n n' le) a nobody
+        (tick s)
     run_grows (t_do f k x e sp) a s =
         turns_grow gang _ _ _ _ _ _ a (value_grows gang frame calls calls' grow e) (run_grows x) (λ l s1. gives_grown tt s1) n n' le a nobody (tick s)
     run_grows (t_for f k first e step i x sp) a s =
-        with_grown s.out _ _ _ _ (first_part_grows gang frame calls calls' grow first a (tick s)) (λ _ s1. tested_grows gang _ _ _ _ _ _ a (test_part_grows gang frame calls calls' grow e) (run_grows x) (step_part_grows gang frame calls calls' grow step) _ _ (turns_grow gang _ _ _ _ _ _ a (test_part_grows gang frame calls calls' grow e) (run_grows x) (step_part_grows gang frame calls calls' grow step) n n' le) a nobody s1)
+        with_grown s.out _ _ _ _ (first_part_grows gang frame calls calls' grow first a (tick s))
+        (λ _ s1. tested_grows gang _ _ _ _ _ _ a (test_part_grows gang frame calls calls' grow e) (run_grows x)
+        (step_part_grows gang frame calls calls' grow step) _ _
+        (turns_grow gang _ _ _ _ _ _ a (test_part_grows gang frame calls calls' grow e) (run_grows x)
+        (step_part_grows gang frame calls calls' grow step) n n' le) a nobody s1)
     run_grows (t_foreach w k rs x sp) a s =
         with_grown s.out _ _ _ _ (ranges_grow gang frame calls calls' grow rs a (tick s)) (λ xs s1. rounds_grow _ _ (run_grows x) a (foreach_rounds gang xs) (runs_quiet (runs_of gang xs)) (record s1 { work = s1.work + counted gang 1 xs }))
     run_grows (t_foreach_active w k i x sp) a s = rounds_grow _ _ (run_grows x) a (active_rounds gang i a) (active_quiet i (members gang a)) (tick s)
     run_grows (t_foreach_unique w k i t e x sp) a s =
-        with_grown s.out _ _ _ _ (value_grows gang frame calls calls' grow e a (tick s)) (λ m s1. rounds_grow _ _ (run_grows x) a (unique_rounds gang (elem_of e) t i (spread a m)) (unique_quiet (elem_of e) t (spread a m) i (members gang (firsts (elem_of e) (spread a m)))) s1)
+        with_grown s.out _ _ _ _ (value_grows gang frame calls calls' grow e a (tick s))
+        (λ m s1. rounds_grow _ _ (run_grows x) a (unique_rounds gang (elem_of e) t i (spread a m))
+        (unique_quiet (elem_of e) t (spread a m) i (members gang (firsts (elem_of e) (spread a m)))) s1)
     run_grows (t_unmasked w b sp) a s = go_grown s.out _ _ _ _ (block_grows b (everyone gang) (tick s)) (λ s1 g b' c r. went_grown s1 _ _ _ _)
     run_grows (t_jump j w sp) a s = jumped_grows j a (tick s)
     run_grows (t_return w None sp) a s = went_grown (tick s) _ _ _ _

@@ -10,7 +10,9 @@ use Rattle.isp_base.specs.declared.types.Span.{Span}
 use Rattle.isp_base.specs.declared.types.Ty.{Ty}
 use Rattle.isp_base.specs.declared.trap.TrapKind.{TrapKind}
 use Rattle.isp_base.specs.declared.trap.TrapKind.TheVariants.{Divide, Index}
-use Rattle.isp_typed.specs.Typed.{TExpr, t_constant, t_program_index, t_place, t_convert, t_cast, t_unary, t_binary, t_compare, t_logic, t_choose, t_call, t_library, t_packed_store, t_packed_load, TPlace, t_variable, t_element, TBase, t_whole, t_from, TArgument, t_by_value, t_by_name, TCall, t_called, TArguments, t_no_arguments, t_argument_then, TExprs, t_no_exprs, t_expr_then, place_span, TFunction, Program}
+use Rattle.isp_typed.specs.Typed.{TExpr, t_constant, t_program_index, t_place, t_convert, t_cast, t_unary, t_binary, t_compare, t_logic, t_choose, t_call, t_library, t_packed_store}
+use Rattle.isp_typed.specs.Typed.{t_packed_load, TPlace, t_variable, t_element, TBase, t_whole, t_from, TArgument, t_by_value, t_by_name, TCall, t_called, TArguments}
+use Rattle.isp_typed.specs.Typed.{t_no_arguments, t_argument_then, TExprs, t_no_exprs, t_expr_then, place_span, TFunction, Program}
 use Rattle.isp_meaning.specs.State.{State, Frame, tick, extent}
 use Rattle.isp_meaning.specs.Payloads.{Payload, is_true, is_false, spread, kept_by, nothing, offender}
 use Rattle.isp_meaning.specs.Outcomes.{Val, Gives, Fails, Stops, Res, Went, Trapped, Cut, bind, checked, if_so, value_unless_empty}
@@ -98,7 +100,9 @@ module _ (gang : ℕ) (frame : Frame) (calls : Calls) (keep : CallsKeep calls) w
     value_keeps (t_compare c x y r sp) a s =
         bind_keeps (loads x) (loads y) s _ _ (value_keeps x a (tick s)) (λ m s1. bind_still (loads y) s1 _ _ (value_keeps y a s1) (λ n s2. same no_variable s2))
     value_keeps (t_logic l x y r sp) a s =
-        bind_keeps (loads x) (loads y) s _ _ (value_keeps x a (tick s)) (λ m s1. bind_still (loads y) s1 _ _ (unless_keeps (loads y) gang (kept_by (needs l) a m) s1 (value gang frame calls y) (value_keeps y (kept_by (needs l) a m) s1)) (λ n s2. same no_variable s2))
+        bind_keeps (loads x) (loads y) s _ _ (value_keeps x a (tick s))
+        (λ m s1. bind_still (loads y) s1 _ _ (unless_keeps (loads y) gang (kept_by (needs l) a m) s1 (value gang frame calls y)
+        (value_keeps y (kept_by (needs l) a m) s1)) (λ n s2. same no_variable s2))
     value_keeps (t_choose c x y t sp) a s =
         bind_keeps (loads c) (either (loads x) (loads y)) s _ _ (value_keeps c a (tick s))
         (λ k s1. bind_keeps (loads x) (loads y) s1 _ _ (unless_keeps (loads x) gang (kept_by is_true a k) s1 (value gang frame calls x) (value_keeps x (kept_by is_true a k) s1))

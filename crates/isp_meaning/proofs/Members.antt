@@ -121,7 +121,9 @@ pub lowest_first : (n : ℕ) (a : Mask) (p : ℕ) → lowest n a ≡ Some p → 
 lowest_first zero a p e = absurd (let h : ⊥ = cc in h)
 lowest_first (suc n) a p e = by (lowest_first n a p) (lowest n a) (a n) refl refl e
   where
-    by : (lowest n a ≡ Some p → members n a ≡ p ∷ members n (without a (lone (Some p)))) → (o : Option ℕ) (c : Bool) → lowest n a ≡ o → a n ≡ c → or_this o c n ≡ Some p → members n a ++ if_listed (a n) n ≡ p ∷ (members n (without a (lone (Some p))) ++ if_listed (a n && not (nat_eq n p)) n)
+    by : (lowest n a ≡ Some p → members n a ≡ p ∷ members n (without a (lone (Some p)))) → (o : Option ℕ) (c : Bool) → lowest n a ≡ o → a n ≡ c
+        → or_this o c n ≡ Some p → members n a ++ if_listed (a n) n
+        ≡ p ∷ (members n (without a (lone (Some p))) ++ if_listed (a n && not (nat_eq n p)) n)
     by more (Some q) c was at is =
         let same : q ≡ p = cc in
         let found : lowest n a ≡ Some p = was ∙ ap Some same in

@@ -15,7 +15,9 @@ use Rattle.isp_base.specs.declared.types.Ty.{Ty}
 use Rattle.isp_base.specs.declared.trap.TrapKind.TheVariants.{Divide, Index, Assert}
 use Rattle.isp_tree.specs.declared.stmt.Jump.{Jump}
 use Rattle.isp_tree.specs.declared.stmt.Jump.TheVariants.{Break, Continue}
-use Rattle.isp_typed.specs.Typed.{TExpr, t_exprs, elem_of, TPlace, place_type, place_span, TItem, t_plain, t_with_value, t_with_size, TSimple, t_value, t_run, t_assign, t_update, t_step, TFirst, t_first_declare, t_first_simple, TStmt, t_block, t_declare, t_simple, t_if, t_if_else, t_while, t_do, t_for, t_foreach, t_foreach_active, t_foreach_unique, t_unmasked, t_jump, t_return, t_print, t_assert, TBlock, t_braces, TStmts, t_no_stmts, t_stmt_then}
+use Rattle.isp_typed.specs.Typed.{TExpr, t_exprs, elem_of, TPlace, place_type, place_span, TItem, t_plain, t_with_value, t_with_size, TSimple, t_value, t_run, t_assign, t_update, t_step, TFirst}
+use Rattle.isp_typed.specs.Typed.{t_first_declare, t_first_simple, TStmt, t_block, t_declare, t_simple, t_if, t_if_else, t_while, t_do, t_for, t_foreach, t_foreach_active, t_foreach_unique}
+use Rattle.isp_typed.specs.Typed.{t_unmasked, t_jump, t_return, t_print, t_assert, TBlock, t_braces, TStmts, t_no_stmts, t_stmt_then}
 use Rattle.isp_meaning.specs.State.{State, Frame, tick}
 use Rattle.isp_meaning.specs.Payloads.{Payload, One, Each, is_true, is_false, kept_by, offender, mapped, converted, spread}
 use Rattle.isp_meaning.specs.Outcomes.{Val, Gives, Fails, Stops, Res, Went, Trapped, Cut, Done, with_value, checked, go_on, went_all, if_so, unless_empty}
@@ -27,20 +29,28 @@ use Rattle.isp_meaning.specs.Rounds.{rounds, round_of_one, members, if_listed, f
 use Rattle.isp_meaning.specs.Statements.{all_go, answered, answered_at, branches, jumped, test_part, run, block, run_all}
 use Rattle.isp_meaning.specs.Calls.{calls_at}
 use Rattle.isp_meaning.specs.Laws.{Untouched, Masked, MaskedBlock, MaskedAll, LeavesBy, Leaves, OthersStay}
-use Rattle.isp_meaning.proofs.Outside.{Absent, AbsentPlace, AbsentAll, Any, Off, CallsOff, same, touch_on, kept_off, spread_none, mapped_absent, joined_absent, held_absent, checked_off, written_off, kept_off_at, cleared_off, bind_off, value_off, place_off, values_off, call_off, calls_off}
+use Rattle.isp_meaning.proofs.Outside.{Absent, AbsentPlace, AbsentAll, Any, Off, CallsOff, same, touch_on, kept_off, spread_none, mapped_absent, joined_absent, held_absent, checked_off}
+use Rattle.isp_meaning.proofs.Outside.{written_off, kept_off_at, cleared_off, bind_off, value_off, place_off, values_off, call_off, calls_off}
 
 -- ---- simple statements
 
 module _ (gang : ℕ) (frame : Frame) (calls : Calls) (off : CallsOff calls) (p : ℕ) where
   update_off : (op : BinOp) (t : Elem) (q : TPlace) (r : Place) (y : Payload) (sp : Span) (a : Mask) (s : State) → a p ≡ false → AbsentPlace p r → Off p (Any p) s (update gang frame calls op t q r y sp a s)
   update_off op t q r y sp a s h k =
-      bind_off p (Absent p) (Any p) s _ _ (checked_off p (Absent p) (outside gang frame r a) Index (place_span q) s (held gang frame r a s) (held_absent p gang frame r a s h k)) (λ x s1 i. bind_off p (Absent p) (Any p) s1 _ _ (checked_off p (Absent p) (offender gang (is_zero op t) a y) Divide sp s1 _ (joined_absent p _ a (mapped (converted (place_type q).elem t) x) y h (mapped_absent p _ x i))) (λ z s2 j. (tt, kept_off_at p gang frame r a (mapped (converted t (place_type q).elem) z) s2 h k (mapped_absent p _ z j))))
+      bind_off p (Absent p) (Any p) s _ _ (checked_off p (Absent p) (outside gang frame r a) Index (place_span q) s (held gang frame r a s)
+      (held_absent p gang frame r a s h k)) (λ x s1 i. bind_off p (Absent p) (Any p) s1 _ _
+      (checked_off p (Absent p) (offender gang (is_zero op t) a y) Divide sp s1 _
+      (joined_absent p _ a (mapped (converted (place_type q).elem t) x) y h (mapped_absent p _ x i)))
+      (λ z s2 j. (tt, kept_off_at p gang frame r a (mapped (converted t (place_type q).elem) z) s2 h k (mapped_absent p _ z j))))
 
   simple_off : (x : TSimple) (a : Mask) (s : State) → a p ≡ false → Off p (Any p) s (simple gang frame calls x a s)
   simple_off (t_value x) a s h = bind_off p (Absent p) (Any p) s _ _ (value_off gang frame calls off p x a (tick s) h) (λ m s1 k. (tt, same p s1))
   simple_off (t_run c) a s h = bind_off p (Absent p) (Any p) s _ _ (call_off gang frame calls off p c a (tick s) h) (λ m s1 k. (tt, same p s1))
   simple_off (t_assign q x sp) a s h =
-      bind_off p (AbsentPlace p) (Any p) s _ _ (place_off gang frame calls off p q a (tick s) h) (λ r s1 k. bind_off p (Absent p) (Any p) s1 _ _ (value_off gang frame calls off p x a s1 h) (λ m s2 i. bind_off p (Absent p) (Any p) s2 _ _ (checked_off p (Absent p) (outside gang frame r a) Index (place_span q) s2 m i) (λ n s3 j. (tt, kept_off_at p gang frame r a n s3 h k j))))
+      bind_off p (AbsentPlace p) (Any p) s _ _ (place_off gang frame calls off p q a (tick s) h)
+      (λ r s1 k. bind_off p (Absent p) (Any p) s1 _ _ (value_off gang frame calls off p x a s1 h)
+      (λ m s2 i. bind_off p (Absent p) (Any p) s2 _ _ (checked_off p (Absent p) (outside gang frame r a) Index (place_span q) s2 m i)
+      (λ n s3 j. (tt, kept_off_at p gang frame r a n s3 h k j))))
   simple_off (t_update op t q x sp) a s h =
       bind_off p (AbsentPlace p) (Any p) s _ _ (place_off gang frame calls off p q a (tick s) h) (λ r s1 k. bind_off p (Absent p) (Any p) s1 _ _ (value_off gang frame calls off p x a s1 h) (λ y s2 i. update_off op t q r y sp a s2 h k))
   simple_off (t_step op t q sp) a s h =
@@ -118,9 +128,22 @@ module _ (p : ℕ) where
   branches_stay gang a f g h k i (Each c) s e =
       let t : where_true is_true c p ≡ false = ap (holds is_true) e in
       let u : without a (where_true is_true c) p ≡ false = ap (λ z. z && not (where_true is_true c p)) i in
-      go_stays s _ _ (unless_stays gang (where_true is_true c) s f t (h _ s t)) (λ s1 g1 b c1 r e1 e2 e3 e4. go_stays s1 _ _ (unless_stays gang (without a (where_true is_true c)) s1 g u (k _ s1 u)) (λ s2 g2 b2 c2 r2 o1 o2 o3 o4. record { by = (same p s2, joined_off (g1 p) (g2 p) e1 o1, joined_off (b p) (b2 p) e2 o2, joined_off (c1 p) (c2 p) e3 o3, joined_off (r p) (r2 p) e4 o4) }))
+      go_stays s _ _ (unless_stays gang (where_true is_true c) s f t (h _ s t))
+      (λ s1 g1 b c1 r e1 e2 e3 e4. go_stays s1 _ _ (unless_stays gang (without a (where_true is_true c)) s1 g u (k _ s1 u))
+      (λ s2 g2 b2 c2 r2 o1 o2 o3 o4. record {
+        by = (
+          same p s2,
+          joined_off (g1 p) (g2 p) e1 o1,
+          joined_off (b p) (b2 p) e2 o2,
+          joined_off (c1 p)
+              (c2 p) e3 o3,
+          joined_off (r p) (r2 p) e4 o4,
+        );
+      }))
 
-  module _ (gang : ℕ) (test : Mask → State → Val Payload) (body : Mask → State → Res) (step : Mask → State → Val Done) (all : Mask) (tests : (a : Mask) (s : State) → a p ≡ false → Off p (Absent p) s (test a s)) (bodies : BodyStays body) (steps : (a : Mask) (s : State) → a p ≡ false → Off p (Any p) s (step a s)) (out : all p ≡ false) where
+  module _ (gang : ℕ) (test : Mask → State → Val Payload) (body : Mask → State → Res) (step : Mask → State → Val Done) (all : Mask)
+      (tests : (a : Mask) (s : State) → a p ≡ false → Off p (Absent p) s (test a s)) (bodies : BodyStays body)
+      (steps : (a : Mask) (s : State) → a p ≡ false → Off p (Any p) s (step a s)) (out : all p ≡ false) where
     abbrev TurnStays : (Mask → Mask → State → Res) → Type 0
     TurnStays turn = (k r : Mask) (s : State) → k p ≡ false → r p ≡ false → Stays s (turn k r s)
 
@@ -134,7 +157,11 @@ module _ (p : ℕ) where
     turns_stay : (n : ℕ) → TurnStays (turns gang test body step all n)
     turns_stay zero k r s l w = record { by = tt }
     turns_stay (suc n) k r s l w =
-        go_stays s _ _ (stays_on s (tick s) _ (same p s) (bodies k (tick s) l)) (λ s1 g b c r1 e1 e2 e3 e4. if_stays s1 (any gang (union g c)) _ _ (with_stays (Any p) s1 (step (union g c) s1) _ (steps (union g c) s1 (joined_off (g p) (c p) e1 e3)) (λ _ s2 _. tested_stays _ (turns_stay n) (union g c) (union r r1) s2 (joined_off (g p) (c p) e1 e3) (joined_off (r p) (r1 p) w e4))) (end_stays (union r r1) s1 (joined_off (r p) (r1 p) w e4)))
+        go_stays s _ _ (stays_on s (tick s) _ (same p s) (bodies k (tick s) l))
+        (λ s1 g b c r1 e1 e2 e3 e4. if_stays s1 (any gang (union g c)) _ _
+        (with_stays (Any p) s1 (step (union g c) s1) _ (steps (union g c) s1 (joined_off (g p) (c p) e1 e3))
+        (λ _ s2 _. tested_stays _ (turns_stay n) (union g c) (union r r1) s2 (joined_off (g p) (c p) e1 e3) (joined_off (r p) (r1 p) w e4)))
+        (end_stays (union r r1) s1 (joined_off (r p) (r1 p) w e4)))
 
   -- ---- the members of a set, one by one
 
@@ -196,18 +223,30 @@ module _ (p : ℕ) where
       run_stays (t_if f k e x sp) m a s h =
           with_stays (Absent p) s (value gang frame calls e a (tick s)) _ (value_off gang frame calls off p e a (tick s) h) (λ v s1 i. branches_stay gang a (run gang frame calls most x) went_all (run_stays x m) all_stays h v s1 i)
       run_stays (t_if_else f k e x y sp) m a s h =
-          with_stays (Absent p) s (value gang frame calls e a (tick s)) _ (value_off gang frame calls off p e a (tick s) h) (λ v s1 i. branches_stay gang a (run gang frame calls most x) (run gang frame calls most y) (run_stays x m.0) (run_stays y m.1) h v s1 i)
+          with_stays (Absent p) s (value gang frame calls e a (tick s)) _ (value_off gang frame calls off p e a (tick s) h)
+          (λ v s1 i. branches_stay gang a (run gang frame calls most x) (run gang frame calls most y) (run_stays x m.0) (run_stays y m.1) h v s1
+          i)
       run_stays (t_while f k e x sp) m a s h =
-          stays_on s (tick s) _ (same p s) (tested_stays gang (value gang frame calls e) (run gang frame calls most x) (λ l s1. Gives tt s1) a (value_off gang frame calls off p e) (run_stays x m) (λ l s1 _. (tt, same p s1)) h _ (turns_stay gang (value gang frame calls e) (run gang frame calls most x) (λ l s1. Gives tt s1) a (value_off gang frame calls off p e) (run_stays x m) (λ l s1 _. (tt, same p s1)) h most) a nobody (tick s) h refl)
+          stays_on s (tick s) _ (same p s) (tested_stays gang (value gang frame calls e) (run gang frame calls most x) (λ l s1. Gives tt s1) a
+          (value_off gang frame calls off p e) (run_stays x m) (λ l s1 _. (tt, same p s1)) h _
+          (turns_stay gang (value gang frame calls e) (run gang frame calls most x) (λ l s1. Gives tt s1) a (value_off gang frame calls off p e)
+          (run_stays x m) (λ l s1 _. (tt, same p s1)) h most) a nobody (tick s) h refl)
       run_stays (t_do f k x e sp) m a s h =
-          stays_on s (tick s) _ (same p s) (turns_stay gang (value gang frame calls e) (run gang frame calls most x) (λ l s1. Gives tt s1) a (value_off gang frame calls off p e) (run_stays x m) (λ l s1 _. (tt, same p s1)) h most a nobody (tick s) h refl)
+          stays_on s (tick s) _ (same p s) (turns_stay gang (value gang frame calls e) (run gang frame calls most x) (λ l s1. Gives tt s1) a
+          (value_off gang frame calls off p e) (run_stays x m) (λ l s1 _. (tt, same p s1)) h most a nobody (tick s) h refl)
       run_stays (t_for f k first e step i x sp) m a s h =
-          with_stays (Any p) s (first_part gang frame calls first a (tick s)) _ (first_part_off gang frame calls off p first a (tick s) h) (λ _ s1 _. tested_stays gang (test_part gang frame calls e) (run gang frame calls most x) (step_part gang frame calls step) a (test_part_off gang frame calls off p e) (run_stays x m) (step_part_off gang frame calls off p step) h _ (turns_stay gang (test_part gang frame calls e) (run gang frame calls most x) (step_part gang frame calls step) a (test_part_off gang frame calls off p e) (run_stays x m) (step_part_off gang frame calls off p step) h most) a nobody s1 h refl)
+          with_stays (Any p) s (first_part gang frame calls first a (tick s)) _ (first_part_off gang frame calls off p first a (tick s) h)
+          (λ _ s1 _. tested_stays gang (test_part gang frame calls e) (run gang frame calls most x) (step_part gang frame calls step) a
+          (test_part_off gang frame calls off p e) (run_stays x m) (step_part_off gang frame calls off p step) h _
+          (turns_stay gang (test_part gang frame calls e) (run gang frame calls most x) (step_part gang frame calls step) a
+          (test_part_off gang frame calls off p e) (run_stays x m) (step_part_off gang frame calls off p step) h most) a nobody s1 h refl)
       run_stays (t_foreach w k rs x sp) m a s h = absurd m
       run_stays (t_foreach_active w k i x sp) m a s h =
           stays_on s (tick s) _ (same p s) (active_stay (run gang frame calls most x) a i (members gang a) (run_stays x m) h (members_other gang a h) (tick s))
       run_stays (t_foreach_unique w k i t e x sp) m a s h =
-          with_stays (Absent p) s (value gang frame calls e a (tick s)) _ (value_off gang frame calls off p e a (tick s) h) (λ v s1 j. unique_stay (run gang frame calls most x) a (elem_of e) t (spread a v) i (members gang (firsts (elem_of e) (spread a v))) (run_stays x m) h (spread_none p a v h j) s1)
+          with_stays (Absent p) s (value gang frame calls e a (tick s)) _ (value_off gang frame calls off p e a (tick s) h)
+          (λ v s1 j. unique_stay (run gang frame calls most x) a (elem_of e) t (spread a v) i (members gang (firsts (elem_of e) (spread a v)))
+          (run_stays x m) h (spread_none p a v h j) s1)
       run_stays (t_unmasked w b sp) m a s h = absurd m
       run_stays (t_jump j w sp) m a s h = stays_on s (tick s) _ (same p s) (jumped_stays j a (tick s) h)
       run_stays (t_return w None sp) m a s h = record { by = (same p s, refl, refl, refl, h) }
@@ -216,7 +255,9 @@ module _ (p : ℕ) where
       run_stays (t_print w text xs sp) m a s h =
           with_stays (AbsentAll p) s (values gang frame calls (t_exprs xs) a (tick s)) _ (values_off gang frame calls off p (t_exprs xs) a (tick s) h) (λ ms s1 i. record { by = (same p s1, h, refl, refl, refl) })
       run_stays (t_assert x c sp) m a s h =
-          with_stays (Absent p) s (value gang frame calls x a (tick s)) _ (value_off gang frame calls off p x a (tick s) h) (λ v s1 i. all_go_stays a s1 (checked (offender gang is_false a v) Assert c s1 tt) h (checked_off p (Any p) (offender gang is_false a v) Assert c s1 tt tt))
+          with_stays (Absent p) s (value gang frame calls x a (tick s)) _ (value_off gang frame calls off p x a (tick s) h)
+          (λ v s1 i. all_go_stays a s1 (checked (offender gang is_false a v) Assert c s1 tt) h
+          (checked_off p (Any p) (offender gang is_false a v) Assert c s1 tt tt))
 
       block_stays : (b : TBlock) → MaskedBlock b → BodyStays (block gang frame calls most b)
       block_stays (t_braces xs sp) m a s h = stays_on s (tick s) _ (same p s) (run_all_stays xs m a (tick s) h)
@@ -224,7 +265,18 @@ module _ (p : ℕ) where
       run_all_stays : (xs : TStmts) → MaskedAll xs → BodyStays (run_all gang frame calls most xs)
       run_all_stays t_no_stmts m a s h = all_stays a s h
       run_all_stays (t_stmt_then x xs) m a s h =
-          go_stays s _ _ (run_stays x m.0 a s h) (λ s1 g b c r e1 e2 e3 e4. go_stays s1 _ _ (unless_stays gang g s1 (run_all gang frame calls most xs) e1 (run_all_stays xs m.1 g s1 e1)) (λ s2 g2 b2 c2 r2 o1 o2 o3 o4. record { by = (same p s2, o1, joined_off (b p) (b2 p) e2 o2, joined_off (c p) (c2 p) e3 o3, joined_off (r p) (r2 p) e4 o4) }))
+          go_stays s _ _ (run_stays x m.0 a s h) (λ s1 g b c r e1 e2 e3 e4. go_stays s1 _ _
+          (unless_stays gang g s1 (run_all gang frame calls most xs) e1 (run_all_stays xs m.1 g s1 e1))
+          (λ s2 g2 b2 c2 r2 o1 o2 o3 o4. record {
+            by = (
+              same p s2,
+              o1,
+              joined_off (b p) (b2 p) e2 o2,
+              joined_off (c p) (c2 p) e3 o3,
+              joined_off
+                  (r p) (r2 p) e4 o4,
+            );
+          }))
 
 leaves_by : (p : ℕ) (s : State) (v : Val Payload) → Off p (Absent p) s v → LeavesBy p s v
 leaves_by p s (Gives (One x) s1) h = h

@@ -13,7 +13,9 @@ use Rattle.isp_base.specs.declared.types.Span.{Span}
 use Rattle.isp_base.specs.declared.types.Ty.{Ty}
 use Rattle.isp_base.specs.declared.trap.TrapKind.{TrapKind}
 use Rattle.isp_base.specs.declared.trap.TrapKind.TheVariants.{Divide, Index}
-use Rattle.isp_typed.specs.Typed.{TExpr, t_constant, t_program_index, t_place, t_convert, t_cast, t_unary, t_binary, t_compare, t_logic, t_choose, t_call, t_library, t_packed_store, t_packed_load, TPlace, t_variable, t_element, TBase, t_whole, t_from, TArgument, t_by_value, t_by_name, TCall, t_called, TArguments, t_no_arguments, t_argument_then, TExprs, t_no_exprs, t_expr_then, place_span}
+use Rattle.isp_typed.specs.Typed.{TExpr, t_constant, t_program_index, t_place, t_convert, t_cast, t_unary, t_binary, t_compare, t_logic, t_choose, t_call, t_library}
+use Rattle.isp_typed.specs.Typed.{t_packed_store, t_packed_load, TPlace, t_variable, t_element, TBase, t_whole, t_from, TArgument, t_by_value, t_by_name, TCall, t_called}
+use Rattle.isp_typed.specs.Typed.{TArguments, t_no_arguments, t_argument_then, TExprs, t_no_exprs, t_expr_then, place_span}
 use Rattle.isp_typed.specs.Typed.{TFunction, Program}
 use Rattle.isp_typed.specs.declared.library.Library.{Library}
 use Rattle.isp_typed.specs.declared.library.Library.TheVariants as library
@@ -160,8 +162,13 @@ module _ (p : ℕ) where
     where
       by : (r : Rate) → Untouched p s (with_elements frame b t i a gang r m s)
       by Uniform = same s
-      by Varying =
-          (λ w. refl, λ w e. put_own s.own b.number (own_stored (spread a (mapped (element t) i)) (spread a m) (s.own b.number)) p w e (ap (λ z. if holds (λ x. nat_eq x e) z then or_old (spread a m p) (s.own b.number e p) else s.own b.number e p) (spread_none a (mapped (element t) i) h (mapped_absent (element t) i j))), refl)
+      by Varying = (
+        λ w. refl,
+        λ w e. put_own s.own b.number (own_stored (spread a (mapped (element t) i)) (spread a m) (s.own b.number)) p w e
+            (ap (λ z. if holds (λ x. nat_eq x e) z then or_old (spread a m p) (s.own b.number e p) else s.own b.number e p)
+            (spread_none a (mapped (element t) i) h (mapped_absent (element t) i j))),
+        refl,
+      )
 
   pub held_absent : (gang : ℕ) (frame : Frame) (q : Place) (a : Mask) (s : State) → a p ≡ false → AbsentPlace q → Absent (held gang frame q a s)
   held_absent gang frame (Variable v t) a s h k = by t.rate
@@ -225,20 +232,42 @@ module _ (gang : ℕ) (frame : Frame) (calls : Calls) (off : CallsOff calls) (p 
     value_off (t_cast x t sp) a s h = value_off x a (tick s) h
     value_off (t_unary op x t sp) a s h = bind_off p (Absent p) (Absent p) s _ _ (value_off x a (tick s) h) (λ m s1 k. (mapped_absent p _ m k, same p s1))
     value_off (t_binary op x y t sp) a s h =
-        bind_off p (Absent p) (Absent p) s _ _ (value_off x a (tick s) h) (λ m s1 k. bind_off p (Absent p) (Absent p) s1 _ _ (value_off y a s1 h) (λ n s2 j. checked_off p (Absent p) (offender gang (is_zero op t.elem) a n) Divide sp s2 _ (joined_absent p _ a m n h k)))
+        bind_off p (Absent p) (Absent p) s _ _ (value_off x a (tick s) h)
+        (λ m s1 k. bind_off p (Absent p) (Absent p) s1 _ _ (value_off y a s1 h)
+        (λ n s2 j. checked_off p (Absent p) (offender gang (is_zero op t.elem) a n) Divide sp s2 _ (joined_absent p _ a m n h k)))
     value_off (t_compare c x y r sp) a s h =
         bind_off p (Absent p) (Absent p) s _ _ (value_off x a (tick s) h) (λ m s1 k. bind_off p (Absent p) (Absent p) s1 _ _ (value_off y a s1 h) (λ n s2 j. (joined_absent p _ a m n h k, same p s2)))
     value_off (t_logic l x y r sp) a s h =
-        bind_off p (Absent p) (Absent p) s _ _ (value_off x a (tick s) h) (λ m s1 k. bind_off p (Absent p) (Absent p) s1 _ _ (unless_off p gang (kept_by (needs l) a m) s1 (value gang frame calls y) (value_off y (kept_by (needs l) a m) s1 (kept_off p (needs l) a m h k))) (λ n s2 j. (settled_absent p l a m n h k j, same p s2)))
+        bind_off p (Absent p) (Absent p) s _ _ (value_off x a (tick s) h)
+        (λ m s1 k. bind_off p (Absent p) (Absent p) s1 _ _
+        (unless_off p gang (kept_by (needs l) a m) s1 (value gang frame calls y)
+        (value_off y (kept_by (needs l) a m) s1 (kept_off p (needs l) a m h k))) (λ n s2 j. (settled_absent p l a m n h k j, same p s2)))
     value_off (t_choose c x y t sp) a s h =
-        bind_off p (Absent p) (Absent p) s _ _ (value_off c a (tick s) h) (λ k s1 kc. bind_off p (Absent p) (Absent p) s1 _ _ (unless_off p gang (kept_by is_true a k) s1 (value gang frame calls x) (value_off x (kept_by is_true a k) s1 (kept_off p is_true a k h kc))) (λ m s2 i. bind_off p (Absent p) (Absent p) s2 _ _ (unless_off p gang (kept_by is_false a k) s2 (value gang frame calls y) (value_off y (kept_by is_false a k) s2 (kept_off p is_false a k h kc))) (λ n s3 j. (selected_absent p a k m n h kc i j, same p s3))))
+        bind_off p (Absent p) (Absent p) s _ _ (value_off c a (tick s) h)
+        (λ k s1 kc. bind_off p (Absent p) (Absent p) s1 _ _
+        (unless_off p gang (kept_by is_true a k) s1 (value gang frame calls x)
+        (value_off x (kept_by is_true a k) s1 (kept_off p is_true a k h kc)))
+        (λ m s2 i. bind_off p (Absent p) (Absent p) s2 _ _
+        (unless_off p gang (kept_by is_false a k) s2 (value gang frame calls y)
+        (value_off y (kept_by is_false a k) s2 (kept_off p is_false a k h kc))) (λ n s3 j. (selected_absent p a k m n h kc i j, same p s3))))
     value_off (t_call c t) a s h = call_off c a s h
     value_off (t_library f e xs t sp) a s h =
-        bind_off p (AbsentAll p) (Absent p) s _ _ (values_off xs a (tick s) h) (λ ms s1 k. (library_absent p gang e a f (argument ms 0) (argument ms 1) (argument ms 2) h (argument_absent p ms 0 k) (argument_absent p ms 1 k) (argument_absent p ms 2 k), same p s1))
+        bind_off p (AbsentAll p) (Absent p) s _ _ (values_off xs a (tick s) h)
+        (λ ms s1 k. (
+          library_absent p gang e a f (argument ms 0) (argument ms 1) (argument ms 2) h (argument_absent p ms 0 k)
+              (argument_absent p ms 1 k) (argument_absent p ms 2 k),
+          same p s1,
+        ))
     value_off (t_packed_store b x sp) a s h =
-        bind_off p (Any p) (Absent p) s _ _ (first_off b a (tick s) h) (λ z s1 _. bind_off p (Absent p) (Absent p) s1 _ _ (value_off x a s1 h) (λ m s2 k. bind_off p (Absent p) (Absent p) s2 _ _ (checked_off p (Absent p) (lowest gang (packed_outside (extent frame (base_array b)) z a)) Index sp s2 m k) (λ n s3 j. (tt, same p s3))))
+        bind_off p (Any p) (Absent p) s _ _ (first_off b a (tick s) h)
+        (λ z s1 _. bind_off p (Absent p) (Absent p) s1 _ _ (value_off x a s1 h)
+        (λ m s2 k. bind_off p (Absent p) (Absent p) s2 _ _
+        (checked_off p (Absent p) (lowest gang (packed_outside (extent frame (base_array b)) z a)) Index sp s2 m k) (λ n s3 j. (tt, same p s3))))
     value_off (t_packed_load b v sp) a s h =
-        bind_off p (Any p) (Absent p) s _ _ (first_off b a (tick s) h) (λ z s1 _. bind_off p (Absent p) (Absent p) s1 _ _ (checked_off p (Absent p) (lowest gang (packed_outside (extent frame (base_array b)) z a)) Index sp (tick s1) _ (on_none p a _ h)) (λ n s2 j. (tt, written_off p Varying v a n s2 h j)))
+        bind_off p (Any p) (Absent p) s _ _ (first_off b a (tick s) h)
+        (λ z s1 _. bind_off p (Absent p) (Absent p) s1 _ _
+        (checked_off p (Absent p) (lowest gang (packed_outside (extent frame (base_array b)) z a)) Index sp (tick s1) _ (on_none p a _ h))
+        (λ n s2 j. (tt, written_off p Varying v a n s2 h j)))
 
     pub place_off : (q : TPlace) (a : Mask) (s : State) → a p ≡ false → Off p (AbsentPlace p) s (place gang frame calls q a s)
     place_off (t_variable v t sp) a s h = (tt, same p s)

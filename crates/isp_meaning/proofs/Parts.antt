@@ -7,7 +7,8 @@ use Rattle.isp_base.specs.Types.{gang_width}
 use Rattle.isp_base.specs.declared.trap.TrapKind.TheVariants.{Assert}
 use Rattle.isp_tree.specs.declared.stmt.Jump.{Jump}
 use Rattle.isp_tree.specs.declared.stmt.Jump.TheVariants.{Break, Continue}
-use Rattle.isp_typed.specs.Typed.{TExpr, t_exprs, elem_of, TStmt, t_block, t_declare, t_simple, t_if, t_if_else, t_while, t_do, t_for, t_foreach, t_foreach_active, t_foreach_unique, t_unmasked, t_jump, t_return, t_print, t_assert, TBlock, t_braces, TStmts, t_no_stmts, t_stmt_then}
+use Rattle.isp_typed.specs.Typed.{TExpr, t_exprs, elem_of, TStmt, t_block, t_declare, t_simple, t_if, t_if_else, t_while, t_do, t_for, t_foreach, t_foreach_active}
+use Rattle.isp_typed.specs.Typed.{t_foreach_unique, t_unmasked, t_jump, t_return, t_print, t_assert, TBlock, t_braces, TStmts, t_no_stmts, t_stmt_then}
 use Rattle.isp_meaning.specs.State.{State, Frame, tick}
 use Rattle.isp_meaning.specs.Payloads.{Payload, One, Each, is_true, is_false, bit, kept_by, offender, spread}
 use Rattle.isp_meaning.specs.Outcomes.{Val, Gives, Fails, Stops, Res, Went, Trapped, Cut, Done, with_value, checked, go_on, went_all, if_so, unless_empty}
@@ -145,7 +146,12 @@ module _ (p : ℕ) where
   branches_parted : (gang : ℕ) (a : Mask) (f g : Mask → State → Res) → BodyParted f → BodyParted g → (m : Payload) (s : State) → (a p ≡ false → Absent p m) → PartedAt a (branches gang a f g m s)
   branches_parted gang a f g h k (One c) s e = if_parted a (is_true c) (f a) (g a) s (h a s) (k a s)
   branches_parted gang a f g h k (Each c) s e =
-      go_parted a (where_true is_true c) _ _ (unless_parted gang (where_true is_true c) s f (h _ s)) (λ s1 g1 b c1 r w. go_parted a (without a (where_true is_true c)) _ _ (unless_parted gang (without a (where_true is_true c)) s1 g (k _ s1)) (λ s2 g2 b2 c2 r2 w2. record { by = sides_count (a p) (where_true is_true c p) (without a (where_true is_true c) p) (g1 p) (b p) (c1 p) (r p) (g2 p) (b2 p) (c2 p) (r2 p) (split (a p) (where_true is_true c p) (λ z. ap (holds is_true) (e z))) w w2 }))
+      go_parted a (where_true is_true c) _ _ (unless_parted gang (where_true is_true c) s f (h _ s))
+      (λ s1 g1 b c1 r w. go_parted a (without a (where_true is_true c)) _ _ (unless_parted gang (without a (where_true is_true c)) s1 g (k _ s1))
+      (λ s2 g2 b2 c2 r2 w2. record {
+        by = sides_count (a p) (where_true is_true c p) (without a (where_true is_true c) p) (g1 p) (b p) (c1 p)
+            (r p) (g2 p) (b2 p) (c2 p) (r2 p) (split (a p) (where_true is_true c p) (λ z. ap (holds is_true) (e z))) w w2;
+      }))
 
   -- ---- loops
 
@@ -202,11 +208,16 @@ module _ (p : ℕ) where
       run_parted (t_if_else f k e x y sp) a s =
           with_parted (Absent p) a a (tick s) _ _ (value_off gang frame calls off p e a (tick s)) (λ m s1 h. branches_parted gang a _ _ (run_parted x) (run_parted y) m s1 h)
       run_parted (t_while f k e x sp) a s =
-          tested_parted gang (value gang frame calls e) (run gang frame calls most x) (λ l s1. Gives tt s1) a (value_off gang frame calls off p e) (run_parted x) _ (turns_parted gang (value gang frame calls e) (run gang frame calls most x) (λ l s1. Gives tt s1) a (value_off gang frame calls off p e) (run_parted x) most) a nobody (tick s) (λ z. z) (λ z. refl)
+          tested_parted gang (value gang frame calls e) (run gang frame calls most x) (λ l s1. Gives tt s1) a (value_off gang frame calls off p e)
+          (run_parted x) _ (turns_parted gang (value gang frame calls e) (run gang frame calls most x) (λ l s1. Gives tt s1) a
+          (value_off gang frame calls off p e) (run_parted x) most) a nobody (tick s) (λ z. z) (λ z. refl)
       run_parted (t_do f k x e sp) a s =
           turns_parted gang (value gang frame calls e) (run gang frame calls most x) (λ l s1. Gives tt s1) a (value_off gang frame calls off p e) (run_parted x) most a nobody (tick s) (λ z. z) (λ z. refl)
       run_parted (t_for f k first e step i x sp) a s =
-          any_parted a (first_part gang frame calls first a (tick s)) _ (λ _ s1. tested_parted gang (test_part gang frame calls e) (run gang frame calls most x) (step_part gang frame calls step) a (test_off e) (run_parted x) _ (turns_parted gang (test_part gang frame calls e) (run gang frame calls most x) (step_part gang frame calls step) a (test_off e) (run_parted x) most) a nobody s1 (λ z. z) (λ z. refl))
+          any_parted a (first_part gang frame calls first a (tick s)) _
+          (λ _ s1. tested_parted gang (test_part gang frame calls e) (run gang frame calls most x) (step_part gang frame calls step) a
+          (test_off e) (run_parted x) _ (turns_parted gang (test_part gang frame calls e) (run gang frame calls most x)
+          (step_part gang frame calls step) a (test_off e) (run_parted x) most) a nobody s1 (λ z. z) (λ z. refl))
       run_parted (t_foreach w k rs x sp) a s = any_parted a (ranges gang frame calls rs a (tick s)) _ (λ xs s1. rounds_parted (run gang frame calls most x) a (foreach_rounds gang xs) (record s1 { work = s1.work + counted gang 1 xs }))
       run_parted (t_foreach_active w k i x sp) a s = rounds_parted (run gang frame calls most x) a _ (tick s)
       run_parted (t_foreach_unique w k i t e x sp) a s = any_parted a (value gang frame calls e a (tick s)) _ (λ m s1. rounds_parted (run gang frame calls most x) a (unique_rounds gang (elem_of e) t i (spread a m)) s1)
@@ -223,7 +234,9 @@ module _ (p : ℕ) where
       run_all_parted : (xs : TStmts) → BodyParted (run_all gang frame calls most xs)
       run_all_parted t_no_stmts a s = all_parted a s
       run_all_parted (t_stmt_then x xs) a s =
-          go_parted a a _ _ (run_parted x a s) (λ s1 g b c r w. go_parted a g _ _ (unless_parted gang g s1 (run_all gang frame calls most xs) (run_all_parted xs g s1)) (λ s2 g2 b2 c2 r2 w2. record { by = then_count (a p) (g p) (b p) (c p) (r p) (g2 p) (b2 p) (c2 p) (r2 p) w w2 }))
+          go_parted a a _ _ (run_parted x a s) (λ s1 g b c r w. go_parted a g _ _
+          (unless_parted gang g s1 (run_all gang frame calls most xs) (run_all_parted xs g s1))
+          (λ s2 g2 b2 c2 r2 w2. record { by = then_count (a p) (g p) (b p) (c p) (r p) (g2 p) (b2 p) (c2 p) (r2 p) w w2 }))
 
 parted_of : (a : Mask) (v : Res) → ((p : ℕ) → PartedAt p a v) → Parted a v
 parted_of a (Went s g b c r) h = λ p. (h p).by

@@ -15,7 +15,9 @@ use Rattle.isp_base.specs.declared.types.Ty.{Ty}
 use Rattle.isp_base.specs.declared.trap.Trap.{Trap}
 use Rattle.isp_base.specs.declared.trap.TrapKind.{TrapKind}
 use Rattle.isp_base.specs.declared.trap.TrapKind.TheVariants.{Divide, Index}
-use Rattle.isp_typed.specs.Typed.{TExpr, t_constant, t_program_index, t_place, t_convert, t_cast, t_unary, t_binary, t_compare, t_logic, t_choose, t_call, t_library, t_packed_store, t_packed_load, TPlace, t_variable, t_element, TBase, t_whole, t_from, TArgument, t_by_value, t_by_name, TCall, t_called, TArguments, t_no_arguments, t_argument_then, TExprs, t_no_exprs, t_expr_then, place_span, TFunction, Program}
+use Rattle.isp_typed.specs.Typed.{TExpr, t_constant, t_program_index, t_place, t_convert, t_cast, t_unary, t_binary, t_compare, t_logic, t_choose, t_call, t_library, t_packed_store}
+use Rattle.isp_typed.specs.Typed.{t_packed_load, TPlace, t_variable, t_element, TBase, t_whole, t_from, TArgument, t_by_value, t_by_name, TCall, t_called, TArguments}
+use Rattle.isp_typed.specs.Typed.{t_no_arguments, t_argument_then, TExprs, t_no_exprs, t_expr_then, place_span, TFunction, Program}
 use Rattle.isp_typed.specs.declared.library.Library.{Library}
 use Rattle.isp_typed.specs.declared.library.Library.TheVariants as library
 use Rattle.isp_typed.specs.declared.variable.Logic.{Logic}
@@ -234,7 +236,9 @@ module _ (gang : ℕ) (frame : Frame) (calls : Calls) (here : CallsHere calls) (
     value_here (t_cast x t sp) a s h = value_here x a (tick s) h
     value_here (t_unary op x t sp) a s h = bind_here (HasOne p) (HasOne p) _ _ (value_here x a (tick s) h) (λ m s1 k. gives (mapped_here p _ m k))
     value_here (t_binary op x y t sp) a s h =
-        bind_here (HasOne p) (HasOne p) _ _ (value_here x a (tick s) h) (λ m s1 k. bind_here (HasOne p) (HasOne p) _ _ (value_here y a s1 h) (λ n s2 j. checked_here (HasOne p) (offender gang (is_zero op t.elem) a n) Divide sp s2 _ (joined_here p _ a m n h k j)))
+        bind_here (HasOne p) (HasOne p) _ _ (value_here x a (tick s) h)
+        (λ m s1 k. bind_here (HasOne p) (HasOne p) _ _ (value_here y a s1 h)
+        (λ n s2 j. checked_here (HasOne p) (offender gang (is_zero op t.elem) a n) Divide sp s2 _ (joined_here p _ a m n h k j)))
     value_here (t_compare c x y r sp) a s h =
         bind_here (HasOne p) (HasOne p) _ _ (value_here x a (tick s) h) (λ m s1 k. bind_here (HasOne p) (HasOne p) _ _ (value_here y a s1 h) (λ n s2 j. gives (joined_here p _ a m n h k j)))
     value_here (t_logic l x y r sp) a s h =
@@ -252,7 +256,9 @@ module _ (gang : ℕ) (frame : Frame) (calls : Calls) (here : CallsHere calls) (
         (λ ms s1 k. gives (library_here p gang e a f (argument ms 0) (argument ms 1) (argument ms 2) h (argument_here p ms 0 k) (argument_here p ms 1 k) (argument_here p ms 2 k)))
     value_here (t_packed_store b x sp) a s h =
         bind_here Any (HasOne p) _ _ (first_here b a (tick s) h)
-        (λ z s1 _. bind_here (HasOne p) (HasOne p) _ _ (value_here x a s1 h) (λ m s2 k. bind_here (HasOne p) (HasOne p) _ _ (checked_here (HasOne p) (lowest gang (packed_outside (extent frame (base_array b)) z a)) Index sp s2 m k) (λ n s3 j. gives tt)))
+        (λ z s1 _. bind_here (HasOne p) (HasOne p) _ _ (value_here x a s1 h)
+        (λ m s2 k. bind_here (HasOne p) (HasOne p) _ _ (checked_here (HasOne p) (lowest gang (packed_outside (extent frame (base_array b)) z a))
+        Index sp s2 m k) (λ n s3 j. gives tt)))
     value_here (t_packed_load b v sp) a s h =
         bind_here Any (HasOne p) _ _ (first_here b a (tick s) h)
         (λ z s1 _. bind_here (HasOne p) (HasOne p) _ _ (checked_here (HasOne p) (lowest gang (packed_outside (extent frame (base_array b)) z a)) Index sp (tick s1) _ (on_some p a _ h)) (λ n s2 j. gives tt))

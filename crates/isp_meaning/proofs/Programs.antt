@@ -18,7 +18,8 @@ use Rattle.isp_typed.specs.declared.variable.ArrayVariable.{ArrayVariable}
 use Rattle.isp_typed.specs.declared.variable.Holds.{Holds}
 use Rattle.isp_typed.specs.declared.variable.Holds.TheVariants.{Value as AVariable, Given}
 use Rattle.isp_typed.specs.declared.variable.Variable.{Variable}
-use Rattle.isp_typed.specs.Typed.{TExpr, t_constant, t_program_index, t_place, t_binary, t_compare, t_call, t_variable, t_element, t_called, t_arguments, TArgument, ty_of, t_with_value, t_assign, t_step, t_first_declare, TRange, TStmt, t_block, t_simple, t_if, t_if_else, t_while, t_for, t_foreach, t_jump, t_return, t_print, TBlock, t_braces, t_stmts, TFunction, Program}
+use Rattle.isp_typed.specs.Typed.{TExpr, t_constant, t_program_index, t_place, t_binary, t_compare, t_call, t_variable, t_element, t_called, t_arguments, TArgument, ty_of, t_with_value, t_assign, t_step, t_first_declare}
+use Rattle.isp_typed.specs.Typed.{TRange, TStmt, t_block, t_simple, t_if, t_if_else, t_while, t_for, t_foreach, t_jump, t_return, t_print, TBlock, t_braces, t_stmts, TFunction, Program}
 
 abbrev pub at : Span
 at = record { start = 0; end = 0 }

@@ -10,7 +10,9 @@ use Rattle.isp_base.specs.Values.{width, number, op_bits, compare_bits}
 use Rattle.isp_base.specs.declared.types.Rate.TheVariants.{Varying}
 use Rattle.isp_base.specs.declared.types.Span.{Span}
 use Rattle.isp_base.specs.declared.trap.TrapKind.TheVariants.{Divide, Index}
-use Rattle.isp_typed.specs.Typed.{TExpr, t_constant, t_program_index, t_place, t_convert, t_cast, t_unary, t_binary, t_compare, t_logic, t_choose, t_call, t_library, t_packed_store, t_packed_load, TPlace, t_variable, t_element, TBase, t_whole, t_from, TArgument, t_by_value, t_by_name, TCall, t_called, TArguments, t_no_arguments, t_argument_then, TExprs, t_no_exprs, t_expr_then, type_of, place_span}
+use Rattle.isp_typed.specs.Typed.{TExpr, t_constant, t_program_index, t_place, t_convert, t_cast, t_unary, t_binary, t_compare, t_logic, t_choose, t_call, t_library}
+use Rattle.isp_typed.specs.Typed.{t_packed_store, t_packed_load, TPlace, t_variable, t_element, TBase, t_whole, t_from, TArgument, t_by_value, t_by_name, TCall, t_called}
+use Rattle.isp_typed.specs.Typed.{TArguments, t_no_arguments, t_argument_then, TExprs, t_no_exprs, t_expr_then, type_of, place_span}
 use Rattle.isp_typed.specs.declared.variable.ArrayVariable.{ArrayVariable}
 use Rattle.isp_typed.specs.declared.variable.Logic.{Logic}
 use Rattle.isp_typed.specs.declared.variable.Logic.TheVariants.{And, Or}
@@ -80,9 +82,12 @@ module _ (gang : ℕ) (frame : Frame) (calls : Calls) where
         bind (values xs a (tick s)) (λ ms s1. Gives (library_value gang e a f (argument ms 0) (argument ms 1) (argument ms 2)) s1)
     -- the base's index, the value or the variable, then the access
     value (t_packed_store b x sp) a s =
-        bind (first_element b a (tick s)) (λ z s1. bind (value x a s1) (λ m s2. bind (checked (lowest gang (packed_outside (extent frame (base_array b)) z a)) Index sp s2 m) (λ n s3. Gives (One (rank a gang)) (packed_kept gang (frame.named (base_array b).number) z a n s3))))
+        bind (first_element b a (tick s)) (λ z s1. bind (value x a s1)
+        (λ m s2. bind (checked (lowest gang (packed_outside (extent frame (base_array b)) z a)) Index sp s2 m)
+        (λ n s3. Gives (One (rank a gang)) (packed_kept gang (frame.named (base_array b).number) z a n s3))))
     value (t_packed_load b v sp) a s =
-        bind (first_element b a (tick s)) (λ z s1. bind (checked (lowest gang (packed_outside (extent frame (base_array b)) z a)) Index sp (tick s1) (packed_held (frame.named (base_array b).number) z a s1)) (λ n s2. Gives (One (rank a gang)) (written Varying v a n s2)))
+        bind (first_element b a (tick s)) (λ z s1. bind (checked (lowest gang (packed_outside (extent frame (base_array b)) z a)) Index sp (tick s1)
+        (packed_held (frame.named (base_array b).number) z a s1)) (λ n s2. Gives (One (rank a gang)) (written Varying v a n s2)))
 
     -- the place is known once its index is
     pub place : TPlace → Mask → State → Val Place

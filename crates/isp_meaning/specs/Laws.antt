@@ -16,7 +16,8 @@ use Rattle.isp_base.specs.declared.types.Gang.{Gang}
 use Rattle.isp_base.specs.declared.types.Gang.TheVariants.{W4}
 use Rattle.isp_tree.specs.declared.stmt.Form.{Form}
 use Rattle.isp_base.specs.declared.types.Span.{Span}
-use Rattle.isp_typed.specs.Typed.{Program, TExpr, TStmt, t_block, t_declare, t_simple, t_if, t_if_else, t_while, t_do, t_for, t_foreach, t_foreach_active, t_foreach_unique, t_unmasked, t_jump, t_return, t_print, t_assert, TBlock, t_braces, TStmts, t_no_stmts, t_stmt_then}
+use Rattle.isp_typed.specs.Typed.{Program, TExpr, TStmt, t_block, t_declare, t_simple, t_if, t_if_else, t_while, t_do, t_for, t_foreach, t_foreach_active, t_foreach_unique}
+use Rattle.isp_typed.specs.Typed.{t_unmasked, t_jump, t_return, t_print, t_assert, TBlock, t_braces, TStmts, t_no_stmts, t_stmt_then}
 use Rattle.isp_meaning.specs.State.{State, Frame, tick}
 use Rattle.isp_base.specs.Types.{gang_width}
 use Rattle.isp_meaning.specs.Payloads.{Payload, One, Each, bit, is_true}

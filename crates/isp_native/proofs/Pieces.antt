@@ -36,7 +36,9 @@ six : (a b c d e f : List ℕ) → ((((a ++ b) ++ c) ++ d) ++ e) ++ f ≡ a ++ (
 six a b c d e f = simp (append_assoc)
 
 -- the C file, by its parts
-pub listing_written : (c : Listing) (n : ℕ) (p q r s t u : List ℕ) → n ≡ gang_width c.gang → p ≡ head_text n → q ≡ p ++ numbered place_line 0 c.places → r ≡ q ++ numbered text_line 0 c.texts → s ≡ r ++ numbered declared 0 c.routines → t ≡ s ++ numbered defined 0 c.routines → u ≡ t ++ numbered entry 0 c.routines → u ≡ c_text c
+pub listing_written : (c : Listing) (n : ℕ) (p q r s t u : List ℕ) → n ≡ gang_width c.gang → p ≡ head_text n → q ≡ p ++ numbered place_line 0 c.places
+    → r ≡ q ++ numbered text_line 0 c.texts → s ≡ r ++ numbered declared 0 c.routines → t ≡ s ++ numbered defined 0 c.routines
+    → u ≡ t ++ numbered entry 0 c.routines → u ≡ c_text c
 listing_written c n p q r s t u h i j k l m o =
     o ∙ (rw (m, l, k, j, i, h) (six (head_text (gang_width c.gang)) (numbered place_line 0 c.places) (numbered text_line 0 c.texts) (numbered declared 0 c.routines) (numbered defined 0 c.routines) (numbered entry 0 c.routines)))
 

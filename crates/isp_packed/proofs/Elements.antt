@@ -1,5 +1,6 @@
 -- What bytes hold for the elements of an array, all at once.
-use Rattle.std.proofs.Common.{◌≡◌, ℕ, zero, suc, ◌+◌, ◌*◌, ◌^◌, ◌<◌, ◌≤◌, List, ◌∷◌, length, drop, get_or, Bool, true, false, true≢false, Option, Some, None, IfSome, Result, Ok, Err, refl, sym, ap, subst, ◌∙◌, inl, inr, arith, add-zero, zero-add, mul-suc, mul-zero, lt-ltb, le-ltb, length-drop, if◌then◌else◌}
+use Rattle.std.proofs.Common.{◌≡◌, ℕ, zero, suc, ◌+◌, ◌*◌, ◌^◌, ◌<◌, ◌≤◌, List, ◌∷◌, length, drop, get_or, Bool, true, false, true≢false, Option, Some, None, IfSome, Result, Ok, Err, refl}
+use Rattle.std.proofs.Common.{sym, ap, subst, ◌∙◌, inl, inr, arith, add-zero, zero-add, mul-suc, mul-zero, lt-ltb, le-ltb, length-drop, if◌then◌else◌}
 use Rattle.std.specs.Prelude.{nat_lt}
 use Rattle.std.proofs.lemmas.Bool.{cases_lt}
 use Rattle.byteorder.specs.Endian.{little_number}

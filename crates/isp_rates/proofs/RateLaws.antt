@@ -14,13 +14,15 @@ use Rattle.isp_typed.specs.Library.{parts}
 use Rattle.isp_typed.specs.Typed.{TExpr, t_constant, t_program_index, t_place, t_convert, t_cast, t_unary, t_binary, t_compare, t_logic, t_choose, t_call, t_library, t_packed_store, t_packed_load, place_type}
 use Rattle.isp_typed.specs.Typed.{TPlace, t_variable, t_element, TBase, t_whole, t_from, TArgument, t_by_value, t_by_name, TCall, t_called, TArguments, t_no_arguments, t_argument_then, TExprs, t_no_exprs, t_expr_then, TFunction, Program}
 use Rattle.isp_typed.specs.Typed.{TItem, t_plain, t_with_value, t_with_size, TSimple, t_value, t_run, t_assign, t_update, t_step, TFirst, t_first_declare, t_first_simple, TRange}
-use Rattle.isp_typed.specs.Typed.{TStmt, t_block, t_declare, t_simple, t_if, t_if_else, t_while, t_do, t_for, t_foreach, t_foreach_active, t_foreach_unique, t_unmasked, t_jump, t_return, t_print, t_assert, TBlock, t_braces, TStmts, t_no_stmts, t_stmt_then}
+use Rattle.isp_typed.specs.Typed.{TStmt, t_block, t_declare, t_simple, t_if, t_if_else, t_while, t_do, t_for, t_foreach, t_foreach_active, t_foreach_unique}
+use Rattle.isp_typed.specs.Typed.{t_unmasked, t_jump, t_return, t_print, t_assert, TBlock, t_braces, TStmts, t_no_stmts, t_stmt_then}
 use Rattle.isp_rates.specs.declared.exits.Within.{Within}
 use Rattle.isp_rates.specs.Breaches.{OfEach, Least}
 use Rattle.isp_rates.specs.Rates.{goes_to, rate_held, variables_of, next_rate, later, next_part, RateBreach, DemandBreach, ExprBreach, PlaceBreach, BaseBreach, ArgumentBreach, CallBreach, ArgumentsBreach, ValuesBreach}
 use Rattle.isp_rates.specs.Exits.{at_start, in_loop, in_foreach, in_turns, in_unmasked, may_jump, returned_rate, ItemBreach, SimpleBreach, FirstBreach, RangeBreach, ReturnBreach, StmtBreach, BlockBreach, StmtsBreach}
 use Rattle.isp_rates.specs.Program.{ParametersBreach, ResultBreach, ExportBreach, FunctionBreach, ProgramBreach}
-use Rattle.isp_rates.specs.reader.Faults.{of_each, mismatch, expr_fault, place_fault, base_fault, argument_fault, call_fault, arguments_fault, values_fault, demand_fault, item_fault, simple_fault, first_fault, range_fault, return_fault, stmt_fault, block_fault, stmts_fault}
+use Rattle.isp_rates.specs.reader.Faults.{of_each, mismatch, expr_fault, place_fault, base_fault, argument_fault, call_fault, arguments_fault, values_fault, demand_fault}
+use Rattle.isp_rates.specs.reader.Faults.{item_fault, simple_fault, first_fault, range_fault, return_fault, stmt_fault, block_fault, stmts_fault}
 use Rattle.isp_rates.specs.reader.Faults.{parameters_fault, result_fault, export_fault, function_fault, program_fault}
 use Rattle.isp_rates.proofs.Least.{none_least, unmet_least, either_least, demand_least, any_least, each_least, exported_least}
 

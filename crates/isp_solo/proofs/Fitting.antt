@@ -61,7 +61,8 @@ outcome_fits t xs (Gives m s) g a e rows_fit given = record { uncut = cut_same (
 outcome_fits t xs (Fails trap s) g a e rows_fit given = absurd (subst is_end (sym e) tt)
 outcome_fits t xs (Stops s) g a e rows_fit given = absurd (subst is_end (sym e) tt)
 
-module _ (program : Program) (name : List ℕ) (f : ℕ) (h : TFunction) (xs : List Argument) (n : ℕ) (accepted : IsAccepted program) (entry : IsEntry program name xs f h) (independent : IsIndependent program f) (fit : All (λ r. Fit r.elem r.bits) (rows xs)) where
+module _ (program : Program) (name : List ℕ) (f : ℕ) (h : TFunction) (xs : List Argument) (n : ℕ) (accepted : IsAccepted program)
+    (entry : IsEntry program name xs f h) (independent : IsIndependent program f) (fit : All (λ r. Fit r.elem r.bits) (rows xs)) where
   abbrev alone : ℕ → Answer ℕ
   alone = solo_run program f n xs (bound xs)
 

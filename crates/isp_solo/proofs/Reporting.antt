@@ -24,7 +24,8 @@ use Rattle.isp_solo.specs.declared.report.SoloReport.TheVariants.{Trapped, Cut, 
 use Rattle.isp_solo.proofs.Fitting.{rows_are, given_fits}
 use Rattle.isp_solo.proofs.Named.{entry_is, entry_found}
 
-module _ (program : TProgram) (name : List ℕ) (f : ℕ) (h : TFunction) (xs : List Argument) (n : ℕ) (accepted : IsAccepted program) (entry : IsEntry program name xs f h) (independent : IsIndependent program f) (fit : All (λ r. Fit r.elem r.bits) (rows xs)) where
+module _ (program : TProgram) (name : List ℕ) (f : ℕ) (h : TFunction) (xs : List Argument) (n : ℕ) (accepted : IsAccepted program)
+    (entry : IsEntry program name xs f h) (independent : IsIndependent program f) (fit : All (λ r. Fit r.elem r.bits) (rows xs)) where
   report_is : (r : SoloReport) → Says (gang_width program.gang) (solo_run program f n xs (bound xs)) xs (rows_left (solo_run program f n xs (bound xs)) (rows xs) (gang_width program.gang)) h.gives r → ReportOf program f h xs n r
   report_is (Trapped t) s = s
   report_is (Cut p) s = s

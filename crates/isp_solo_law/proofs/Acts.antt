@@ -63,7 +63,9 @@ module _ (w : World) (closed : ℕ → Bool) (v v1 : Scope) (a : Mask) where
     join : (s : State) (σ : ℕ → Alone) → Same v a s.uniforms σ → ((p : ℕ) → EndsIf (w.last p) (a p) (and_then (own p (σ p)) (own_go p))) → Agrees w a R (λ p. own p (σ p)) σ (f s) s.uniforms
         → Acts w closed v1 a (λ p. and_then (own p (σ p)) (own_go p)) σ (bind (f s) go) s.uniforms
     join s σ sa ends ok =
-        let ok2 = (next ok.x ok.y ok.value).go ok.s ok.after ok.stands (same_on w v a a s.uniforms ok.s.uniforms σ ok.after (λ p t. t) ok.uniforms ok.own_uniforms sa) (λ p. next_ends (w.last p) (a p) (own p (σ p)) (own_go p) (σ p) (ok.after p) (ok.y p) (ok.alone p) (ends p)) in
+        let ok2 = (next ok.x ok.y ok.value).go ok.s ok.after ok.stands
+        (same_on w v a a s.uniforms ok.s.uniforms σ ok.after (λ p t. t) ok.uniforms ok.own_uniforms sa)
+        (λ p. next_ends (w.last p) (a p) (own p (σ p)) (own_go p) (σ p) (ok.after p) (ok.y p) (ok.alone p) (ends p)) in
         record {
           s = ok2.s;
           after = ok2.after;
@@ -159,7 +161,8 @@ module _ (w : World) (touch : TouchNothing w.gang w.last) (fs : List TFunction) 
         (sim_same w v a (Stand w.gang a r) _ _ _ (λ p s. ap (λ z. unless (own_outside w.frame z) Index sp p s (y p)) (at.3 p))
         (sim_checked w v a i (Stand w.gang a r) (is_outside (elem_of e) (extent w.frame b)) at.0 at.1 Index sp m y at.4.at h))
 
-    update_sim : (op : BinOp) (t : Elem) (q : TPlace) → FairPlace w.frame fs IsCallable v q → MayAssign closed q → (x : Place) (spots : ℕ → Spot) → PlaceStands w.gang a q x spots → (r : Rate) (m : Payload) (y : ℕ → ℕ) (sp : Span) → Follows (place_type q).rate r → Stand w.gang a r m y
+    update_sim : (op : BinOp) (t : Elem) (q : TPlace) → FairPlace w.frame fs IsCallable v q → MayAssign closed q → (x : Place) (spots : ℕ → Spot)
+        → PlaceStands w.gang a q x spots → (r : Rate) (m : Payload) (y : ℕ → ℕ) (sp : Span) → Follows (place_type q).rate r → Stand w.gang a r m y
         → ActSim w closed v v a (update w.gang w.frame calls op t q x m sp a) (λ p. own_update w.begin p w.frame (own p) op t q (spots p) (y p) sp)
     update_sim op t q fair may x spots at r m y sp u h =
         act_after w closed v v a (Stand w.gang a (place_type q).rate) _ _ _ _ (held_sim w touch fs IsCallable calls own agree v a i q fair x spots at) (λ p z. up_then _ _ (up_unless (is_zero op t (y p)) Divide sp p _) (λ k. keep p (spots p) _))
@@ -177,7 +180,8 @@ module _ (w : World) (touch : TouchNothing w.gang w.last) (fs : List TFunction) 
     simple_sim (t_assign q x sp) f =
         act_after w closed v v a (PlaceStands w.gang a q) _ _ _ _ (sim_tick w v a _ _ _ (place_sim w touch fs IsCallable calls own agree v q f.0 a i))
         (λ p r. up_then _ _ (answer_up w.begin p w.frame (own p) (ups p) x) (λ k. up_then _ _ (up_unless (own_outside w.frame r) Index (place_span q) p k) (λ j. keep p r j)))
-        (λ z spots at. act_after w closed v v a (Stand w.gang a (rate_of x)) _ _ _ _ (value_sim w touch fs IsCallable calls own agree v x f.2 a i) (λ p k. up_then _ _ (up_unless (own_outside w.frame (spots p)) Index (place_span q) p k) (λ j. keep p (spots p) j))
+        (λ z spots at. act_after w closed v v a (Stand w.gang a (rate_of x)) _ _ _ _ (value_sim w touch fs IsCallable calls own agree v x f.2 a i)
+        (λ p k. up_then _ _ (up_unless (own_outside w.frame (spots p)) Index (place_span q) p k) (λ j. keep p (spots p) j))
         (λ m y h. act_after w closed v v a (Stand w.gang a (rate_of x)) _ _ _ _ (outside_sim q z spots at (rate_of x) m y h) (λ p j. keep p (spots p) j) (λ n k hn. kept_sim q f.1 z spots at (rate_of x) n k f.3 hn)))
     simple_sim (t_update op t q x sp) f =
         act_after w closed v v a (PlaceStands w.gang a q) _ _ _ _ (sim_tick w v a _ _ _ (place_sim w touch fs IsCallable calls own agree v q f.0 a i))

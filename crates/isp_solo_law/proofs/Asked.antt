@@ -18,7 +18,9 @@ use Rattle.isp_typed.specs.declared.variable.Variable.{Variable}
 use Rattle.isp_typed.specs.Fine.{HoldsValue, HoldsArray, rates_of, FineExpr, FinePlace, FineCall, FineArguments, FineArgument, FineParts}
 use Rattle.isp_typed.specs.Library.{parts, library_type}
 use Rattle.isp_typed.specs.Scoped.{Scope, ExprIn, PlaceIn, CallIn, ArgumentsIn, ArgumentIn, ExprsIn}
-use Rattle.isp_typed.specs.Typed.{TExpr, t_constant, t_program_index, t_place, t_convert, t_cast, t_unary, t_binary, t_compare, t_logic, t_choose, t_call, t_library, t_packed_store, t_packed_load, TPlace, t_variable, t_element, TArgument, t_by_value, t_by_name, TCall, t_called, TArguments, t_no_arguments, t_argument_then, TExprs, t_no_exprs, t_expr_then, TFunction, rate_of, rate_or, span_of}
+use Rattle.isp_typed.specs.Typed.{TExpr, t_constant, t_program_index, t_place, t_convert, t_cast, t_unary, t_binary, t_compare, t_logic, t_choose, t_call, t_library}
+use Rattle.isp_typed.specs.Typed.{t_packed_store, t_packed_load, TPlace, t_variable, t_element, TArgument, t_by_value, t_by_name, TCall, t_called, TArguments, t_no_arguments}
+use Rattle.isp_typed.specs.Typed.{t_argument_then, TExprs, t_no_exprs, t_expr_then, TFunction, rate_of, rate_or, span_of}
 use Rattle.isp_rates.specs.Rates.{goes_to, rate_held, variables_of, RateBreach, DemandBreach, ExprBreach, PlaceBreach, ArgumentBreach, CallBreach, ArgumentsBreach, ValuesBreach}
 use Rattle.isp_independence.specs.declared.dependence.Dependence.{Dependence}
 use Rattle.isp_independence.specs.declared.dependence.Restriction.TheVariants.{Crossing}
@@ -95,12 +97,27 @@ module _ (frame : Frame) (fs : List TFunction) (IsCallable : ℕ → Type 0) (va
     fair (t_convert e x) f r n i k = fair x f.0 r n i k
     fair (t_cast x t s) f r n i k = (fair x f.0 (demand_inside t.rate x (ExprBreach fs x) r) n i k, demand_follows t.rate x (ExprBreach fs x) r)
     fair (t_unary op x t s) f r n i k = (fair x f.0 r n i k, λ e. ap (λ z. z.rate) f.1 ∙ e)
-    fair (t_binary op x y t s) f r n i k =
-        (fair x f.0 (λ e b. r e (inl b)) (λ e b. n e (inl b)) i.0 (first _ _ k), fair y f.1 (λ e b. r e (inr b)) (λ e b. n e (inr b)) i.1 (second _ _ k), or_left_rate t.rate (rate_of x) (rate_of y) f.2.rate, or_right_rate t.rate (rate_of x) (rate_of y) f.2.rate)
-    fair (t_compare c x y q s) f r n i k =
-        (fair x f.0 (λ e b. r e (inl b)) (λ e b. n e (inl b)) i.0 (first _ _ k), fair y f.1 (λ e b. r e (inr b)) (λ e b. n e (inr b)) i.1 (second _ _ k), or_left_rate q (rate_of x) (rate_of y) f.2.rate, or_right_rate q (rate_of x) (rate_of y) f.2.rate)
-    fair (t_logic l x y q s) f r n i k =
-        (fair x f.0 (λ e b. r e (inl b)) (λ e b. n e (inl b)) i.0 (first _ _ k), fair y f.1 (λ e b. r e (inr b)) (λ e b. n e (inr b)) i.1 (second _ _ k), or_left_rate q (rate_of x) (rate_of y) f.2.rate, or_right_rate q (rate_of x) (rate_of y) f.2.rate)
+    fair (t_binary op x y t s) f r n i k = (
+      fair x f.0 (λ e b. r e (inl b)) (λ e b. n e (inl b)) i.0 (first _ _ k),
+      fair y f.1 (λ e b. r e (inr b)) (λ e b. n e (inr b)) i.1
+          (second _ _ k),
+      or_left_rate t.rate (rate_of x) (rate_of y) f.2.rate,
+      or_right_rate t.rate (rate_of x) (rate_of y) f.2.rate,
+    )
+    fair (t_compare c x y q s) f r n i k = (
+      fair x f.0 (λ e b. r e (inl b)) (λ e b. n e (inl b)) i.0 (first _ _ k),
+      fair y f.1 (λ e b. r e (inr b)) (λ e b. n e (inr b)) i.1
+          (second _ _ k),
+      or_left_rate q (rate_of x) (rate_of y) f.2.rate,
+      or_right_rate q (rate_of x) (rate_of y) f.2.rate,
+    )
+    fair (t_logic l x y q s) f r n i k = (
+      fair x f.0 (λ e b. r e (inl b)) (λ e b. n e (inl b)) i.0 (first _ _ k),
+      fair y f.1 (λ e b. r e (inr b)) (λ e b. n e (inr b)) i.1
+          (second _ _ k),
+      or_left_rate q (rate_of x) (rate_of y) f.2.rate,
+      or_right_rate q (rate_of x) (rate_of y) f.2.rate,
+    )
     fair (t_choose c x y t s) f r n i k =
         let later = or_right_rate t.rate (rate_of c) (rate_or (rate_of x) (rate_of y)) f.6 in (
           fair c f.0 (λ e b. r e (inl b)) (λ e b. n e (inl b)) i.0 (first (expr_calls c) (expr_calls x) (first (expr_calls c ++ expr_calls x) (expr_calls y) k)),
@@ -122,7 +139,8 @@ module _ (frame : Frame) (fs : List TFunction) (IsCallable : ℕ → Type 0) (va
     fair_place (t_element a x t s) f r n i k =
         (fair x f.1 r n i.1 k, open_array a f.0, λ e. or_left_rate t.rate a.ty.rate (rate_of x) (ap (λ z. z.rate) f.2) e, λ e. or_right_rate t.rate a.ty.rate (rate_of x) (ap (λ z. z.rate) f.2) e)
 
-    fair_all : (e : Elem) (ps : List Part) (xs : TExprs) → FineParts fs vars e ps xs → ((f : Fault) → ValuesBreach fs ps xs f → ⊥) → ((d : Dependence) → CrossAll xs d → ⊥) → ExprsIn v xs → Callable (values_calls xs) → FairAll frame fs IsCallable (uniforms_in vars v) xs
+    fair_all : (e : Elem) (ps : List Part) (xs : TExprs) → FineParts fs vars e ps xs → ((f : Fault) → ValuesBreach fs ps xs f → ⊥)
+        → ((d : Dependence) → CrossAll xs d → ⊥) → ExprsIn v xs → Callable (values_calls xs) → FairAll frame fs IsCallable (uniforms_in vars v) xs
     fair_all e [] t_no_exprs f r n i k = tt
     fair_all e [] (t_expr_then x xs) f r n i k = absurd f
     fair_all e (p ∷ ps) t_no_exprs f r n i k = absurd f
@@ -133,7 +151,9 @@ module _ (frame : Frame) (fs : List TFunction) (IsCallable : ℕ → Type 0) (va
         let same : variables_of fs g ≡ f.0.variables = rw f.1 refl in
         (f.0, f.1, f.2, k g (Contains-push (arguments_calls xs) g), fair_arguments (length f.0.params) f.0.variables xs f.3 (subst (λ vs. (z : Fault) → ArgumentsBreach fs vs xs z → ⊥) same r) n i (first _ _ k))
 
-    fair_arguments : (m : ℕ) (vs : List Variable) (xs : TArguments) → FineArguments fs vars (take m vs) xs → ((f : Fault) → ArgumentsBreach fs vs xs f → ⊥) → ((d : Dependence) → CrossArguments xs d → ⊥) → ArgumentsIn v xs → Callable (arguments_calls xs)
+    fair_arguments : (m : ℕ) (vs : List Variable) (xs : TArguments) → FineArguments fs vars (take m vs) xs
+        → ((f : Fault) → ArgumentsBreach fs vs xs f → ⊥) → ((d : Dependence) → CrossArguments xs d → ⊥) → ArgumentsIn v xs
+        → Callable (arguments_calls xs)
         → FairArguments frame fs IsCallable (uniforms_in vars v) (take m vs) xs
     fair_arguments zero [] t_no_arguments f r n i k = tt
     fair_arguments (suc m) [] t_no_arguments f r n i k = tt
@@ -145,7 +165,9 @@ module _ (frame : Frame) (fs : List TFunction) (IsCallable : ℕ → Type 0) (va
     fair_arguments (suc m) (u ∷ us) (t_argument_then x xs) f r n i k =
         (fair_argument u.holds u.constant x f.0 (λ z b. r z (inl b)) (λ z b. n z (inl b)) i.0 (first _ _ k), fair_arguments m us xs f.1 (λ z b. r z (inr b)) (λ z b. n z (inr b)) i.1 (second (argument_calls x) _ k))
 
-    fair_argument : (h : Holds) (c : Bool) (x : TArgument) → FineArgument fs vars h c x → ((f : Fault) → ArgumentBreach fs (rate_held h) x f → ⊥) → ((d : Dependence) → CrossArgument x d → ⊥) → ArgumentIn v x → Callable (argument_calls x) → FairArgument frame fs IsCallable (uniforms_in vars v) h x
+    fair_argument : (h : Holds) (c : Bool) (x : TArgument) → FineArgument fs vars h c x → ((f : Fault) → ArgumentBreach fs (rate_held h) x f → ⊥)
+        → ((d : Dependence) → CrossArgument x d → ⊥) → ArgumentIn v x → Callable (argument_calls x)
+        → FairArgument frame fs IsCallable (uniforms_in vars v) h x
     fair_argument (holds.Value t) c (t_by_value x) f r n i k = (fair x f.0 (demand_inside t.rate x (ExprBreach fs x) r) n i k, demand_follows t.rate x (ExprBreach fs x) r)
     fair_argument (holds.Value t) c (t_by_name a s) f r n i k = absurd f
     fair_argument (holds.Given e) c (t_by_value x) f r n i k = absurd f

@@ -41,7 +41,8 @@ neither false y e d = d
 
 may_assign : (control : Control) (q : TPlace) (s : Span) → ((d : Dependence) → Assigned control q s d → ⊥) → MayAssign (closed_in control) q
 may_assign control (t_element b x t sp) s h = tt
-may_assign control (t_variable k t sp) s h = λ e. neither (nat_lt k control.outside) (nat_lt k control.turned) (not_true _ (λ j. absurd (h (at Outside s) (e, inl (ap not j, refl))))) (not_true _ (λ j. absurd (h (at Turned s) (e, inr (ap not j, refl)))))
+may_assign control (t_variable k t sp) s h = λ e. neither (nat_lt k control.outside) (nat_lt k control.turned)
+    (not_true _ (λ j. absurd (h (at Outside s) (e, inl (ap not j, refl))))) (not_true _ (λ j. absurd (h (at Turned s) (e, inr (ap not j, refl)))))
 
 own_array : (r : Rate) (s : Span) → ((d : Dependence) → (is_varying r ≡ false) × (d ≡ at SharedArray s) → ⊥) → r ≡ Varying
 own_array Varying s h = refl
@@ -108,14 +109,16 @@ module _ (frame : Frame) (fs : List TFunction) (IsCallable : ℕ → Type 0) (va
     wider = λ u m j. adds_nothing v n (ap (λ z. is_uniform (slice_get vars z)) (sym e) ∙ ap is_uniform h.is ∙ ap (λ r. by_rate r false true) u) m j;
   }
 
-  item_fair : (v : Scope) (n : ℕ) (x : TItem) → FineItem fs vars x → ((f : Fault) → ItemBreach fs x f → ⊥) → ((d : Dependence) → ItemDepends x d → ⊥) → ItemAt v n x → ((k : ℕ) → Contains (item_calls x) k → IsCallable k) → ((k : ℕ) → closed_in control k ≡ true → k < n)
+  item_fair : (v : Scope) (n : ℕ) (x : TItem) → FineItem fs vars x → ((f : Fault) → ItemBreach fs x f → ⊥) → ((d : Dependence) → ItemDepends x d → ⊥)
+      → ItemAt v n x → ((k : ℕ) → Contains (item_calls x) k → IsCallable k) → ((k : ℕ) → closed_in control k ≡ true → k < n)
       → FairItem frame fs IsCallable (closed_in control) (uniforms_in vars v) (uniforms_in vars (declared n v)) x
   item_fair v n (t_plain k t s) f r d i c before = declares v n k t i f before
   item_fair v n (t_with_value k t x s) f r d i c before =
       (declares v n k t i.0 f.0 before, fair frame fs IsCallable vars opens v x f.1.0 (demand_inside t.rate x (ExprBreach fs x) r) d i.1 c, demand_follows t.rate x (ExprBreach fs x) r)
   item_fair v n (t_with_size b s) f r d i c before = (own_array b.ty.rate s d, adds_nothing v n (ap (λ z. is_uniform (slice_get vars z)) (sym i) ∙ ap is_uniform f.1))
 
-  items_fair : (v : Scope) (n : ℕ) (xs : List TItem) → All (FineItem fs vars) xs → ((f : Fault) → OfEach (ItemBreach fs) xs f → ⊥) → ((d : Dependence) → DependsOfEach ItemDepends xs d → ⊥) → ItemsAt v n xs → ((k : ℕ) → Contains (calls_of_each item_calls xs) k → IsCallable k)
+  items_fair : (v : Scope) (n : ℕ) (xs : List TItem) → All (FineItem fs vars) xs → ((f : Fault) → OfEach (ItemBreach fs) xs f → ⊥)
+      → ((d : Dependence) → DependsOfEach ItemDepends xs d → ⊥) → ItemsAt v n xs → ((k : ℕ) → Contains (calls_of_each item_calls xs) k → IsCallable k)
       → ((k : ℕ) → closed_in control k ≡ true → k < n) → FairItems frame fs IsCallable (closed_in control) vars v n xs
   items_fair v n [] f r d i c before = tt
   items_fair v n (x ∷ xs) f r d i c before = (

@@ -176,8 +176,13 @@ module _ (w : World) (here : Here) (closed : ℕ → Bool) (v v1 v2 : Scope) (x 
 
   -- of what the branches came to, put together
   module _ (own3 : ℕ → End) (s : State) (σ : ℕ → Alone) (sa : Same v a s.uniforms σ) (s2 : State) (went broke continued returned : Mask) (after : ℕ → Alone) (how : ℕ → How)
-      (alone : (p : ℕ) → LeavesAlone (a p) (own3 p) (σ p) (how p) (after p)) (went_is : (p : ℕ) → went p ≡ (a p && is_going (how p))) (broke_is : (p : ℕ) → broke p ≡ (a p && is_broke (how p))) (continued_is : (p : ℕ) → continued p ≡ (a p && is_continued (how p))) (returned_is : (p : ℕ) → returned p ≡ (a p && is_returned (how p)))
-      (may : (p : ℕ) → a p ≡ true → may_leave (ways_of x y) (how p) ≡ true) (no_return : here.joint ≡ true → (p : ℕ) → a p ≡ true → is_returned (how p) ≡ false) (quiet : (k : ℕ) → closed k ≡ true → s2.uniforms k ≡ s.uniforms k) (own_quiet : (p k : ℕ) → closed k ≡ true → (after p).uniforms k ≡ (σ p).uniforms k) (stands : Stands w s2 after) where
+      (alone : (p : ℕ) → LeavesAlone (a p) (own3 p) (σ p) (how p) (after p)) (went_is : (p : ℕ) → went p ≡ (a p && is_going (how p)))
+      (broke_is : (p : ℕ) → broke p ≡ (a p && is_broke (how p))) (continued_is : (p : ℕ) → continued p ≡ (a p && is_continued (how p)))
+      (returned_is : (p : ℕ) → returned p ≡ (a p && is_returned (how p)))
+      (may : (p : ℕ) → a p ≡ true → may_leave (ways_of x y) (how p) ≡ true)
+      (no_return : here.joint ≡ true → (p : ℕ) → a p ≡ true → is_returned (how p) ≡ false)
+      (quiet : (k : ℕ) → closed k ≡ true → s2.uniforms k ≡ s.uniforms k)
+      (own_quiet : (p k : ℕ) → closed k ≡ true → (after p).uniforms k ≡ (σ p).uniforms k) (stands : Stands w s2 after) where
     known : (p k : ℕ) → a p ≡ true → v k ≡ true → (after p).uniforms k ≡ s2.uniforms k
     known p k i j = own_quiet p k (shut k j) ∙ sa p k i j ∙ sym (quiet k (shut k j))
 
@@ -251,7 +256,8 @@ module _ (w : World) (here : Here) (closed : ℕ → Bool) (v v1 v2 : Scope) (x 
     no_top e = absurd (true≢false (sym e))
 
     -- both sides, each over the members whose test is such
-    module _ (c : ℕ → Option ℕ) (val : ℕ → ℕ) (at : (p : ℕ) → c p ≡ on a val p) (s : State) (σ : ℕ → Alone) (st : Stands w s σ) (sa : Same v a s.uniforms σ) (ends : (p : ℕ) → LeavesIf (w.last p) (a p) (choose (is_true (val p)) (own p) (own2 p) (σ p))) where
+    module _ (c : ℕ → Option ℕ) (val : ℕ → ℕ) (at : (p : ℕ) → c p ≡ on a val p) (s : State) (σ : ℕ → Alone) (st : Stands w s σ)
+        (sa : Same v a s.uniforms σ) (ends : (p : ℕ) → LeavesIf (w.last p) (a p) (choose (is_true (val p)) (own p) (own2 p) (σ p))) where
       abbrev these : Mask
       these = where_true is_true c
 
@@ -274,24 +280,31 @@ module _ (w : World) (here : Here) (closed : ℕ → Bool) (v v1 v2 : Scope) (x 
       one = unless_leaves w branch v v1 x these (λ p. own p (σ p)) σ s first (λ p e. in_gang.inside p (sub1 p e)) st
           (λ i. (sim these i).go s σ st (λ p k e j. sa p k (sub1 p e) j) (λ e. no_top e) (λ p. first_ends (w.last p) (a p) (is_true (val p)) (these p) (own p) (own2 p) (σ p) (these_are p) (ends p)))
 
-      two : (ok : Leaves w branch v v1 x these (λ p. own p (σ p)) σ (unless_empty w.gang these s first) s.uniforms) → Leaves w branch v v2 y (without a these) (λ p. own2 p (ok.after p)) ok.after (unless_empty w.gang (without a these) ok.s second) ok.s.uniforms
+      two : (ok : Leaves w branch v v1 x these (λ p. own p (σ p)) σ (unless_empty w.gang these s first) s.uniforms)
+          → Leaves w branch v v2 y (without a these) (λ p. own2 p (ok.after p)) ok.after (unless_empty w.gang (without a these) ok.s second)
+          ok.s.uniforms
       two ok = unless_leaves w branch v v2 y (without a these) (λ p. own2 p (ok.after p)) ok.after ok.s second (λ p e. in_gang.inside p (sub2 p e)) ok.stands
           (λ i. (sim2 (without a these) i).go ok.s ok.after ok.stands (λ p k e j. ok.own_quiet p k (shut k j) ∙ sa p k (sub2 p e) j ∙ sym (ok.quiet k (shut k j))) (λ e. no_top e)
           (λ p. second_ends (w.last p) (a p) (is_true (val p)) (these p) (without a these p) (own p) (own2 p) (σ p) (ok.after p) (ok.how p) (these_are p) (others_are p) (ok.alone p) (ends p)))
 
       sides : Leaves w here v v (parted_ways x y) a (λ p. choose (is_true (val p)) (own p) (own2 p) (σ p)) σ (both_sides (unless_empty w.gang these s first) (λ s1. unless_empty w.gang (without a these) s1 second)) s.uniforms
       sides = join one (two one) where
-        join : (ok : Leaves w branch v v1 x these (λ p. own p (σ p)) σ (unless_empty w.gang these s first) s.uniforms) → Leaves w branch v v2 y (without a these) (λ p. own2 p (ok.after p)) ok.after (unless_empty w.gang (without a these) ok.s second) ok.s.uniforms
+        join : (ok : Leaves w branch v v1 x these (λ p. own p (σ p)) σ (unless_empty w.gang these s first) s.uniforms)
+            → Leaves w branch v v2 y (without a these) (λ p. own2 p (ok.after p)) ok.after (unless_empty w.gang (without a these) ok.s second)
+            ok.s.uniforms
             → Leaves w here v v (parted_ways x y) a (λ p. choose (is_true (val p)) (own p) (own2 p) (σ p)) σ (both_sides (unless_empty w.gang these s first) (λ s1. unless_empty w.gang (without a these) s1 second)) s.uniforms
         join ok ok2 = subst (λ z. Leaves w here v v (parted_ways x y) a (λ p. choose (is_true (val p)) (own p) (own2 p) (σ p)) σ z s.uniforms)
             (sym (ap (λ z. both_sides z (λ s1. unless_empty w.gang (without a these) s1 second)) ok.is ∙ ap (λ z. go_on z (λ s2 g b c r. Went s2 (union ok.went g) (union ok.broke b) (union ok.continued c) (union ok.returned r))) ok2.is))
-            (parted (λ p. choose (is_true (val p)) (own p) (own2 p) (σ p)) s σ sa ok2.s (union ok.went ok2.went) (union ok.broke ok2.broke) (union ok.continued ok2.continued) (union ok.returned ok2.returned) ok2.after (λ p. if is_true (val p) then ok.how p else ok2.how p)
+            (parted (λ p. choose (is_true (val p)) (own p) (own2 p) (σ p)) s σ sa ok2.s (union ok.went ok2.went) (union ok.broke ok2.broke)
+            (union ok.continued ok2.continued) (union ok.returned ok2.returned) ok2.after (λ p. if is_true (val p) then ok.how p else ok2.how p)
             (λ p. side (a p) (is_true (val p)) (these p) (own p) (own2 p) (σ p) (ok.after p) (ok2.after p) (ok.how p) (ok2.how p) (without a these p) (these_are p) (others_are p) (ok.alone p) (ok2.alone p))
             (λ p. set_of is_going (a p) (is_true (val p)) (these p) (without a these p) (ok.went p) (ok2.went p) (ok.how p) (ok2.how p) (these_are p) (others_are p) (ok.went_is p) (ok2.went_is p))
             (λ p. set_of is_broke (a p) (is_true (val p)) (these p) (without a these p) (ok.broke p) (ok2.broke p) (ok.how p) (ok2.how p) (these_are p) (others_are p) (ok.broke_is p) (ok2.broke_is p))
             (λ p. set_of is_continued (a p) (is_true (val p)) (these p) (without a these p) (ok.continued p) (ok2.continued p) (ok.how p) (ok2.how p) (these_are p) (others_are p) (ok.continued_is p) (ok2.continued_is p))
             (λ p. set_of is_returned (a p) (is_true (val p)) (these p) (without a these p) (ok.returned p) (ok2.returned p) (ok.how p) (ok2.how p) (these_are p) (others_are p) (ok.returned_is p) (ok2.returned_is p))
-            (λ p i. picked (λ h. may_leave (ways_of x y) h ≡ true) (is_true (val p)) (ok.how p) (ok2.how p) (λ u. leave_left x y (ok.how p) (ok.may p (these_are p ∙ and_both (a p) _ i u))) (λ u. leave_right x y (ok2.how p) (ok2.may p (others_are p ∙ and_both (a p) _ i (ap not u)))))
+            (λ p i. picked (λ h. may_leave (ways_of x y) h ≡ true) (is_true (val p)) (ok.how p) (ok2.how p)
+            (λ u. leave_left x y (ok.how p) (ok.may p (these_are p ∙ and_both (a p) _ i u)))
+            (λ u. leave_right x y (ok2.how p) (ok2.may p (others_are p ∙ and_both (a p) _ i (ap not u)))))
             (λ j p i. picked (λ h. is_returned h ≡ false) (is_true (val p)) (ok.how p) (ok2.how p) (λ u. ok.no_return j refl p (these_are p ∙ and_both (a p) _ i u)) (λ u. ok2.no_return j refl p (others_are p ∙ and_both (a p) _ i (ap not u))))
             (λ k i. ok2.quiet k i ∙ ok.quiet k i) (λ p k i. ok2.own_quiet p k i ∙ ok.own_quiet p k i) ok2.stands) where
               picked : (P : How → Type 0) (t : Bool) (h h2 : How) → (t ≡ true → P h) → (t ≡ false → P h2) → P (if t then h else h2)

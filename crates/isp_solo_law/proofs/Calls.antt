@@ -193,7 +193,9 @@ module _ (program : Program) (entry most : ℕ) (incomplete : Bool) (g : TFuncti
     body_agrees v = record {
       go = λ s σ st sa ends.
           back s σ st (block w.gang there.frame calls most g.body a (begun g xs w.frame a s)) (begun g xs w.frame a s).uniforms
-          ((block_sim there touch program.functions (IsCalled program.functions entry) calls own agree g.variables opens most program.gang wide g.body (start incomplete g) at_start (λ k. nat_lt k (length g.params)) (length g.params) fair.fine fair.clean fair.alone fair.scoped.body fair.called
+          ((block_sim there touch program.functions (IsCalled program.functions entry) calls own agree g.variables opens most program.gang wide g.body
+          (start incomplete g) at_start (λ k. nat_lt k (length g.params)) (length g.params) fair.fine fair.clean fair.alone fair.scoped.body
+          fair.called
           (start_stood there incomplete g refl all) fair.early (start_quiet program.functions g.answer (start incomplete g) g.body fair.clean) a some).go
           (begun g xs w.frame a s) (own_first σ) (first_stands s σ st) (first_same s σ known) (λ top p c. c) (λ p. body_ends (w.last p) (a p) (σ p) (own_body σ p) (own_there σ p) (same_body σ p) (ends p)));
     }

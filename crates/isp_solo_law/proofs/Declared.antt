@@ -13,9 +13,11 @@ use Rattle.isp_typed.specs.declared.variable.Holds.{Holds}
 use Rattle.isp_typed.specs.declared.variable.Holds.TheVariants as holds
 use Rattle.isp_typed.specs.declared.variable.Variable.{Variable}
 use Rattle.isp_typed.specs.Fine.{HoldsValue, FineItem, FineFirst, FineRange, FineStmt, FineBlock, FineStmts}
-use Rattle.isp_typed.specs.Scoped.{Scope, declared, ItemAt, ItemsAt, FirstAt, RangesAt, number_after, scope_after, number_after_first, scope_after_first, number_after_stmt, number_after_block, number_after_stmts, scope_after_stmt, StmtAt, BlockAt, StmtsAt, ScopedFunction}
+use Rattle.isp_typed.specs.Scoped.{Scope, declared, ItemAt, ItemsAt, FirstAt, RangesAt, number_after, scope_after, number_after_first, scope_after_first, number_after_stmt}
+use Rattle.isp_typed.specs.Scoped.{number_after_block, number_after_stmts, scope_after_stmt, StmtAt, BlockAt, StmtsAt, ScopedFunction}
 use Rattle.isp_typed.specs.Typed.{TItem, t_plain, t_with_value, t_with_size, TFirst, t_first_declare, t_first_simple, TRange, TFunction, rate_of}
-use Rattle.isp_typed.specs.Typed.{TStmt, t_block, t_declare, t_simple, t_if, t_if_else, t_while, t_do, t_for, t_foreach, t_foreach_active, t_foreach_unique, t_unmasked, t_jump, t_return, t_print, t_assert, TBlock, t_braces, TStmts, t_no_stmts, t_stmt_then}
+use Rattle.isp_typed.specs.Typed.{TStmt, t_block, t_declare, t_simple, t_if, t_if_else, t_while, t_do, t_for, t_foreach, t_foreach_active, t_foreach_unique}
+use Rattle.isp_typed.specs.Typed.{t_unmasked, t_jump, t_return, t_print, t_assert, TBlock, t_braces, TStmts, t_no_stmts, t_stmt_then}
 use Rattle.isp_independence.specs.declared.control.Control.{Control}
 use Rattle.isp_independence.specs.declared.dependence.Dependence.{Dependence}
 use Rattle.isp_independence.specs.declared.dependence.Restriction.TheVariants.{Crossing, SharedArray}

@@ -243,7 +243,8 @@ module _ (program : Program) (f : ℕ) (h : TFunction) (xs : List Argument) (n :
     module _ (ps : List ℕ) (order : IsOrder gang ps) where
       same_element : (b e : ℕ) → b < length (rows xs) → agrees.s.arrays b e ≡ one_by_one program f n xs ps (bound xs) b e
       same_element b e lb = go (some_or_none gang (λ p. is_some ((reached (alone p)).wrote b e))) where
-        law : ((p x : ℕ) → p < gang → (reached (alone p)).wrote b e ≡ Some x → one_by_one program f n xs ps (bound xs) b e ≡ x) × (((p : ℕ) → p < gang → (reached (alone p)).wrote b e ≡ None) → one_by_one program f n xs ps (bound xs) b e ≡ bound xs b e)
+        law : ((p x : ℕ) → p < gang → (reached (alone p)).wrote b e ≡ Some x → one_by_one program f n xs ps (bound xs) b e ≡ x)
+            × (((p : ℕ) → p < gang → (reached (alone p)).wrote b e ≡ None) → one_by_one program f n xs ps (bound xs) b e ≡ bound xs b e)
         law = any_order program f n xs (bound xs) ps apart order b e
 
         after_is : (p : ℕ) → p < gang → (agrees.after p).wrote b e ≡ (reached (alone p)).wrote b e
@@ -268,7 +269,9 @@ module _ (program : Program) (f : ℕ) (h : TFunction) (xs : List Argument) (n :
           ∙ ap (λ z. Ends z (answer_as h.gives agrees.x) agrees.s.out) (rows_same (rows xs) agrees.s.arrays (one_by_one program f n xs ps (bound xs)) same_element)
           ∙ ap (λ z. Ends (rows_now (rows xs) (one_by_one program f n xs ps (bound xs))) z agrees.s.out)
           (subst (λ t. answer_as t agrees.x ≡ answer_as t (One (value_of (alone p)))) (sym own.gives)
-          (given_same gang (everyone gang) h.span h.answer agrees.x agrees.y p (value_of (alone p)) (λ z b. accepted.sound z (breach_of (FunctionBreach program.functions) program.functions f h found z (inl (exported, inr b)))) some.some (of_lt p gang lt)
+          (given_same gang (everyone gang) h.span h.answer agrees.x agrees.y p (value_of (alone p))
+          (λ z b. accepted.sound z (breach_of (FunctionBreach program.functions) program.functions f h found z (inl (exported, inr b)))) some.some
+          (of_lt p gang lt)
           (ap value_of (sym (answers p lt))) agrees.value))
           ∙ ap (λ z. Ends (rows_now (rows xs) (one_by_one program f n xs ps (bound xs))) (answer_as h.gives (One (value_of (alone p)))) z) agrees.stands.silent
 

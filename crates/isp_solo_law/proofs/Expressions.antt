@@ -16,7 +16,9 @@ use Rattle.isp_typed.specs.Scoped.{Scope}
 use Rattle.isp_typed.specs.declared.variable.Holds.{Holds}
 use Rattle.isp_typed.specs.declared.variable.Holds.TheVariants as holds
 use Rattle.isp_typed.specs.declared.variable.Variable.{Variable as AVar}
-use Rattle.isp_typed.specs.Typed.{TExpr, t_constant, t_program_index, t_place, t_convert, t_cast, t_unary, t_binary, t_compare, t_logic, t_choose, t_call, t_library, t_packed_store, t_packed_load, TPlace, t_variable, t_element, TArgument, t_by_value, t_by_name, TCall, t_called, TArguments, t_no_arguments, t_argument_then, TExprs, t_no_exprs, t_expr_then, TFunction, rate_of, rate_or, elem_of, place_span, place_type}
+use Rattle.isp_typed.specs.Typed.{TExpr, t_constant, t_program_index, t_place, t_convert, t_cast, t_unary, t_binary, t_compare, t_logic, t_choose, t_call, t_library, t_packed_store}
+use Rattle.isp_typed.specs.Typed.{t_packed_load, TPlace, t_variable, t_element, TArgument, t_by_value, t_by_name, TCall, t_called, TArguments, t_no_arguments, t_argument_then, TExprs}
+use Rattle.isp_typed.specs.Typed.{t_no_exprs, t_expr_then, TFunction, rate_of, rate_or, elem_of, place_span, place_type}
 use Rattle.isp_meaning.specs.State.{Frame}
 use Rattle.isp_meaning.specs.Payloads.{One, Each, converted, is_true}
 use Rattle.isp_meaning.specs.Outcomes.{checked}
@@ -80,8 +82,12 @@ module _ (w : World) (touch : TouchNothing w.gang w.last) (fs : List TFunction) 
         sim_then w v a (Stand w.gang a (rate_of x)) _ _ _ _ _ (sim_tick w v a _ _ _ (value_sim x f.0 a i)) (λ p j. up_choose reached (needs l j) _ _ (answer_up w.begin p w.frame (own p) (calls_up p) y) (up_has j))
         (λ m j r. logic_sim w v a i l (rate_of x) (rate_of y) r0 (value w.gang w.frame calls y) (λ p. answer w.begin p w.frame (own p) y) m j f.2 f.3 r (λ k ik. value_sim y f.1 k ik))
     value_sim (t_choose c x y t sp) f a i =
-        sim_then w v a (Stand w.gang a (rate_of c)) _ _ _ _ _ (sim_tick w v a _ _ _ (value_sim c f.0 a i)) (λ p j. up_choose reached (is_true j) _ _ (answer_up w.begin p w.frame (own p) (calls_up p) x) (answer_up w.begin p w.frame (own p) (calls_up p) y))
-        (λ m j r. choose_sim w v a i (rate_of c) (rate_of x) (rate_of y) t.rate (value w.gang w.frame calls x) (value w.gang w.frame calls y) (λ p. answer w.begin p w.frame (own p) x) (λ p. answer w.begin p w.frame (own p) y) m j f.3 f.4 f.5 r (λ k ik. value_sim x f.1 k ik) (λ k ik. value_sim y f.2 k ik))
+        sim_then w v a (Stand w.gang a (rate_of c)) _ _ _ _ _ (sim_tick w v a _ _ _ (value_sim c f.0 a i))
+        (λ p j. up_choose reached (is_true j) _ _ (answer_up w.begin p w.frame (own p) (calls_up p) x)
+        (answer_up w.begin p w.frame (own p) (calls_up p) y))
+        (λ m j r. choose_sim w v a i (rate_of c) (rate_of x) (rate_of y) t.rate (value w.gang w.frame calls x) (value w.gang w.frame calls y)
+        (λ p. answer w.begin p w.frame (own p) x) (λ p. answer w.begin p w.frame (own p) y) m j f.3 f.4 f.5 r (λ k ik. value_sim x f.1 k ik)
+        (λ k ik. value_sim y f.2 k ik))
     value_sim (t_call c t) f a i = call_sim c (Some t) f a i
     value_sim (t_library g e xs t sp) f a i =
         sim_then w v a (ListStands w.gang a (rates_of xs)) _ _ _ _ _ (sim_tick w v a _ _ _ (values_sim xs f.1 a i)) (λ p ys. up_has _) (λ ms ys r. sim_has w v a _ _ _ (library_stands w.gang a g e (rates_of xs) t.rate ms ys f.0 f.2 r))
@@ -91,21 +97,29 @@ module _ (w : World) (touch : TouchNothing w.gang w.last) (fs : List TFunction) 
     pub place_sim : (q : TPlace) → FairPlace w.frame fs IsCallable v q → (a : Mask) → AreSome w.gang a → Sim w v a (PlaceStands w.gang a q) (place w.gang w.frame calls q a) (λ p. spot w.begin p w.frame (own p) q)
     place_sim (t_variable k t sp) f a i = sim_tick w v a _ _ _ (sim_has w v a (PlaceStands w.gang a (t_variable k t sp)) (Variable k t) (λ p. AVariable k t) (refl, λ p. refl))
     place_sim (t_element b e t sp) f a i =
-        sim_then w v a (Stand w.gang a (rate_of e)) _ _ _ _ _ (sim_tick w v a _ _ _ (value_sim e f.0 a i)) (λ p j. up_has _) (λ m y r. sim_has w v a (PlaceStands w.gang a (t_element b e t sp)) (Element b (elem_of e) m) (λ p. AnElement b (elem_of e) (y p)) (m, y, refl, λ p. refl, r))
+        sim_then w v a (Stand w.gang a (rate_of e)) _ _ _ _ _ (sim_tick w v a _ _ _ (value_sim e f.0 a i)) (λ p j. up_has _)
+        (λ m y r. sim_has w v a (PlaceStands w.gang a (t_element b e t sp)) (Element b (elem_of e) m) (λ p. AnElement b (elem_of e) (y p))
+        (m, y, refl, λ p. refl, r))
 
     pub values_sim : (xs : TExprs) → FairAll w.frame fs IsCallable v xs → (a : Mask) → AreSome w.gang a → Sim w v a (ListStands w.gang a (rates_of xs)) (values w.gang w.frame calls xs a) (λ p. answers w.begin p w.frame (own p) xs)
     values_sim t_no_exprs f a i = sim_has w v a (ListStands w.gang a Uniform) [] (λ p. []) (record { at = λ p. tt; one = λ j e. tt })
     values_sim (t_expr_then x xs) f a i =
         sim_then w v a (Stand w.gang a (rate_of x)) _ _ _ _ _ (value_sim x f.0 a i) (λ p j. up_then _ _ (answers_up w.begin p w.frame (own p) (calls_up p) xs) (λ js. up_has _))
         (λ m y r. sim_then w v a (ListStands w.gang a (rates_of xs)) _ _ _ _ _ (values_sim xs f.1 a i) (λ p js. up_has _)
-        (λ ms ys q. sim_has w v a (ListStands w.gang a (rate_or (rate_of x) (rates_of xs))) (m ∷ ms) (λ p. y p ∷ ys p) (record { at = λ p. (r.at p, q.at p); one = λ j e. (r.one j (or_first Uniform (rate_of x) (rates_of xs) (λ d. e) refl), q.one j (or_second Uniform (rate_of x) (rates_of xs) (λ d. e) refl)) })))
+        (λ ms ys q. sim_has w v a (ListStands w.gang a (rate_or (rate_of x) (rates_of xs))) (m ∷ ms) (λ p. y p ∷ ys p)
+        (record {
+          at = λ p. (r.at p, q.at p);
+          one = λ j e.
+              (r.one j (or_first Uniform (rate_of x) (rates_of xs) (λ d. e) refl), q.one j (or_second Uniform (rate_of x) (rates_of xs) (λ d. e) refl));
+        })))
 
     pub call_sim : (c : TCall) (t : Option Ty) → FairCall w.frame fs IsCallable v c t → (a : Mask) → AreSome w.gang a → Sim w v a (AnswerStands w.gang a t) (call w.gang w.frame calls c a) (λ p. answer_call w.begin p w.frame (own p) c)
     call_sim (t_called k xs sp) t f a i =
         sim_then w v a (PassedStand w.frame.opened a (params_of f.0)) _ _ _ _ _ (sim_tick w v a _ _ _ (arguments_sim (params_of f.0) xs f.4 a i)) (λ p ys. calls_up p k sp ys w.frame)
         (λ ms ys r. subst (λ z. Sim w v a (AnswerStands w.gang a z) (calls k sp a ms w.frame) (λ p. own p k sp (ys p) w.frame)) f.2 (agree.go v a k f.0 sp ms ys f.1 f.3 i r))
 
-    pub arguments_sim : (us : List AVar) (xs : TArguments) → FairArguments w.frame fs IsCallable v us xs → (a : Mask) → AreSome w.gang a → Sim w v a (PassedStand w.frame.opened a us) (arguments w.gang w.frame calls xs a) (λ p. own_arguments w.begin p w.frame (own p) xs)
+    pub arguments_sim : (us : List AVar) (xs : TArguments) → FairArguments w.frame fs IsCallable v us xs → (a : Mask) → AreSome w.gang a
+        → Sim w v a (PassedStand w.frame.opened a us) (arguments w.gang w.frame calls xs a) (λ p. own_arguments w.begin p w.frame (own p) xs)
     arguments_sim [] t_no_arguments f a i = sim_has w v a (PassedStand w.frame.opened a []) [] (λ p. []) (record { at = λ p. tt; suit = tt })
     arguments_sim [] (t_argument_then x xs) f a i = absurd f
     arguments_sim (u ∷ us) t_no_arguments f a i = absurd f

@@ -121,7 +121,8 @@ module _ (w : World) (touch : TouchNothing w.gang w.last) (v : Scope) (a : Mask)
   outside_not b t y sp r σ ends p e = chosen_ends (w.last p) (a p) (is_outside t (extent w.frame b) (y p)) (Bad (trap Index sp p)) (found w.begin p w.frame r b (element t (y p))) (σ p) (λ z h. h) (ends p) e
 
   pub element_sim : (r q : Rate) (b : ArrayVariable) (t : Elem) (m : Payload) (y : ℕ → ℕ) (j : Rate) (sp : Span) → IsOpen w.frame r b.number → (q ≡ Uniform → r ≡ Uniform) → (q ≡ Uniform → j ≡ Uniform) → Stand w.gang a j m y
-      → Sim w v a (Stand w.gang a q) (λ s. checked (offender w.gang (is_outside t (extent w.frame b)) a m) Index sp s (elements w.frame b t m a r s)) (λ p s. choose (is_outside t (extent w.frame b) (y p)) (Bad (trap Index sp p)) (found w.begin p w.frame r b (element t (y p))) s)
+      → Sim w v a (Stand w.gang a q) (λ s. checked (offender w.gang (is_outside t (extent w.frame b)) a m) Index sp s (elements w.frame b t m a r s))
+      (λ p s. choose (is_outside t (extent w.frame b) (y p)) (Bad (trap Index sp p)) (found w.begin p w.frame r b (element t (y p))) s)
   element_sim Varying q b t m y j sp open_ u1 u2 st_m = record {
     go = λ s σ st sa ends.
         let good = λ (p : ℕ) (e : a p ≡ true). outside_not b t y sp Varying σ ends p e in
@@ -131,7 +132,9 @@ module _ (w : World) (touch : TouchNothing w.gang w.last) (v : Scope) (a : Mask)
           y = λ p. (σ p).own b.number (element t (y p));
           after = σ;
           is = ap (λ o. checked o Index sp s (elements w.frame b t m a Varying s)) (no_offender w.gang a (is_outside t (extent w.frame b)) m y in_gang.some st_m.at (λ p e. (good p e).0));
-          alone = λ p. chosen_alone (a p) (is_outside t (extent w.frame b) (y p)) (Bad (trap Index sp p)) (found w.begin p w.frame Varying b (element t (y p))) (σ p) (σ p) ((σ p).own b.number (element t (y p))) (λ e. (good p e).0) (has_alone (a p) (σ p) ((σ p).own b.number (element t (y p))));
+          alone = λ p. chosen_alone (a p) (is_outside t (extent w.frame b) (y p)) (Bad (trap Index sp p))
+              (found w.begin p w.frame Varying b (element t (y p))) (σ p) (σ p) ((σ p).own b.number (element t (y p))) (λ e. (good p e).0)
+              (has_alone (a p) (σ p) ((σ p).own b.number (element t (y p))));
           value = record {
             at = λ p. each_at (λ x. s.own b.number (element t x) p) (λ x. (σ p).own b.number (element t x)) (a p) (y p) (spread a m p) (st_m.at p) (λ e. st.own_is b.number (element t (y p)) p);
             one = λ i e. absurd (not_uniform (u1 e));
@@ -155,7 +158,9 @@ module _ (w : World) (touch : TouchNothing w.gang w.last) (v : Scope) (a : Mask)
           alone = λ p. chosen_alone (a p) (is_outside t (extent w.frame b) (y p)) (Bad (trap Index sp p)) (found w.begin p w.frame Uniform b (element t (y p))) (σ p) (noted_if (a p) c (element t (y p)) (σ p)) (gives p) (λ e. (good p e).0)
               (noted_alone (a p) c (element t (y p)) (σ p) (gives p));
           value = record {
-            at = λ p. (mapped_stand w.gang a j q (λ x. s.arrays c (element t x)) m y u2 st_m).at p ∙ same_if (a p) _ _ (λ e. own_item s σ p c (element t (y p)) st (in_gang.inside p e) open_ ((good p e).1.read c (element t (y p)) (noted_there c (element t (y p)) (σ p))));
+            at = λ p. (mapped_stand w.gang a j q (λ x. s.arrays c (element t x)) m y u2 st_m).at p
+                ∙ same_if (a p) _ _ (λ e. own_item s σ p c (element t (y p)) st (in_gang.inside p e) open_
+                ((good p e).1.read c (element t (y p)) (noted_there c (element t (y p)) (σ p))));
             one = (mapped_stand w.gang a j q (λ x. s.arrays c (element t x)) m y u2 st_m).one;
           };
           uniforms = refl;

@@ -199,7 +199,8 @@ module _ (w : World) (l : LoopParts w) (all : Mask) where
     tested_up p = up_with (l.own_test p) _ (l.test_up p) (λ i. choice_up p i)
 
     -- what the test has come to
-    module _ (a returned : Mask) (in_gang : AreSome w.gang a) (σ : ℕ → Alone) (m : Payload) (y : ℕ → ℕ) (s : State) (σ1 : ℕ → Alone) (st : Stands w s σ1) (sa : Same l.v a s.uniforms σ1) (stand : Stand w.gang a l.rate m y) (top : l.top ≡ true → HasAll w a)
+    module _ (a returned : Mask) (in_gang : AreSome w.gang a) (σ : ℕ → Alone) (m : Payload) (y : ℕ → ℕ) (s : State) (σ1 : ℕ → Alone)
+        (st : Stands w s σ1) (sa : Same l.v a s.uniforms σ1) (stand : Stand w.gang a l.rate m y) (top : l.top ≡ true → HasAll w a)
         (ends : (p : ℕ) → LeavesIf (w.last p) (a p) (choose (is_true (y p)) (own p) (λ s2. Does s2 Going) (σ1 p))) where
       abbrev kept : Mask
       kept = kept_by is_true a m
@@ -220,28 +221,30 @@ module _ (w : World) (l : LoopParts w) (all : Mask) where
         go q = all_kept is_true a m q.0 (stand.one in_gang.some (l.alike e)) q.1 p ∙ i
 
       choices : (t : Bool) → any w.gang kept ≡ t → Ended a returned (λ p. choose (is_true (y p)) (own p) (λ s2. Does s2 Going) (σ1 p)) σ1 (if_so t (turn kept returned) (loop_end w.gang l.test l.body l.step all returned) s) s.uniforms
-      choices true e = go (sim.go kept returned (record { inside = λ p i. in_gang.inside p (sub p i); some = e }) s σ1 st (λ p k i j. sa p k (sub p i) j) (λ i p j. keeps_all e (l.together i).0 p (top i p j)) (λ p. chosen_ends (w.last p) (a p) (is_true (y p)) (kept p) (own p) (σ1 p) (kept_in p) (ends p))) where
-        go : Ended kept returned (λ p. own p (σ1 p)) σ1 (turn kept returned s) s.uniforms → Ended a returned (λ p. choose (is_true (y p)) (own p) (λ s2. Does s2 Going) (σ1 p)) σ1 (turn kept returned s) s.uniforms
-        go ok = record {
-          s = ok.s;
-          back = ok.back;
-          after = ok.after;
-          how = λ p. if is_true (y p) then ok.how p else Going;
-          way = ok.way;
-          is = ok.is;
-          alone = λ p. chosen_alone (a p) (is_true (y p)) (kept p) (own p) (σ1 p) (ok.after p) (ok.how p) (kept_in p) (ok.alone p);
-          back_is = λ p. back_kept (returned p) (a p) (is_true (y p)) (kept p) (ok.back p) (ok.how p) (kept_in p) (ok.back_is p);
-          over = λ p i. picked (λ h. is_over h ≡ true) (is_true (y p)) (ok.how p) (λ j. ok.over p (kept_in p ∙ both_true (a p) (is_true (y p)) i j)) refl;
-          one_way = λ i p j. let k = keeps_all e (l.together i).0 p j in ap (λ t. if t then ok.how p else Going) (test_true p k) ∙ ok.one_way i p k;
-          no_return = λ i d p j. picked (λ h. h ≡ Going) (is_true (y p)) (ok.how p) (λ k. ok.no_return i d p (kept_in p ∙ both_true (a p) (is_true (y p)) j k)) refl;
-          quiet = ok.quiet;
-          own_quiet = ok.own_quiet;
-          same = λ i p k j h d. let n = keeps_all e i p j in ok.same i p k n (sym (ap (λ t. if t then ok.how p else Going) (test_true p n)) ∙ h) d;
-          stands = ok.stands;
-        } where
-          picked : (P : How → Type 0) (t : Bool) (h : How) → (t ≡ true → P h) → P Going → P (if t then h else Going)
-          picked P true h x y = x refl
-          picked P false h x y = y
+      choices true e = go (sim.go kept returned (record { inside = λ p i. in_gang.inside p (sub p i); some = e }) s σ1 st
+          (λ p k i j. sa p k (sub p i) j) (λ i p j. keeps_all e (l.together i).0 p (top i p j))
+          (λ p. chosen_ends (w.last p) (a p) (is_true (y p)) (kept p) (own p) (σ1 p) (kept_in p) (ends p))) where
+            go : Ended kept returned (λ p. own p (σ1 p)) σ1 (turn kept returned s) s.uniforms → Ended a returned (λ p. choose (is_true (y p)) (own p) (λ s2. Does s2 Going) (σ1 p)) σ1 (turn kept returned s) s.uniforms
+            go ok = record {
+              s = ok.s;
+              back = ok.back;
+              after = ok.after;
+              how = λ p. if is_true (y p) then ok.how p else Going;
+              way = ok.way;
+              is = ok.is;
+              alone = λ p. chosen_alone (a p) (is_true (y p)) (kept p) (own p) (σ1 p) (ok.after p) (ok.how p) (kept_in p) (ok.alone p);
+              back_is = λ p. back_kept (returned p) (a p) (is_true (y p)) (kept p) (ok.back p) (ok.how p) (kept_in p) (ok.back_is p);
+              over = λ p i. picked (λ h. is_over h ≡ true) (is_true (y p)) (ok.how p) (λ j. ok.over p (kept_in p ∙ both_true (a p) (is_true (y p)) i j)) refl;
+              one_way = λ i p j. let k = keeps_all e (l.together i).0 p j in ap (λ t. if t then ok.how p else Going) (test_true p k) ∙ ok.one_way i p k;
+              no_return = λ i d p j. picked (λ h. h ≡ Going) (is_true (y p)) (ok.how p) (λ k. ok.no_return i d p (kept_in p ∙ both_true (a p) (is_true (y p)) j k)) refl;
+              quiet = ok.quiet;
+              own_quiet = ok.own_quiet;
+              same = λ i p k j h d. let n = keeps_all e i p j in ok.same i p k n (sym (ap (λ t. if t then ok.how p else Going) (test_true p n)) ∙ h) d;
+              stands = ok.stands;
+            } where
+              picked : (P : How → Type 0) (t : Bool) (h : How) → (t ≡ true → P h) → P Going → P (if t then h else Going)
+              picked P true h x y = x refl
+              picked P false h x y = y
       choices false e = record {
         s = s;
         back = returned;
@@ -270,9 +273,16 @@ module _ (w : World) (l : LoopParts w) (all : Mask) where
         none_back false false = refl
 
     pub tested_sim : LoopSim w l all (tested w.gang l.test l.body l.step all turn) (λ p. own_tested (l.own_test p) (l.own_body p) (l.own_step p) (own p))
-    tested_sim = record { up = tested_up; go = λ a returned in_gang s σ st sa top ends. after_test a returned in_gang s σ sa top ends ((l.test_sim a in_gang).go s σ st sa (λ p. with_first (w.last p) (a p) (l.own_test p (σ p)) _ (λ i. choice_up p i) (ends p))) } where
-      after_test : (a returned : Mask) → AreSome w.gang a → (s : State) (σ : ℕ → Alone) → Same l.v a s.uniforms σ → (l.top ≡ true → HasAll w a) → ((p : ℕ) → LeavesIf (w.last p) (a p) (own_tested (l.own_test p) (l.own_body p) (l.own_step p) (own p) (σ p)))
-          → Agrees w a (Stand w.gang a l.rate) (λ p. l.own_test p (σ p)) σ (l.test a s) s.uniforms → Ended a returned (λ p. own_tested (l.own_test p) (l.own_body p) (l.own_step p) (own p) (σ p)) σ (tested w.gang l.test l.body l.step all turn a returned s) s.uniforms
+    tested_sim = record {
+      up = tested_up;
+      go = λ a returned in_gang s σ st sa top ends. after_test a returned in_gang s σ sa top ends
+          ((l.test_sim a in_gang).go s σ st sa (λ p. with_first (w.last p) (a p) (l.own_test p (σ p)) _ (λ i. choice_up p i) (ends p)));
+    } where
+      after_test : (a returned : Mask) → AreSome w.gang a → (s : State) (σ : ℕ → Alone) → Same l.v a s.uniforms σ → (l.top ≡ true → HasAll w a)
+          → ((p : ℕ) → LeavesIf (w.last p) (a p) (own_tested (l.own_test p) (l.own_body p) (l.own_step p) (own p) (σ p)))
+          → Agrees w a (Stand w.gang a l.rate) (λ p. l.own_test p (σ p)) σ (l.test a s) s.uniforms
+          → Ended a returned (λ p. own_tested (l.own_test p) (l.own_body p) (l.own_step p) (own p) (σ p)) σ
+          (tested w.gang l.test l.body l.step all turn a returned s) s.uniforms
       after_test a returned in_gang s σ sa top ends ok =
           let sa1 = same_on w l.v a a s.uniforms ok.s.uniforms σ ok.after (λ p t. t) ok.uniforms ok.own_uniforms sa in
           let ends1 = λ (p : ℕ). with_next (w.last p) (a p) (l.own_test p (σ p)) (λ i s1. choose (is_true i) (own p) (λ s2. Does s2 Going) s1) (σ p) (ok.after p) (ok.y p) (ok.alone p) (ends p) in
@@ -302,7 +312,9 @@ module _ (w : World) (l : LoopParts w) (all : Mask) where
       go = λ a returned in_gang s σ st sa top ends. after_step a returned in_gang s σ top ends ((l.step_sim a in_gang).go s σ st sa (λ p. with_first (w.last p) (a p) (l.own_step p (σ p)) _ (λ u. tested_up p) (ends p)));
     } where
       after_step : (a returned : Mask) → AreSome w.gang a → (s : State) (σ : ℕ → Alone) → (l.top ≡ true → HasAll w a) → ((p : ℕ) → LeavesIf (w.last p) (a p) (own_stepped (l.own_test p) (l.own_body p) (l.own_step p) (own p) (σ p)))
-          → Acts w l.closed l.v a (λ p. l.own_step p (σ p)) σ (l.step a s) s.uniforms → Ended a returned (λ p. own_stepped (l.own_test p) (l.own_body p) (l.own_step p) (own p) (σ p)) σ (stepped w.gang l.test l.body l.step all turn a returned s) s.uniforms
+          → Acts w l.closed l.v a (λ p. l.own_step p (σ p)) σ (l.step a s) s.uniforms
+          → Ended a returned (λ p. own_stepped (l.own_test p) (l.own_body p) (l.own_step p) (own p) (σ p)) σ
+          (stepped w.gang l.test l.body l.step all turn a returned s) s.uniforms
       after_step a returned in_gang s σ top ends ok =
           let go = λ (p : ℕ) (u : Done) (s1 : Alone). own_tested (l.own_test p) (l.own_body p) (l.own_step p) (own p) s1 in
           let ok2 = tested_sim.go a returned in_gang ok.s ok.after ok.stands ok.same top (λ p. with_next (w.last p) (a p) (l.own_step p (σ p)) (go p) (σ p) (ok.after p) tt (ok.alone p) (ends p)) in
@@ -399,30 +411,33 @@ module _ (w : World) (l : LoopParts w) (all : Mask) where
       own_turn p = turned (l.own_test p) (l.own_body p) (l.own_step p) (l.own_body p (σ p)) (own p)
 
       after_body : (t : Bool) → any w.gang live ≡ t → Ended a returned own_turn σ (if_so t (turn live (union returned ok.returned)) (loop_end w.gang l.test l.body l.step all (union returned ok.returned)) ok.s) s.uniforms
-      after_body true e = go (next.go live (union returned ok.returned) (record { inside = λ p i. in_gang.inside p (live_sub p i); some = e }) ok.s ok.after ok.stands live_same (λ i p j. all_live e i p (top i p j)) (λ p. turned_next (l.own_test p) (l.own_body p) (l.own_step p) (w.last p) (a p) (live p) (l.own_body p (σ p)) (own p) (σ p) (ok.after p) (ok.how p) (live_in p) (ok.alone p) (ends p))) where
-        go : Ended live (union returned ok.returned) (λ p. own p (ok.after p)) ok.after (turn live (union returned ok.returned) ok.s) ok.s.uniforms → Ended a returned own_turn σ (turn live (union returned ok.returned) ok.s) s.uniforms
-        go ok2 = record {
-          s = ok2.s;
-          back = ok2.back;
-          after = ok2.after;
-          how = λ p. loop_how (ok.how p) (ok2.how p);
-          way = ok2.way;
-          is = ok2.is;
-          alone = λ p. turned_alone (l.own_test p) (l.own_body p) (l.own_step p) (a p) (live p) (l.own_body p (σ p)) (own p) (σ p) (ok.after p) (ok2.after p) (ok.how p) (ok2.how p) (live_in p) (ok.alone p) (ok2.alone p);
-          back_is = λ p. back_turned (returned p) (a p) (ok.returned p) (live p) (ok2.back p) (ok.how p) (ok2.how p) (ok.returned_is p) (live_in p) (ok2.back_is p);
-          over = λ p i. over_turned (ok.how p) (ok2.how p) (λ j. ok2.over p (is_in p i j));
-          one_way = λ i p j. let n = all_live e i p j in live_how (ok.how p) (ok2.how p) (live_goes p n) ∙ ok2.one_way i p n;
-          no_return = λ i d p j. going_turned (ok.how p) (ok2.how p) (ok.no_return i d p j) (λ k. ok2.no_return i d p (is_in p j k));
-          quiet = λ k i. ok2.quiet k i ∙ ok.quiet k (l.closed_in k i);
-          own_quiet = λ p k i. ok2.own_quiet p k i ∙ ok.own_quiet p k (l.closed_in k i);
-          same = λ i p k j h d. still p k d i j (ok.how p) refl h;
-          stands = ok2.stands;
-        } where
-          still : (p k : ℕ) → l.v k ≡ true → l.parts ≡ false → a p ≡ true → (x : How) → ok.how p ≡ x → loop_how x (ok2.how p) ≡ Going → (ok2.after p).uniforms k ≡ ok2.s.uniforms k
-          still p k d i j Going o h = ok2.same i p k (is_in p j (ap is_live o)) h d
-          still p k d i j Continued o h = ok2.same i p k (is_in p j (ap is_live o)) h d
-          still p k d i j Broke o h = absurd (nobody_broke e i p j o)
-          still p k d i j Returned o h = absurd (returned_not_going h)
+      after_body true e = go (next.go live (union returned ok.returned) (record { inside = λ p i. in_gang.inside p (live_sub p i); some = e }) ok.s
+          ok.after ok.stands live_same (λ i p j. all_live e i p (top i p j))
+          (λ p. turned_next (l.own_test p) (l.own_body p) (l.own_step p) (w.last p) (a p) (live p) (l.own_body p (σ p)) (own p) (σ p) (ok.after p)
+          (ok.how p) (live_in p) (ok.alone p) (ends p))) where
+            go : Ended live (union returned ok.returned) (λ p. own p (ok.after p)) ok.after (turn live (union returned ok.returned) ok.s) ok.s.uniforms → Ended a returned own_turn σ (turn live (union returned ok.returned) ok.s) s.uniforms
+            go ok2 = record {
+              s = ok2.s;
+              back = ok2.back;
+              after = ok2.after;
+              how = λ p. loop_how (ok.how p) (ok2.how p);
+              way = ok2.way;
+              is = ok2.is;
+              alone = λ p. turned_alone (l.own_test p) (l.own_body p) (l.own_step p) (a p) (live p) (l.own_body p (σ p)) (own p) (σ p) (ok.after p) (ok2.after p) (ok.how p) (ok2.how p) (live_in p) (ok.alone p) (ok2.alone p);
+              back_is = λ p. back_turned (returned p) (a p) (ok.returned p) (live p) (ok2.back p) (ok.how p) (ok2.how p) (ok.returned_is p) (live_in p) (ok2.back_is p);
+              over = λ p i. over_turned (ok.how p) (ok2.how p) (λ j. ok2.over p (is_in p i j));
+              one_way = λ i p j. let n = all_live e i p j in live_how (ok.how p) (ok2.how p) (live_goes p n) ∙ ok2.one_way i p n;
+              no_return = λ i d p j. going_turned (ok.how p) (ok2.how p) (ok.no_return i d p j) (λ k. ok2.no_return i d p (is_in p j k));
+              quiet = λ k i. ok2.quiet k i ∙ ok.quiet k (l.closed_in k i);
+              own_quiet = λ p k i. ok2.own_quiet p k i ∙ ok.own_quiet p k (l.closed_in k i);
+              same = λ i p k j h d. still p k d i j (ok.how p) refl h;
+              stands = ok2.stands;
+            } where
+              still : (p k : ℕ) → l.v k ≡ true → l.parts ≡ false → a p ≡ true → (x : How) → ok.how p ≡ x → loop_how x (ok2.how p) ≡ Going → (ok2.after p).uniforms k ≡ ok2.s.uniforms k
+              still p k d i j Going o h = ok2.same i p k (is_in p j (ap is_live o)) h d
+              still p k d i j Continued o h = ok2.same i p k (is_in p j (ap is_live o)) h d
+              still p k d i j Broke o h = absurd (nobody_broke e i p j o)
+              still p k d i j Returned o h = absurd (returned_not_going h)
       after_body false e = record {
         s = ok.s;
         back = union returned ok.returned;
@@ -430,7 +445,8 @@ module _ (w : World) (l : LoopParts w) (all : Mask) where
         how = λ p. loop_how (ok.how p) Going;
         way = loop_how ok.way Going;
         is = refl;
-        alone = λ p. turned_alone (l.own_test p) (l.own_body p) (l.own_step p) (a p) (live p) (l.own_body p (σ p)) (own p) (σ p) (ok.after p) (ok.after p) (ok.how p) Going (live_in p) (ok.alone p) (off_leaves (live p) (own p (ok.after p)) (ok.after p) (none p));
+        alone = λ p. turned_alone (l.own_test p) (l.own_body p) (l.own_step p) (a p) (live p) (l.own_body p (σ p)) (own p) (σ p) (ok.after p)
+            (ok.after p) (ok.how p) Going (live_in p) (ok.alone p) (off_leaves (live p) (own p (ok.after p)) (ok.after p) (none p));
         back_is = λ p. back_end (returned p) (a p) (ok.returned p) (ok.how p) (ok.returned_is p);
         over = λ p i. over_turned (ok.how p) Going (λ j. refl);
         one_way = λ i p j. ap (λ h. loop_how h Going) (one_way_at_top i p j);
@@ -466,7 +482,9 @@ module _ (w : World) (l : LoopParts w) (all : Mask) where
         → LoopSim w l all (turns w.gang l.test l.body l.step all (suc n)) (λ p. own_turns (l.own_test p) (l.own_body p) (l.own_step p) (suc n))
     go next = record {
       up = λ p. turned_up (l.own_test p) (l.own_body p) (l.own_step p) (l.test_up p) (l.body_up p) (l.step_up p) _ (next.up p);
-      go = λ a returned in_gang s σ st sa top ends. turn a returned in_gang s σ sa top ends ((l.body_sim a in_gang).go (tick s) σ st sa top (λ p. turned_first (l.own_test p) (l.own_body p) (l.own_step p) (w.last p) (a p) (l.own_body p (σ p)) _ (next.up p) (ends p)));
+      go = λ a returned in_gang s σ st sa top ends. turn a returned in_gang s σ sa top ends
+          ((l.body_sim a in_gang).go (tick s) σ st sa top (λ p. turned_first (l.own_test p) (l.own_body p) (l.own_step p) (w.last p) (a p)
+          (l.own_body p (σ p)) _ (next.up p) (ends p)));
     } where
       turn : (a returned : Mask) → AreSome w.gang a → (s : State) (σ : ℕ → Alone) → Same l.v a s.uniforms σ → (l.top ≡ true → HasAll w a)
           → ((p : ℕ) → LeavesIf (w.last p) (a p) (own_turns (l.own_test p) (l.own_body p) (l.own_step p) (suc n) (σ p)))
@@ -480,7 +498,9 @@ module _ (w : World) (l : LoopParts w) (all : Mask) where
             after = ok2.after;
             how = ok2.how;
             way = ok2.way;
-            is = ap (λ z. go_on z (λ s1 g b c r. if_so (any w.gang (union g c)) (stepped w.gang l.test l.body l.step all (turns w.gang l.test l.body l.step all n) (union g c) (union returned r)) (loop_end w.gang l.test l.body l.step all (union returned r)) s1)) ok.is ∙ ok2.is;
+            is = ap (λ z. go_on z (λ s1 g b c r. if_so (any w.gang (union g c))
+                (stepped w.gang l.test l.body l.step all (turns w.gang l.test l.body l.step all n) (union g c) (union returned r))
+                (loop_end w.gang l.test l.body l.step all (union returned r)) s1)) ok.is ∙ ok2.is;
             alone = ok2.alone;
             back_is = ok2.back_is;
             over = ok2.over;

@@ -75,7 +75,9 @@ module _ (gang : ℕ) (a : Mask) where
   selected_stands : (r1 r2 r3 q : Rate) (c m n : Payload) (y x z : ℕ → ℕ) → (q ≡ Uniform → r1 ≡ Uniform) → (q ≡ Uniform → r2 ≡ Uniform) → (q ≡ Uniform → r3 ≡ Uniform) → Stand gang a r1 c y
       → Stand gang (kept_by is_true a c) r2 m x → Stand gang (kept_by is_false a c) r3 n z → Stand gang a q (selected a c m n) (λ p. if is_true (y p) then x p else z p)
   selected_stands r1 r2 r3 q (Each c) m n y x z u1 u2 u3 h k l = record {
-    at = λ p. pick (a p) (is_true (y p)) (x p) (z p) _ _ (k.at p ∙ ap (λ b. if b then Some (x p) else None) (kept_is gang a is_true (Each c) y p (h.at p))) (l.at p ∙ ap (λ b. if b then Some (z p) else None) (kept_is gang a is_false (Each c) y p (h.at p)));
+    at = λ p. pick (a p) (is_true (y p)) (x p) (z p) _ _
+        (k.at p ∙ ap (λ b. if b then Some (x p) else None) (kept_is gang a is_true (Each c) y p (h.at p)))
+        (l.at p ∙ ap (λ b. if b then Some (z p) else None) (kept_is gang a is_false (Each c) y p (h.at p)));
     one = λ i e. absurd (h.one i (u1 e));
   } where
     pick : (t u : Bool) (x z : ℕ) (o o2 : Option ℕ) → o ≡ (if t && u then Some x else None) → o2 ≡ (if t && not u then Some z else None) → layer (λ p. o) (λ p. o2) 0 ≡ (if t then Some (if u then x else z) else None)
@@ -110,7 +112,9 @@ module _ (w : World) (v : Scope) (a : Mask) (in_gang : AreSome w.gang a) where
     go = λ s σ st sa ends.
         let k = kept_by (needs l) a m in
         let kk = λ (p : ℕ). kept_is w.gang a (needs l) m y p (h.at p) in
-        let ok = (some_or_none w v k r2 f own (λ p e. in_gang.inside p (sub (needs l) m y h.at p e)) (later k)).go s σ st (λ p n i j. sa p n (sub (needs l) m y h.at p i) j) (λ p. side_ends (w.last p) (a p) (needs l (y p)) (k p) (own p) (Has (y p)) (σ p) (kk p) (ends p)) in
+        let ok = (some_or_none w v k r2 f own (λ p e. in_gang.inside p (sub (needs l) m y h.at p e)) (later k)).go s σ st
+        (λ p n i j. sa p n (sub (needs l) m y h.at p i) j)
+        (λ p. side_ends (w.last p) (a p) (needs l (y p)) (k p) (own p) (Has (y p)) (σ p) (kk p) (ends p)) in
         record {
           x = settled l a m ok.x;
           s = ok.s;
@@ -137,8 +141,11 @@ module _ (w : World) (v : Scope) (a : Mask) (in_gang : AreSome w.gang a) where
         let l = kept_by is_false a c in
         let kk = λ (p : ℕ). kept_is w.gang a is_true c y p (h.at p) in
         let ll = λ (p : ℕ). kept_is w.gang a is_false c y p (h.at p) in
-        let ok = (some_or_none w v k r2 f own (λ p e. in_gang.inside p (sub is_true c y h.at p e)) (first k)).go s σ st (λ p n i j. sa p n (sub is_true c y h.at p i) j) (λ p. side_ends (w.last p) (a p) (is_true (y p)) (k p) (own p) (own2 p) (σ p) (kk p) (ends p)) in
-        let ok2 = (some_or_none w v l r3 g own2 (λ p e. in_gang.inside p (sub is_false c y h.at p e)) (second l)).go ok.s ok.after ok.stands (same_on w v a l s.uniforms ok.s.uniforms σ ok.after (λ p e. sub is_false c y h.at p e) ok.uniforms ok.own_uniforms sa)
+        let ok = (some_or_none w v k r2 f own (λ p e. in_gang.inside p (sub is_true c y h.at p e)) (first k)).go s σ st
+        (λ p n i j. sa p n (sub is_true c y h.at p i) j)
+        (λ p. side_ends (w.last p) (a p) (is_true (y p)) (k p) (own p) (own2 p) (σ p) (kk p) (ends p)) in
+        let ok2 = (some_or_none w v l r3 g own2 (λ p e. in_gang.inside p (sub is_false c y h.at p e)) (second l)).go ok.s ok.after ok.stands
+        (same_on w v a l s.uniforms ok.s.uniforms σ ok.after (λ p e. sub is_false c y h.at p e) ok.uniforms ok.own_uniforms sa)
         (λ p. other_ends (w.last p) (a p) (is_true (y p)) (k p) (l p) (own p) (own2 p) (σ p) (ok.after p) (ok.y p) (kk p) (ll p) (ok.alone p) (ends p)) in
         record {
           x = selected a c ok.x ok2.x;

@@ -123,7 +123,8 @@ module _ (w : World) (here : Here) (v : Scope) (a : Mask) (some : AreSome w.gang
   result_is (Some t) q m y result results own h u all was = result_at t.rate q m y result results own h (u t refl) (all t refl) was
 
   -- a uniform result is set where all that made the call are, and so is every result of a function that gives one value for the gang
-  pub return_sim : (q : Rate) (m : Payload) (y : ℕ → ℕ) → Stand w.gang a q m y → ((t : Ty) → w.frame.answer ≡ Some t → t.rate ≡ Uniform → q ≡ Uniform) → ((t : Ty) → w.frame.answer ≡ Some t → t.rate ≡ Uniform → here.top ≡ true) → (here.joint ≡ true → here.top ≡ true)
+  pub return_sim : (q : Rate) (m : Payload) (y : ℕ → ℕ) → Stand w.gang a q m y → ((t : Ty) → w.frame.answer ≡ Some t → t.rate ≡ Uniform → q ≡ Uniform)
+      → ((t : Ty) → w.frame.answer ≡ Some t → t.rate ≡ Uniform → here.top ≡ true) → (here.joint ≡ true → here.top ≡ true)
       → StmtSim w here v v no_ways a (λ s. Went (answered w.frame.answer a m s) nobody nobody nobody a) (λ p s. Does (record s { result = y p }) Returned)
   return_sim q m y h u uniform joint = record {
     go = λ s σ st sa top ends.

@@ -92,8 +92,12 @@ AllSome gang [] = Unit {0}
 AllSome gang (r ∷ rs) = AreSome gang r.members × AllSome gang rs
 
 -- All of the gang are there, and nobody assigns in the body what is known outside. The body is left in any way.
-module _ (w : World) (here inner : Here) (v vb v1 : Scope) (x : Ways) (a : Mask) (full : (p : ℕ) → p < w.gang → a p ≡ true) (shut : (k : ℕ) → v k ≡ true → inner.closed k ≡ true) (closed_in : (k : ℕ) → here.closed k ≡ true → inner.closed k ≡ true) (no_top : inner.top ≡ false)
-    (narrow : (k : ℕ) → vb k ≡ true → v k ≡ true) (body : Mask → State → Res) (own : ℕ → Alone → End) (up : (p : ℕ) → Up left_at (own p)) (runs_up : (p : ℕ) (rs : List Run) → Up left_at (own_rounds (own p) p rs)) (sim : (b : Mask) → AreSome w.gang b → StmtSim w inner vb v1 x b (body b) own) where
+module _ (w : World) (here inner : Here) (v vb v1 : Scope) (x : Ways) (a : Mask) (full : (p : ℕ) → p < w.gang → a p ≡ true)
+    (shut : (k : ℕ) → v k ≡ true → inner.closed k ≡ true) (closed_in : (k : ℕ) → here.closed k ≡ true → inner.closed k ≡ true)
+    (no_top : inner.top ≡ false)
+    (narrow : (k : ℕ) → vb k ≡ true → v k ≡ true) (body : Mask → State → Res) (own : ℕ → Alone → End) (up : (p : ℕ) → Up left_at (own p))
+    (runs_up : (p : ℕ) (rs : List Run) → Up left_at (own_rounds (own p) p rs))
+    (sim : (b : Mask) → AreSome w.gang b → StmtSim w inner vb v1 x b (body b) own) where
   pub rounds_sim : (rs : List Run) → AllSome w.gang rs → StmtSim w here v v no_ways a (rounds body a (map round_of_run rs)) (λ p. own_rounds (own p) p rs)
   rounds_sim [] q = stop_sim w here v a
   rounds_sim (r ∷ rs) q = turn (rounds_sim rs q.1) where
@@ -106,9 +110,14 @@ module _ (w : World) (here inner : Here) (v vb v1 : Scope) (x : Ways) (a : Mask)
     turn : StmtSim w here v v no_ways a (rounds body a (map round_of_run rs)) (λ p. own_rounds (own p) p rs) → StmtSim w here v v no_ways a (rounds body a (map round_of_run (r ∷ rs))) (λ p. own_rounds (own p) p (r ∷ rs))
     turn next = record {
       go = λ s σ st sa top ends.
-          first s σ sa top ends ((set_sim w inner.closed v r.members q.0 r.indices).go s σ st (λ p k i j. sa p k (on p i) j) (λ p. set_ends (w.last p) (own p) (up p) (at_indices p r.indices) (own_rounds (own p) p rs) (later p) (r.members p) (a p) (σ p) (on p) (ends p)));
+          first s σ sa top ends ((set_sim w inner.closed v r.members q.0 r.indices).go s σ st (λ p k i j. sa p k (on p i) j)
+          (λ p. set_ends (w.last p) (own p) (up p) (at_indices p r.indices) (own_rounds (own p) p rs) (later p) (r.members p) (a p) (σ p) (on p)
+          (ends p)));
     } where
-      second : (s : State) (σ : ℕ → Alone) → Same v a s.uniforms σ → (here.top ≡ true → HasAll w a) → ((p : ℕ) → LeavesIf (w.last p) (a p) (own_rounds (own p) p (r ∷ rs) (σ p))) → (set : Acts w inner.closed v r.members (λ p. Has tt (at_indices p r.indices (σ p))) σ (Gives tt (set_indices r.members r.indices s)) s.uniforms)
+      second : (s : State) (σ : ℕ → Alone) → Same v a s.uniforms σ → (here.top ≡ true → HasAll w a)
+          → ((p : ℕ) → LeavesIf (w.last p) (a p) (own_rounds (own p) p (r ∷ rs) (σ p)))
+          → (set : Acts w inner.closed v r.members (λ p. Has tt (at_indices p r.indices (σ p))) σ (Gives tt (set_indices r.members r.indices s))
+          s.uniforms)
           → Leaves w inner vb v1 x r.members (λ p. own p (set.after p)) set.after (body r.members set.s) set.s.uniforms
           → Leaves w here v v no_ways a (λ p. own_rounds (own p) p (r ∷ rs) (σ p)) σ (rounds body a (map round_of_run (r ∷ rs)) s) s.uniforms
       second s σ sa top ends set bod =
@@ -125,7 +134,8 @@ module _ (w : World) (here inner : Here) (v vb v1 : Scope) (x : Ways) (a : Mask)
             how = ok.how;
             way = ok.way;
             is = ap (λ z. go_on (body r.members z) (λ s1 g b c d. rounds body a (map round_of_run rs) s1)) (ap (state_of s) set.is) ∙ ap (λ z. go_on z (λ s1 g b c d. rounds body a (map round_of_run rs) s1)) bod.is ∙ ok.is;
-            alone = λ p. one_alone (w.last p) (own p) (up p) (at_indices p r.indices) (own_rounds (own p) p rs) (later p) (r.members p) (a p) (σ p) (set.after p) (bod.after p) (ok.after p) (bod.how p) (ok.how p) (on p) (set.alone p) (bod.alone p) (ok.alone p);
+            alone = λ p. one_alone (w.last p) (own p) (up p) (at_indices p r.indices) (own_rounds (own p) p rs) (later p) (r.members p) (a p) (σ p)
+                (set.after p) (bod.after p) (ok.after p) (bod.how p) (ok.how p) (on p) (set.alone p) (bod.alone p) (ok.alone p);
             went_is = ok.went_is;
             broke_is = ok.broke_is;
             continued_is = ok.continued_is;
@@ -141,7 +151,9 @@ module _ (w : World) (here inner : Here) (v vb v1 : Scope) (x : Ways) (a : Mask)
             stands = ok.stands;
           }
 
-      first : (s : State) (σ : ℕ → Alone) → Same v a s.uniforms σ → (here.top ≡ true → HasAll w a) → ((p : ℕ) → LeavesIf (w.last p) (a p) (own_rounds (own p) p (r ∷ rs) (σ p))) → Acts w inner.closed v r.members (λ p. Has tt (at_indices p r.indices (σ p))) σ (Gives tt (set_indices r.members r.indices s)) s.uniforms
+      first : (s : State) (σ : ℕ → Alone) → Same v a s.uniforms σ → (here.top ≡ true → HasAll w a)
+          → ((p : ℕ) → LeavesIf (w.last p) (a p) (own_rounds (own p) p (r ∷ rs) (σ p)))
+          → Acts w inner.closed v r.members (λ p. Has tt (at_indices p r.indices (σ p))) σ (Gives tt (set_indices r.members r.indices s)) s.uniforms
           → Leaves w here v v no_ways a (λ p. own_rounds (own p) p (r ∷ rs) (σ p)) σ (rounds body a (map round_of_run (r ∷ rs)) s) s.uniforms
       first s σ sa top ends set =
           second s σ sa top ends set ((sim r.members q.0).go set.s set.after set.stands (λ p k i j. set.same p k i (narrow k j)) (λ e. absurd (true≢false (sym e ∙ no_top)))

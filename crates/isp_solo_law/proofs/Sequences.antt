@@ -133,8 +133,10 @@ both_of false u e d = absurd (true≢false (sym e))
 
 -- ---- the gang: at the top nobody breaks or continues alone in the first
 
-module _ (w : World) (here : Here) (v v1 : Scope) (x y : Ways) (a : Mask) (in_gang : AreSome w.gang a) (wider : (k : ℕ) → v k ≡ true → v1 k ≡ true) (together : here.top ≡ true → (x.some_break ≡ false) × (x.some_continue ≡ false) × (here.joint ≡ true))
-    (f : State → Res) (own : ℕ → Alone → End) (first : StmtSim w here v v1 x a f own) (f2 : Mask → State → Res) (own2 : ℕ → Alone → End) (up2 : (p : ℕ) → Up left_at (own2 p)) (second : (k : Mask) → AreSome w.gang k → StmtSim w here v1 v1 y k (f2 k) own2) where
+module _ (w : World) (here : Here) (v v1 : Scope) (x y : Ways) (a : Mask) (in_gang : AreSome w.gang a) (wider : (k : ℕ) → v k ≡ true → v1 k ≡ true)
+    (together : here.top ≡ true → (x.some_break ≡ false) × (x.some_continue ≡ false) × (here.joint ≡ true))
+    (f : State → Res) (own : ℕ → Alone → End) (first : StmtSim w here v v1 x a f own) (f2 : Mask → State → Res) (own2 : ℕ → Alone → End)
+    (up2 : (p : ℕ) → Up left_at (own2 p)) (second : (k : Mask) → AreSome w.gang k → StmtSim w here v1 v1 y k (f2 k) own2) where
   module _ (s : State) (σ : ℕ → Alone) (top : here.top ≡ true → HasAll w a) (ends : (p : ℕ) → LeavesIf (w.last p) (a p) (then_on (own p (σ p)) (own2 p))) (ok : Leaves w here v v1 x a (λ p. own p (σ p)) σ (f s) s.uniforms) where
     went_sub : (p : ℕ) → ok.went p ≡ true → a p ≡ true
     went_sub p e = and_left (a p) (is_going (ok.how p)) (sym (ok.went_is p) ∙ e)
@@ -176,74 +178,78 @@ module _ (w : World) (here : Here) (v v1 : Scope) (x y : Ways) (a : Mask) (in_ga
     Both res = Leaves w here v v (ways_of x y) a (λ p. then_on (own p (σ p)) (own2 p)) σ res s.uniforms
 
     both_at : (t : Bool) → any w.gang ok.went ≡ t → Both (then_run (Went ok.s ok.went ok.broke ok.continued ok.returned) (λ g s1. if_so t (f2 g) (went_all g) s1))
-    both_at true e = go ((second ok.went (record { inside = λ p i. in_gang.inside p (went_sub p i); some = e })).go ok.s ok.after ok.stands ok.same (all_went e) (λ p. on_next (w.last p) (a p) (ok.went p) (own p (σ p)) (own2 p) (σ p) (ok.after p) (ok.how p) (ok.went_is p) (ok.alone p) (ends p))) where
-      go : Leaves w here v1 v1 y ok.went (λ p. own2 p (ok.after p)) ok.after (f2 ok.went ok.s) ok.s.uniforms → Both (then_run (Went ok.s ok.went ok.broke ok.continued ok.returned) (λ g s1. f2 g s1))
-      go ok2 = record {
-        s = ok2.s;
-        went = ok2.went;
-        broke = union ok.broke ok2.broke;
-        continued = union ok.continued ok2.continued;
-        returned = union ok.returned ok2.returned;
-        after = ok2.after;
-        how = λ p. then_how (ok.how p) (ok2.how p);
-        way = ok2.way;
-        is = ap (λ z. go_on z (λ s2 g b c r. Went s2 g (union ok.broke b) (union ok.continued c) (union ok.returned r))) ok2.is;
-        alone = λ p. on_alone (a p) (ok.went p) (own p (σ p)) (own2 p) (σ p) (ok.after p) (ok2.after p) (ok.how p) (ok2.how p) (ok.went_is p) (ok.alone p) (ok2.alone p);
-        went_is = λ p. went_then (a p) (ok.went p) (ok2.went p) (ok.how p) (ok2.how p) (ok.went_is p) (ok2.went_is p);
-        broke_is = λ p. left_then is_broke refl (a p) (ok.went p) (ok.broke p) (ok2.broke p) (ok.how p) (ok2.how p) (ok.went_is p) (ok.broke_is p) (ok2.broke_is p);
-        continued_is = λ p. left_then is_continued refl (a p) (ok.went p) (ok.continued p) (ok2.continued p) (ok.how p) (ok2.how p) (ok.went_is p) (ok.continued_is p) (ok2.continued_is p);
-        returned_is = λ p. left_then is_returned refl (a p) (ok.went p) (ok.returned p) (ok2.returned p) (ok.how p) (ok2.how p) (ok.went_is p) (ok.returned_is p) (ok2.returned_is p);
-        may = λ p i. may_of p i (ok.how p) refl;
-        one_way = λ p i. way_of p i (ok.how p) refl (goes_or_parts e p i);
-        no_return = λ i d p j. return_of i d p j (ok.how p) refl;
-        quiet = λ k i. ok2.quiet k i ∙ ok.quiet k i;
-        own_quiet = λ p k i. ok2.own_quiet p k i ∙ ok.own_quiet p k i;
-        same = λ p k i j. ok2.same p k i (wider k j);
-        same_broke = λ i p k j l. broke_same p k l (or_left x.some_break y.some_break i) (or_right x.some_break y.some_break i) (either_is (ok.broke p)) j;
-        same_continued = λ i p k j l. continued_same p k l (or_left x.some_continue y.some_continue i) (or_right x.some_continue y.some_continue i) (either_is (ok.continued p)) j;
-        stands = ok2.stands;
-      } where
-        may_of : (p : ℕ) → a p ≡ true → (h : How) → ok.how p ≡ h → may_leave (ways_of x y) (then_how h (ok2.how p)) ≡ true
-        may_of p i Going d = leave_right x y (ok2.how p) (ok2.may p (in_went p i d))
-        may_of p i Broke d = leave_left x y Broke (ap (may_leave x) (sym d) ∙ ok.may p i)
-        may_of p i Continued d = leave_left x y Continued (ap (may_leave x) (sym d) ∙ ok.may p i)
-        may_of p i Returned d = refl
+    both_at true e = go ((second ok.went (record { inside = λ p i. in_gang.inside p (went_sub p i); some = e })).go ok.s ok.after ok.stands ok.same
+        (all_went e) (λ p. on_next (w.last p) (a p) (ok.went p) (own p (σ p)) (own2 p) (σ p) (ok.after p) (ok.how p) (ok.went_is p) (ok.alone p)
+        (ends p))) where
+          go : Leaves w here v1 v1 y ok.went (λ p. own2 p (ok.after p)) ok.after (f2 ok.went ok.s) ok.s.uniforms → Both (then_run (Went ok.s ok.went ok.broke ok.continued ok.returned) (λ g s1. f2 g s1))
+          go ok2 = record {
+            s = ok2.s;
+            went = ok2.went;
+            broke = union ok.broke ok2.broke;
+            continued = union ok.continued ok2.continued;
+            returned = union ok.returned ok2.returned;
+            after = ok2.after;
+            how = λ p. then_how (ok.how p) (ok2.how p);
+            way = ok2.way;
+            is = ap (λ z. go_on z (λ s2 g b c r. Went s2 g (union ok.broke b) (union ok.continued c) (union ok.returned r))) ok2.is;
+            alone = λ p. on_alone (a p) (ok.went p) (own p (σ p)) (own2 p) (σ p) (ok.after p) (ok2.after p) (ok.how p) (ok2.how p) (ok.went_is p) (ok.alone p) (ok2.alone p);
+            went_is = λ p. went_then (a p) (ok.went p) (ok2.went p) (ok.how p) (ok2.how p) (ok.went_is p) (ok2.went_is p);
+            broke_is = λ p. left_then is_broke refl (a p) (ok.went p) (ok.broke p) (ok2.broke p) (ok.how p) (ok2.how p) (ok.went_is p) (ok.broke_is p) (ok2.broke_is p);
+            continued_is = λ p. left_then is_continued refl (a p) (ok.went p) (ok.continued p) (ok2.continued p) (ok.how p) (ok2.how p) (ok.went_is p) (ok.continued_is p) (ok2.continued_is p);
+            returned_is = λ p. left_then is_returned refl (a p) (ok.went p) (ok.returned p) (ok2.returned p) (ok.how p) (ok2.how p) (ok.went_is p) (ok.returned_is p) (ok2.returned_is p);
+            may = λ p i. may_of p i (ok.how p) refl;
+            one_way = λ p i. way_of p i (ok.how p) refl (goes_or_parts e p i);
+            no_return = λ i d p j. return_of i d p j (ok.how p) refl;
+            quiet = λ k i. ok2.quiet k i ∙ ok.quiet k i;
+            own_quiet = λ p k i. ok2.own_quiet p k i ∙ ok.own_quiet p k i;
+            same = λ p k i j. ok2.same p k i (wider k j);
+            same_broke = λ i p k j l. broke_same p k l (or_left x.some_break y.some_break i) (or_right x.some_break y.some_break i) (either_is (ok.broke p)) j;
+            same_continued = λ i p k j l. continued_same p k l (or_left x.some_continue y.some_continue i) (or_right x.some_continue y.some_continue i) (either_is (ok.continued p)) j;
+            stands = ok2.stands;
+          } where
+            may_of : (p : ℕ) → a p ≡ true → (h : How) → ok.how p ≡ h → may_leave (ways_of x y) (then_how h (ok2.how p)) ≡ true
+            may_of p i Going d = leave_right x y (ok2.how p) (ok2.may p (in_went p i d))
+            may_of p i Broke d = leave_left x y Broke (ap (may_leave x) (sym d) ∙ ok.may p i)
+            may_of p i Continued d = leave_left x y Continued (ap (may_leave x) (sym d) ∙ ok.may p i)
+            may_of p i Returned d = refl
 
-        second_way : (p : ℕ) → (ok2.how p ≡ ok2.way) ⊎ (may_part here.joint y (ok2.how p) ≡ true) → (ok2.how p ≡ ok2.way) ⊎ (may_part here.joint (ways_of x y) (ok2.how p) ≡ true)
-        second_way p (inl d) = inl d
-        second_way p (inr d) = inr (part_right here.joint x y (ok2.how p) d)
+            second_way : (p : ℕ) → (ok2.how p ≡ ok2.way) ⊎ (may_part here.joint y (ok2.how p) ≡ true) → (ok2.how p ≡ ok2.way) ⊎ (may_part here.joint (ways_of x y) (ok2.how p) ≡ true)
+            second_way p (inl d) = inl d
+            second_way p (inr d) = inr (part_right here.joint x y (ok2.how p) d)
 
-        parted : (h : How) → (h ≡ Going → ⊥) → (p : ℕ) → ok.how p ≡ h → (ok.how p ≡ Going) ⊎ (may_part here.joint x (ok.how p) ≡ true) → may_part here.joint (ways_of x y) h ≡ true
-        parted h no_going p d (inl o) = absurd (no_going (sym d ∙ o))
-        parted h no_going p d (inr o) = part_left here.joint x y h (ap (may_part here.joint x) (sym d) ∙ o)
+            parted : (h : How) → (h ≡ Going → ⊥) → (p : ℕ) → ok.how p ≡ h → (ok.how p ≡ Going) ⊎ (may_part here.joint x (ok.how p) ≡ true) → may_part here.joint (ways_of x y) h ≡ true
+            parted h no_going p d (inl o) = absurd (no_going (sym d ∙ o))
+            parted h no_going p d (inr o) = part_left here.joint x y h (ap (may_part here.joint x) (sym d) ∙ o)
 
-        way_of : (p : ℕ) → a p ≡ true → (h : How) → ok.how p ≡ h → (ok.how p ≡ Going) ⊎ (may_part here.joint x (ok.how p) ≡ true) → (then_how h (ok2.how p) ≡ ok2.way) ⊎ (may_part here.joint (ways_of x y) (then_how h (ok2.how p)) ≡ true)
-        way_of p i Going d o = second_way p (ok2.one_way p (in_went p i d))
-        way_of p i Broke d o = inr (parted Broke (λ c. true≢false (sym (ap is_going c))) p d o)
-        way_of p i Continued d o = inr (parted Continued (λ c. true≢false (sym (ap is_going c))) p d o)
-        way_of p i Returned d o = inr (parted Returned (λ c. true≢false (sym (ap is_going c))) p d o)
+            way_of : (p : ℕ) → a p ≡ true → (h : How) → ok.how p ≡ h → (ok.how p ≡ Going) ⊎ (may_part here.joint x (ok.how p) ≡ true) → (then_how h (ok2.how p) ≡ ok2.way) ⊎ (may_part here.joint (ways_of x y) (then_how h (ok2.how p)) ≡ true)
+            way_of p i Going d o = second_way p (ok2.one_way p (in_went p i d))
+            way_of p i Broke d o = inr (parted Broke (λ c. true≢false (sym (ap is_going c))) p d o)
+            way_of p i Continued d o = inr (parted Continued (λ c. true≢false (sym (ap is_going c))) p d o)
+            way_of p i Returned d o = inr (parted Returned (λ c. true≢false (sym (ap is_going c))) p d o)
 
-        return_of : here.joint ≡ true → here.top ≡ false → (p : ℕ) → a p ≡ true → (h : How) → ok.how p ≡ h → is_returned (then_how h (ok2.how p)) ≡ false
-        return_of i d p j Going o = ok2.no_return i d p (in_went p j o)
-        return_of i d p j Broke o = refl
-        return_of i d p j Continued o = refl
-        return_of i d p j Returned o = sym (ap is_returned o) ∙ ok.no_return i d p j
+            return_of : here.joint ≡ true → here.top ≡ false → (p : ℕ) → a p ≡ true → (h : How) → ok.how p ≡ h → is_returned (then_how h (ok2.how p)) ≡ false
+            return_of i d p j Going o = ok2.no_return i d p (in_went p j o)
+            return_of i d p j Broke o = refl
+            return_of i d p j Continued o = refl
+            return_of i d p j Returned o = sym (ap is_returned o) ∙ ok.no_return i d p j
 
-        never : (p : ℕ) (h : How) → (h ≡ Going → ⊥) → ok.how p ≡ h → may_part here.joint x h ≡ false → a p ≡ true → ⊥
-        never p h no_going d o i = go2 (goes_or_parts e p i) where
-          go2 : (ok.how p ≡ Going) ⊎ (may_part here.joint x (ok.how p) ≡ true) → ⊥
-          go2 (inl c) = no_going (sym d ∙ c)
-          go2 (inr c) = true≢false (sym c ∙ ap (may_part here.joint x) d ∙ o)
+            never : (p : ℕ) (h : How) → (h ≡ Going → ⊥) → ok.how p ≡ h → may_part here.joint x h ≡ false → a p ≡ true → ⊥
+            never p h no_going d o i = go2 (goes_or_parts e p i) where
+              go2 : (ok.how p ≡ Going) ⊎ (may_part here.joint x (ok.how p) ≡ true) → ⊥
+              go2 (inl c) = no_going (sym d ∙ c)
+              go2 (inr c) = true≢false (sym c ∙ ap (may_part here.joint x) d ∙ o)
 
-        broke_same : (p k : ℕ) → v k ≡ true → x.some_break ≡ false → y.some_break ≡ false → (ok.broke p ≡ true) ⊎ (ok.broke p ≡ false) → (ok.broke p || ok2.broke p) ≡ true → (ok2.after p).uniforms k ≡ ok2.s.uniforms k
-        broke_same p k l i j (inl b) o =
-            absurd (never p Broke (λ c. true≢false (sym (ap is_going c))) (is_broke_true (ok.how p) (and_of (a p) (is_broke (ok.how p)) (sym (ok.broke_is p) ∙ b))) i (and_left (a p) (is_broke (ok.how p)) (sym (ok.broke_is p) ∙ b)))
-        broke_same p k l i j (inr b) o = ok2.same_broke j p k (sym (ap (λ z. z || ok2.broke p) b) ∙ o) (wider k l)
+            broke_same : (p k : ℕ) → v k ≡ true → x.some_break ≡ false → y.some_break ≡ false → (ok.broke p ≡ true) ⊎ (ok.broke p ≡ false) → (ok.broke p || ok2.broke p) ≡ true → (ok2.after p).uniforms k ≡ ok2.s.uniforms k
+            broke_same p k l i j (inl b) o =
+                absurd (never p Broke (λ c. true≢false (sym (ap is_going c))) (is_broke_true (ok.how p) (and_of (a p) (is_broke (ok.how p)) (sym (ok.broke_is p) ∙ b))) i (and_left (a p) (is_broke (ok.how p)) (sym (ok.broke_is p) ∙ b)))
+            broke_same p k l i j (inr b) o = ok2.same_broke j p k (sym (ap (λ z. z || ok2.broke p) b) ∙ o) (wider k l)
 
-        continued_same : (p k : ℕ) → v k ≡ true → x.some_continue ≡ false → y.some_continue ≡ false → (ok.continued p ≡ true) ⊎ (ok.continued p ≡ false) → (ok.continued p || ok2.continued p) ≡ true → (ok2.after p).uniforms k ≡ ok2.s.uniforms k
-        continued_same p k l i j (inl b) o =
-            absurd (never p Continued (λ c. true≢false (sym (ap is_going c))) (is_continued_true (ok.how p) (and_of (a p) (is_continued (ok.how p)) (sym (ok.continued_is p) ∙ b))) i (and_left (a p) (is_continued (ok.how p)) (sym (ok.continued_is p) ∙ b)))
-        continued_same p k l i j (inr b) o = ok2.same_continued j p k (sym (ap (λ z. z || ok2.continued p) b) ∙ o) (wider k l)
+            continued_same : (p k : ℕ) → v k ≡ true → x.some_continue ≡ false → y.some_continue ≡ false → (ok.continued p ≡ true) ⊎ (ok.continued p ≡ false) → (ok.continued p || ok2.continued p) ≡ true → (ok2.after p).uniforms k ≡ ok2.s.uniforms k
+            continued_same p k l i j (inl b) o =
+                absurd (never p Continued (λ c. true≢false (sym (ap is_going c)))
+                (is_continued_true (ok.how p) (and_of (a p) (is_continued (ok.how p)) (sym (ok.continued_is p) ∙ b))) i
+                (and_left (a p) (is_continued (ok.how p)) (sym (ok.continued_is p) ∙ b)))
+            continued_same p k l i j (inr b) o = ok2.same_continued j p k (sym (ap (λ z. z || ok2.continued p) b) ∙ o) (wider k l)
     both_at false e = record {
       s = ok.s;
       went = ok.went;

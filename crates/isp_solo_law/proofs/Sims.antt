@@ -77,7 +77,19 @@ module _ (w : World) (v : Scope) where
   sim_same {A} {B} a R f own own2 e x = record { go = λ s σ st sa ends. moved s σ (x.go s σ st sa (λ p. subst (EndsIf (w.last p) (a p)) (e p (σ p)) (ends p))) } where
     moved : (s : State) (σ : ℕ → Alone) → Agrees w a R (λ p. own p (σ p)) σ (f s) s.uniforms → Agrees w a R (λ p. own2 p (σ p)) σ (f s) s.uniforms
     moved s σ ok =
-        record { x = ok.x; s = ok.s; y = ok.y; after = ok.after; is = ok.is; alone = λ p. subst (λ r. AnswersAlone (a p) r (σ p) (ok.y p) (ok.after p)) (sym (e p (σ p))) (ok.alone p); value = ok.value; uniforms = ok.uniforms; own_uniforms = ok.own_uniforms; stands = ok.stands }
+        record {
+          x = ok.x;
+          s = ok.s;
+          y = ok.y;
+          after = ok.after;
+          is = ok.is;
+          alone = λ p. subst
+              (λ r. AnswersAlone (a p) r (σ p) (ok.y p) (ok.after p)) (sym (e p (σ p))) (ok.alone p);
+          value = ok.value;
+          uniforms = ok.uniforms;
+          own_uniforms = ok.own_uniforms;
+          stands = ok.stands;
+        }
 
   -- what stands for more stands for less
   pub sim_as : {A B : Type 0} (a : Mask) (R Q : A → (ℕ → B) → Type 0) (f : State → Val A) (own : ℕ → Alone → Answer B) → ((x : A) (y : ℕ → B) → R x y → Q x y) → Sim w v a R f own → Sim w v a Q f own
@@ -97,7 +109,9 @@ module _ (w : World) (v : Scope) where
     join : (s : State) (σ : ℕ → Alone) → Same v a s.uniforms σ → ((p : ℕ) → EndsIf (w.last p) (a p) (and_then (own p (σ p)) (own_go p))) → Agrees w a R (λ p. own p (σ p)) σ (f s) s.uniforms
         → Agrees w a Q (λ p. and_then (own p (σ p)) (own_go p)) σ (bind (f s) go) s.uniforms
     join s σ sa ends ok =
-        let ok2 = (next ok.x ok.y ok.value).go ok.s ok.after ok.stands (same_on a a s.uniforms ok.s.uniforms σ ok.after (λ p t. t) ok.uniforms ok.own_uniforms sa) (λ p. next_ends (w.last p) (a p) (own p (σ p)) (own_go p) (σ p) (ok.after p) (ok.y p) (ok.alone p) (ends p)) in
+        let ok2 = (next ok.x ok.y ok.value).go ok.s ok.after ok.stands
+        (same_on a a s.uniforms ok.s.uniforms σ ok.after (λ p t. t) ok.uniforms ok.own_uniforms sa)
+        (λ p. next_ends (w.last p) (a p) (own p (σ p)) (own_go p) (σ p) (ok.after p) (ok.y p) (ok.alone p) (ends p)) in
         record {
           x = ok2.x;
           s = ok2.s;
@@ -139,7 +153,9 @@ module _ (w : World) (v : Scope) where
     none : any w.gang k ≡ false → (p : ℕ) → spread k nothing p ≡ on k (λ q. 0) p
     none e p = ap (λ t. if t then Some 0 else None) (sym (nobody_in w.gang k inside e p))
 
-    at : (t : Bool) → any w.gang k ≡ t → (s : State) (σ : ℕ → Alone) → Stands w s σ → Same v k s.uniforms σ → ((p : ℕ) → EndsIf (w.last p) (k p) (own p (σ p))) → Agrees w k (Stand w.gang k r) (λ p. own p (σ p)) σ (if_so t (f k) (Gives nothing) s) s.uniforms
+    at : (t : Bool) → any w.gang k ≡ t → (s : State) (σ : ℕ → Alone) → Stands w s σ → Same v k s.uniforms σ
+        → ((p : ℕ) → EndsIf (w.last p) (k p) (own p (σ p)))
+        → Agrees w k (Stand w.gang k r) (λ p. own p (σ p)) σ (if_so t (f k) (Gives nothing) s) s.uniforms
     at true e s σ st sa ends = (x (record { inside = inside; some = e })).go s σ st sa ends
     at false e s σ st sa ends = record {
       x = nothing;

@@ -42,13 +42,16 @@ module _ (w : World) where
 
   -- ---- branches
 
-  pub sides : (r : Rate) (c : Control) (o : Around) (v v1 v2 : Scope) (n : ℕ) (x y : Ways) (a : Mask) (first second : Mask → State → Res) (own own2 : ℕ → Alone → End) → ((k : ℕ) → v k ≡ true → k < n) → ((k : ℕ) → closed_in c k ≡ true → k < n) → AreSome w.gang a
+  pub sides : (r : Rate) (c : Control) (o : Around) (v v1 v2 : Scope) (n : ℕ) (x y : Ways) (a : Mask) (first second : Mask → State → Res)
+      (own own2 : ℕ → Alone → End) → ((k : ℕ) → v k ≡ true → k < n) → ((k : ℕ) → closed_in c k ≡ true → k < n) → AreSome w.gang a
       → ((k : ℕ) → v k ≡ true → v1 k ≡ true) → ((k : ℕ) → v k ≡ true → v2 k ≡ true)
       → ((k : Mask) → AreSome w.gang k → StmtSim w (here_of (branch r n c) o) v v1 x k (first k) own) → ((k : Mask) → AreSome w.gang k → StmtSim w (here_of (branch r n c) o) v v2 y k (second k) own2)
       → (m : Payload) (val : ℕ → ℕ) → Stand w.gang a r m val → StmtSim w (here_of c o) v v (by_rate r (parted_ways x y) (ways_of x y)) a (branches w.gang a first second m) (λ p s. choose (is_true (val p)) (own p) (own2 p) s)
   sides Varying c o v v1 v2 n x y a first second own own2 below before some wider1 wider2 sim sim2 m val h = record {
     go = λ s σ st sa top ends.
-        varying_sides w (here_of c o) (closed_in (parted n c)) v v1 v2 x y a some (λ k i. or_first (nat_lt k n) (nat_lt k c.turned) (of_lt k n (below k i))) (λ k i. or_first (nat_lt k n) (nat_lt k c.turned) (of_lt k n (before k i))) first second own own2 sim sim2 Varying m val h s σ st sa ends;
+        varying_sides w (here_of c o) (closed_in (parted n c)) v v1 v2 x y a some
+        (λ k i. or_first (nat_lt k n) (nat_lt k c.turned) (of_lt k n (below k i)))
+        (λ k i. or_first (nat_lt k n) (nat_lt k c.turned) (of_lt k n (before k i))) first second own own2 sim sim2 Varying m val h s σ st sa ends;
   }
   sides Uniform c o v v1 v2 n x y a first second own own2 below before some wider1 wider2 sim sim2 (One z) val h =
       uniform_sides w (here_of c o) v a v1 v2 x y (first a) (second a) own own2 some wider1 wider2 (sim a some) (sim2 a some) z val h
@@ -74,7 +77,13 @@ module _ (w : World) where
   one_side Uniform x = ways_is x
 
   pub two_sides : (r : Rate) (x y : Ways) → by_rate r (parted_ways x y) (ways_of x y)
-      ≡ record { breaks = x.breaks || y.breaks; continues = x.continues || y.continues; some_break = by_rate r (x.breaks || y.breaks) (x.some_break || y.some_break); some_continue = by_rate r (x.continues || y.continues) (x.some_continue || y.some_continue) }
+      ≡ record {
+        breaks = x.breaks || y.breaks;
+        continues = x.continues || y.continues;
+        some_break = by_rate r (x.breaks || y.breaks)
+            (x.some_break || y.some_break);
+        some_continue = by_rate r (x.continues || y.continues) (x.some_continue || y.some_continue);
+      }
   two_sides Varying x y = refl
   two_sides Uniform x y = refl
 

@@ -29,7 +29,9 @@ module _ (w : World) (here : Here) (v : Scope) (a : Mask) where
     join : (s : State) (σ : ℕ → Alone) → Same v a s.uniforms σ → (here.top ≡ true → HasAll w a) → ((p : ℕ) → LeavesIf (w.last p) (a p) (with_answer (own p (σ p)) (own_go p))) → Agrees w a R (λ p. own p (σ p)) σ (f s) s.uniforms
         → Leaves w here v v1 z a (λ p. with_answer (own p (σ p)) (own_go p)) σ (with_value (f s) go) s.uniforms
     join s σ sa top ends ok =
-        let ok2 = (next ok.x ok.y ok.value).go ok.s ok.after ok.stands (same_on w v a a s.uniforms ok.s.uniforms σ ok.after (λ p t. t) ok.uniforms ok.own_uniforms sa) top (λ p. with_next (w.last p) (a p) (own p (σ p)) (own_go p) (σ p) (ok.after p) (ok.y p) (ok.alone p) (ends p)) in
+        let ok2 = (next ok.x ok.y ok.value).go ok.s ok.after ok.stands
+        (same_on w v a a s.uniforms ok.s.uniforms σ ok.after (λ p t. t) ok.uniforms ok.own_uniforms sa) top
+        (λ p. with_next (w.last p) (a p) (own p (σ p)) (own_go p) (σ p) (ok.after p) (ok.y p) (ok.alone p) (ends p)) in
         record {
           s = ok2.s;
           went = ok2.went;
@@ -222,11 +224,63 @@ module _ (w : World) (here : Here) (v : Scope) (a : Mask) where
   pub break_sim : StmtSim w here v v (record { breaks = true; continues = false; some_break = false; some_continue = false }) a (jumped Break a) (λ p s. Does s Broke)
   break_sim = record {
     go = λ s σ st sa top ends.
-        record { s = s; went = nobody; broke = a; continued = nobody; returned = nobody; after = σ; how = λ p. Broke; way = Broke; is = refl; alone = λ p. jump_alone (a p) (σ p) Broke; went_is = λ p. and_false (a p); broke_is = λ p. and_true (a p); continued_is = λ p. and_false (a p); returned_is = λ p. and_false (a p); may = λ p i. refl; one_way = λ p i. inl refl; no_return = λ i d p j. refl; quiet = λ k i. refl; own_quiet = λ p k i. refl; same = λ p k i j. absurd (true≢false (sym i)); same_broke = λ i. sa; same_continued = λ i p k j l. absurd (true≢false (sym j)); stands = st };
+        record {
+          s = s;
+          went = nobody;
+          broke = a;
+          continued = nobody;
+          returned = nobody;
+          after = σ;
+          how = λ p. Broke;
+          way = Broke;
+          is = refl;
+          alone =
+              λ p. jump_alone (a p) (σ p) Broke;
+          went_is = λ p. and_false (a p);
+          broke_is = λ p. and_true (a p);
+          continued_is = λ p. and_false (a p);
+          returned_is = λ p. and_false (a p);
+          may = λ p i. refl;
+          one_way = λ p i. inl refl;
+          no_return = λ i d p j. refl;
+          quiet = λ k i. refl;
+          own_quiet = λ p k i. refl;
+          same = λ p k i j. absurd (true≢false (sym i));
+          same_broke = λ i. sa;
+          same_continued = λ i p k j l. absurd
+              (true≢false (sym j));
+          stands = st;
+        };
   }
 
   pub continue_sim : StmtSim w here v v (record { breaks = false; continues = true; some_break = false; some_continue = false }) a (jumped Continue a) (λ p s. Does s Continued)
   continue_sim = record {
     go = λ s σ st sa top ends.
-        record { s = s; went = nobody; broke = nobody; continued = a; returned = nobody; after = σ; how = λ p. Continued; way = Continued; is = refl; alone = λ p. jump_alone (a p) (σ p) Continued; went_is = λ p. and_false (a p); broke_is = λ p. and_false (a p); continued_is = λ p. and_true (a p); returned_is = λ p. and_false (a p); may = λ p i. refl; one_way = λ p i. inl refl; no_return = λ i d p j. refl; quiet = λ k i. refl; own_quiet = λ p k i. refl; same = λ p k i j. absurd (true≢false (sym i)); same_broke = λ i p k j l. absurd (true≢false (sym j)); same_continued = λ i. sa; stands = st };
+        record {
+          s = s;
+          went = nobody;
+          broke = nobody;
+          continued = a;
+          returned = nobody;
+          after = σ;
+          how = λ p. Continued;
+          way = Continued;
+          is = refl;
+          alone = λ p. jump_alone (a p) (σ p) Continued;
+          went_is = λ p. and_false (a p);
+          broke_is = λ p. and_false (a p);
+          continued_is = λ p.
+              and_true (a p);
+          returned_is = λ p. and_false (a p);
+          may = λ p i. refl;
+          one_way = λ p i. inl refl;
+          no_return = λ i d p j. refl;
+          quiet = λ k
+              i. refl;
+          own_quiet = λ p k i. refl;
+          same = λ p k i j. absurd (true≢false (sym i));
+          same_broke = λ i p k j l. absurd (true≢false (sym j));
+          same_continued = λ i. sa;
+          stands = st;
+        };
   }

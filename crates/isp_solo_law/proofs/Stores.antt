@@ -280,7 +280,9 @@ module _ (w : World) (touch : TouchNothing w.gang w.last) (closed : ℕ → Bool
       there : (k ≡ b.number → ⊥) → put f b.number (own_stored (spread a (mapped (element t) i)) (spread a m) (f b.number)) k e p ≡ (if hit (a p) b.number (element t (y p)) k e then z p else g k e)
       there d =
           let other : nat_eq k b.number ≡ false = grind (arith, d, nat_tests) in
-          ap (λ h. h e p) (put_there f b.number k (own_stored (spread a (mapped (element t) i)) (spread a m) (f b.number)) d) ∙ was k ∙ off_at (a p) (nat_eq e (element t (y p))) (z p) (g k e) ∙ ap (λ u. if a p && (u && nat_eq e (element t (y p))) then z p else g k e) (sym other)
+          ap (λ h. h e p) (put_there f b.number k (own_stored (spread a (mapped (element t) i)) (spread a m) (f b.number)) d) ∙ was k
+          ∙ off_at (a p) (nat_eq e (element t (y p))) (z p) (g k e)
+          ∙ ap (λ u. if a p && (u && nat_eq e (element t (y p))) then z p else g k e) (sym other)
 
   -- ---- a declared array of which each instance has its own
 

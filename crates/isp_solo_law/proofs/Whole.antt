@@ -58,7 +58,8 @@ bodies_agree = record {
   statement = λ program entry w calls own vars most control around v n x a wide touch agree opens asked some.
       stmt_sim w touch program.functions (IsCalled program.functions entry) calls own agree vars opens most program.gang wide x control around v n asked a some;
   body = λ program entry w calls own vars most control around v n b a wide touch agree opens asked some.
-      block_sim w touch program.functions (IsCalled program.functions entry) calls own agree vars opens most program.gang wide b control around v n asked.fine asked.rates asked.alone asked.known asked.called asked.stood asked.early asked.quiet a some;
+      block_sim w touch program.functions (IsCalled program.functions entry) calls own agree vars opens most program.gang wide b control around v n
+      asked.fine asked.rates asked.alone asked.known asked.called asked.stood asked.early asked.quiet a some;
 }
 
 pub every_call_agrees : EveryCallAgrees

@@ -12,9 +12,11 @@ use Rattle.isp_base.specs.declared.operators.BinOp.{BinOp}
 use Rattle.isp_base.specs.declared.types.Elem.{Elem}
 use Rattle.isp_base.specs.declared.trap.TrapKind.TheVariants.{Divide, Index, Assert, Depth}
 use Rattle.isp_typed.specs.declared.variable.ArrayVariable.{ArrayVariable}
-use Rattle.isp_typed.specs.Typed.{TExpr, t_constant, t_program_index, t_place, t_convert, t_cast, t_unary, t_binary, t_compare, t_logic, t_choose, t_call, t_library, t_packed_store, t_packed_load, TPlace, t_variable, t_element, TArgument, t_by_value, t_by_name, TCall, t_called, TArguments, t_no_arguments, t_argument_then, TExprs, t_no_exprs, t_expr_then, place_span, elem_of}
+use Rattle.isp_typed.specs.Typed.{TExpr, t_constant, t_program_index, t_place, t_convert, t_cast, t_unary, t_binary, t_compare, t_logic, t_choose, t_call, t_library, t_packed_store, t_packed_load, TPlace, t_variable}
+use Rattle.isp_typed.specs.Typed.{t_element, TArgument, t_by_value, t_by_name, TCall, t_called, TArguments, t_no_arguments, t_argument_then, TExprs, t_no_exprs, t_expr_then, place_span, elem_of}
 use Rattle.isp_typed.specs.Typed.{TItem, t_plain, t_with_value, t_with_size, TSimple, t_value, t_run, t_assign, t_update, t_step, TFirst, t_first_declare, t_first_simple, TRange, t_exprs}
-use Rattle.isp_typed.specs.Typed.{TStmt, t_block, t_declare, t_simple, t_if, t_if_else, t_while, t_do, t_for, t_foreach, t_foreach_active, t_foreach_unique, t_unmasked, t_jump, t_return, t_print, t_assert, TBlock, t_braces, TStmts, t_no_stmts, t_stmt_then, TFunction, Program}
+use Rattle.isp_typed.specs.Typed.{TStmt, t_block, t_declare, t_simple, t_if, t_if_else, t_while, t_do, t_for, t_foreach, t_foreach_active, t_foreach_unique, t_unmasked, t_jump}
+use Rattle.isp_typed.specs.Typed.{t_return, t_print, t_assert, TBlock, t_braces, TStmts, t_no_stmts, t_stmt_then, TFunction, Program}
 use Rattle.isp_meaning.specs.State.{Frame, extent}
 use Rattle.isp_meaning.specs.Payloads.{is_true, is_false, converted}
 use Rattle.isp_meaning.specs.Expressions.{Passed, needs}
@@ -33,7 +35,8 @@ use Rattle.isp_solo_meaning.specs.Runs.{fresh}
 use Rattle.isp_solo_meaning.specs.Longer.{Within, Later, Names}
 use Rattle.isp_solo_meaning.specs.Laws.{MoreTurnsAlone, TrapsNameTheInstance}
 use Rattle.isp_solo_meaning.proofs.Framed.{left_at}
-use Rattle.isp_solo_meaning.proofs.Beside.{stays, within_then, LaterEnd, NamesEnd, Beside, BesideEnd, beside_has, beside_changed, beside_trap, beside_unless, beside_choose, beside_then, beside_does, beside_cut, beside_from, beside_either, beside_with, beside_by, beside_on, beside_always}
+use Rattle.isp_solo_meaning.proofs.Beside.{stays, within_then, LaterEnd, NamesEnd, Beside, BesideEnd, beside_has, beside_changed, beside_trap, beside_unless, beside_choose, beside_then}
+use Rattle.isp_solo_meaning.proofs.Beside.{beside_does, beside_cut, beside_from, beside_either, beside_with, beside_by, beside_on, beside_always}
 
 -- ---- what changes the state
 
@@ -292,7 +295,9 @@ module _ (m : ℕ → ℕ → ℕ) (p : ℕ) where
     called_beside : (calls calls2 : OwnCalls) → ((f : ℕ) (place : Span) (xs : List Passed) (caller : Frame) → Beside p (calls f place xs caller) (calls2 f place xs caller))
         → (o : Option TFunction) (xs : List Passed) (caller : Frame) → Beside p (called program most m p calls o xs caller) (called program most2 m p calls2 o xs caller)
     called_beside calls calls2 c None xs caller = record { grows = λ s. stays s; later = λ s. stays s; names = λ s. tt }
-    called_beside calls calls2 c (Some f) xs caller = ended_beside _ _ (beside_from p _ _ (begun f xs) (λ s. record { read = λ b e h. h; wrote = λ b e h. h }) (block_beside (frame_of f xs caller) calls calls2 c (gang_width program.gang) most most2 few f.body))
+    called_beside calls calls2 c (Some f) xs caller = ended_beside _ _
+        (beside_from p _ _ (begun f xs) (λ s. record { read = λ b e h. h; wrote = λ b e h. h })
+        (block_beside (frame_of f xs caller) calls calls2 c (gang_width program.gang) most most2 few f.body))
 
     pub calls_beside : (left f : ℕ) (place : Span) (xs : List Passed) (caller : Frame) → Beside p (own_calls program most m p left f place xs caller) (own_calls program most2 m p left f place xs caller)
     calls_beside zero f place xs caller = beside_trap p Depth place

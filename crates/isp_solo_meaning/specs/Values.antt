@@ -15,7 +15,8 @@ use Rattle.isp_base.specs.declared.trap.TrapKind.TheVariants.{Divide, Index}
 use Rattle.isp_typed.specs.declared.library.Library.{Library}
 use Rattle.isp_typed.specs.declared.library.Library.TheVariants as library
 use Rattle.isp_typed.specs.declared.variable.ArrayVariable.{ArrayVariable}
-use Rattle.isp_typed.specs.Typed.{TExpr, t_constant, t_program_index, t_place, t_convert, t_cast, t_unary, t_binary, t_compare, t_logic, t_choose, t_call, t_library, t_packed_store, t_packed_load, TPlace, t_variable, t_element, TArgument, t_by_value, t_by_name, TCall, t_called, TArguments, t_no_arguments, t_argument_then, TExprs, t_no_exprs, t_expr_then, elem_of, place_span}
+use Rattle.isp_typed.specs.Typed.{TExpr, t_constant, t_program_index, t_place, t_convert, t_cast, t_unary, t_binary, t_compare, t_logic, t_choose, t_call, t_library, t_packed_store, t_packed_load, TPlace, t_variable}
+use Rattle.isp_typed.specs.Typed.{t_element, TArgument, t_by_value, t_by_name, TCall, t_called, TArguments, t_no_arguments, t_argument_then, TExprs, t_no_exprs, t_expr_then, elem_of, place_span}
 use Rattle.isp_meaning.specs.State.{Frame, extent}
 use Rattle.isp_meaning.specs.Payloads.{One, is_true, converted}
 use Rattle.isp_meaning.specs.Expressions.{Passed, Values, Store, needs}

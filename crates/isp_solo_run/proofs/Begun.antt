@@ -91,10 +91,12 @@ pub record Opening (vs : List Variable) (ps : List Passed) (start sizes names : 
 pub opening_begins : (vs : List Variable) (ps : List Passed) (start : List ℕ) → Opening vs ps start start [] 0
 opening_begins vs ps start = record { sized = sym (append-nil start); named = listed_none (λ x. x) 0 (named_at vs ps (length start)) }
 
-pub opening_next : (vs : List Variable) (ps : List Passed) (start sizes more names : List ℕ) (x i : ℕ) → Opening vs ps start sizes names i → x ≡ store_or (slice_get ps i) (length sizes) → more ≡ sizes ++ opened_by (slice_get vs i) → Opening vs ps start more (names ++ x ∷ []) (i + 1)
+pub opening_next : (vs : List Variable) (ps : List Passed) (start sizes more names : List ℕ) (x i : ℕ) → Opening vs ps start sizes names i
+    → x ≡ store_or (slice_get ps i) (length sizes) → more ≡ sizes ++ opened_by (slice_get vs i) → Opening vs ps start more (names ++ x ∷ []) (i + 1)
 opening_next vs ps start sizes more names x i o is e =
     record {
-      sized = e ∙ ap (λ xs. xs ++ opened_by (slice_get vs i)) o.sized ∙ append_assoc start (shared_sizes (take i vs)) (opened_by (slice_get vs i)) ∙ ap (λ xs. start ++ xs) (sym (shared_next vs i)) ∙ (let e : suc i ≡ i + 1 = omega arith in ap (λ k. start ++ shared_sizes (take k vs)) e);
+      sized = e ∙ ap (λ xs. xs ++ opened_by (slice_get vs i)) o.sized ∙ append_assoc start (shared_sizes (take i vs)) (opened_by (slice_get vs i))
+          ∙ ap (λ xs. start ++ xs) (sym (shared_next vs i)) ∙ (let e : suc i ≡ i + 1 = omega arith in ap (λ k. start ++ shared_sizes (take k vs)) e);
       named = listed_more (λ x. x) 0 (named_at vs ps (length start)) names x i o.named (is ∙ ap (store_or (slice_get ps i)) (ap length o.sized ∙ length-append start (shared_sizes (take i vs))));
     }
 

@@ -26,6 +26,8 @@ module _ (old : Single) where
   own_changed v f k e is =
       record { state = ap (λ u. record (state_seen old) { own = u }) e ∙ sym is; frame = refl; same = refl }
 
-  pub arrays_changed : (a : Arrays) (f : Alone → Alone) (w : ℕ → ℕ → Option ℕ) → wrote_seen a.stores.items ≡ w → read_seen a.stores.items ≡ (state_seen old).read → f (state_seen old) ≡ record (state_seen old) { wrote = w } → Changes old (record old { arrays = a }) f
+  pub arrays_changed : (a : Arrays) (f : Alone → Alone) (w : ℕ → ℕ → Option ℕ) → wrote_seen a.stores.items ≡ w
+      → read_seen a.stores.items ≡ (state_seen old).read → f (state_seen old) ≡ record (state_seen old) { wrote = w }
+      → Changes old (record old { arrays = a }) f
   arrays_changed a f w ew er is =
       record { state = ap₂ (λ u k. record (state_seen old) { wrote = u; read = k }) ew er ∙ sym is; frame = refl; same = refl }

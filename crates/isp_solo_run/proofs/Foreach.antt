@@ -14,7 +14,8 @@ use Rattle.isp_solo_meaning.specs.Answers.{Answer, Has, Bad, Long, End, Does, Di
 use Rattle.isp_solo_meaning.specs.Does.{bounds}
 use Rattle.isp_solo_meaning.specs.Loops.{at_indices}
 use Rattle.isp_gang_values.specs.Left.{range_seen, restarted, runs_left, advanced, indices_now, members_now, is_ready}
-use Rattle.isp_solo_run.specs.Tasks.{Store, Goes, Changes, Tells, go, given, ran, leaves, finds, bounds_on, begins_on, bound_by, found_range, range_then, end_then, runs_in, round_on, does_task, does_both, store_seen, state_seen, bound_in, calls_in, value_at, run_in, rest}
+use Rattle.isp_solo_run.specs.Tasks.{Store, Goes, Changes, Tells, go, given, ran, leaves, finds, bounds_on, begins_on, bound_by, found_range, range_then, end_then, runs_in}
+use Rattle.isp_solo_run.specs.Tasks.{round_on, does_task, does_both, store_seen, state_seen, bound_in, calls_in, value_at, run_in, rest}
 use Rattle.isp_solo_run.specs.declared.rounds.Bounds.{Bounds}
 use Rattle.isp_gang_values.specs.declared.ranges.Range.{Range}
 use Rattle.isp_solo_run.specs.declared.rounds.Rounds.{Rounds}
@@ -46,7 +47,9 @@ module _ (old : Single) (b : Bounds) where
   end_found r i (Long s) = refl
 
   start_found : (r : Store) (w : Answer ℕ)
-      → ran r (with_answer (and_then w (λ i s1. and_then (value_at old.setting r (expr_of b.range.now.end) s1) (λ j s2. and_then (others r s2) (λ xs s3. Has (found_range b i j ∷ xs) s3)))) (bound_by old.setting b.body (map range_seen b.done.items) r.frame r.left))
+      → ran r (with_answer (and_then w (λ i s1. and_then (value_at old.setting r (expr_of b.range.now.end) s1)
+      (λ j s2. and_then (others r s2) (λ xs s3. Has (found_range b i j ∷ xs) s3))))
+      (bound_by old.setting b.body (map range_seen b.done.items) r.frame r.left))
       ≡ go (given r w) (λ q. end_then old.setting b q.value q)
   start_found r (Has i s) = end_found r i (value_at old.setting r (expr_of b.range.now.end) s)
   start_found r (Bad t s) = refl
@@ -58,7 +61,9 @@ module _ (old : Single) (r : Store) where
       ap (λ ys. bounds_on old (ranges_of ys) before body r) none
       ∙ ap (λ ys. begins_on old ys body r) (append-nil before)
 
-  pub bounds_next : (xs : List TypedRange) (y : Bor TypedRange) (zs : Bor (List TypedRange)) (done : Vec Range Global) (body : Bor TypedStmt) (b : Box Bounds Global) (x : Bor TypedExpr) → xs ≡ y.now ∷ zs.now → b.value ≡ record { range = y; rest = zs; done = done; body = body } → x.now ≡ y.now.start
+  pub bounds_next : (xs : List TypedRange) (y : Bor TypedRange) (zs : Bor (List TypedRange)) (done : Vec Range Global) (body : Bor TypedStmt)
+      (b : Box Bounds Global) (x : Bor TypedExpr) → xs ≡ y.now ∷ zs.now → b.value ≡ record { range = y; rest = zs; done = done; body = body }
+      → x.now ≡ y.now.start
       → bounds_on old (ranges_of xs) (map range_seen done.items) body r ≡ does_both old (task.Value x) (task.Start b) r
   bounds_next xs y zs done body b x is held at =
       let d : Bounds = record { range = y; rest = zs; done = done; body = body } in
@@ -83,7 +88,8 @@ module _ (old : Single) (r : Store) where
 
   -- ---- runs
 
-  pub begins_is : (b : Box Rounds Global) (rs : List Range) (v : Vec Range Global) (body : Bor TypedStmt) → v.items ≡ restarted 0 rs → b.value ≡ record { ranges = v; body = body } → begins_on old (map range_seen rs) body r ≡ does_task old (task.Rounds b) r
+  pub begins_is : (b : Box Rounds Global) (rs : List Range) (v : Vec Range Global) (body : Bor TypedStmt) → v.items ≡ restarted 0 rs
+      → b.value ≡ record { ranges = v; body = body } → begins_on old (map range_seen rs) body r ≡ does_task old (task.Rounds b) r
   begins_is b rs v body anew held =
       sym (ap (λ (d : Rounds). round_on old.setting d r) held
       ∙ ap (λ ys. ran r (runs_in old.setting r.frame r.left body (runs_left (gang_width old.setting.program.now.gang) ys) r.state)) anew
@@ -105,7 +111,9 @@ module _ (old : Single) (r : Store) where
       let others = runs_in old.setting r.frame r.left body (runs_left (gang_width old.setting.program.now.gang) (advanced (gang_width old.setting.program.now.gang) rs)) in
       ran r (choose t (λ s. then_always (run_in old.setting r.frame r.left (stmt_of body.now) (at_indices old.setting.instance (indices_now rs) s)) others) others r.state)
 
-  round_is : (b : Box Rounds Global) (t : Bool) → is_ready b.value.ranges.items ≡ true → members_now (gang_width old.setting.program.now.gang) b.value.ranges.items old.setting.instance ≡ t → does_task old (task.Rounds b) r ≡ round_or b.value.body b.value.ranges.items t
+  round_is : (b : Box Rounds Global) (t : Bool) → is_ready b.value.ranges.items ≡ true
+      → members_now (gang_width old.setting.program.now.gang) b.value.ranges.items old.setting.instance ≡ t
+      → does_task old (task.Rounds b) r ≡ round_or b.value.body b.value.ranges.items t
   round_is b t ready on =
       ap (λ ys. ran r (runs_in old.setting r.frame r.left b.value.body ys r.state)) (next_run old.setting.program.now.gang b.value.ranges.items ready)
       ∙ ap (round_or b.value.body b.value.ranges.items) on
@@ -123,7 +131,8 @@ ran_before r (Dies t s) f = refl
 ran_before r (Lasts s) f = refl
 
 -- the instance is in the run: the indices are set, and then comes the body
-pub own_tells : (q : Result (Unit {0}) Stop) (old mid new : Single) (b d : Box Rounds Global) (y : Bor TypedStmt) → is_ready b.value.ranges.items ≡ true → members_now (gang_width old.setting.program.now.gang) b.value.ranges.items old.setting.instance ≡ true
+pub own_tells : (q : Result (Unit {0}) Stop) (old mid new : Single) (b d : Box Rounds Global) (y : Bor TypedStmt)
+    → is_ready b.value.ranges.items ≡ true → members_now (gang_width old.setting.program.now.gang) b.value.ranges.items old.setting.instance ≡ true
     → Changes old mid (at_indices old.setting.instance (indices_now b.value.ranges.items)) → d.value.body ≡ b.value.body → d.value.ranges.items ≡ advanced (gang_width old.setting.program.now.gang) b.value.ranges.items → y ≡ b.value.body
     → Tells q mid new (does_both mid (task.Run y) (task.Rounds d)) → Tells q old new (does_task old (task.Rounds b))
 own_tells q old mid new b d y ready on c eb er ey h =
@@ -132,7 +141,8 @@ own_tells q old mid new b d y ready on c eb er ey h =
     ∙ changed_store old mid (at_indices old.setting.instance (indices_now b.value.ranges.items)) (λ fr l s. begun old b.value.body (advanced (gang_width old.setting.program.now.gang) b.value.ranges.items) fr l s) c
     ∙ ap₂ (λ (z : Bor TypedStmt) (ys : List Range). begun old z ys (store_seen mid).frame mid.left (state_seen mid)) (sym eb) (sym er)
     ∙ ap (λ (e : Single). begun e d.value.body d.value.ranges.items (store_seen mid).frame mid.left (state_seen mid)) (sym c.same)
-    ∙ ran_before (store_seen mid) (run_in mid.setting (store_seen mid).frame mid.left (stmt_of d.value.body.now) (state_seen mid)) (λ fr l. runs_in mid.setting fr l d.value.body (runs_left (gang_width mid.setting.program.now.gang) d.value.ranges.items))
+    ∙ ran_before (store_seen mid) (run_in mid.setting (store_seen mid).frame mid.left (stmt_of d.value.body.now) (state_seen mid))
+    (λ fr l. runs_in mid.setting fr l d.value.body (runs_left (gang_width mid.setting.program.now.gang) d.value.ranges.items))
     ∙ ap (λ (z : Bor TypedStmt). does_both mid (task.Run z) (task.Rounds d) (store_seen mid)) (eb ∙ sym ey))
     (ap rest c.same) h
   where

@@ -78,7 +78,9 @@ call_node old r c xs ds is none =
 -- the next is a value
 module _ (old : Single) (c : Bor TypedCall) (zs : Bor (List TypedArgument)) (done : Vec rust_passed_type.Passed Global) where
   value_found : (r : Store) (v : Answer ℕ)
-      → given r (and_then (and_then (and_then v (λ i s. Has (Values (One i)) s)) (λ m s1. and_then (arguments (bound_in old.setting) old.setting.instance r.frame (calls_in old.setting r.left) (t_arguments (arguments_of zs.now)) s1) (λ ms s2. Has (m ∷ ms) s2)))
+      → given r (and_then (and_then (and_then v (λ i s. Has (Values (One i)) s))
+      (λ m s1. and_then (arguments (bound_in old.setting) old.setting.instance r.frame (calls_in old.setting r.left)
+      (t_arguments (arguments_of zs.now)) s1) (λ ms s2. Has (m ∷ ms) s2)))
       (λ qs s. calls_in old.setting r.left c.now.function c.now.span (map passed_seen done.items ++ qs) r.frame s))
       ≡ go (given r v) (does_task old (task.Argument c zs done))
   value_found r (Has i s) =
@@ -111,7 +113,8 @@ module _ (old : Single) (r : Store) (f : ℕ) (span : Span) (ps : List Passed) w
       → enters old f span ps r ≡ given r (called (program_of old.setting.program.now) old.setting.turns (bound_in old.setting) old.setting.instance (calls_in old.setting n) (option_map function_of o) ps r.frame r.state)
   found_in n o more is =
       ap (λ k. given r (calls_in old.setting k f span ps r.frame r.state)) more
-      ∙ ap (λ q. given r (called (program_of old.setting.program.now) old.setting.turns (bound_in old.setting) old.setting.instance (calls_in old.setting n) q ps r.frame r.state)) (got old.setting.program.now.functions.items f ∙ ap (option_map function_of) is)
+      ∙ ap (λ q. given r (called (program_of old.setting.program.now) old.setting.turns (bound_in old.setting) old.setting.instance
+      (calls_in old.setting n) q ps r.frame r.state)) (got old.setting.program.now.functions.items f ∙ ap (option_map function_of) is)
 
   pub no_function : (n : ℕ) → r.left ≡ suc n → slice_get old.setting.program.now.functions.items f ≡ None → enters old f span ps r ≡ Cut r.state
   no_function n more none = found_in n None more none
@@ -124,7 +127,10 @@ module _ (old : Single) (r : Store) (f : ℕ) (span : Span) (ps : List Passed) w
 -- what a body came to goes back to the caller
 returned : (e : Single) (caller : Activation) (q : Store) (l : ℕ) (b : Box Activation Global) (before : Alone) (v : End) → b.value ≡ caller → ((s : Alone) → record before { wrote = s.wrote; read = s.read } ≡ with_variables caller s)
     → given (record q { frame = frame_seen caller; left = l }) (ended before v) ≡ go (ran q v) (does_task e (task.Return b l))
-returned e caller q l b before (Does s h) is seen = ap (λ (z : Alone). On (record { frame = frame_seen caller; left = l; state = z; value = s.result; how = Answers.Going })) (seen s) ∙ ap (λ (a : Activation). On (record { frame = frame_seen a; left = l; state = with_variables a s; value = s.result; how = Answers.Going })) (sym is)
+returned e caller q l b before (Does s h) is seen = ap
+    (λ (z : Alone). On (record { frame = frame_seen caller; left = l; state = z; value = s.result; how = Answers.Going })) (seen s)
+    ∙ ap (λ (a : Activation). On (record { frame = frame_seen a; left = l; state = with_variables a s; value = s.result; how = Answers.Going }))
+    (sym is)
 returned e caller q l b before (Dies t s) is seen = refl
 returned e caller q l b before (Lasts s) is seen = refl
 

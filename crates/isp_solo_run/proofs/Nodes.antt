@@ -32,7 +32,8 @@ use Rattle.isp_solo_run.specs.declared.tasks.Task.TheVariants as task
 use Rattle.isp_solo_run.proofs.Steps.{given_then, tells_by}
 
 -- the task of an expression, where its tree is known
-pub seen_by : (q : Result (Unit {0}) Stop) (old new : Single) (x : Bor TypedExpr) (n : TExpr) (g : Store → Goes) → expr_of x.now ≡ n → finds old n (store_seen old) ≡ g (store_seen old) → Tells q old new g → Tells q old new (does_task old (task.Value x))
+pub seen_by : (q : Result (Unit {0}) Stop) (old new : Single) (x : Bor TypedExpr) (n : TExpr) (g : Store → Goes) → expr_of x.now ≡ n
+    → finds old n (store_seen old) ≡ g (store_seen old) → Tells q old new g → Tells q old new (does_task old (task.Value x))
 seen_by q old new x n g is e h = tells_by q old new (does_task old (task.Value x)) g (ap (λ k. finds old k (store_seen old)) is ∙ e) h
 
 -- a value
@@ -53,7 +54,8 @@ module _ (old : Single) (r : Store) where
       given_then r (value_at old.setting r (expr_of y.now) r.state)
       (λ fr l i s. and_then (answer (bound_in old.setting) old.setting.instance fr (calls_in old.setting l) (expr_of z.now) s) (λ j s2. unless (is_zero op t.elem j) Divide sp old.setting.instance s2 (op_bits op t.elem i j)))
 
-  pub compare_node : (y z : Bor TypedExpr) (k : Compare) (from : Elem) (rate : Rate) (sp : Span) → from ≡ elem_of (expr_of y.now) → finds old (t_compare k (expr_of y.now) (expr_of z.now) rate sp) r ≡ does_both old (task.Value y) (task.Right (joining.Compare k from) z) r
+  pub compare_node : (y z : Bor TypedExpr) (k : Compare) (from : Elem) (rate : Rate) (sp : Span) → from ≡ elem_of (expr_of y.now)
+      → finds old (t_compare k (expr_of y.now) (expr_of z.now) rate sp) r ≡ does_both old (task.Value y) (task.Right (joining.Compare k from) z) r
   compare_node y z k from rate sp typed =
       given_then r (value_at old.setting r (expr_of y.now) r.state)
       (λ fr l i s. and_then (answer (bound_in old.setting) old.setting.instance fr (calls_in old.setting l) (expr_of z.now) s) (λ j s2. Has (compare_bits k (elem_of (expr_of y.now)) i j) s2))

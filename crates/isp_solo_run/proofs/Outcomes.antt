@@ -156,6 +156,8 @@ entry_is e c f xs ns ps bi ni pi ec el ef es =
     let p = program_of c.program.now in
     let names = (frame_seen e.here).named in
     ap₂ (λ (d : Setting) (l : ℕ). own_calls (program_of d.program.now) d.turns (bound_seen d.bound.now) d.instance l f no_place ps (frame_seen e.here) (state_seen e)) ec el
-    ∙ ap₂ (λ (fr : Frame) (s : Alone). own_calls p c.turns (bound_seen c.bound.now) c.instance 256 f no_place ps fr s) (ef ∙ ap₂ (λ (s : ℕ → ℕ) (n : ℕ). record (first_frame xs) { named = names; sizes = s; opened = n }) (ap values_of ni ∙ fun_ext (sizes_are (rows xs))) (ap length ni ∙ counted (rows xs))) es
+    ∙ ap₂ (λ (fr : Frame) (s : Alone). own_calls p c.turns (bound_seen c.bound.now) c.instance 256 f no_place ps fr s)
+    (ef ∙ ap₂ (λ (s : ℕ → ℕ) (n : ℕ). record (first_frame xs) { named = names; sizes = s; opened = n })
+    (ap values_of ni ∙ fun_ext (sizes_are (rows xs))) (ap length ni ∙ counted (rows xs))) es
     ∙ ap₂ (λ (rs : List Row) (qs : List Passed). own_calls p c.turns (λ b i. slice_index (row_bits rs b) i) c.instance 256 f no_place qs (record (first_frame xs) { named = names }) fresh) bi pi
     ∙ named_apart p c.turns f c.instance xs (bound xs) names

@@ -24,7 +24,9 @@ use Rattle.isp_solo_meaning.specs.Steps.{items, simple}
 use Rattle.isp_solo_meaning.specs.Loops.{turned}
 use Rattle.isp_solo_meaning.specs.Does.{goes_on}
 use Rattle.isp_solo_run.specs.Seen.{how_seen}
-use Rattle.isp_solo_run.specs.Tasks.{Store, Goes, Trapped, Cut, go, given, done, ran, goes, leaves, finds, gathers, runs, blocks, runs_all, chooses, branches_on, follows, tests_on, keeps_on, turned_on, turns_on, steps_on, firsts, takes_turn, turns_by_value, turns_with, turn_in, does_task, does_both, store_seen, state_seen, value_at, values_at, bound_in, calls_in, perhaps_in, run_in, all_in, turns_in, tested_in, stepped_in, turned_in, test_in, body_in, step_in, rest, Changes, Tells}
+use Rattle.isp_solo_run.specs.Tasks.{Store, Goes, Trapped, Cut, go, given, done, ran, goes, leaves, finds, gathers, runs, blocks, runs_all, chooses, branches_on, follows, tests_on, keeps_on, turned_on}
+use Rattle.isp_solo_run.specs.Tasks.{turns_on, steps_on, firsts, takes_turn, turns_by_value, turns_with, turn_in, does_task, does_both, store_seen, state_seen, value_at, values_at, bound_in, calls_in}
+use Rattle.isp_solo_run.specs.Tasks.{perhaps_in, run_in, all_in, turns_in, tested_in, stepped_in, turned_in, test_in, body_in, step_in, rest, Changes, Tells}
 use Rattle.isp_solo_run.specs.declared.loops.Turning.{Turning}
 use Rattle.isp_solo_run.specs.declared.state.Single.{Single}
 use Rattle.isp_solo_run.specs.declared.state.How.{How}
@@ -70,11 +72,18 @@ module _ (old : Single) (r : Store) where
 
   pub if_is : (x : TExpr) (b : Branches) → b.otherwise ≡ None → ran r (with_answer (value_at old.setting r x r.state) (λ i s1. choose (is_true i) (run_in old.setting r.frame r.left (stmt_of b.then.now)) (λ s2. Does s2 Going) s1)) ≡ chooses old x b r
   if_is x b none = ran_with r (value_at old.setting r x r.state) (λ fr l i s1. choose (is_true i) (run_in old.setting fr l (stmt_of b.then.now)) (λ s2. Does s2 Going) s1)
-      ∙ subst (λ (o : Option (Bor TypedStmt)). go (finds old x r) (λ q. ran q (choose (is_true q.value) (run_in old.setting q.frame q.left (stmt_of b.then.now)) (λ s2. Does s2 Going) q.state)) ≡ chooses old x (record b { otherwise = o }) r) (sym none) refl
+      ∙ subst (λ (o : Option (Bor TypedStmt)). go (finds old x r)
+      (λ q. ran q (choose (is_true q.value) (run_in old.setting q.frame q.left (stmt_of b.then.now)) (λ s2. Does s2 Going) q.state))
+      ≡ chooses old x (record b { otherwise = o }) r) (sym none) refl
 
-  pub if_else_is : (x : TExpr) (b : Branches) (y : Bor TypedStmt) → b.otherwise ≡ Some y → ran r (with_answer (value_at old.setting r x r.state) (λ i s1. choose (is_true i) (run_in old.setting r.frame r.left (stmt_of b.then.now)) (run_in old.setting r.frame r.left (stmt_of y.now)) s1)) ≡ chooses old x b r
+  pub if_else_is : (x : TExpr) (b : Branches) (y : Bor TypedStmt) → b.otherwise ≡ Some y
+      → ran r (with_answer (value_at old.setting r x r.state)
+      (λ i s1. choose (is_true i) (run_in old.setting r.frame r.left (stmt_of b.then.now)) (run_in old.setting r.frame r.left (stmt_of y.now)) s1))
+      ≡ chooses old x b r
   if_else_is x b y some = ran_with r (value_at old.setting r x r.state) (λ fr l i s1. choose (is_true i) (run_in old.setting fr l (stmt_of b.then.now)) (run_in old.setting fr l (stmt_of y.now)) s1)
-      ∙ subst (λ (o : Option (Bor TypedStmt)). go (finds old x r) (λ q. ran q (choose (is_true q.value) (run_in old.setting q.frame q.left (stmt_of b.then.now)) (run_in old.setting q.frame q.left (stmt_of y.now)) q.state)) ≡ chooses old x (record b { otherwise = o }) r) (sym some) refl
+      ∙ subst (λ (o : Option (Bor TypedStmt)). go (finds old x r)
+      (λ q. ran q (choose (is_true q.value) (run_in old.setting q.frame q.left (stmt_of b.then.now))
+      (run_in old.setting q.frame q.left (stmt_of y.now)) q.state)) ≡ chooses old x (record b { otherwise = o }) r) (sym some) refl
 
   -- ---- return, print, assert
 
@@ -128,7 +137,8 @@ module _ (old : Single) (r : Store) where
   pub step_goes : (t : Turning) (b : Box Turning Global) (x : Bor TypedSimple) → b.value ≡ t → t.step ≡ Some x → steps_on old t r ≡ does_both old (task.Simple x) (task.Test b) r
   step_goes t b x is some =
       ap (λ (o : Option (Bor TypedSimple)). steps_on old (record t { step = o }) r) some
-      ∙ ran_done r (simple (bound_in old.setting) old.setting.instance r.frame (calls_in old.setting r.left) (simple_of x.now) r.state) (λ fr l s1. tested_in old.setting fr l (record t { step = Some x }) (turns_in old.setting fr l (record t { step = Some x }) t.left) s1)
+      ∙ ran_done r (simple (bound_in old.setting) old.setting.instance r.frame (calls_in old.setting r.left) (simple_of x.now) r.state)
+      (λ fr l s1. tested_in old.setting fr l (record t { step = Some x }) (turns_in old.setting fr l (record t { step = Some x }) t.left) s1)
       ∙ ap (λ (o : Option (Bor TypedSimple)). go (does_task old (task.Simple x) r) (tests_on old (record t { step = o }))) (sym some)
       ∙ ap (λ (v : Turning). go (does_task old (task.Simple x) r) (tests_on old v)) (sym is)
 
@@ -136,7 +146,8 @@ module _ (old : Single) (r : Store) where
   no_step t b is none =
       ap (λ (o : Option (Bor TypedSimple)). steps_on old (record t { step = o }) r) none ∙ ap (λ (o : Option (Bor TypedSimple)). tests_on old (record t { step = o }) r) (sym none) ∙ ap (λ (v : Turning). tests_on old v r) (sym is)
 
-  pub first_items : (t : Turning) (b : Box Turning Global) (xs : Bor (List TypedItem)) (ys : List TypedItem) (o : Option TFirst) (sp : Span) → b.value ≡ t → xs.now ≡ ys → o ≡ Some (t_first_declare (items_of ys) sp) → firsts old o t r ≡ does_both old (task.Items xs) (task.Test b) r
+  pub first_items : (t : Turning) (b : Box Turning Global) (xs : Bor (List TypedItem)) (ys : List TypedItem) (o : Option TFirst) (sp : Span)
+      → b.value ≡ t → xs.now ≡ ys → o ≡ Some (t_first_declare (items_of ys) sp) → firsts old o t r ≡ does_both old (task.Items xs) (task.Test b) r
   first_items t b xs ys o sp is same some =
       ap (λ k. firsts old k t r) some
       ∙ ap (λ zs. firsts old (Some (t_first_declare (items_of zs) sp)) t r) (sym same)

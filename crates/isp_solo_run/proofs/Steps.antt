@@ -58,7 +58,8 @@ pub tells_by : (q : Result (Unit {0}) Stop) (old new : Single) (f g : Store → 
 tells_by q old new f g is h = tells_via q old old new f g is refl h
 
 -- one task was pushed, and then something was done before it
-pub then_tells : (q : Result (Unit {0}) Stop) (old mid new : Single) (t : Task) (f : Store → Goes) → mid.tasks.items ≡ old.tasks.items ++ t ∷ [] → mid ≡ record old { tasks = mid.tasks } → Tells q mid new f → Tells q old new (λ r. go (f r) (does_task old t))
+pub then_tells : (q : Result (Unit {0}) Stop) (old mid new : Single) (t : Task) (f : Store → Goes) → mid.tasks.items ≡ old.tasks.items ++ t ∷ []
+    → mid ≡ record old { tasks = mid.tasks } → Tells q mid new f → Tells q old new (λ r. go (f r) (does_task old t))
 then_tells q old mid new t f more same h = by q h
   where
     p : Pushed old mid t
@@ -78,7 +79,8 @@ both_tell q old mid new u t more same h =
     (then_tells q old mid new t (does_task mid u) more same h)
 
 -- the state was changed, and the instance goes on
-pub changed_tells : (q : Result (Unit {0}) Stop) (old mid new : Single) (f : Store → Goes) (change : Alone → Alone) → Changes old mid change → f (store_seen old) ≡ done (store_seen old) (Has tt (change (state_seen old))) → Tells q mid new goes → Tells q old new f
+pub changed_tells : (q : Result (Unit {0}) Stop) (old mid new : Single) (f : Store → Goes) (change : Alone → Alone) → Changes old mid change
+    → f (store_seen old) ≡ done (store_seen old) (Has tt (change (state_seen old))) → Tells q mid new goes → Tells q old new f
 changed_tells q old mid new f change c is h =
     tells_via q old mid new f goes
     (is

@@ -77,7 +77,14 @@ module _ (run : ℕ → Answer ℕ) (b e : ℕ) where
   met n true is touch (One q false) k =
       clash_of (suc n) n q (omega arith) (let h = k.below in omega (arith, h)) (λ i. (let h = k.below in omega (arith, h, i))) is k.touches
   met n false is touch (One q false) k =
-      record { some = n; below = omega arith; touches = touch; none = λ p h. one_more n p h (λ l. ⊎_elim (λ (i : p ≡ q). subst (λ z. stores z ≡ false) (sym i) k.stores_is) (λ ne. (k.others p l ne).stored) (cases_eq p q)) (λ i. subst (λ z. stores z ≡ false) (sym i) is) }
+      record {
+        some = n;
+        below = omega arith;
+        touches = touch;
+        none = λ p h. one_more n p h
+            (λ l. ⊎_elim (λ (i : p ≡ q). subst (λ z. stores z ≡ false) (sym i) k.stores_is) (λ ne. (k.others p l ne).stored) (cases_eq p q))
+            (λ i. subst (λ z. stores z ≡ false) (sym i) is);
+      }
   met n w is touch (Several true) k = wider n k
   met n true is touch (Several false) k =
       clash_of (suc n) n k.some (omega arith) (let h = k.below in omega (arith, h)) (λ i. (let h = k.below in omega (arith, h, i))) is k.touches

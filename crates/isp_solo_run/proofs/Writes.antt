@@ -21,7 +21,8 @@ use Rattle.isp_solo_meaning.specs.Places.{Spot, AnElement, outside, kept}
 use Rattle.isp_solo_meaning.specs.Values.{found, held, spot}
 use Rattle.isp_solo_meaning.specs.Steps.{item, items, update}
 use Rattle.isp_solo_run.specs.Seen.{frame_seen, spot_seen}
-use Rattle.isp_solo_run.specs.Tasks.{Store, Goes, Trapped, go, given, done, gives, goes, finds, loads, writes, targets, updates, declares, write, does_task, does_both, rest, store_seen, state_seen, value_at, bound_in, calls_in, Tells, Finds, HasFound, Changes}
+use Rattle.isp_solo_run.specs.Tasks.{Store, Goes, Trapped, go, given, done, gives, goes, finds, loads, writes, targets, updates, declares, write, does_task, does_both}
+use Rattle.isp_solo_run.specs.Tasks.{rest, store_seen, state_seen, value_at, bound_in, calls_in, Tells, Finds, HasFound, Changes}
 use Rattle.isp_solo_run.specs.declared.places.Place.{Place}
 use Rattle.isp_solo_run.specs.declared.places.Place.TheVariants as place
 use Rattle.isp_solo_run.specs.declared.places.Writing.{Writing}
@@ -48,7 +49,9 @@ module _ (old : Single) (r : Store) where
   pub place_node : (a : ArrayVariable) (y : Bor TypedExpr) (from : Elem) (t : Ty) (sp : Span) → from ≡ elem_of (expr_of y.now) → finds old (t_place (t_element a (expr_of y.now) t sp)) r ≡ does_both old (task.Value y) (task.Load a from sp) r
   place_node a y from t sp typed = by (value_at old.setting r (expr_of y.now) r.state) ∙ ap (λ k. does_both old (task.Value y) (task.Load a k sp) r) (sym typed)
     where
-      by : (v : Answer ℕ) → given r (and_then (and_then v (λ j s1. Has (AnElement a (elem_of (expr_of y.now)) j) s1)) (λ k s1. held (bound_in old.setting) old.setting.instance r.frame sp k s1)) ≡ go (given r v) (does_task old (task.Load a (elem_of (expr_of y.now)) sp))
+      by : (v : Answer ℕ) → given r (and_then (and_then v (λ j s1. Has (AnElement a (elem_of (expr_of y.now)) j) s1))
+          (λ k s1. held (bound_in old.setting) old.setting.instance r.frame sp k s1))
+          ≡ go (given r v) (does_task old (task.Load a (elem_of (expr_of y.now)) sp))
       by (Has i s) = refl
       by (Bad t s) = refl
       by (Long s) = refl
@@ -89,7 +92,9 @@ module _ (old : Single) (r : Store) where
   pub no_items : (xs : List TypedItem) → xs ≡ [] → done r (items (bound_in old.setting) old.setting.instance r.frame (calls_in old.setting r.left) (items_of xs) r.state) ≡ goes r
   no_items xs none = ap (λ ys. done r (items (bound_in old.setting) old.setting.instance r.frame (calls_in old.setting r.left) (items_of ys) r.state)) none
 
-  pub one_item : (xs : List TypedItem) (y : TypedItem) (ys : Bor (List TypedItem)) → xs ≡ y ∷ ys.now → done r (items (bound_in old.setting) old.setting.instance r.frame (calls_in old.setting r.left) (items_of xs) r.state) ≡ go (declares old (item_of y) r) (does_task old (task.Items ys))
+  pub one_item : (xs : List TypedItem) (y : TypedItem) (ys : Bor (List TypedItem)) → xs ≡ y ∷ ys.now
+      → done r (items (bound_in old.setting) old.setting.instance r.frame (calls_in old.setting r.left) (items_of xs) r.state)
+      ≡ go (declares old (item_of y) r) (does_task old (task.Items ys))
   one_item xs y ys is =
       ap (λ zs. done r (items (bound_in old.setting) old.setting.instance r.frame (calls_in old.setting r.left) (items_of zs) r.state)) is
       ∙ done_done r (item (bound_in old.setting) old.setting.instance r.frame (calls_in old.setting r.left) (item_of y) r.state) (λ fr l s. items (bound_in old.setting) old.setting.instance fr (calls_in old.setting l) (items_of ys.now) s)
@@ -109,20 +114,28 @@ module _ (old : Single) (k : Place) (sp : Span) where
 module _ (old mid : Single) (op : BinOp) (t : Elem) (q : TPlace) (k : Spot) (right x : ℕ) (sp : Span) (f : Finds (Ok x) old mid (place_span q) k) where
   -- the place was read
   updating : updates old op t q k right sp (store_seen old)
-      ≡ done (store_seen old) (and_then (unless (is_zero op t right) Divide sp old.setting.instance (state_seen mid) (op_bits op t (converted (place_type q).elem t x) right)) (λ n s2. Has tt (kept (frame_seen old.here) k (converted t (place_type q).elem n) s2)))
+      ≡ done (store_seen old) (and_then (unless (is_zero op t right) Divide sp old.setting.instance (state_seen mid)
+      (op_bits op t (converted (place_type q).elem t x) right))
+      (λ n s2. Has tt (kept (frame_seen old.here) k (converted t (place_type q).elem n) s2)))
   updating =
-      ap (λ v. done (store_seen old) (and_then v (λ i s1. and_then (unless (is_zero op t right) Divide sp old.setting.instance s1 (op_bits op t (converted (place_type q).elem t i) right)) (λ n s2. Has tt (kept (frame_seen old.here) k (converted t (place_type q).elem n) s2))))) f.0
+      ap (λ v. done (store_seen old) (and_then v (λ i s1. and_then
+      (unless (is_zero op t right) Divide sp old.setting.instance s1 (op_bits op t (converted (place_type q).elem t i) right))
+      (λ n s2. Has tt (kept (frame_seen old.here) k (converted t (place_type q).elem n) s2))))) f.0
 
   pub update_zero : (b : Bool) → b ≡ is_zero op t right → b ≡ true → updates old op t q k right sp (store_seen old) ≡ Trapped (trap Divide sp old.setting.instance) (state_seen mid)
   update_zero b is h =
       updating
-      ∙ ap (λ z. done (store_seen old) (and_then (unless z Divide sp old.setting.instance (state_seen mid) (op_bits op t (converted (place_type q).elem t x) right)) (λ n s2. Has tt (kept (frame_seen old.here) k (converted t (place_type q).elem n) s2)))) (sym is ∙ h)
+      ∙ ap (λ z. done (store_seen old) (and_then (unless z Divide sp old.setting.instance (state_seen mid)
+      (op_bits op t (converted (place_type q).elem t x) right))
+      (λ n s2. Has tt (kept (frame_seen old.here) k (converted t (place_type q).elem n) s2)))) (sym is ∙ h)
 
   pub update_kept : (b : Bool) (y : ℕ) → b ≡ is_zero op t right → b ≡ false → y ≡ converted t (place_type q).elem (op_bits op t (converted (place_type q).elem t x) right)
       → updates old op t q k right sp (store_seen old) ≡ done (store_seen old) (Has tt (kept (frame_seen old.here) k y (state_seen mid)))
   update_kept b y is h value =
       updating
-      ∙ ap (λ z. done (store_seen old) (and_then (unless z Divide sp old.setting.instance (state_seen mid) (op_bits op t (converted (place_type q).elem t x) right)) (λ n s2. Has tt (kept (frame_seen old.here) k (converted t (place_type q).elem n) s2)))) (sym is ∙ h)
+      ∙ ap (λ z. done (store_seen old) (and_then (unless z Divide sp old.setting.instance (state_seen mid)
+      (op_bits op t (converted (place_type q).elem t x) right))
+      (λ n s2. Has tt (kept (frame_seen old.here) k (converted t (place_type q).elem n) s2)))) (sym is ∙ h)
       ∙ ap (λ n. done (store_seen old) (Has tt (kept (frame_seen old.here) k n (state_seen mid)))) (sym value)
 
   pub update_traps : (e : Stop) (b : Bool) → e ≡ stop.Trapped (trap Divide sp mid.setting.instance) → b ≡ is_zero op t right → b ≡ true → Tells (Err e) old mid (updates old op t q k right sp)
@@ -141,7 +154,9 @@ module _ (old mid : Single) (op : BinOp) (t : Elem) (q : TPlace) (k : Spot) (rig
 pub update_stops : (e : Stop) (old new : Single) (op : BinOp) (t : Elem) (q : TPlace) (k : Spot) (right : ℕ) (sp : Span) → Finds (Err e) old new (place_span q) k → Tells (Err e) old new (updates old op t q k right sp)
 update_stops stop.Memory old new op t q k right sp f = tt
 update_stops (stop.Trapped u) old new op t q k right sp f =
-    ap (λ v. done (store_seen old) (and_then v (λ i s1. and_then (unless (is_zero op t right) Divide sp old.setting.instance s1 (op_bits op t (converted (place_type q).elem t i) right)) (λ n s2. Has tt (kept (frame_seen old.here) k (converted t (place_type q).elem n) s2))))) f
+    ap (λ v. done (store_seen old) (and_then v (λ i s1. and_then
+    (unless (is_zero op t right) Divide sp old.setting.instance s1 (op_bits op t (converted (place_type q).elem t i) right))
+    (λ n s2. Has tt (kept (frame_seen old.here) k (converted t (place_type q).elem n) s2))))) f
 update_stops stop.Cut old new op t q k right sp f = absurd f
 
 -- ---- what is held at a place

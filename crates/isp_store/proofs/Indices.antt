@@ -1,5 +1,6 @@
 -- Which bits are indices outside an array, and the lowest lane that has such an index.
-use Rattle.std.proofs.Common.{◌≡◌, refl, sym, ap, ◌∙◌, subst, ⊎_elim, ℕ, zero, suc, ◌+◌, ◌-◌, ◌^◌, ◌<◌, ◌≤◌, Bool, true, false, ◌||◌, not, Option, Some, None, List, [], ◌∷◌, length, get_or, nat_lt, int_lt, pos, ℤ, unsigned_abs, arith, mod-eq_of_lt, ltb-true, lt-ltb, le-ltb}
+use Rattle.std.proofs.Common.{◌≡◌, refl, sym, ap, ◌∙◌, subst, ⊎_elim, ℕ, zero, suc, ◌+◌, ◌-◌, ◌^◌, ◌<◌, ◌≤◌, Bool, true, false, ◌||◌, not, Option, Some, None, List, [], ◌∷◌}
+use Rattle.std.proofs.Common.{length, get_or, nat_lt, int_lt, pos, ℤ, unsigned_abs, arith, mod-eq_of_lt, ltb-true, lt-ltb, le-ltb}
 use Rattle.std.specs.Prelude.{if◌then◌else◌, position, cond}
 use Rattle.std.specs.List.{position_or_len}
 use Rattle.isp_base.proofs.Signs.{test_is}

@@ -224,7 +224,8 @@ module _ (n : ℕ) (a : Mask) where
   are_cleared w t (suc k) xss rows = are_stored a (λ p. k) (λ p. 0) n w t n (cleared row_with n a k xss) (λ p. pow_pos (width t)) (are_cleared w t k xss rows)
 
   module _ (low : (p : ℕ) → a p ≡ true → p < n) (past : (p : ℕ) → n ≤ p → a p ≡ false) where
-    one_cleared : (i : ℕ) (xss : List (List ℕ)) → i < length xss → ((e : ℕ) → e < length xss → length (get_or xss e []) ≡ n) → (e p : ℕ) → found row_word (stored row_with n a (λ q. i) (λ q. 0) xss) e p ≡ (if nat_eq e i && a p then 0 else found row_word xss e p)
+    one_cleared : (i : ℕ) (xss : List (List ℕ)) → i < length xss → ((e : ℕ) → e < length xss → length (get_or xss e []) ≡ n) → (e p : ℕ)
+        → found row_word (stored row_with n a (λ q. i) (λ q. 0) xss) e p ≡ (if nat_eq e i && a p then 0 else found row_word xss e p)
     one_cleared i xss h long e p = ap (λ (f : ℕ → Lanes). f e p) (all_stored a (λ q. i) (λ q. 0) (λ k. k) n xss (λ q is. (h, refl)) low long past) ∙ by (a p) refl
       where
         and_false : (b : Bool) → (b && false) ≡ false

@@ -6,7 +6,9 @@ use Rattle.isp_lex.specs.declared.token.Mark.TheVariants as mark
 use Rattle.isp_lex.specs.declared.token.Token.{Token}
 use Rattle.isp_syntax.proofs.SameKinds.{Same, same_none, same_first, same_one, same_split, same_before, same_around, moved, Respans}
 use Rattle.isp_tree.specs.Depth.{depth, depth_of_place, depth_of_argument, depth_of_row}
-use Rattle.isp_grammar.specs.Grammar.{AreAll, IsQualifier, is_qualifier, IsType, is_based, is_signed, IsPlace, is_variable, is_element, IsExpr, is_number, is_truth, is_program_index, is_program_count, is_place, is_call, is_brackets, is_cast, is_prefix, is_tighter, is_binary, is_choose, IsArgument, is_value_argument, is_reference, IsArguments, is_no_argument, is_some_arguments, IsArgumentList, is_last_argument, is_more_arguments}
+use Rattle.isp_grammar.specs.Grammar.{AreAll, IsQualifier, is_qualifier, IsType, is_based, is_signed, IsPlace, is_variable, is_element, IsExpr, is_number, is_truth, is_program_index}
+use Rattle.isp_grammar.specs.Grammar.{is_program_count, is_place, is_call, is_brackets, is_cast, is_prefix, is_tighter, is_binary, is_choose, IsArgument, is_value_argument, is_reference}
+use Rattle.isp_grammar.specs.Grammar.{IsArguments, is_no_argument, is_some_arguments, IsArgumentList, is_last_argument, is_more_arguments}
 use Rattle.isp_syntax.specs.Promise.{kinds}
 use Rattle.isp_grammar.specs.Signs.{word, numeral, qualifier_mark, base_mark, truth_mark, prefix_mark, sign, loosest}
 use Rattle.isp_tree.specs.Tree.{TypeTree, Expr, number, truth, program_index, program_count, place, call, brackets, cast, prefix, binary, choose, listed, span_of, Place, variable, element, span_of_place, Argument, by_value, by_reference}

@@ -12,7 +12,8 @@ use Rattle.isp_grammar.proofs.Basics.{token, ok_is, ok_err, chosen, starts_same,
 use Rattle.isp_grammar.proofs.Choices.{nowhere, nameless, begins_same, Makes, makes_sound, makes_complete, makes_refused}
 use Rattle.isp_grammar.proofs.Declarations.{word_ends_type}
 use Rattle.isp_grammar.proofs.Exprs.{both_true}
-use Rattle.isp_grammar.proofs.Forms.{Form, Found, IsSound, IsComplete, Can, One, one_sound, one_complete, Named, named_sound, named_complete, Both, Free, Follows, follows, both_sound, both_complete, NameThen, named_then, name_then_is, is_name_then, Optional, optional_sound, AreListed, Series, series_sound}
+use Rattle.isp_grammar.proofs.Forms.{Form, Found, IsSound, IsComplete, Can, One, one_sound, one_complete, Named, named_sound, named_complete, Both, Free, Follows, follows, both_sound}
+use Rattle.isp_grammar.proofs.Forms.{both_complete, NameThen, named_then, name_then_is, is_name_then, Optional, optional_sound, AreListed, Series, series_sound}
 use Rattle.isp_grammar.proofs.FormsComplete.{EndsByHead, named_by_head, optional_complete, TakesComma, StartsOff, series_complete}
 use Rattle.isp_grammar.proofs.ListForms.{listed_ends, series_by_head}
 use Rattle.isp_grammar.proofs.Refused.{Allowed, Completes, FailsForm, IsRefused, one_refused, named_refused, both_refused, optional_refused, series_refused}
@@ -164,7 +165,9 @@ param_makes_is ts (t, (w, None)) i =
 param_makes_is ts (t, (w, Some c)) i =
     let j = name_then_is ArraySign i.1 (w, Some c) i.4 in
     let k = j.2 in
-    subst (λ (l : List Token). IsParam l (param_of (t, (w, Some c)))) (sym (i.2 ∙ ap (λ (l : List Token). i.0 ++ l) (j.1 ∙ ap (λ (l : List Token). word w ∷ l) (k.2 ∙ ap (λ (l : List Token). at mark.BracketOpen k.0 ∷ l) k.3)))) (is_array i.0 t w k.0 c i.3)
+    subst (λ (l : List Token). IsParam l (param_of (t, (w, Some c))))
+    (sym (i.2 ∙ ap (λ (l : List Token). i.0 ++ l) (j.1
+    ∙ ap (λ (l : List Token). word w ∷ l) (k.2 ∙ ap (λ (l : List Token). at mark.BracketOpen k.0 ∷ l) k.3)))) (is_array i.0 t w k.0 c i.3)
 
 param_unmakes : {ts : List Token} {y : Param} → IsParam ts y → (p : TypeTree × (Word × Option Span)) × ParamParts.is ts p × (param_of p ≡ y)
 param_unmakes (is_scalar ts t w i) = ((t, (w, None)), (ts, word w ∷ [], refl, i, is_name_then ArraySign w [] None refl, tt), refl)
@@ -255,7 +258,9 @@ type_not_alone : {ts : List Token} {t : TypeTree} → IsType ts t → (w : Word)
 type_not_alone (is_based b s ts [] i) w rest = rw i (and_false _)
 type_not_alone (is_based b s ts (q ∷ qs) i) w rest =
     let j = one_qualifier i.3 in
-    let e : (ts ++ at (base_mark b) s ∷ []) ++ word w ∷ rest ≡ at (qualifier_mark q) j.0 ∷ ((i.1 ++ at (base_mark b) s ∷ []) ++ word w ∷ rest) = ap (λ (l : List Token). (l ++ at (base_mark b) s ∷ []) ++ word w ∷ rest) (i.2 ∙ ap (λ (l : List Token). l ++ i.1) j.1) in
+    let e : (ts ++ at (base_mark b) s ∷ []) ++ word w ∷ rest
+    ≡ at (qualifier_mark q) j.0 ∷ ((i.1 ++ at (base_mark b) s ∷ []) ++ word w ∷ rest) = ap
+    (λ (l : List Token). (l ++ at (base_mark b) s ∷ []) ++ word w ∷ rest) (i.2 ∙ ap (λ (l : List Token). l ++ i.1) j.1) in
     ap only_void e ∙ and_off _ _ (qualifier_no_void q)
 type_not_alone (is_signed ts [] i h) w rest = absurd (false≢true h)
 type_not_alone (is_signed ts (q ∷ qs) i h) w rest =

@@ -10,7 +10,8 @@ use Rattle.isp_lex.specs.declared.token.Token.{Token}
 use Rattle.isp_grammar.proofs.Basics.{ok_is, err_ok, ok_err, bind_ok, bind_err}
 use Rattle.isp_grammar.proofs.Choices.{nowhere, nameless}
 use Rattle.isp_grammar.proofs.Declarations.{word_ends_type}
-use Rattle.isp_grammar.proofs.Forms.{Form, Found, IsSound, IsComplete, Can, One, one_sound, one_complete, Named, named_sound, named_complete, Both, Free, Follows, follows, both_sound, both_complete, Behind, one_then, behind_is, is_behind, NameThen, named_then, name_then_is, is_name_then, Before, then_one, before_is, is_before}
+use Rattle.isp_grammar.proofs.Forms.{Form, Found, IsSound, IsComplete, Can, One, one_sound, one_complete, Named, named_sound, named_complete, Both, Free, Follows, follows, both_sound, both_complete}
+use Rattle.isp_grammar.proofs.Forms.{Behind, one_then, behind_is, is_behind, NameThen, named_then, name_then_is, is_name_then, Before, then_one, before_is, is_before}
 use Rattle.isp_grammar.proofs.FormsComplete.{one_by_head, named_by_head, read_again}
 use Rattle.isp_grammar.proofs.ListForms.{mapped, Maps, maps_id, mapped_twice, maps_both}
 use Rattle.isp_syntax.proofs.Params.{Linkages, linkages_sound, linkages_complete, linkages_by_head, linkages_refused, is_linkage_word, type_no_linkage, Params, params_sound, params_complete, params_by_head, params_close, params_refused}
@@ -159,16 +160,22 @@ begun_long f (t ∷ a) e = omega arith
 front_long : (ls : List Token) {ts : List Token} {t : TypeTree} → IsType ts t → 0 < length (ls ++ ts)
 front_long ls {ts} i = omega (arith, begun_long begins_type _ (type_starts i []), length-append ls ts)
 
-function_regroup : (ls ts : List Token) (w : Word) (o c : Span) (ps bs : List Token) → (ls ++ (ts ++ word w ∷ at mark.ParenOpen o ∷ (ps ++ at mark.ParenClose c ∷ []))) ++ bs ≡ ls ++ (ts ++ word w ∷ at mark.ParenOpen o ∷ (ps ++ at mark.ParenClose c ∷ bs))
+function_regroup : (ls ts : List Token) (w : Word) (o c : Span) (ps bs : List Token)
+    → (ls ++ (ts ++ word w ∷ at mark.ParenOpen o ∷ (ps ++ at mark.ParenClose c ∷ []))) ++ bs ≡ ls
+    ++ (ts ++ word w ∷ at mark.ParenOpen o ∷ (ps ++ at mark.ParenClose c ∷ bs))
 function_regroup ls ts w o c ps bs = simp append_assoc
 
 front_regroup : (ls ts : List Token) (rest : List Token) → ls ++ (ts ++ rest) ≡ (ls ++ ts) ++ rest
 front_regroup ls ts rest = sym (append_assoc ls ts rest)
 
-function_is : (ts ls us ps bs : List Token) (w : Word) (o c : Span) (linkages : List Linkage) (t : TypeTree) (params : List Param) (b : Block) → ts ≡ ls ++ (us ++ word w ∷ at mark.ParenOpen o ∷ (ps ++ at mark.ParenClose c ∷ bs)) → Linkages.is ls linkages → IsType us t → IsParams ps params → BlockForm.is bs b
+function_is : (ts ls us ps bs : List Token) (w : Word) (o c : Span) (linkages : List Linkage) (t : TypeTree) (params : List Param) (b : Block)
+    → ts ≡ ls ++ (us ++ word w ∷ at mark.ParenOpen o ∷ (ps ++ at mark.ParenClose c ∷ bs)) → Linkages.is ls linkages → IsType us t → IsParams ps params
+    → BlockForm.is bs b
     → IsFunction ts (function_from (first_span ts) (record { linkages = linkages; answer = t; word = w; params = params }) b)
 function_is ts ls us ps bs w o c linkages t params b e i j k l =
-    let s : first_span ts ≡ first_span (ls ++ us) = ap first_span (e ∙ front_regroup ls us (word w ∷ at mark.ParenOpen o ∷ (ps ++ at mark.ParenClose c ∷ bs))) ∙ first_of_front (ls ++ us) (word w ∷ at mark.ParenOpen o ∷ (ps ++ at mark.ParenClose c ∷ bs)) (front_long ls j) in
+    let s : first_span ts ≡ first_span (ls ++ us) = ap first_span
+    (e ∙ front_regroup ls us (word w ∷ at mark.ParenOpen o ∷ (ps ++ at mark.ParenClose c ∷ bs)))
+    ∙ first_of_front (ls ++ us) (word w ∷ at mark.ParenOpen o ∷ (ps ++ at mark.ParenClose c ∷ bs)) (front_long ls j) in
     subst (λ (z : Span). IsFunction ts (function_from z (record { linkages = linkages; answer = t; word = w; params = params }) b)) (sym s)
     (subst (λ (l : List Token). IsFunction l (function_from (first_span (ls ++ us)) (record { linkages = linkages; answer = t; word = w; params = params }) b)) (sym e) (is_function o c ls us ps bs linkages t w params b i j k l))
 

@@ -6,7 +6,9 @@ use Rattle.isp_lex.specs.Tokens.{at}
 use Rattle.isp_lex.specs.declared.token.Mark.TheVariants as mark
 use Rattle.isp_lex.specs.declared.token.Token.{Token}
 use Rattle.isp_syntax.proofs.Places.{Within, InLine, line_up, line_end, cut, in_text, within_to, wider, spread_within}
-use Rattle.isp_grammar.specs.Grammar.{AreAll, IsQualifier, is_qualifier, IsType, is_based, is_signed, IsPlace, is_variable, is_element, IsExpr, is_number, is_truth, is_program_index, is_program_count, is_place, is_call, is_brackets, is_cast, is_prefix, is_tighter, is_binary, is_choose, IsArgument, is_value_argument, is_reference, IsArguments, is_no_argument, is_some_arguments, IsArgumentList, is_last_argument, is_more_arguments}
+use Rattle.isp_grammar.specs.Grammar.{AreAll, IsQualifier, is_qualifier, IsType, is_based, is_signed, IsPlace, is_variable, is_element, IsExpr, is_number, is_truth, is_program_index}
+use Rattle.isp_grammar.specs.Grammar.{is_program_count, is_place, is_call, is_brackets, is_cast, is_prefix, is_tighter, is_binary, is_choose, IsArgument, is_value_argument, is_reference}
+use Rattle.isp_grammar.specs.Grammar.{IsArguments, is_no_argument, is_some_arguments, IsArgumentList, is_last_argument, is_more_arguments}
 use Rattle.isp_grammar.specs.Signs.{word, numeral, truth_mark, sign, base_mark}
 use Rattle.isp_tree.specs.Nodes.{nodes, nodes_of_place, nodes_of_argument, nodes_of_row}
 use Rattle.isp_tree.specs.Sound.{InText, IsName, Fits, IsSoundType, IsSoundExpr, IsSoundPlace, IsSoundArgument, AreSoundArguments}

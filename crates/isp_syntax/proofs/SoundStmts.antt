@@ -10,8 +10,11 @@ use Rattle.isp_lex.specs.declared.token.Mark.TheVariants as mark
 use Rattle.isp_lex.specs.declared.token.Token.{Token}
 use Rattle.isp_syntax.proofs.Places.{Within, InLine, line_up, line_end, cut, in_text, within_to, wider, later, first_of_line, tokens_in_line, all_one}
 use Rattle.isp_syntax.proofs.SoundExprs.{name_in, token_in, type_in, type_long, Good, expr_in}
-use Rattle.isp_grammar.specs.Grammar.{IsMaybe, AreAll, AreListed, AreBehindCommas, IsExpr, IsSize, is_number_size, is_count_size, IsItem, is_plain, is_with_value, is_with_size, span_of_last, IsDeclaration, is_declaration, IsSimple, is_value, is_assign, is_change_after, is_change_before, IsFirst, is_first_declare, is_first_simple, IsRange, is_range}
-use Rattle.isp_grammar.specs.Grammar.{IsBlock, is_braces, IsStmts, is_end, is_next, IsStmt, is_block, is_empty, is_declare, is_simple, is_if, is_if_else, is_while, is_do, is_for, is_foreach, is_foreach_active, is_foreach_unique, is_unmasked, is_jump, is_return, is_print, is_assert, IsParam, is_scalar, is_array, IsParams, is_none, is_void, is_some, IsFunction, is_function, IsProgram}
+use Rattle.isp_grammar.specs.Grammar.{IsMaybe, AreAll, AreListed, AreBehindCommas, IsExpr, IsSize, is_number_size, is_count_size, IsItem, is_plain, is_with_value, is_with_size, span_of_last, IsDeclaration}
+use Rattle.isp_grammar.specs.Grammar.{is_declaration, IsSimple, is_value, is_assign, is_change_after, is_change_before, IsFirst, is_first_declare, is_first_simple, IsRange, is_range}
+use Rattle.isp_grammar.specs.Grammar.{IsBlock, is_braces, IsStmts, is_end, is_next, IsStmt, is_block, is_empty, is_declare, is_simple, is_if, is_if_else, is_while, is_do}
+use Rattle.isp_grammar.specs.Grammar.{is_for, is_foreach, is_foreach_active, is_foreach_unique, is_unmasked, is_jump, is_return, is_print, is_assert, IsParam, is_scalar}
+use Rattle.isp_grammar.specs.Grammar.{is_array, IsParams, is_none, is_void, is_some, IsFunction, is_function, IsProgram}
 use Rattle.isp_grammar.specs.Signs.{word, preposition, numeral, textual, assignment_mark, change_mark, foreach_mark, jump_mark, loosest, first_span}
 use Rattle.isp_tree.specs.Depth.{depth_of_functions, limit}
 use Rattle.isp_tree.specs.Nodes.{nodes, nodes_of_option, nodes_of_all, nodes_of_item, nodes_of_declaration, nodes_of_simple, nodes_of_first, nodes_of_step, nodes_of_range, nodes_of_stmt, nodes_of_block, nodes_of_stmts, nodes_of_function}
@@ -288,7 +291,18 @@ mutual
       record {
         is = (first.0, test.0, step.0, g.is, in_text low (span_to k (span_of_stmt b)) high s (line_end c.end a high last.2));
         place = s;
-        few = omega (arith, first.1, test.1, step.1, g.few, length-append is (at mark.Semicolon d ∷ (ts ++ at mark.Semicolon e ∷ (us ++ at mark.ParenClose c ∷ a))), length-append ts (at mark.Semicolon e ∷ (us ++ at mark.ParenClose c ∷ a)), length-append us (at mark.ParenClose c ∷ a));
+        few = omega (
+          arith,
+          first.1,
+          test.1,
+          step.1,
+          g.few,
+          length-append is
+              (at mark.Semicolon d ∷ (ts ++ at mark.Semicolon e ∷ (us ++ at mark.ParenClose c ∷ a))),
+          length-append ts
+              (at mark.Semicolon e ∷ (us ++ at mark.ParenClose c ∷ a)),
+          length-append us (at mark.ParenClose c ∷ a),
+        );
       }
   stmt_in low high (is_foreach t k o c ts a rs b i n j) l =
       let m = l.2 in
@@ -298,7 +312,14 @@ mutual
       let g = stmt_in c.end high j back.2 in
       let s = begun low k c.end (span_of_stmt b) high l.0 (omega (arith, m.0.from, m.0.some, line_up o.end ts r.at r.front, back.0.from, back.0.some)) g.place in
       record {
-        is = (token_in low (at (foreach_mark t) k) (at mark.ParenOpen o ∷ (ts ++ at mark.ParenClose c ∷ a)) high l, record { some = ranges.some; few = n; each = ranges.each }, g.is, in_text low (span_to k (span_of_stmt b)) high s (line_end c.end a high back.2));
+        is = (
+          token_in low (at (foreach_mark t) k) (at mark.ParenOpen o ∷ (ts ++ at mark.ParenClose c ∷ a)) high l,
+          record
+              { some = ranges.some; few = n; each = ranges.each },
+          g.is,
+          in_text low (span_to k (span_of_stmt b)) high s
+              (line_end c.end a high back.2),
+        );
         place = s;
         few = omega (arith, ranges.few, g.few, length-append ts (at mark.ParenClose c ∷ a));
       }
@@ -309,7 +330,13 @@ mutual
       let g = stmt_in c.end high i q.2 in
       let s = begun low k c.end (span_of_stmt b) high l.0 (omega (arith, m.0.from, m.0.some, n.0.from, n.0.some, q.0.from, q.0.some)) g.place in
       record {
-        is = (token_in low (at mark.ForeachActive k) (at mark.ParenOpen o ∷ word w ∷ at mark.ParenClose c ∷ a) high l, name_in o.end w (at mark.ParenClose c ∷ a) high n, g.is, in_text low (span_to k (span_of_stmt b)) high s (line_end c.end a high q.2));
+        is = (
+          token_in low (at mark.ForeachActive k) (at mark.ParenOpen o ∷ word w ∷ at mark.ParenClose c ∷ a) high l,
+          name_in o.end w
+              (at mark.ParenClose c ∷ a) high n,
+          g.is,
+          in_text low (span_to k (span_of_stmt b)) high s (line_end c.end a high q.2),
+        );
         place = s;
         few = omega (arith, g.few);
       }

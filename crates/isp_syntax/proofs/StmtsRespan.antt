@@ -8,10 +8,15 @@ use Rattle.isp_lex.specs.declared.token.Token.{Token}
 use Rattle.isp_syntax.proofs.ExprsRespan.{type_respan, expr_respan, exprs_respan}
 use Rattle.isp_syntax.proofs.SameKinds.{Same, same_none, same_first, same_one, same_split, same_before, same_around, moved, Respans, all_respan, listed_respan}
 use Rattle.isp_tree.specs.Depth.{depth, depth_of_option, deepest_of, depth_of_item, depth_of_declaration, depth_of_simple, depth_of_first, depth_of_step, depth_of_range, depth_of_stmt, depth_of_block, depth_of_stmts, depth_of_functions}
-use Rattle.isp_grammar.specs.Grammar.{IsMaybe, AreListed, AreBehindCommas, IsExpr, IsSize, is_number_size, is_count_size, IsItem, is_plain, is_with_value, is_with_size, span_of_last, IsDeclaration, is_declaration, IsSimple, is_value, is_assign, is_change_after, is_change_before, IsFirst, is_first_declare, is_first_simple, IsRange, is_range, is_open, IsBlock, is_braces, IsStmts, is_end, is_next, IsStmt, is_block, is_empty, is_declare, is_simple, is_if, is_if_else, is_while, is_do, is_for, is_foreach, is_foreach_active, is_foreach_unique, is_unmasked, is_jump, is_return, is_print, is_assert, IsLinkage, is_linkage, IsParam, is_scalar, is_array, IsParams, is_none, is_void, is_some, IsFunction, is_function, IsProgram}
+use Rattle.isp_grammar.specs.Grammar.{IsMaybe, AreListed, AreBehindCommas, IsExpr, IsSize, is_number_size, is_count_size, IsItem, is_plain, is_with_value, is_with_size, span_of_last, IsDeclaration, is_declaration, IsSimple}
+use Rattle.isp_grammar.specs.Grammar.{is_value, is_assign, is_change_after, is_change_before, IsFirst, is_first_declare, is_first_simple, IsRange, is_range, is_open, IsBlock, is_braces, IsStmts, is_end, is_next, IsStmt, is_block}
+use Rattle.isp_grammar.specs.Grammar.{is_empty, is_declare, is_simple, is_if, is_if_else, is_while, is_do, is_for, is_foreach, is_foreach_active, is_foreach_unique, is_unmasked, is_jump, is_return, is_print, is_assert, IsLinkage}
+use Rattle.isp_grammar.specs.Grammar.{is_linkage, IsParam, is_scalar, is_array, IsParams, is_none, is_void, is_some, IsFunction, is_function, IsProgram}
 use Rattle.isp_syntax.specs.Promise.{kinds}
 use Rattle.isp_grammar.specs.Signs.{word, preposition, numeral, textual, loosest, assignment_mark, change_mark, if_mark, while_mark, do_mark, for_mark, foreach_mark, jump_mark, linkage_mark, first_span}
-use Rattle.isp_tree.specs.Tree.{span_of, Item, plain, with_value, with_size, Declaration, Simple, value, assign, change, span_of_simple, First, first_declare, first_simple, Range, Stmt, block, empty, declare, simple, if_then, if_else, loop_while, loop_do, loop_for, foreach, foreach_active, foreach_unique, unmasked, jump, returning, print, assert, all, Block, braces, span_of_block, span_of_stmt, Param, Function}
+use Rattle.isp_tree.specs.Tree.{span_of, Item, plain, with_value, with_size, Declaration, Simple, value, assign, change, span_of_simple, First, first_declare, first_simple, Range}
+use Rattle.isp_tree.specs.Tree.{Stmt, block, empty, declare, simple, if_then, if_else, loop_while, loop_do, loop_for, foreach, foreach_active, foreach_unique, unmasked, jump}
+use Rattle.isp_tree.specs.Tree.{returning, print, assert, all, Block, braces, span_of_block, span_of_stmt, Param, Function}
 use Rattle.isp_tree.specs.declared.stmt.Size.{Size}
 use Rattle.isp_tree.specs.declared.stmt.Size.TheVariants as size
 use Rattle.isp_tree.specs.declared.function.Linkage.{Linkage}
@@ -113,7 +118,9 @@ values_respan : Respans (AreBehindCommas (IsExpr loosest)) (deepest_of depth)
 values_respan = all_respan _ depth next_value_respan
 
 -- tokens in brackets, and what stands behind
-in_brackets : (o c : Span) (ts a us : List Token) → Same us (at mark.ParenOpen o ∷ (ts ++ at mark.ParenClose c ∷ a)) → (p : Span) × (q : Span) × (vs : List Token) × (b : List Token) × (us ≡ at mark.ParenOpen p ∷ (vs ++ at mark.ParenClose q ∷ b)) × Same vs ts × Same b a
+in_brackets : (o c : Span) (ts a us : List Token) → Same us (at mark.ParenOpen o ∷ (ts ++ at mark.ParenClose c ∷ a))
+    → (p : Span) × (q : Span) × (vs : List Token) × (b : List Token) × (us ≡ at mark.ParenOpen p ∷ (vs ++ at mark.ParenClose q ∷ b)) × Same vs ts
+    × Same b a
 in_brackets o c ts a us e =
     let p = same_first (at mark.ParenOpen o) (ts ++ at mark.ParenClose c ∷ a) us e in
     let q = same_around ts (at mark.ParenClose c) a p.1 p.3 in
@@ -202,7 +209,10 @@ mutual
       let v = maybe_respan IsSimple depth_of_step (λ ts x i us e. let y = simple_respan i us e in (y.0, y.1, ap suc y.2)) vs q l n.0 n.4 in
       let t = stmt_respan m n.2 n.5 in
       let z = loop_for f y.0 u.0 v.0 t.0 (span_to p.0 (span_of_stmt t.0)) in
-      let whole = p.2 ∙ ap (λ (l : List Token). at (for_mark f) p.0 ∷ l) (r.2 ∙ ap (λ (l : List Token). at mark.ParenOpen r.0 ∷ l) (g.3 ∙ ap (λ (l : List Token). g.0 ++ at mark.Semicolon g.1 ∷ l) (h.3 ∙ ap (λ (l : List Token). h.0 ++ at mark.Semicolon h.1 ∷ l) n.3))) in
+      let whole = p.2 ∙ ap (λ (l : List Token). at (for_mark f) p.0 ∷ l)
+      (r.2 ∙ ap (λ (l : List Token). at mark.ParenOpen r.0 ∷ l)
+      (g.3 ∙ ap (λ (l : List Token). g.0 ++ at mark.Semicolon g.1 ∷ l) (h.3 ∙ ap (λ (l : List Token). h.0 ++ at mark.Semicolon h.1 ∷ l) n.3)))
+      in
       (z, subst (λ (l : List Token). IsStmt l z) (sym whole) (is_for f p.0 r.0 g.1 h.1 n.1 g.0 h.0 n.0 n.2 y.0 u.0 v.0 t.0 y.1 u.1 v.1 t.1), rw (y.2, u.2, v.2, t.2) refl, t.3)
   stmt_respan (is_foreach t w o c ts a rs s i n j) us e =
       let p = same_first (at (foreach_mark t) w) (at mark.ParenOpen o ∷ (ts ++ at mark.ParenClose c ∷ a)) us e in

@@ -13,9 +13,11 @@ use Rattle.isp_base.specs.Outcomes.{Ends}
 use Rattle.isp_tree.specs.declared.stmt.Form.TheVariants.{Plain}
 use Rattle.isp_typed.specs.declared.library.Library.TheVariants as library
 use Rattle.isp_typed.specs.declared.variable.Holds.TheVariants.{Local}
-use Rattle.isp_typed.specs.Typed.{TExpr, t_binary, t_called, t_arguments, t_exprs, t_library, t_variable, t_for, t_first_declare, t_simple, t_step, t_update, t_unmasked, t_call, t_by_value, t_by_name, t_run, t_return, t_declare, t_with_size, t_with_value, ty_of, TStmt, TFunction}
+use Rattle.isp_typed.specs.Typed.{TExpr, t_binary, t_called, t_arguments, t_exprs, t_library, t_variable, t_for, t_first_declare, t_simple, t_step, t_update, t_unmasked, t_call}
+use Rattle.isp_typed.specs.Typed.{t_by_value, t_by_name, t_run, t_return, t_declare, t_with_size, t_with_value, ty_of, TStmt, TFunction}
 use Rattle.isp_meaning.specs.Runs.{run_of}
-use Rattle.isp_meaning.proofs.Programs.{at, number, truth, index, varying, uniform, array, item, join, plus, test, uniform_test, set_item, body, block, if_then, while, count, range, foreach, break, continue, return, print, holding, each, one, given, function}
+use Rattle.isp_meaning.proofs.Programs.{at, number, truth, index, varying, uniform, array, item, join, plus, test, uniform_test, set_item, body, block, if_then, while}
+use Rattle.isp_meaning.proofs.Programs.{count, range, foreach, break, continue, return, print, holding, each, one, given, function}
 use Rattle.isp_tests_solo_meaning.specs.Words.{gang_of_four, row_of, array_of, together, zeros, LeavesFrom, Leaves}
 
 -- variables: a, u and t (uniform), x (varying), a shared array of four
@@ -67,12 +69,16 @@ unfolding digits number_to wrap_to
 breaking = (refl, refl)
 
 -- 4: for (int x = programIndex; x < 3; u++) x++; a[programIndex] = u;
-tested : Both (t_for Plain 0 (Some (t_first_declare (t_with_value 3 (ty_of Varying I32) index at ∷ []) at)) (Some (test Less (varying 3) (number 3))) (Some (t_step op.Add I32 (t_variable 1 (ty_of Uniform I32) at) at)) 0 (t_simple (t_step op.Add I32 (t_variable 3 (ty_of Varying I32) at) at) at) at ∷ give (uniform 1) ∷ []) (3 ∷ 3 ∷ 3 ∷ 3 ∷ []) (3 ∷ 2 ∷ 1 ∷ 0 ∷ [])
+tested : Both (t_for Plain 0 (Some (t_first_declare (t_with_value 3 (ty_of Varying I32) index at ∷ []) at)) (Some (test Less (varying 3) (number 3)))
+    (Some (t_step op.Add I32 (t_variable 1 (ty_of Uniform I32) at) at)) 0 (t_simple (t_step op.Add I32 (t_variable 3 (ty_of Varying I32) at) at) at)
+    at ∷ give (uniform 1) ∷ []) (3 ∷ 3 ∷ 3 ∷ 3 ∷ []) (3 ∷ 2 ∷ 1 ∷ 0 ∷ [])
 unfolding digits number_to wrap_to
 tested = (refl, refl)
 
 -- 4: for (; u < 3; u++) { if (programIndex == 0) continue; break; } a[programIndex] = u;
-third : Both (t_for Plain 0 None (Some (uniform_test Less (uniform 1) (number 3))) (Some (t_step op.Add I32 (t_variable 1 (ty_of Uniform I32) at) at)) 0 (block (if_then (test Equal index (number 0)) (continue ∷ []) ∷ break ∷ [])) at ∷ give (uniform 1) ∷ []) (3 ∷ 3 ∷ 3 ∷ 3 ∷ []) (3 ∷ 0 ∷ 0 ∷ 0 ∷ [])
+third : Both (t_for Plain 0 None (Some (uniform_test Less (uniform 1) (number 3))) (Some (t_step op.Add I32 (t_variable 1 (ty_of Uniform I32) at) at))
+    0 (block (if_then (test Equal index (number 0)) (continue ∷ []) ∷ break ∷ [])) at ∷ give (uniform 1) ∷ []) (3 ∷ 3 ∷ 3 ∷ 3 ∷ [])
+    (3 ∷ 0 ∷ 0 ∷ 0 ∷ [])
 unfolding digits number_to wrap_to
 third = (refl, refl)
 
@@ -97,7 +103,9 @@ unfolding digits number_to wrap_to
 early = (refl, refl)
 
 -- 6: void g(uniform int a[]) { foreach (i = 0 ... 4) a[i] = 1; } and if (programIndex < 2) g(a);
-in_call : Leaves (entry (if_then (test Less index (number 2)) (t_simple (t_run (t_called 1 (t_arguments (t_by_name (array Uniform 0) at ∷ [])) at)) at ∷ []) ∷ []) ∷ function None (given ∷ each ∷ []) (foreach (range 1 0 4 ∷ []) (set_item 0 (varying 1) (number 1) ∷ []) ∷ []) ∷ []) (1 ∷ 1 ∷ 1 ∷ 1 ∷ []) (1 ∷ 1 ∷ 0 ∷ 0 ∷ [])
+in_call : Leaves (entry (if_then (test Less index (number 2))
+    (t_simple (t_run (t_called 1 (t_arguments (t_by_name (array Uniform 0) at ∷ [])) at)) at ∷ []) ∷ []) ∷ function None (given ∷ each ∷ [])
+    (foreach (range 1 0 4 ∷ []) (set_item 0 (varying 1) (number 1) ∷ []) ∷ []) ∷ []) (1 ∷ 1 ∷ 1 ∷ 1 ∷ []) (1 ∷ 1 ∷ 0 ∷ 0 ∷ [])
 unfolding digits number_to wrap_to
 in_call = (refl, refl)
 
@@ -116,7 +124,9 @@ unfolding digits number_to wrap_to
 again = (refl, refl)
 
 -- 7: uniform int g(int x) { if (x < 2) return 1; return 2; } and a[programIndex] = g(programIndex);
-result : Leaves (entry (give (t_call (t_called 1 (t_arguments (t_by_value index ∷ [])) at) (ty_of Uniform I32)) ∷ []) ∷ function (Some (ty_of Uniform I32)) (each ∷ []) (if_then (test Less (varying 0) (number 2)) (return (number 1) ∷ []) ∷ return (number 2) ∷ []) ∷ []) (2 ∷ 2 ∷ 2 ∷ 2 ∷ []) (1 ∷ 1 ∷ 2 ∷ 2 ∷ [])
+result : Leaves (entry (give (t_call (t_called 1 (t_arguments (t_by_value index ∷ [])) at) (ty_of Uniform I32)) ∷ []) ∷ function
+    (Some (ty_of Uniform I32)) (each ∷ []) (if_then (test Less (varying 0) (number 2)) (return (number 1) ∷ []) ∷ return (number 2) ∷ []) ∷ [])
+    (2 ∷ 2 ∷ 2 ∷ 2 ∷ []) (1 ∷ 1 ∷ 2 ∷ 2 ∷ [])
 unfolding digits number_to wrap_to
 result = (refl, refl)
 

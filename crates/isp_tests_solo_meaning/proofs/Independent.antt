@@ -34,27 +34,36 @@ abbrev uniform_call : ℕ → List TArgument → TExpr
 uniform_call f xs = t_call (t_called f (t_arguments xs) at) (ty_of Uniform I32)
 
 -- while (true) { u++; if (u == 2) continue; if (u > 3) break; a[programIndex] = a[programIndex] + u; } a[programIndex] = a[programIndex] + u * 10;
-same_turns : Agree (entry (while truth (step_u ∷ if_then (uniform_test Equal (uniform 1) (number 2)) (continue ∷ []) ∷ if_then (uniform_test Greater (uniform 1) (number 3)) (break ∷ []) ∷ give (plus (item 0 index) (uniform 1)) ∷ []) ∷ give (plus (item 0 index) (join op.Mul (uniform 1) (number 10))) ∷ []) ∷ []) zeros (44 ∷ 44 ∷ 44 ∷ 44 ∷ [])
+same_turns : Agree (entry (while truth (step_u ∷ if_then (uniform_test Equal (uniform 1) (number 2)) (continue ∷ []) ∷ if_then
+    (uniform_test Greater (uniform 1) (number 3)) (break ∷ []) ∷ give (plus (item 0 index) (uniform 1)) ∷ []) ∷ give
+    (plus (item 0 index) (join op.Mul (uniform 1) (number 10))) ∷ []) ∷ []) zeros (44 ∷ 44 ∷ 44 ∷ 44 ∷ [])
 unfolding digits number_to wrap_to
 same_turns = (refl, refl, refl, refl)
 
 -- for (t = 0; t < 3; t++) { uniform int u = t + 1; if (programIndex == t) continue; a[programIndex] = a[programIndex] + u; }
-in_the_body : Agree (entry (count Less 2 3 (t_declare (t_with_value 1 (ty_of Uniform I32) (t_binary op.Add (uniform 2) (number 1) (ty_of Uniform I32) at) at ∷ []) at ∷ if_then (test Equal index (uniform 2)) (continue ∷ []) ∷ give (plus (item 0 index) (uniform 1)) ∷ []) ∷ []) ∷ []) zeros (5 ∷ 4 ∷ 3 ∷ 6 ∷ [])
+in_the_body : Agree (entry (count Less 2 3 (t_declare
+    (t_with_value 1 (ty_of Uniform I32) (t_binary op.Add (uniform 2) (number 1) (ty_of Uniform I32) at) at ∷ []) at ∷ if_then
+    (test Equal index (uniform 2)) (continue ∷ []) ∷ give (plus (item 0 index) (uniform 1)) ∷ []) ∷ []) ∷ []) zeros (5 ∷ 4 ∷ 3 ∷ 6 ∷ [])
 unfolding digits number_to wrap_to
 in_the_body = (refl, refl, refl, refl)
 
 -- int g(int x) { for (uniform int k = 0; k < 4; k++) { if (x == k) return k * 10; } return 0; } and a[programIndex] = g(programIndex);
-varying_result : Agree (entry (give (call 1 (t_by_value index ∷ [])) ∷ []) ∷ function (Some (ty_of Varying I32)) (each ∷ one ∷ []) (count Less 1 4 (if_then (test Equal (varying 0) (uniform 1)) (return (join op.Mul (uniform 1) (number 10)) ∷ []) ∷ []) ∷ return (number 0) ∷ []) ∷ []) zeros (0 ∷ 10 ∷ 20 ∷ 30 ∷ [])
+varying_result : Agree (entry (give (call 1 (t_by_value index ∷ [])) ∷ []) ∷ function (Some (ty_of Varying I32)) (each ∷ one ∷ [])
+    (count Less 1 4 (if_then (test Equal (varying 0) (uniform 1)) (return (join op.Mul (uniform 1) (number 10)) ∷ []) ∷ []) ∷ return (number 0) ∷ [])
+    ∷ []) zeros (0 ∷ 10 ∷ 20 ∷ 30 ∷ [])
 unfolding digits number_to wrap_to
 varying_result = (refl, refl, refl, refl)
 
 -- uniform int g(uniform int n) { return n + 1; } and if (programIndex < 2) a[programIndex] = g(4);
-some_call : Agree (entry (if_then (test Less index (number 2)) (give (uniform_call 1 (t_by_value (number 4) ∷ [])) ∷ []) ∷ []) ∷ function (Some (ty_of Uniform I32)) (one ∷ []) (return (t_binary op.Add (uniform 0) (number 1) (ty_of Uniform I32) at) ∷ []) ∷ []) zeros (5 ∷ 5 ∷ 0 ∷ 0 ∷ [])
+some_call : Agree (entry (if_then (test Less index (number 2)) (give (uniform_call 1 (t_by_value (number 4) ∷ [])) ∷ []) ∷ []) ∷ function
+    (Some (ty_of Uniform I32)) (one ∷ []) (return (t_binary op.Add (uniform 0) (number 1) (ty_of Uniform I32) at) ∷ []) ∷ []) zeros
+    (5 ∷ 5 ∷ 0 ∷ 0 ∷ [])
 unfolding digits number_to wrap_to
 some_call = (refl, refl, refl, refl)
 
 -- for (t = 0; t < 2; t++) { if (t == 5) return; foreach (x = 0 ... 4) a[x] = a[x] + 1; }
-rounds_in_turns : Agree (entry (count Less 2 2 (if_then (uniform_test Equal (uniform 2) (number 5)) (t_return at None at ∷ []) ∷ foreach (range 3 0 4 ∷ []) (set_item 0 (varying 3) (plus (item 0 (varying 3)) (number 1)) ∷ []) ∷ []) ∷ []) ∷ []) zeros (2 ∷ 2 ∷ 2 ∷ 2 ∷ [])
+rounds_in_turns : Agree (entry (count Less 2 2 (if_then (uniform_test Equal (uniform 2) (number 5)) (t_return at None at ∷ []) ∷ foreach
+    (range 3 0 4 ∷ []) (set_item 0 (varying 3) (plus (item 0 (varying 3)) (number 1)) ∷ []) ∷ []) ∷ []) ∷ []) zeros (2 ∷ 2 ∷ 2 ∷ 2 ∷ [])
 unfolding digits number_to wrap_to
 rounds_in_turns = (refl, refl, refl, refl)
 

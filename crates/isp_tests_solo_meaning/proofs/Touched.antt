@@ -60,6 +60,8 @@ unfolding number_to wrap_to
 cut = refl
 
 -- while (a[0] < 9) a[0] = a[0] + 1; makes nine turns and ends, and reads what it stored itself
-nine_turns : (IsEnded (run (while (test Less (item 0 (number 0)) (number 9)) (set_item 0 (number 0) (plus (item 0 (number 0)) (number 1)) ∷ []) ∷ []) 1)) × ((reached (run (while (test Less (item 0 (number 0)) (number 9)) (set_item 0 (number 0) (plus (item 0 (number 0)) (number 1)) ∷ []) ∷ []) 1)).wrote 0 0 ≡ Some 9)
+nine_turns : (IsEnded (run (while (test Less (item 0 (number 0)) (number 9)) (set_item 0 (number 0) (plus (item 0 (number 0)) (number 1)) ∷ []) ∷ [])
+    1)) × ((reached (run (while (test Less (item 0 (number 0)) (number 9)) (set_item 0 (number 0) (plus (item 0 (number 0)) (number 1)) ∷ []) ∷ [])
+    1)).wrote 0 0 ≡ Some 9)
 unfolding number_to wrap_to
 nine_turns = (tt, refl)

@@ -46,7 +46,8 @@ made budget old now (stop.Trapped v) counts ne g = (g.0.0, g.0.1, g.1)
 made budget old now stop.Ended counts ne g = (g.0.0, g.0.1, g.1)
 made budget old now stop.Memory counts ne g = absurd (ne refl)
 
-pub counted_run : (code : Listing) (name : List ℕ) (xs : List Argument) (budget : ℕ) (old now : Kept) (k : Stop) (counts : Counts) (r : Counted) → Starts code name xs old → (k ≡ stop.Memory → ⊥) → CountGives budget old now k counts → r.stop ≡ k → r.result ≡ result_of (state now)
+pub counted_run : (code : Listing) (name : List ℕ) (xs : List Argument) (budget : ℕ) (old now : Kept) (k : Stop) (counts : Counts) (r : Counted)
+    → Starts code name xs old → (k ≡ stop.Memory → ⊥) → CountGives budget old now k counts → r.stop ≡ k → r.result ≡ result_of (state now)
     → r.arrays.items ≡ rows_now (rows xs) (conf (state now)).arrays → r.output.items ≡ (conf (state now)).out → r.counts ≡ counts → CountedRun code name xs budget r
 counted_run code name xs budget old now k counts r starts ne gives stops result arrays output same =
     let first = first_conf code starts.function starts.routine xs in

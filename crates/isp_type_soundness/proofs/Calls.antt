@@ -181,7 +181,9 @@ module _ (gang : ℕ) (w : World) (g : TFunction) (ps : List Passed) where
       new Uniform e h = (stores_new k ∙ h.0, omega (arith, h.1))
       new Varying e h = tt
 
-      by : (o : Holds) (c : Bool) (q : Option Passed) → FoundAt gang w (Some (record { holds = o; constant = c })) q → LocatedHeld o (shared_elems g.variables) k (length (shared_sizes g.variables)) → SharedHeld (world_of w g ps) (store_or q (w.frame.opened + k)) o
+      by : (o : Holds) (c : Bool) (q : Option Passed) → FoundAt gang w (Some (record { holds = o; constant = c })) q
+          → LocatedHeld o (shared_elems g.variables) k (length (shared_sizes g.variables))
+          → SharedHeld (world_of w g ps) (store_or q (w.frame.opened + k)) o
       by (hold.Value t) c q f l = tt
       by (hold.Given e) c None f l = absurd f
       by (hold.Given e) c (Some (Values m)) f l = absurd f
@@ -242,7 +244,9 @@ breach_of B (y ∷ ys) (suc k) x e f b = inr (breach_of B ys k x e f b)
 pub fine_of : {A : Type 0} (P : A → Type 0) (xs : List A) (k : ℕ) (x : A) → All P xs → slice_get xs k ≡ Some x → P x
 fine_of P xs k x all e = subst P (get_or_from_slice_get xs k x x e) (all k x (slice_get_within xs k x e))
 
-module _ (program : Program) (some : 0 < gang_width program.gang) (few : gang_width program.gang ≤ widest) (fine : All (FineFunction program.functions) program.functions) (clean : NoneOf (OfEach (FunctionBreach program.functions) program.functions)) (most : ℕ) where
+module _ (program : Program) (some : 0 < gang_width program.gang) (few : gang_width program.gang ≤ widest)
+    (fine : All (FineFunction program.functions) program.functions) (clean : NoneOf (OfEach (FunctionBreach program.functions) program.functions))
+    (most : ℕ) where
   each_fine : (k : ℕ) (g : TFunction) → slice_get program.functions k ≡ Some g → FineFunction program.functions g
   each_fine k g e = fine_of (FineFunction program.functions) program.functions k g fine e
 
@@ -252,4 +256,9 @@ module _ (program : Program) (some : 0 < gang_width program.gang) (few : gang_wi
   pub calls_fit : (left : ℕ) → CallsFit (gang_width program.gang) program.functions (calls_at program most left)
   calls_fit zero k g e sp a ps w s i h = record { by = left_of (gang_width program.gang) w s h }
   calls_fit (suc left) k g e sp a ps w s i h =
-      subst (λ o. ValFits (gang_width program.gang) w (Fits (gang_width program.gang) (answer_elem g.answer)) (called program most (calls_at program most left) o a ps w.frame s)) (sym e) (ended_fits (gang_width program.gang) w g ps a s _ h (block_fits (gang_width program.gang) some few program.functions each_fine (calls_at program most left) (calls_fit left) (world_of w g ps) (stands_of (gang_width program.gang) w g ps i) most g.body (each_fine k g e).body at_start (each_clean k g e) a _ (begun_fits (gang_width program.gang) w g ps i a s h)))
+      subst (λ o. ValFits (gang_width program.gang) w (Fits (gang_width program.gang) (answer_elem g.answer))
+      (called program most (calls_at program most left) o a ps w.frame s)) (sym e)
+      (ended_fits (gang_width program.gang) w g ps a s _ h
+      (block_fits (gang_width program.gang) some few program.functions each_fine (calls_at program most left) (calls_fit left) (world_of w g ps)
+      (stands_of (gang_width program.gang) w g ps i) most g.body (each_fine k g e).body at_start (each_clean k g e) a _
+      (begun_fits (gang_width program.gang) w g ps i a s h)))

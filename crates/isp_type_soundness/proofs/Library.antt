@@ -74,7 +74,8 @@ module _ (gang : ℕ) (some : 0 < gang) (t : Elem) (a : Mask) where
 
   best_fits : (o : BinOp) (x : Payload) → Fits gang t x → or_zero (fold_below (best (op_bits o t)) None (spread a x) gang) < 2 ^ width t
   best_fits o x h =
-      zero_under (2 ^ width t) _ (pow_pos (width t)) (fold_holds (Under (2 ^ width t)) (2 ^ width t) (best (op_bits o t)) None (spread a x) gang tt (λ q b u l. best_under (2 ^ width t) (op_bits o t) (op_lt o) q b l) (spread_inside gang (2 ^ width t) a x h))
+      zero_under (2 ^ width t) _ (pow_pos (width t)) (fold_holds (Under (2 ^ width t)) (2 ^ width t) (best (op_bits o t)) None (spread a x) gang tt
+      (λ q b u l. best_under (2 ^ width t) (op_bits o t) (op_lt o) q b l) (spread_inside gang (2 ^ width t) a x h))
 
   scan_fits : (o : BinOp) (x : Payload) → neutral o t < 2 ^ width t → Fits gang t x → (p : ℕ) → p < gang → exclusive_scan o t (spread a x) p < 2 ^ width t
   scan_fits o x e h p l =
@@ -97,18 +98,33 @@ module _ (gang : ℕ) (some : 0 < gang) (t : Elem) (a : Mask) where
   library_fits library.ScanOr r ms h =
       λ p l. on_under (2 ^ width t) a (exclusive_scan op.Or t (spread a (argument ms 0))) p (scan_fits op.Or (argument ms 0) (pow_pos (width t)) (value_0 Own [] ms h) p l)
   library_fits library.Broadcast r ms h =
-      λ p l. on_under (2 ^ width t) a (broadcast gang (spread a (argument ms 0)) (number I32 (sole (argument ms 1)))) p (at_instance gang some (2 ^ width t) (pow_pos (width t)) (spread a (argument ms 0)) _ (spread_inside gang (2 ^ width t) a (argument ms 0) (value_0 Own (Number ∷ []) ms h)))
+      λ p l. on_under (2 ^ width t) a (broadcast gang (spread a (argument ms 0)) (number I32 (sole (argument ms 1)))) p
+      (at_instance gang some (2 ^ width t) (pow_pos (width t)) (spread a (argument ms 0)) _
+      (spread_inside gang (2 ^ width t) a (argument ms 0) (value_0 Own (Number ∷ []) ms h)))
   library_fits library.Rotate r ms h =
-      λ p l. on_under (2 ^ width t) a (rotate gang (spread a (argument ms 0)) (number I32 (sole (argument ms 1)))) p (at_instance gang some (2 ^ width t) (pow_pos (width t)) (spread a (argument ms 0)) _ (spread_inside gang (2 ^ width t) a (argument ms 0) (value_0 Own (Number ∷ []) ms h)))
+      λ p l. on_under (2 ^ width t) a (rotate gang (spread a (argument ms 0)) (number I32 (sole (argument ms 1)))) p
+      (at_instance gang some (2 ^ width t) (pow_pos (width t)) (spread a (argument ms 0)) _
+      (spread_inside gang (2 ^ width t) a (argument ms 0) (value_0 Own (Number ∷ []) ms h)))
   library_fits library.Shift r ms h =
-      λ p l. on_under (2 ^ width t) a (shift gang (spread a (argument ms 0)) (number I32 (sole (argument ms 1)))) p (within_lt gang some (2 ^ width t) (pow_pos (width t)) (spread a (argument ms 0)) (pos p +ℤ number I32 (sole (argument ms 1))) (spread_inside gang (2 ^ width t) a (argument ms 0) (value_0 Own (Number ∷ []) ms h)))
+      λ p l. on_under (2 ^ width t) a (shift gang (spread a (argument ms 0)) (number I32 (sole (argument ms 1)))) p
+      (within_lt gang some (2 ^ width t) (pow_pos (width t)) (spread a (argument ms 0)) (pos p +ℤ number I32 (sole (argument ms 1)))
+      (spread_inside gang (2 ^ width t) a (argument ms 0) (value_0 Own (Number ∷ []) ms h)))
   library_fits library.Shuffle r ms h =
-      λ p l. on_under (2 ^ width t) a (shuffle gang (spread a (argument ms 0)) (spread a (argument ms 1))) p (at_instance gang some (2 ^ width t) (pow_pos (width t)) (spread a (argument ms 0)) _ (spread_inside gang (2 ^ width t) a (argument ms 0) (value_0 Own (Index ∷ []) ms h)))
+      λ p l. on_under (2 ^ width t) a (shuffle gang (spread a (argument ms 0)) (spread a (argument ms 1))) p
+      (at_instance gang some (2 ^ width t) (pow_pos (width t)) (spread a (argument ms 0)) _
+      (spread_inside gang (2 ^ width t) a (argument ms 0) (value_0 Own (Index ∷ []) ms h)))
   library_fits library.ShuffleTwo r ms h =
-      λ p l. on_under (2 ^ width t) a (shuffle_two gang (spread a (argument ms 0)) (spread a (argument ms 1)) (spread a (argument ms 2))) p (two_lt gang some (2 ^ width t) (pow_pos (width t)) (spread a (argument ms 0)) (spread a (argument ms 1)) _ (instance_lt (2 * gang) _ (omega (arith, some))) (spread_inside gang (2 ^ width t) a (argument ms 0) (value_0 Own (Own ∷ Index ∷ []) ms h)) (spread_inside gang (2 ^ width t) a (argument ms 1) (value_1 Own Own (Index ∷ []) ms h)))
+      λ p l. on_under (2 ^ width t) a (shuffle_two gang (spread a (argument ms 0)) (spread a (argument ms 1)) (spread a (argument ms 2))) p
+      (two_lt gang some (2 ^ width t) (pow_pos (width t)) (spread a (argument ms 0)) (spread a (argument ms 1)) _
+      (instance_lt (2 * gang) _ (omega (arith, some))) (spread_inside gang (2 ^ width t) a (argument ms 0) (value_0 Own (Own ∷ Index ∷ []) ms h))
+      (spread_inside gang (2 ^ width t) a (argument ms 1) (value_1 Own Own (Index ∷ []) ms h)))
   library_fits library.Extract r ms h = at_instance gang some (2 ^ width t) (pow_pos (width t)) (spread a (argument ms 0)) _ (spread_inside gang (2 ^ width t) a (argument ms 0) (value_0 Own (Number ∷ []) ms h))
   library_fits library.Insert r ms h =
-      λ p l. on_under (2 ^ width t) a (insert gang (spread a (argument ms 0)) (number I32 (sole (argument ms 1))) (sole (argument ms 2))) p (insert_lt gang some (2 ^ width t) (pow_pos (width t)) (spread a (argument ms 0)) (number I32 (sole (argument ms 1))) (sole (argument ms 2)) p (sole_under gang (2 ^ width t) (pow_pos (width t)) (argument ms 2) (value_2 Own Number Same [] ms h)) (zero_under (2 ^ width t) _ (pow_pos (width t)) (spread_inside gang (2 ^ width t) a (argument ms 0) (value_0 Own (Number ∷ Same ∷ []) ms h) p l)))
+      λ p l. on_under (2 ^ width t) a (insert gang (spread a (argument ms 0)) (number I32 (sole (argument ms 1))) (sole (argument ms 2))) p
+      (insert_lt gang some (2 ^ width t) (pow_pos (width t)) (spread a (argument ms 0)) (number I32 (sole (argument ms 1))) (sole (argument ms 2))
+      p (sole_under gang (2 ^ width t) (pow_pos (width t)) (argument ms 2) (value_2 Own Number Same [] ms h))
+      (zero_under (2 ^ width t) _ (pow_pos (width t)) (spread_inside gang (2 ^ width t) a (argument ms 0) (value_0 Own (Number ∷ Same ∷ []) ms h)
+      p l)))
   library_fits library.Min r ms h = joined_bounded gang (2 ^ width t) (op_bits op.Min t) (op_lt op.Min) a (argument ms 0) (argument ms 1)
   library_fits library.Max r ms h = joined_bounded gang (2 ^ width t) (op_bits op.Max t) (op_lt op.Max) a (argument ms 0) (argument ms 1)
   library_fits library.Clamp r ms h = joined_bounded gang (2 ^ width t) (op_bits op.Min t) (op_lt op.Min) a _ (argument ms 2)

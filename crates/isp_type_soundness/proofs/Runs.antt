@@ -86,7 +86,8 @@ array_passes gang w p (hold.Value t) e b i k q s = true_false p.is_array k i.0
 array_passes gang w p (hold.Given u) e b i k q s = subst (IsStore w b) (q ∙ i.1) s
 array_passes gang w p (hold.Local t m) e b i k q s = i
 
-handed_fits : (gang : ℕ) (w : World) (n : ℕ) (vs : List Variable) (ps : List Parameter) (xs : List Argument) (b : ℕ) → AreParams ps (take n vs) → All IsDeclared (drop n vs) → has_signature ps xs ≡ true → StoresAre w b (rows xs) → ArgumentsFit gang w vs (handed b xs)
+handed_fits : (gang : ℕ) (w : World) (n : ℕ) (vs : List Variable) (ps : List Parameter) (xs : List Argument) (b : ℕ) → AreParams ps (take n vs)
+    → All IsDeclared (drop n vs) → has_signature ps xs ≡ true → StoresAre w b (rows xs) → ArgumentsFit gang w vs (handed b xs)
 handed_fits gang w n [] [] [] b a d e s = tt
 handed_fits gang w zero (v ∷ vs) [] [] b a d e s = d
 handed_fits gang w (suc n) (v ∷ vs) [] [] b a d e s = absurd a
@@ -124,7 +125,8 @@ given_fits gang w (Some t) (Gives (Each x) s) h = pow_pos (width t.elem)
 given_fits gang w (Some t) (Fails u s) h = tt
 given_fits gang w (Some t) (Stops s) h = tt
 
-module _ (program : Program) (f : ℕ) (h : TFunction) (xs : List Argument) (n : ℕ) (accepted : IsAccepted program) (is : slice_get program.functions f ≡ Some h) (signed : has_signature h.parameters xs ≡ true) (fit : All (λ r. Fit r.elem r.bits) (rows xs)) where
+module _ (program : Program) (f : ℕ) (h : TFunction) (xs : List Argument) (n : ℕ) (accepted : IsAccepted program)
+    (is : slice_get program.functions f ≡ Some h) (signed : has_signature h.parameters xs ≡ true) (fit : All (λ r. Fit r.elem r.bits) (rows xs)) where
   abbrev gang : ℕ
   gang = gang_width program.gang
 

@@ -20,8 +20,10 @@ use Rattle.isp_tree.specs.Sound.{IfAny}
 use Rattle.isp_tree.specs.declared.stmt.Jump.{Jump}
 use Rattle.isp_tree.specs.declared.stmt.Jump.TheVariants.{Break, Continue}
 use Rattle.isp_typed.specs.Fine.{FineExpr, FineTarget, FinePlace, FineValue, FineItem, FineSimple, FineFirst, FineRange, FineReturned, FineStmt, FineBlock, FineStmts, FineFunction}
-use Rattle.isp_typed.specs.Typed.{TExpr, elem_of, TPlace, t_variable, t_element, place_type, place_span, TItem, t_plain, t_with_value, t_with_size, TSimple, t_value, t_run, t_assign, t_update, t_step, TFirst, t_first_declare, t_first_simple, TRange, TFunction}
-use Rattle.isp_typed.specs.Typed.{TStmt, t_block, t_declare, t_simple, t_if, t_if_else, t_while, t_do, t_for, t_foreach, t_foreach_active, t_foreach_unique, t_unmasked, t_jump, t_return, t_print, t_assert, TBlock, t_braces, TStmts, t_no_stmts, t_stmt_then}
+use Rattle.isp_typed.specs.Typed.{TExpr, elem_of, TPlace, t_variable, t_element, place_type, place_span, TItem, t_plain, t_with_value, t_with_size, TSimple, t_value}
+use Rattle.isp_typed.specs.Typed.{t_run, t_assign, t_update, t_step, TFirst, t_first_declare, t_first_simple, TRange, TFunction}
+use Rattle.isp_typed.specs.Typed.{TStmt, t_block, t_declare, t_simple, t_if, t_if_else, t_while, t_do, t_for, t_foreach, t_foreach_active, t_foreach_unique}
+use Rattle.isp_typed.specs.Typed.{t_unmasked, t_jump, t_return, t_print, t_assert, TBlock, t_braces, TStmts, t_no_stmts, t_stmt_then}
 use Rattle.isp_rates.specs.Breaches.{OfAny, OfEach}
 use Rattle.isp_rates.specs.Rates.{ExprBreach, PlaceBreach}
 use Rattle.isp_rates.specs.Exits.{in_loop, in_foreach, in_turns, in_unmasked, returned_rate, ItemBreach, SimpleBreach, FirstBreach, RangeBreach, StmtBreach, BlockBreach, StmtsBreach}
@@ -33,10 +35,12 @@ use Rattle.isp_meaning.specs.Places.{Place, outside, held}
 use Rattle.isp_meaning.specs.Expressions.{Calls, value, place}
 use Rattle.isp_meaning.specs.Simple.{update, simple, item, items, first_part, step_part}
 use Rattle.isp_meaning.specs.Loops.{tested, turns}
-use Rattle.isp_meaning.specs.Rounds.{Round, rounds, round_of_one, active_rounds, members, if_listed, holders, firsts, round_of_value, unique_rounds, Range, Run, last_run, with_outer, joined_lists, round_of_run, runs_of, foreach_rounds, set_indices, counted}
+use Rattle.isp_meaning.specs.Rounds.{Round, rounds, round_of_one, active_rounds, members, if_listed, holders, firsts, round_of_value, unique_rounds, Range, Run}
+use Rattle.isp_meaning.specs.Rounds.{last_run, with_outer, joined_lists, round_of_run, runs_of, foreach_rounds, set_indices, counted}
 use Rattle.isp_meaning.specs.Statements.{all_go, branches, jumped, ranges, test_part, run, block, run_all}
 use Rattle.isp_type_soundness.proofs.Bounds.{Fits, wrap_lt, convert_lt, on_under, mapped_bounded}
-use Rattle.isp_type_soundness.proofs.Typing.{World, Stands, elem_if, elem_at, answer_elem, Sound, ValFits, ResFits, Any, PlaceFits, left_of, gives_fits, bind_fits, any_fits, with_fits, checked_fits, go_fits, if_fits, went_fits, unless_fits, written_fits, kept_fits, cleared_fits, answered_fits}
+use Rattle.isp_type_soundness.proofs.Typing.{World, Stands, elem_if, elem_at, answer_elem, Sound, ValFits, ResFits, Any, PlaceFits, left_of, gives_fits, bind_fits, any_fits, with_fits}
+use Rattle.isp_type_soundness.proofs.Typing.{checked_fits, go_fits, if_fits, went_fits, unless_fits, written_fits, kept_fits, cleared_fits, answered_fits}
 use Rattle.isp_type_soundness.proofs.Expressions.{NoneOf, demand_own, CallsFit, value_fits, place_fits, call_fits, values_any}
 
 -- ---- control
@@ -60,7 +64,9 @@ module _ (gang : ℕ) (w : World) where
   branches_fit : (a : Mask) (f g : Mask → State → Res) → BodiesFit f → BodiesFit g → (m : Payload) (s : State) → Sound gang w s → ResFits gang w (branches gang a f g m s)
   branches_fit a f g p q (One c) s h = if_fits gang w (is_true c) _ _ s (p a s h) (q a s h)
   branches_fit a f g p q (Each c) s h =
-      go_fits gang w _ _ (unless_fits gang w gang (where_true is_true c) s f (p _ s h) h) (λ s1 _ _ _ _ h1. go_fits gang w _ _ (unless_fits gang w gang (without a (where_true is_true c)) s1 g (q _ s1 h1) h1) (λ s2 _ _ _ _ h2. went_fits gang w s2 _ _ _ _ h2))
+      go_fits gang w _ _ (unless_fits gang w gang (where_true is_true c) s f (p _ s h) h)
+      (λ s1 _ _ _ _ h1. go_fits gang w _ _ (unless_fits gang w gang (without a (where_true is_true c)) s1 g (q _ s1 h1) h1)
+      (λ s2 _ _ _ _ h2. went_fits gang w s2 _ _ _ _ h2))
 
   module _ (test : Mask → State → Val Payload) (body : Mask → State → Res) (step : Mask → State → Val Done) (all : Mask) (tests : TestsFit test) (bodies : BodiesFit body) (steps : StepsFit step) where
     tested_fits : (turn : Mask → Mask → State → Res) → TurnsFit turn → (live r : Mask) (s : State) → Sound gang w s → ResFits gang w (tested gang test body step all turn live r s)
@@ -70,7 +76,9 @@ module _ (gang : ℕ) (w : World) where
     turns_fit : (n : ℕ) → TurnsFit (turns gang test body step all n)
     turns_fit zero k r s h = record { by = left_of gang w s h }
     turns_fit (suc n) k r s h =
-        go_fits gang w _ _ (bodies k (tick s) h) (λ s1 g b c r1 h1. if_fits gang w (any gang (union g c)) _ _ s1 (with_fits gang w (Any gang w) _ _ (steps (union g c) s1 h1) (λ _ s2 _ h2. tested_fits _ (turns_fit n) (union g c) (union r r1) s2 h2)) (went_fits gang w s1 _ _ _ _ h1))
+        go_fits gang w _ _ (bodies k (tick s) h) (λ s1 g b c r1 h1. if_fits gang w (any gang (union g c)) _ _ s1
+        (with_fits gang w (Any gang w) _ _ (steps (union g c) s1 h1) (λ _ s2 _ h2. tested_fits _ (turns_fit n) (union g c) (union r r1) s2 h2))
+        (went_fits gang w s1 _ _ _ _ h1))
 
   -- ---- rounds
 
@@ -176,23 +184,37 @@ module _ (gang : ℕ) (some : 0 < gang) (few : gang ≤ widest) (fs : List TFunc
 
   update_fits : (op : BinOp) (t : Elem) (q : TPlace) (r : Place) (y : Payload) (sp : Span) (a : Mask) (s : State) → PlaceFits gang w (place_type q).elem r → Sound gang w s → ValFits gang w (Any gang w) (update gang w.frame calls op t q r y sp a s)
   update_fits op t q r y sp a s k h =
-      bind_fits gang w (Any gang w) (Any gang w) _ _ (checked_fits gang w (Any gang w) (outside gang w.frame r a) Index (place_span q) s (held gang w.frame r a s) tt h) (λ x s1 _ h1. bind_fits gang w (Any gang w) (Any gang w) _ _ (checked_fits gang w (Any gang w) (offender gang (is_zero op t) a y) Divide sp s1 _ tt h1) (λ z s2 _ h2. gives_fits gang w (Any gang w) tt _ tt (kept_fits gang w (place_type q).elem r a (mapped (converted t (place_type q).elem) z) s2 k (mapped_bounded gang (2 ^ width (place_type q).elem) (converted t (place_type q).elem) (λ i. convert_lt (place_type q).elem _) z) h2)))
+      bind_fits gang w (Any gang w) (Any gang w) _ _ (checked_fits gang w (Any gang w) (outside gang w.frame r a) Index (place_span q) s
+      (held gang w.frame r a s) tt h) (λ x s1 _ h1. bind_fits gang w (Any gang w) (Any gang w) _ _
+      (checked_fits gang w (Any gang w) (offender gang (is_zero op t) a y) Divide sp s1 _ tt h1)
+      (λ z s2 _ h2. gives_fits gang w (Any gang w) tt _ tt
+      (kept_fits gang w (place_type q).elem r a (mapped (converted t (place_type q).elem) z) s2 k
+      (mapped_bounded gang (2 ^ width (place_type q).elem) (converted t (place_type q).elem) (λ i. convert_lt (place_type q).elem _) z) h2)))
 
   simple_fits : (x : TSimple) → FineSimple fs w.variables x → NoneOf (SimpleBreach fs x) → (a : Mask) (s : State) → Sound gang w s → ValFits gang w (Any gang w) (simple gang w.frame calls x a s)
   simple_fits (t_value x) f n a s h = bind_fits gang w (Any gang w) (Any gang w) _ _ (plain_fits x f n a (tick s) h) (λ m s1 _ h1. gives_fits gang w (Any gang w) tt s1 tt h1)
   simple_fits (t_run c) f n a s h =
       bind_fits gang w (Fits gang Truth) (Any gang w) _ _ (call_fits gang some few fs each calls fit w stands c None f n a (tick s) h) (λ m s1 _ h1. gives_fits gang w (Any gang w) tt s1 tt h1)
   simple_fits (t_assign q x sp) f n a s h =
-      bind_fits gang w (PlaceFits gang w (place_type q).elem) (Any gang w) _ _ (target_fits q f.0 (λ e b. n e (inl b)) a (tick s) h) (λ r s1 k h1. bind_fits gang w (Fits gang (place_type q).elem) (Any gang w) _ _ (typed_fits (place_type q).elem x f.1 (demand_own (place_type q).rate x (ExprBreach fs x) (λ e b. n e (inr b))) a s1 h1) (λ m s2 i h2. bind_fits gang w (Fits gang (place_type q).elem) (Any gang w) _ _ (checked_fits gang w (Fits gang (place_type q).elem) (outside gang w.frame r a) Index (place_span q) s2 m i h2) (λ u s3 j h3. gives_fits gang w (Any gang w) tt _ tt (kept_fits gang w (place_type q).elem r a u s3 k j h3))))
+      bind_fits gang w (PlaceFits gang w (place_type q).elem) (Any gang w) _ _ (target_fits q f.0 (λ e b. n e (inl b)) a (tick s) h)
+      (λ r s1 k h1. bind_fits gang w (Fits gang (place_type q).elem) (Any gang w) _ _
+      (typed_fits (place_type q).elem x f.1 (demand_own (place_type q).rate x (ExprBreach fs x) (λ e b. n e (inr b))) a s1 h1)
+      (λ m s2 i h2. bind_fits gang w (Fits gang (place_type q).elem) (Any gang w) _ _
+      (checked_fits gang w (Fits gang (place_type q).elem) (outside gang w.frame r a) Index (place_span q) s2 m i h2)
+      (λ u s3 j h3. gives_fits gang w (Any gang w) tt _ tt (kept_fits gang w (place_type q).elem r a u s3 k j h3))))
   simple_fits (t_update op t q x sp) f n a s h =
-      bind_fits gang w (PlaceFits gang w (place_type q).elem) (Any gang w) _ _ (target_fits q f.0 (λ e b. n e (inl b)) a (tick s) h) (λ r s1 k h1. bind_fits gang w (Any gang w) (Any gang w) _ _ (plain_fits x f.1.0 (demand_own (place_type q).rate x (ExprBreach fs x) (λ e b. n e (inr b))) a s1 h1) (λ y s2 _ h2. update_fits op t q r y sp a s2 k h2))
+      bind_fits gang w (PlaceFits gang w (place_type q).elem) (Any gang w) _ _ (target_fits q f.0 (λ e b. n e (inl b)) a (tick s) h)
+      (λ r s1 k h1. bind_fits gang w (Any gang w) (Any gang w) _ _
+      (plain_fits x f.1.0 (demand_own (place_type q).rate x (ExprBreach fs x) (λ e b. n e (inr b))) a s1 h1)
+      (λ y s2 _ h2. update_fits op t q r y sp a s2 k h2))
   simple_fits (t_step op t q sp) f n a s h =
       bind_fits gang w (PlaceFits gang w (place_type q).elem) (Any gang w) _ _ (target_fits q f.0 n a (tick s) h) (λ r s1 k h1. update_fits op t q r (One 1) sp a s1 k h1)
 
   item_fits : (x : TItem) → FineItem fs w.variables x → NoneOf (ItemBreach fs x) → (a : Mask) (s : State) → Sound gang w s → ValFits gang w (Any gang w) (item gang w.frame calls x a s)
   item_fits (t_plain v t sp) f n a s h = gives_fits gang w (Any gang w) tt _ tt (written_fits gang w t.elem t.rate v a (One 0) (tick s) (ap elem_if f.is) (pow_pos (width t.elem)) h)
   item_fits (t_with_value v t x sp) f n a s h =
-      bind_fits gang w (Fits gang t.elem) (Any gang w) _ _ (typed_fits t.elem x f.1 (demand_own t.rate x (ExprBreach fs x) n) a (tick s) h) (λ m s1 k h1. gives_fits gang w (Any gang w) tt _ tt (written_fits gang w t.elem t.rate v a m s1 (ap elem_if f.0.is) k h1))
+      bind_fits gang w (Fits gang t.elem) (Any gang w) _ _ (typed_fits t.elem x f.1 (demand_own t.rate x (ExprBreach fs x) n) a (tick s) h)
+      (λ m s1 k h1. gives_fits gang w (Any gang w) tt _ tt (written_fits gang w t.elem t.rate v a m s1 (ap elem_if f.0.is) k h1))
   item_fits (t_with_size b sp) f n a s h = gives_fits gang w (Any gang w) tt _ tt (cleared_fits gang w b.ty.rate b.number a (tick s) h)
 
   items_fit : (xs : List TItem) → All (FineItem fs w.variables) xs → NoneOf (OfEach (ItemBreach fs) xs) → (a : Mask) (s : State) → Sound gang w s → ValFits gang w (Any gang w) (items gang w.frame calls xs a s)
@@ -217,7 +239,13 @@ module _ (gang : ℕ) (some : 0 < gang) (few : gang ≤ widest) (fs : List TFunc
   ranges_fit [] f n a s h = gives_fits gang w (RangesFit gang w) [] s tt h
   ranges_fit (r ∷ rs) f n a s h =
       let fine = All-head (FineRange fs w.variables) r rs f in
-      bind_fits gang w (Any gang w) (RangesFit gang w) _ _ (plain_fits r.start fine.start.0 (demand_own Uniform r.start (ExprBreach fs r.start) (λ e b. n e (inl (inl b)))) a s h) (λ m s1 _ h1. bind_fits gang w (Any gang w) (RangesFit gang w) _ _ (plain_fits r.end fine.end.0 (demand_own Uniform r.end (ExprBreach fs r.end) (λ e b. n e (inl (inr b)))) a s1 h1) (λ u s2 _ h2. bind_fits gang w (RangesFit gang w) (RangesFit gang w) _ _ (ranges_fit rs (All-tail (FineRange fs w.variables) r rs f) (λ e b. n e (inr b)) a s2 h2) (λ xs s3 k h3. gives_fits gang w (RangesFit gang w) _ s3 (ap elem_if fine.index, k) h3)))
+      bind_fits gang w (Any gang w) (RangesFit gang w) _ _
+      (plain_fits r.start fine.start.0 (demand_own Uniform r.start (ExprBreach fs r.start) (λ e b. n e (inl (inl b)))) a s h)
+      (λ m s1 _ h1. bind_fits gang w (Any gang w) (RangesFit gang w) _ _
+      (plain_fits r.end fine.end.0 (demand_own Uniform r.end (ExprBreach fs r.end) (λ e b. n e (inl (inr b)))) a s1 h1)
+      (λ u s2 _ h2. bind_fits gang w (RangesFit gang w) (RangesFit gang w) _ _
+      (ranges_fit rs (All-tail (FineRange fs w.variables) r rs f) (λ e b. n e (inr b)) a s2 h2)
+      (λ xs s3 k h3. gives_fits gang w (RangesFit gang w) _ s3 (ap elem_if fine.index, k) h3)))
 
   returned_fine : (o : Option Ty) (x : TExpr) → FineReturned fs w.variables o (Some x) → FineValue fs w.variables (answer_elem o) x
   returned_fine None x f = absurd f
@@ -234,13 +262,22 @@ module _ (gang : ℕ) (some : 0 < gang) (few : gang ≤ widest) (fs : List TFunc
       run_fits (t_if_else o k e x y sp) f i n a s h =
           with_fits gang w (Any gang w) _ _ (plain_fits e f.1.0 (λ z b. n z (inl b)) a (tick s) h) (λ m s1 _ h1. branches_fit gang w a _ _ (run_fits x f.2 i (λ z b. n z (inr (inl b)))) (run_fits y f.3 i (λ z b. n z (inr (inr b)))) m s1 h1)
       run_fits (t_while o k e x sp) f i n a s h =
-          tested_fits gang w _ _ _ a (plain_fits e f.1.0 (λ z b. n z (inl b))) (run_fits x f.2 (in_loop i) (λ z b. n z (inr b))) (λ l s1 h1. gives_fits gang w (Any gang w) tt s1 tt h1) _ (turns_fit gang w _ _ _ a (plain_fits e f.1.0 (λ z b. n z (inl b))) (run_fits x f.2 (in_loop i) (λ z b. n z (inr b))) (λ l s1 h1. gives_fits gang w (Any gang w) tt s1 tt h1) most) a nobody (tick s) h
+          tested_fits gang w _ _ _ a (plain_fits e f.1.0 (λ z b. n z (inl b))) (run_fits x f.2 (in_loop i) (λ z b. n z (inr b)))
+          (λ l s1 h1. gives_fits gang w (Any gang w) tt s1 tt h1) _
+          (turns_fit gang w _ _ _ a (plain_fits e f.1.0 (λ z b. n z (inl b))) (run_fits x f.2 (in_loop i) (λ z b. n z (inr b)))
+          (λ l s1 h1. gives_fits gang w (Any gang w) tt s1 tt h1) most) a nobody (tick s) h
       run_fits (t_do o k x e sp) f i n a s h =
           turns_fit gang w _ _ _ a (plain_fits e f.2.0 (λ z b. n z (inr b))) (run_fits x f.1 (in_loop i) (λ z b. n z (inl b))) (λ l s1 h1. gives_fits gang w (Any gang w) tt s1 tt h1) most a nobody (tick s) h
       run_fits (t_for o k first e step inside x sp) f i n a s h =
-          with_fits gang w (Any gang w) _ _ (first_fits first f.2 (λ z b. n z (inl b)) a (tick s) h) (λ _ s1 _ h1. tested_fits gang w _ _ _ a (test_fits e f.3 (λ z b. n z (inr (inl b)))) (run_fits x f.5 (in_loop i) (λ z b. n z (inr (inr (inr b))))) (step_fits step f.4 (λ z b. n z (inr (inr (inl b))))) _ (turns_fit gang w _ _ _ a (test_fits e f.3 (λ z b. n z (inr (inl b)))) (run_fits x f.5 (in_loop i) (λ z b. n z (inr (inr (inr b))))) (step_fits step f.4 (λ z b. n z (inr (inr (inl b))))) most) a nobody s1 h1)
+          with_fits gang w (Any gang w) _ _ (first_fits first f.2 (λ z b. n z (inl b)) a (tick s) h)
+          (λ _ s1 _ h1. tested_fits gang w _ _ _ a (test_fits e f.3 (λ z b. n z (inr (inl b))))
+          (run_fits x f.5 (in_loop i) (λ z b. n z (inr (inr (inr b))))) (step_fits step f.4 (λ z b. n z (inr (inr (inl b))))) _
+          (turns_fit gang w _ _ _ a (test_fits e f.3 (λ z b. n z (inr (inl b)))) (run_fits x f.5 (in_loop i) (λ z b. n z (inr (inr (inr b)))))
+          (step_fits step f.4 (λ z b. n z (inr (inr (inl b))))) most) a nobody s1 h1)
       run_fits (t_foreach o k rs x sp) f i n a s h =
-          with_fits gang w (RangesFit gang w) _ _ (ranges_fit rs f.1 (λ z b. n z (inr (inl b))) a (tick s) h) (λ xs s1 q h1. rounds_fit gang w _ (run_fits x f.2 (in_foreach i) (λ z b. n z (inr (inr b)))) a (foreach_rounds gang xs) (runs_rounds gang w (runs_of gang xs) (runs_fit gang w xs q)) (record s1 { work = s1.work + counted gang 1 xs }) h1)
+          with_fits gang w (RangesFit gang w) _ _ (ranges_fit rs f.1 (λ z b. n z (inr (inl b))) a (tick s) h)
+          (λ xs s1 q h1. rounds_fit gang w _ (run_fits x f.2 (in_foreach i) (λ z b. n z (inr (inr b)))) a (foreach_rounds gang xs)
+          (runs_rounds gang w (runs_of gang xs) (runs_fit gang w xs q)) (record s1 { work = s1.work + counted gang 1 xs }) h1)
       run_fits (t_foreach_active o k v x sp) f i n a s h =
           rounds_fit gang w _ (run_fits x f.2 (in_turns i) n) a (active_rounds gang v a) (active_fit gang w few v (ap elem_if f.1) (members gang a) (members_below gang w gang a (omega arith))) (tick s) h
       run_fits (t_foreach_unique o k v t e x sp) f i n a s h =
@@ -251,7 +288,10 @@ module _ (gang : ℕ) (some : 0 < gang) (few : gang ≤ widest) (fs : List TFunc
       run_fits (t_jump j o sp) f i n a s h = jumped_fits gang w j a (tick s) h
       run_fits (t_return o None sp) f i n a s h = went_fits gang w (tick s) _ _ _ _ h
       run_fits (t_return o (Some x) sp) f i n a s h =
-          with_fits gang w (Fits gang (answer_elem w.frame.answer)) _ _ (typed_fits (answer_elem w.frame.answer) x (returned_fine w.frame.answer x f) (demand_own (returned_rate w.frame.answer) x (ExprBreach fs x) (λ z b. n z (inr b))) a (tick s) h) (λ m s1 k h1. went_fits gang w _ _ _ _ _ (answered_fits gang w w.frame.answer a m s1 refl k h1))
+          with_fits gang w (Fits gang (answer_elem w.frame.answer)) _ _
+          (typed_fits (answer_elem w.frame.answer) x (returned_fine w.frame.answer x f)
+          (demand_own (returned_rate w.frame.answer) x (ExprBreach fs x) (λ z b. n z (inr b))) a (tick s) h)
+          (λ m s1 k h1. went_fits gang w _ _ _ _ _ (answered_fits gang w w.frame.answer a m s1 refl k h1))
       run_fits (t_print o text xs sp) f i n a s h =
           with_fits gang w (Any gang w) _ _ (values_any gang some few fs each calls fit w stands xs f.1 n a (tick s) h) (λ ms s1 _ h1. went_fits gang w _ _ _ _ _ h1)
       run_fits (t_assert x c sp) f i n a s h =
@@ -263,4 +303,6 @@ module _ (gang : ℕ) (some : 0 < gang) (few : gang ≤ widest) (fs : List TFunc
       run_all_fit : (xs : TStmts) → FineStmts fs w.variables w.frame.answer xs → (i : Within) → NoneOf (StmtsBreach fs w.frame.answer i xs) → BodiesFit gang w (run_all gang w.frame calls most xs)
       run_all_fit t_no_stmts f i n a s h = went_fits gang w s _ _ _ _ h
       run_all_fit (t_stmt_then x xs) f i n a s h =
-          go_fits gang w _ _ (run_fits x f.0 i (λ z b. n z (inl b)) a s h) (λ s1 g _ _ _ h1. go_fits gang w _ _ (unless_fits gang w gang g s1 (run_all gang w.frame calls most xs) (run_all_fit xs f.1 i (λ z b. n z (inr b)) g s1 h1) h1) (λ s2 _ _ _ _ h2. went_fits gang w s2 _ _ _ _ h2))
+          go_fits gang w _ _ (run_fits x f.0 i (λ z b. n z (inl b)) a s h)
+          (λ s1 g _ _ _ h1. go_fits gang w _ _ (unless_fits gang w gang g s1 (run_all gang w.frame calls most xs)
+          (run_all_fit xs f.1 i (λ z b. n z (inr b)) g s1 h1) h1) (λ s2 _ _ _ _ h2. went_fits gang w s2 _ _ _ _ h2))

@@ -9,11 +9,15 @@ use Rattle.isp_base.specs.declared.types.Rate.{Rate}
 use Rattle.isp_base.specs.declared.types.Rate.TheVariants.{Uniform}
 use Rattle.isp_base.specs.declared.types.Ty.{Ty}
 use Rattle.isp_tree.specs.Sound.{IfAny}
-use Rattle.isp_typed.specs.Fine.{FineExpr, FinePlace, FineBase, FineCall, FineArguments, FineArgument, FineParts, FineValue, FineTarget, FineItem, FineSimple, FineFirst, FineRange, FineReturned, FineStmt, FineBlock, FineStmts, FineFunction, params_of}
+use Rattle.isp_typed.specs.Fine.{FineExpr, FinePlace, FineBase, FineCall, FineArguments, FineArgument, FineParts, FineValue, FineTarget, FineItem, FineSimple}
+use Rattle.isp_typed.specs.Fine.{FineFirst, FineRange, FineReturned, FineStmt, FineBlock, FineStmts, FineFunction, params_of}
 use Rattle.isp_typed.specs.Library.{parts}
-use Rattle.isp_typed.specs.Typed.{TExpr, t_constant, t_program_index, t_place, t_convert, t_cast, t_unary, t_binary, t_compare, t_logic, t_choose, t_call, t_library, t_packed_store, t_packed_load, TPlace, t_variable, t_element, TBase, t_whole, t_from, TArgument, t_by_value, t_by_name, TCall, t_called, TArguments, t_no_arguments, t_argument_then, TExprs, t_no_exprs, t_expr_then, place_type, TFunction}
+use Rattle.isp_typed.specs.Typed.{TExpr, t_constant, t_program_index, t_place, t_convert, t_cast, t_unary, t_binary, t_compare, t_logic, t_choose, t_call, t_library}
+use Rattle.isp_typed.specs.Typed.{t_packed_store, t_packed_load, TPlace, t_variable, t_element, TBase, t_whole, t_from, TArgument, t_by_value, t_by_name, TCall, t_called}
+use Rattle.isp_typed.specs.Typed.{TArguments, t_no_arguments, t_argument_then, TExprs, t_no_exprs, t_expr_then, place_type, TFunction}
 use Rattle.isp_typed.specs.Typed.{TItem, t_plain, t_with_value, t_with_size, TSimple, t_value, t_run, t_assign, t_update, t_step, TFirst, t_first_declare, t_first_simple, TRange}
-use Rattle.isp_typed.specs.Typed.{TStmt, t_block, t_declare, t_simple, t_if, t_if_else, t_while, t_do, t_for, t_foreach, t_foreach_active, t_foreach_unique, t_unmasked, t_jump, t_return, t_print, t_assert, TBlock, t_braces, TStmts, t_no_stmts, t_stmt_then}
+use Rattle.isp_typed.specs.Typed.{TStmt, t_block, t_declare, t_simple, t_if, t_if_else, t_while, t_do, t_for, t_foreach, t_foreach_active, t_foreach_unique}
+use Rattle.isp_typed.specs.Typed.{t_unmasked, t_jump, t_return, t_print, t_assert, TBlock, t_braces, TStmts, t_no_stmts, t_stmt_then}
 use Rattle.isp_typed.specs.declared.library.Part.{Part}
 use Rattle.isp_typed.specs.declared.variable.Holds.{Holds}
 use Rattle.isp_typed.specs.declared.variable.Holds.TheVariants as hold
@@ -23,7 +27,8 @@ use Rattle.isp_rates.specs.Breaches.{OfAny, OfEach}
 use Rattle.isp_rates.specs.Rates.{next_rate, later, variables_of, ExprBreach, PlaceBreach, BaseBreach, ArgumentBreach, CallBreach, ArgumentsBreach, ValuesBreach}
 use Rattle.isp_rates.specs.Exits.{at_start, in_loop, in_foreach, in_turns, in_unmasked, returned_rate, ItemBreach, SimpleBreach, FirstBreach, RangeBreach, StmtBreach, BlockBreach, StmtsBreach}
 use Rattle.isp_rates.specs.Program.{FunctionBreach}
-use Rattle.isp_type_soundness.specs.Through.{ThroughExpr, ThroughPlace, ThroughBase, ThroughArgument, ThroughCall, ThroughArguments, ThroughValues, ThroughList, ThroughItem, ThroughItems, ThroughSimple, ThroughFirst, ThroughRanges, ThroughStmt, ThroughBlock, ThroughStmts}
+use Rattle.isp_type_soundness.specs.Through.{ThroughExpr, ThroughPlace, ThroughBase, ThroughArgument, ThroughCall, ThroughArguments, ThroughValues, ThroughList, ThroughItem}
+use Rattle.isp_type_soundness.specs.Through.{ThroughItems, ThroughSimple, ThroughFirst, ThroughRanges, ThroughStmt, ThroughBlock, ThroughStmts}
 use Rattle.isp_type_soundness.specs.Uniform.{IsAcceptedExpr, BodiesAccepted}
 use Rattle.isp_type_soundness.proofs.Expressions.{NoneOf, demand_own}
 use Rattle.isp_type_soundness.proofs.Calls.{breach_of, fine_of}
@@ -121,8 +126,13 @@ module _ (fs : List TFunction) (vars : List Variable) where
   through_ranges : (rs : List TRange) → All (FineRange fs vars) rs → NoneOf (OfEach (RangeBreach fs) rs) → ThroughRanges Ok rs
   through_ranges [] f n = tt
   through_ranges (r ∷ rs) f n =
-      let fine = All-head (FineRange fs vars) r rs f in
-      (through_expr r.start fine.start.0 (demand_own Uniform r.start (ExprBreach fs r.start) (λ e b. n e (inl (inl b)))), through_expr r.end fine.end.0 (demand_own Uniform r.end (ExprBreach fs r.end) (λ e b. n e (inl (inr b)))), through_ranges rs (All-tail (FineRange fs vars) r rs f) (λ e b. n e (inr b)))
+      let fine = All-head (FineRange fs vars) r rs f in (
+        through_expr r.start fine.start.0 (demand_own Uniform r.start (ExprBreach fs r.start) (λ e b. n e (inl (inl b)))),
+        through_expr r.end
+            fine.end.0 (demand_own Uniform r.end (ExprBreach fs r.end) (λ e b. n e (inl (inr b)))),
+        through_ranges rs
+            (All-tail (FineRange fs vars) r rs f) (λ e b. n e (inr b)),
+      )
 
   module _ (answer : Option Ty) where
     returned_fine : (o : Option Ty) (x : TExpr) → FineReturned fs vars o (Some x) → FineExpr fs vars x

@@ -226,7 +226,9 @@ module _ (gang : ℕ) (w : World) where
   written_fits e Varying v a x s k q h =
       record {
         uniforms = h.uniforms;
-        varying = put_holds (λ i f. (p : ℕ) → p < gang → f p < 2 ^ width (elem_at w i)) s.varying v (over (spread a x) (s.varying v)) (λ p l. back _ k (old_under (2 ^ width e) (spread a x p) (s.varying v p) (spread_inside gang (2 ^ width e) a x q p l) (as_elem _ k (h.varying v p l)))) h.varying;
+        varying = put_holds (λ i f. (p : ℕ) → p < gang → f p < 2 ^ width (elem_at w i)) s.varying v (over (spread a x) (s.varying v))
+            (λ p l. back _ k (old_under (2 ^ width e) (spread a x p) (s.varying v p) (spread_inside gang (2 ^ width e) a x q p l)
+            (as_elem _ k (h.varying v p l)))) h.varying;
         own = h.own;
         result = h.result;
         results = h.results;
@@ -288,4 +290,13 @@ module _ (gang : ℕ) (w : World) where
       by Uniform =
           record { uniforms = h.uniforms; varying = h.varying; own = h.own; result = as_elem _ same (sole_under gang (2 ^ width t.elem) (pow_pos (width t.elem)) x i); results = h.results; arrays = h.arrays }
       by Varying =
-          record { uniforms = h.uniforms; varying = h.varying; own = h.own; result = h.result; results = λ p l. as_elem _ same (old_under (2 ^ width t.elem) (spread a x p) (s.results p) (spread_inside gang (2 ^ width t.elem) a x i p l) (back _ same (h.results p l))); arrays = h.arrays }
+          record {
+            uniforms = h.uniforms;
+            varying = h.varying;
+            own = h.own;
+            result = h.result;
+            results = λ p l. as_elem _ same
+                (old_under (2 ^ width t.elem) (spread a x p) (s.results p) (spread_inside gang (2 ^ width t.elem) a x i p l)
+                (back _ same (h.results p l)));
+            arrays = h.arrays;
+          }

@@ -15,7 +15,8 @@ use Rattle.isp_base.specs.declared.trap.TrapKind.TheVariants.{Divide, Index}
 use Rattle.isp_lex.specs.declared.fault.Fault.{Fault}
 use Rattle.isp_typed.specs.Fine.{FineExpr, FinePlace, FineCall, FineParts, rates_of}
 use Rattle.isp_typed.specs.Library.{parts, library_type}
-use Rattle.isp_typed.specs.Typed.{TExpr, t_constant, t_program_index, t_place, t_convert, t_cast, t_unary, t_binary, t_compare, t_logic, t_choose, t_call, t_library, t_packed_store, t_packed_load, TPlace, t_variable, t_element, TCall, t_called, TExprs, t_no_exprs, t_expr_then, rate_of, rate_or, span_of, place_type, place_span, TFunction, Program}
+use Rattle.isp_typed.specs.Typed.{TExpr, t_constant, t_program_index, t_place, t_convert, t_cast, t_unary, t_binary, t_compare, t_logic, t_choose, t_call, t_library, t_packed_store, t_packed_load, TPlace}
+use Rattle.isp_typed.specs.Typed.{t_variable, t_element, TCall, t_called, TExprs, t_no_exprs, t_expr_then, rate_of, rate_or, span_of, place_type, place_span, TFunction, Program}
 use Rattle.isp_typed.specs.declared.library.Library.{Library}
 use Rattle.isp_typed.specs.declared.library.Library.TheVariants as library
 use Rattle.isp_typed.specs.declared.library.Part.{Part}
@@ -174,7 +175,9 @@ module _ (gang : ℕ) (a : Mask) (some : any gang a ≡ true) where
   logic_sole l (One x) s f h k = bind_by (λ n. needs l x ≡ true → Sole n) Sole _ _ (later_sole (needs l x) s f k) (λ n s2 j. gives (settled_sole (needs l x) x n j))
   logic_sole l (Each x) s f h k = absurd h
 
-  choose_sole : (c : Payload) (s : State) (f g : Mask → State → Val Payload) → Sole c → ((s : State) → By Sole (f a s)) → ((s : State) → By Sole (g a s)) → By Sole (bind (value_unless_empty gang (kept_by is_true a c) s f) (λ m s2. bind (value_unless_empty gang (kept_by is_false a c) s2 g) (λ n s3. Gives (selected a c m n) s3)))
+  choose_sole : (c : Payload) (s : State) (f g : Mask → State → Val Payload) → Sole c → ((s : State) → By Sole (f a s))
+      → ((s : State) → By Sole (g a s)) → By Sole (bind (value_unless_empty gang (kept_by is_true a c) s f)
+      (λ m s2. bind (value_unless_empty gang (kept_by is_false a c) s2 g) (λ n s3. Gives (selected a c m n) s3)))
   choose_sole (One c) s f g h k j =
       bind_by (λ m. is_true c ≡ true → Sole m) Sole _ _ (later_sole (is_true c) s f (k s)) (λ m s2 u. bind_by (λ n. is_false c ≡ true → Sole n) Sole _ _ (later_sole (is_false c) s2 g (j s2)) (λ n s3 w. gives (selected_sole (is_true c) m n u w)))
   choose_sole (Each c) s f g h k j = absurd h
@@ -199,21 +202,31 @@ module _ (gang : ℕ) (fs : List TFunction) (vars : List Variable) (frame : Fram
         bind_by Sole Sole _ _ (value_sole x f.0 n (ap (λ z. z.rate) f.1 ∙ e) (tick s)) (λ m s1 k. gives (mapped_sole _ m k))
     value_sole (t_binary op x y t sp) f n e s =
         let rates : rate_or (rate_of x) (rate_of y) ≡ Uniform = sym f.2.rate ∙ e in
-        bind_by Sole Sole _ _ (value_sole x f.0 (λ g b. n g (inl b)) (or_left (rate_of x) (rate_of y) rates) (tick s)) (λ m s1 k. bind_by Sole Sole _ _ (value_sole y f.1 (λ g b. n g (inr b)) (or_right (rate_of x) (rate_of y) rates) s1) (λ u s2 j. checked_by Sole (offender gang (is_zero op t.elem) a u) Divide sp s2 _ (joined_sole _ a m u k j)))
+        bind_by Sole Sole _ _ (value_sole x f.0 (λ g b. n g (inl b)) (or_left (rate_of x) (rate_of y) rates) (tick s))
+        (λ m s1 k. bind_by Sole Sole _ _ (value_sole y f.1 (λ g b. n g (inr b)) (or_right (rate_of x) (rate_of y) rates) s1)
+        (λ u s2 j. checked_by Sole (offender gang (is_zero op t.elem) a u) Divide sp s2 _ (joined_sole _ a m u k j)))
     value_sole (t_compare c x y r sp) f n e s =
         let rates : rate_or (rate_of x) (rate_of y) ≡ Uniform = sym f.2.rate ∙ e in
-        bind_by Sole Sole _ _ (value_sole x f.0 (λ g b. n g (inl b)) (or_left (rate_of x) (rate_of y) rates) (tick s)) (λ m s1 k. bind_by Sole Sole _ _ (value_sole y f.1 (λ g b. n g (inr b)) (or_right (rate_of x) (rate_of y) rates) s1) (λ u s2 j. gives (joined_sole _ a m u k j)))
+        bind_by Sole Sole _ _ (value_sole x f.0 (λ g b. n g (inl b)) (or_left (rate_of x) (rate_of y) rates) (tick s))
+        (λ m s1 k. bind_by Sole Sole _ _ (value_sole y f.1 (λ g b. n g (inr b)) (or_right (rate_of x) (rate_of y) rates) s1)
+        (λ u s2 j. gives (joined_sole _ a m u k j)))
     value_sole (t_logic l x y r sp) f n e s =
         let rates : rate_or (rate_of x) (rate_of y) ≡ Uniform = sym f.2.rate ∙ e in
-        bind_by Sole Sole _ _ (value_sole x f.0 (λ g b. n g (inl b)) (or_left (rate_of x) (rate_of y) rates) (tick s)) (λ m s1 k. logic_sole gang a some l m s1 (value gang frame calls y) k (value_sole y f.1 (λ g b. n g (inr b)) (or_right (rate_of x) (rate_of y) rates) s1))
+        bind_by Sole Sole _ _ (value_sole x f.0 (λ g b. n g (inl b)) (or_left (rate_of x) (rate_of y) rates) (tick s))
+        (λ m s1 k. logic_sole gang a some l m s1 (value gang frame calls y) k
+        (value_sole y f.1 (λ g b. n g (inr b)) (or_right (rate_of x) (rate_of y) rates) s1))
     value_sole (t_choose c x y t sp) f n e s =
         let rates : rate_or (rate_of c) (rate_or (rate_of x) (rate_of y)) ≡ Uniform = sym f.6 ∙ e in
         let later : rate_or (rate_of x) (rate_of y) ≡ Uniform = or_right (rate_of c) (rate_or (rate_of x) (rate_of y)) rates in
-        bind_by Sole Sole _ _ (value_sole c f.0 (λ g b. n g (inl b)) (or_left (rate_of c) (rate_or (rate_of x) (rate_of y)) rates) (tick s)) (λ m s1 k. choose_sole gang a some m s1 (value gang frame calls x) (value gang frame calls y) k (value_sole x f.1 (λ g b. n g (inr (inl b))) (or_left (rate_of x) (rate_of y) later)) (value_sole y f.2 (λ g b. n g (inr (inr b))) (or_right (rate_of x) (rate_of y) later)))
+        bind_by Sole Sole _ _ (value_sole c f.0 (λ g b. n g (inl b)) (or_left (rate_of c) (rate_or (rate_of x) (rate_of y)) rates) (tick s))
+        (λ m s1 k. choose_sole gang a some m s1 (value gang frame calls x) (value gang frame calls y) k
+        (value_sole x f.1 (λ g b. n g (inr (inl b))) (or_left (rate_of x) (rate_of y) later))
+        (value_sole y f.2 (λ g b. n g (inr (inr b))) (or_right (rate_of x) (rate_of y) later)))
     value_sole (t_call c t) f n e s = call_sole c t f e s
     value_sole (t_library g t xs u sp) f n e s =
         bind_by (λ ms. rates_of xs ≡ Uniform → AllSole ms) Sole _ _ (under (rates_of xs ≡ Uniform) AllSole (values gang frame calls xs a (tick s)) (λ r. values_sole t (parts g) xs f.0 n r (tick s)))
-        (λ ms s1 k. gives (library_sole gang t a g (rates_of xs) (argument ms 0) (argument ms 1) (argument ms 2) (sym (ap (λ z. z.rate) f.2) ∙ e) (λ r. record { first = argument_sole ms 0 (k r); second = argument_sole ms 1 (k r); third = argument_sole ms 2 (k r) })))
+        (λ ms s1 k. gives (library_sole gang t a g (rates_of xs) (argument ms 0) (argument ms 1) (argument ms 2) (sym (ap (λ z. z.rate) f.2) ∙ e)
+        (λ r. record { first = argument_sole ms 0 (k r); second = argument_sole ms 1 (k r); third = argument_sole ms 2 (k r) })))
     value_sole (t_packed_store b x sp) f n e s =
         then_by Sole (first_element gang frame calls b a (tick s)) _ (λ z s1. then_by Sole (value gang frame calls x a s1) _ (λ m s2. then_by Sole _ _ (λ u s3. gives tt)))
     value_sole (t_packed_load b v sp) f n e s =
@@ -230,7 +243,9 @@ module _ (gang : ℕ) (fs : List TFunction) (vars : List Variable) (frame : Fram
     values_sole t [] (t_expr_then x xs) f n e s = absurd f
     values_sole t (p ∷ ps) t_no_exprs f n e s = absurd f
     values_sole t (p ∷ ps) (t_expr_then x xs) f n e s =
-        bind_by Sole AllSole _ _ (value_sole x f.0 (λ g b. n g (inl (inl b))) (or_left (rate_of x) (rates_of xs) e) s) (λ m s1 k. bind_by AllSole AllSole _ _ (values_sole t ps xs f.2 (λ g b. n g (inr b)) (or_right (rate_of x) (rates_of xs) e) s1) (λ ms s2 j. gives (both_sole m ms k j)))
+        bind_by Sole AllSole _ _ (value_sole x f.0 (λ g b. n g (inl (inl b))) (or_left (rate_of x) (rates_of xs) e) s)
+        (λ m s1 k. bind_by AllSole AllSole _ _ (values_sole t ps xs f.2 (λ g b. n g (inr b)) (or_right (rate_of x) (rates_of xs) e) s1)
+        (λ ms s2 j. gives (both_sole m ms k j)))
 
     call_sole : (c : TCall) (t : Ty) → FineCall fs vars c (Some t) → t.rate ≡ Uniform → (s : State) → By Sole (call gang frame calls c a s)
     call_sole (t_called k xs sp) t f e s = then_by Sole (arguments gang frame calls xs a (tick s)) _ (λ ps s1. sole k f.0 t f.1 f.2 e sp a ps frame s1)

@@ -7,7 +7,8 @@ use Rattle.isp_base.specs.declared.types.Rate.TheVariants.{Uniform, Varying}
 use Rattle.isp_base.specs.declared.types.Ty.{Ty}
 use Rattle.isp_base.specs.Cross.{widened}
 use Rattle.isp_typed.specs.declared.library.Library.{Library}
-use Rattle.isp_typed.specs.declared.library.Library.TheVariants.{ReduceAdd, ReduceMin, ReduceMax, ReduceEqual, Any, All, None as NoneTrue, ScanAdd, ScanAnd, ScanOr, Broadcast, Rotate, Shift, Shuffle, ShuffleTwo, Extract, Insert, Min, Max, Clamp, Abs, Select}
+use Rattle.isp_typed.specs.declared.library.Library.TheVariants.{ReduceAdd, ReduceMin, ReduceMax, ReduceEqual, Any, All, None as NoneTrue, ScanAdd, ScanAnd, ScanOr, Broadcast}
+use Rattle.isp_typed.specs.declared.library.Library.TheVariants.{Rotate, Shift, Shuffle, ShuffleTwo, Extract, Insert, Min, Max, Clamp, Abs, Select}
 use Rattle.isp_typed.specs.declared.library.Part.{Part}
 use Rattle.isp_typed.specs.declared.library.Part.TheVariants.{Own, Same, Number, Index, Truth as Test}
 use Rattle.isp_typed.specs.Typed.{ty_of}

@@ -12,7 +12,8 @@ use Rattle.isp_tree.specs.declared.stmt.Form.TheVariants.{Plain}
 use Rattle.isp_typed.specs.declared.variable.Holds.{Holds}
 use Rattle.isp_typed.specs.declared.variable.Holds.TheVariants as holds
 use Rattle.isp_typed.specs.declared.variable.Variable.{Variable}
-use Rattle.isp_typed.specs.Typed.{TExpr, t_constant, t_program_index, t_place, t_compare, t_variable, t_element, ty_of, t_plain, t_with_value, t_assign, t_step, t_first_declare, TStmt, t_block, t_declare, t_simple, t_if, t_if_else, t_for, t_foreach, t_braces, t_stmts, Program}
+use Rattle.isp_typed.specs.Typed.{TExpr, t_constant, t_program_index, t_place, t_compare, t_variable, t_element, ty_of, t_plain, t_with_value, t_assign, t_step}
+use Rattle.isp_typed.specs.Typed.{t_first_declare, TStmt, t_block, t_declare, t_simple, t_if, t_if_else, t_for, t_foreach, t_braces, t_stmts, Program}
 use Rattle.isp_typed.specs.Scoped.{IsScoped}
 
 abbrev at : Span
@@ -67,7 +68,9 @@ abbrev pub scoped : Program
 scoped =
     program (value Varying ∷ value Varying ∷ value Uniform ∷ value Varying ∷ value Varying ∷ [])
     (t_if_else Plain 1 (is 1) (block (t_declare (t_plain 1 (int Varying) at ∷ []) at ∷ [])) (block (t_declare (t_with_value 2 (int Varying) (number 3) at ∷ []) at ∷ give (read Varying 2) ∷ [])) at
-    ∷ t_for Plain 3 (Some (t_first_declare (t_with_value 3 (int Uniform) (number 0) at ∷ []) at)) (Some (t_compare Less (read Uniform 3) (number 2) Uniform at)) (Some (t_step Add I32 (t_variable 3 (int Uniform) at) at)) 4 (block (t_declare (t_with_value 4 (int Varying) (read Uniform 3) at ∷ []) at ∷ give (read Varying 4) ∷ [])) at
+    ∷ t_for Plain 3 (Some (t_first_declare (t_with_value 3 (int Uniform) (number 0) at ∷ []) at))
+    (Some (t_compare Less (read Uniform 3) (number 2) Uniform at)) (Some (t_step Add I32 (t_variable 3 (int Uniform) at) at)) 4
+    (block (t_declare (t_with_value 4 (int Varying) (read Uniform 3) at ∷ []) at ∷ give (read Varying 4) ∷ [])) at
     ∷ t_foreach at 5 (record { index = 5; start = number 0; end = number 4; span = at } ∷ []) (give (read Varying 5)) at
     ∷ [])
 

@@ -4,7 +4,8 @@ use Rattle.std.specs.Prelude.{ℕ, List, Option}
 use Rattle.isp_base.specs.declared.types.Span.{Span}
 use Rattle.isp_base.specs.Ranks.{operand}
 use Rattle.isp_tree.specs.declared.stmt.Form.{Form}
-use Rattle.isp_typed.specs.Typed.{TExpr, TItem, TSimple, TFirst, t_first_declare, TRange, TStmt, t_declare, t_simple, t_if, t_if_else, t_while, t_do, t_for, t_foreach, t_foreach_active, t_foreach_unique, t_unmasked, t_return, t_print, t_assert, TBlock, t_braces, TStmts, t_stmt_then, elem_of}
+use Rattle.isp_typed.specs.Typed.{TExpr, TItem, TSimple, TFirst, t_first_declare, TRange, TStmt, t_declare, t_simple, t_if, t_if_else, t_while, t_do, t_for, t_foreach}
+use Rattle.isp_typed.specs.Typed.{t_foreach_active, t_foreach_unique, t_unmasked, t_return, t_print, t_assert, TBlock, t_braces, TStmts, t_stmt_then, elem_of}
 use Rattle.isp_exprs.specs.Values.{converted}
 
 abbrev pub declared_first : Span → List TItem → TFirst

@@ -32,7 +32,9 @@ names_are : (fs : List TypedFunction) → map (λ (g : TFunction). g.name) (filt
 names_are [] = refl
 names_are (f ∷ fs) = at (names_are fs) f.exported
   where
-    at : map (λ (g : TFunction). g.name) (filter (λ (g : TFunction). g.exported) (functions_of fs)) ≡ named fs → (t : Bool) → map (λ (g : TFunction). g.name) (cond t (function_of f ∷ filter (λ (g : TFunction). g.exported) (functions_of fs)) (filter (λ (g : TFunction). g.exported) (functions_of fs))) ≡ map (λ (f : TypedFunction). f.name) (cond t (f ∷ exported fs) (exported fs))
+    at : map (λ (g : TFunction). g.name) (filter (λ (g : TFunction). g.exported) (functions_of fs)) ≡ named fs → (t : Bool)
+        → map (λ (g : TFunction). g.name) (cond t (function_of f ∷ filter (λ (g : TFunction). g.exported) (functions_of fs))
+        (filter (λ (g : TFunction). g.exported) (functions_of fs))) ≡ map (λ (f : TypedFunction). f.name) (cond t (f ∷ exported fs) (exported fs))
     at h true = ap (λ z. f.name ∷ z) h
     at h false = h
 
@@ -61,7 +63,8 @@ name_is_found (f ∷ fs) k w e = at (λ j. name_is_found fs j w) f.exported refl
     same : f.exported ≡ true → f.name ≡ w → is_entry w f ≡ true
     same x e = ap (λ t. t && bytes_eq f.name w) x ∙ (bytes_eq-Decides f.name w).1 e
 
-    at : ((j : ℕ) → slice_get (named fs) j ≡ Some w → IsSome (find (is_entry w) fs)) → (t : Bool) → f.exported ≡ t → (k : ℕ) → slice_get (map (λ (f : TypedFunction). f.name) (cond t (f ∷ exported fs) (exported fs))) k ≡ Some w → IsSome (find (is_entry w) (f ∷ fs))
+    at : ((j : ℕ) → slice_get (named fs) j ≡ Some w → IsSome (find (is_entry w) fs)) → (t : Bool) → f.exported ≡ t → (k : ℕ)
+        → slice_get (map (λ (f : TypedFunction). f.name) (cond t (f ∷ exported fs) (exported fs))) k ≡ Some w → IsSome (find (is_entry w) (f ∷ fs))
     at h true x zero e = found (is_entry w f) (same x (let z : f.name ≡ w = cc in z))
     at h true x (suc k) e = later (is_entry w f) (h k e)
     at h false x k e = later (is_entry w f) (h k e)
@@ -89,7 +92,8 @@ found_in w n (f ∷ fs) h = at (found_in w (suc n) fs) (is_entry w f) refl h
         let r = more h in
         record { place = suc r.place; function = r.function; at = r.at; is = r.is; number = ap (λ t. cond t (Some n) (entry_from w (suc n) fs)) x ∙ r.number ∙ ap Some (let z : suc n + r.place ≡ n + suc r.place = omega arith in z) }
 
-pub verdict_is : (p : rust_program.Program) (w : List ℕ) (o : Option Dependence) → IsSome (find (is_entry w) p.functions.items) → ((f : ℕ) → entry_from w 0 p.functions.items ≡ Some f → Answered o (Depends (program_of p) f)) → IsVerdict (program_of p) w o
+pub verdict_is : (p : rust_program.Program) (w : List ℕ) (o : Option Dependence) → IsSome (find (is_entry w) p.functions.items)
+    → ((f : ℕ) → entry_from w 0 p.functions.items ≡ Some f → Answered o (Depends (program_of p) f)) → IsVerdict (program_of p) w o
 verdict_is p w o h answered =
     let r = found_in w 0 p.functions.items h in
     record {
@@ -149,10 +153,14 @@ module _ (p : rust_program.Program) where
   names_of : exported_names (program_of p) ≡ named p.functions.items
   names_of = names_are p.functions.items
 
-  pub said : (k : ℕ) (w old new : List ℕ) (o : Option Dependence) → Some w ≡ option_map (λ (f : TypedFunction). f.name) (slice_get (exported p.functions.items) k) → IsVerdict (program_of p) w o → new ≡ old ++ verdict_line w o → SoFar (program_of p) k old → SoFar (program_of p) (k + 1) new
+  pub said : (k : ℕ) (w old new : List ℕ) (o : Option Dependence)
+      → Some w ≡ option_map (λ (f : TypedFunction). f.name) (slice_get (exported p.functions.items) k) → IsVerdict (program_of p) w o
+      → new ≡ old ++ verdict_line w o → SoFar (program_of p) k old → SoFar (program_of p) (k + 1) new
   said k w old new o e v is h = record {
     lines = h.lines ++ verdict_line w o;
-    verdicts = subst (λ z. AreVerdicts (program_of p) z (h.lines ++ verdict_line w o)) (sym (ap (λ j. take j (exported_names (program_of p))) (add-one k) ∙ take_next (exported_names (program_of p)) k w at)) (one_more (program_of p) _ w h.lines o h.verdicts v);
+    verdicts = subst (λ z. AreVerdicts (program_of p) z (h.lines ++ verdict_line w o))
+        (sym (ap (λ j. take j (exported_names (program_of p))) (add-one k) ∙ take_next (exported_names (program_of p)) k w at))
+        (one_more (program_of p) _ w h.lines o h.verdicts v);
     text_is = is ∙ ap (λ z. z ++ verdict_line w o) h.text_is ∙ append_assoc (codes "ok" ++ 10 ∷ []) h.lines (verdict_line w o);
   }
     where
@@ -160,7 +168,13 @@ module _ (p : rust_program.Program) where
       at = ap (λ z. slice_get z k) names_of ∙ get_map (λ (f : TypedFunction). f.name) (exported p.functions.items) k ∙ sym e
 
   pub none_said : (k : ℕ) (text : List ℕ) → None ≡ option_map (λ (f : TypedFunction). f.name) (slice_get (exported p.functions.items) k) → SoFar (program_of p) k text → SoFar (program_of p) (k + 1) text
-  none_said k text e h = record { lines = h.lines; verdicts = subst (λ z. AreVerdicts (program_of p) z h.lines) (sym (ap (λ j. take j (exported_names (program_of p))) (add-one k) ∙ take_past (exported_names (program_of p)) k at)) h.verdicts; text_is = h.text_is }
+  none_said k text e h = record {
+    lines = h.lines;
+    verdicts = subst (λ z. AreVerdicts (program_of p) z h.lines)
+        (sym (ap (λ j. take j (exported_names (program_of p))) (add-one k) ∙ take_past (exported_names (program_of p)) k at)) h.verdicts;
+    text_is =
+        h.text_is;
+  }
     where
       at : slice_get (exported_names (program_of p)) k ≡ None
       at = ap (λ z. slice_get z k) names_of ∙ get_map (λ (f : TypedFunction). f.name) (exported p.functions.items) k ∙ sym e
@@ -177,7 +191,9 @@ module _ (p : rust_program.Program) where
 
 -- ---- the pieces of a line
 
-pub line_of_dependence : {E : Type 0} (r : Result ⊤ E) (name old a b c new : List ℕ) (o : Option Dependence) (d : Dependence) → o ≡ Some d → a ≡ old ++ name → b ≡ a ++ codes " dependent: " → c ≡ b ++ dependence_text d → new ≡ (if is_ok r then c ++ 10 ∷ [] else c) → OnOk r (new ≡ old ++ verdict_line name o)
+pub line_of_dependence : {E : Type 0} (r : Result ⊤ E) (name old a b c new : List ℕ) (o : Option Dependence) (d : Dependence) → o ≡ Some d
+    → a ≡ old ++ name → b ≡ a ++ codes " dependent: " → c ≡ b ++ dependence_text d → new ≡ (if is_ok r then c ++ 10 ∷ [] else c)
+    → OnOk r (new ≡ old ++ verdict_line name o)
 line_of_dependence (Err e) name old a b c new o d is h k l m = tt
 line_of_dependence (Ok u) name old a b c new o d is h k l m =
     m

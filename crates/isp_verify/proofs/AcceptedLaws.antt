@@ -27,7 +27,8 @@ use Rattle.isp_code.specs.declared.register.Class.{Class}
 use Rattle.isp_code.specs.declared.register.Class.TheVariants as class
 use Rattle.isp_code.specs.declared.register.Register.{Register}
 use Rattle.isp_verify.specs.Accepted.{IsFine}
-use Rattle.isp_verify.specs.Faults.{or_later, unless, there, register_fault, is_wanted, is_a, back_fault, result_fits, is_wanted_array, is_passed, argument_fits, arguments_fit, call_fits, operand_fault, operands_fault, instr_fault, at_instruction, instrs_fault, last, last_fault, stays, header_fits, header_fault, function_fault, functions_fault, code_fault}
+use Rattle.isp_verify.specs.Faults.{or_later, unless, there, register_fault, is_wanted, is_a, back_fault, result_fits, is_wanted_array, is_passed, argument_fits, arguments_fit, call_fits, operand_fault, operands_fault}
+use Rattle.isp_verify.specs.Faults.{instr_fault, at_instruction, instrs_fault, last, last_fault, stays, header_fits, header_fault, function_fault, functions_fault, code_fault}
 use Rattle.isp_verify.specs.declared.fault.Rule.{Rule}
 use Rattle.isp_verify.proofs.FineLaws.{instr_fine}
 use Rattle.isp_verify.proofs.ProgressLaws.{none_at, instrs_fine, function_at}
@@ -102,7 +103,8 @@ module _ (h : Routine) where
 
   array_passes : (k : ArrayWant) (w : Want) (r : Register) → IsThere h class.Array r × IsWantedArray h k r × IsWanted h w (elem_of h r) → register_fault (table_of h) r (is_a (table_of h) class.Array w r && is_wanted_array h k r) ≡ None
   array_passes k w r is =
-      there_passes r.number (count_of h r.class) (is_a (table_of h) class.Array w r && is_wanted_array h k r) (low_of class.Array r is.0) (both (is_a (table_of h) class.Array w r) (is_wanted_array h k r) (a_passes class.Array w r is.0 is.2) (wanted_array k r is.1))
+      there_passes r.number (count_of h r.class) (is_a (table_of h) class.Array w r && is_wanted_array h k r) (low_of class.Array r is.0)
+      (both (is_a (table_of h) class.Array w r) (is_wanted_array h k r) (a_passes class.Array w r is.0 is.2) (wanted_array k r is.1))
 
   back_passes : (g : Returns) (x : Option Register) → IsGiven h g x → back_fault (table_of h) g x ≡ None
   back_passes Nothing None is = refl
@@ -132,7 +134,9 @@ module _ (h : Routine) where
   arguments_pass [] (x ∷ xs) is = absurd is
   arguments_pass (p ∷ ps) [] is = absurd is
   arguments_pass (p ∷ ps) (x ∷ xs) is =
-      both (argument_fits h p x) (arguments_fit h ps xs) (both (is_a (table_of h) (class_of p.kind) (Is p.elem) x) (is_passed h p.kind x) (a_passes (class_of p.kind) (Is p.elem) x is.0.0 is.0.1) (passed_passes p.kind x is.0.2)) (arguments_pass ps xs is.1)
+      both (argument_fits h p x) (arguments_fit h ps xs)
+      (both (is_a (table_of h) (class_of p.kind) (Is p.elem) x) (is_passed h p.kind x) (a_passes (class_of p.kind) (Is p.elem) x is.0.0 is.0.1)
+      (passed_passes p.kind x is.0.2)) (arguments_pass ps xs is.1)
 
   module _ (code : Listing) where
     operand_passes : (o : Operand) → OperandFine code h o → operand_fault code h o ≡ None
@@ -153,7 +157,8 @@ module _ (h : Routine) where
 
     call_passes : (c : Call) → CallFine code h c → call_fits h c (slice_get code.routines c.function) ≡ true
     call_passes c is =
-        ap (call_fits h c) is.found ∙ both (result_fits (table_of h) is.callee.returns c.result) (arguments_fit h is.callee.params c.arguments) (result_passes is.callee.returns c.result is.result) (arguments_pass is.callee.params c.arguments is.passed)
+        ap (call_fits h c) is.found ∙ both (result_fits (table_of h) is.callee.returns c.result) (arguments_fit h is.callee.params c.arguments)
+        (result_passes is.callee.returns c.result is.result) (arguments_pass is.callee.params c.arguments is.passed)
 
     pub instr_passes : (i : Instr) → AllFine code h (operands i) → CallsFine code h i → instr_fault code h i ≡ None
     instr_passes (instr.Scalar d i) is calls = operands_pass (operands (instr.Scalar d i)) is
@@ -174,7 +179,8 @@ module _ (h : Routine) where
     instr_passes (instr.Fail x p) is calls = operands_pass (operands (instr.Fail x p)) is
     instr_passes (instr.Return x) is calls = operands_pass (operands (instr.Return x)) is
     instr_passes (instr.Call c) is calls =
-        no_fault (operands_fault code h (call_operands c)) (unless (call_fits h c (slice_get code.routines c.function)) BadCall) (operands_pass (call_operands c) is) (passes (call_fits h c (slice_get code.routines c.function)) BadCall (call_passes c calls))
+        no_fault (operands_fault code h (call_operands c)) (unless (call_fits h c (slice_get code.routines c.function)) BadCall)
+        (operands_pass (call_operands c) is) (passes (call_fits h c (slice_get code.routines c.function)) BadCall (call_passes c calls))
 
 -- ---- functions
 
@@ -186,9 +192,16 @@ instrs_pass code k h n [] each = refl
 instrs_pass code k h n (i ∷ is) each =
     no_fault (at_instruction k n (instr_fault code h i)) (instrs_fault code k h (suc n) is) (at_none k n (instr_fault code h i) (each 0 i refl)) (instrs_pass code k h (suc n) is (λ j x at. each (suc j) x at))
 
-function_passes : (code : Listing) (k : ℕ) (h : Routine) → header_fits (take k code.routines) h ≡ true → ((pc : ℕ) (i : Instr) → slice_get h.code pc ≡ Some i → AllFine code h (operands i) × CallsFine code h i) → stays (slice_get h.code (last h)) ≡ true → function_fault code k h ≡ None
+function_passes : (code : Listing) (k : ℕ) (h : Routine) → header_fits (take k code.routines) h ≡ true
+    → ((pc : ℕ) (i : Instr) → slice_get h.code pc ≡ Some i → AllFine code h (operands i) × CallsFine code h i)
+    → stays (slice_get h.code (last h)) ≡ true → function_fault code k h ≡ None
 function_passes code k h header lines ends =
-    no_fault (at_instruction k 0 (header_fault (take k code.routines) h)) (or_later (instrs_fault code k h 0 h.code) (at_instruction k (last h) (last_fault h))) (at_none k 0 (header_fault (take k code.routines) h) (passes (header_fits (take k code.routines) h) BadEntry header)) (no_fault (instrs_fault code k h 0 h.code) (at_instruction k (last h) (last_fault h)) (instrs_pass code k h 0 h.code (λ j i at. let f = lines j i at in instr_passes h code i f.0 f.1)) (at_none k (last h) (last_fault h) (passes (stays (slice_get h.code (last h))) FallsOff ends)))
+    no_fault (at_instruction k 0 (header_fault (take k code.routines) h))
+    (or_later (instrs_fault code k h 0 h.code) (at_instruction k (last h) (last_fault h)))
+    (at_none k 0 (header_fault (take k code.routines) h) (passes (header_fits (take k code.routines) h) BadEntry header))
+    (no_fault (instrs_fault code k h 0 h.code) (at_instruction k (last h) (last_fault h))
+    (instrs_pass code k h 0 h.code (λ j i at. let f = lines j i at in instr_passes h code i f.0 f.1))
+    (at_none k (last h) (last_fault h) (passes (stays (slice_get h.code (last h))) FallsOff ends)))
 
 functions_pass : (code : Listing) (k : ℕ) (hs : List Routine) → ((j : ℕ) (h : Routine) → slice_get hs j ≡ Some h → function_fault code (k + j) h ≡ None) → functions_fault code k hs ≡ None
 functions_pass code k [] each = refl

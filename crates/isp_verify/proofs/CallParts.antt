@@ -32,10 +32,14 @@ module _ (code : Listing) (h : Routine) where
   under c = AnyRegister c.mask ∷ Place c.place ∷ []
 
   pub call_parts : (c : Call)
-      → operands_fault code h (call_operands c) ≡ or_later (operands_fault code h (result_operands c.result)) (or_later (operands_fault code h (AnyRegister c.mask ∷ Place c.place ∷ [])) (or_later (operands_fault code h (map any_register c.arguments)) (operands_fault code h (Mask c.mask ∷ []))))
+      → operands_fault code h (call_operands c) ≡ or_later (operands_fault code h (result_operands c.result))
+      (or_later (operands_fault code h (AnyRegister c.mask ∷ Place c.place ∷ []))
+      (or_later (operands_fault code h (map any_register c.arguments)) (operands_fault code h (Mask c.mask ∷ []))))
   call_parts c =
       operands_fault-append (result_operands c.result) (AnyRegister c.mask ∷ Place c.place ∷ (map any_register c.arguments ++ Mask c.mask ∷ []))
-      ∙ ap (or_later (operands_fault code h (result_operands c.result))) (operands_fault-append (under c) (map any_register c.arguments ++ Mask c.mask ∷ []) ∙ ap (or_later (operands_fault code h (under c))) (operands_fault-append (map any_register c.arguments) (Mask c.mask ∷ [])))
+      ∙ ap (or_later (operands_fault code h (result_operands c.result)))
+      (operands_fault-append (under c) (map any_register c.arguments ++ Mask c.mask ∷ [])
+      ∙ ap (or_later (operands_fault code h (under c))) (operands_fault-append (map any_register c.arguments) (Mask c.mask ∷ [])))
 
 and_false : (a b : Bool) → b ≡ false → (a && b) ≡ false
 and_false true b e = e

@@ -310,7 +310,9 @@ module _ (code : Listing) where
   step_sound : code_fault code ≡ None → (c : Conf) → IsSound code c → SoundMove code (step code c)
   step_sound none c sound =
       let line = line_applies code none c.home.fn c.pc sound.0.routine sound.0.found sound.0.low in
-      subst (λ o. SoundMove code (act_in code c o)) (sym line.found) (subst (λ o. SoundMove code (act_at code line.routine c o)) (sym line.at) (act_sound none line.routine c line.instruction line.found line.operands_fine line.calls_fine line.goes_on sound.1))
+      subst (λ o. SoundMove code (act_in code c o)) (sym line.found)
+      (subst (λ o. SoundMove code (act_at code line.routine c o)) (sym line.at)
+      (act_sound none line.routine c line.instruction line.found line.operands_fine line.calls_fine line.goes_on sound.1))
 
   advance_sound : code_fault code ≡ None → (s : State) → SoundState code s → SoundState code (advance code s)
   advance_sound none (Runs c) sound = arrive_sound (step code c) c (step_sound none c sound)

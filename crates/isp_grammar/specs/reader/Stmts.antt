@@ -17,7 +17,9 @@ use Rattle.isp_grammar.specs.reader.Exprs.{expr_at}
 use Rattle.isp_grammar.specs.reader.Starts.{start_of, begins_first, begins_simple, begins_stmt}
 use Rattle.isp_grammar.specs.reader.Types.{begins_type, type_at}
 use Rattle.isp_grammar.specs.Signs.{loosest}
-use Rattle.isp_tree.specs.Tree.{TypeTree, Expr, span_of, Item, plain, with_value, with_size, Declaration, Simple, value, assign, change, First, first_declare, first_simple, Range, Stmt, block, empty, declare, simple, if_then, if_else, loop_while, loop_do, loop_for, foreach, foreach_active, foreach_unique, unmasked, jump, returning, print, assert, Block, braces, all, span_of_block, span_of_stmt, span_of_simple}
+use Rattle.isp_tree.specs.Tree.{TypeTree, Expr, span_of, Item, plain, with_value, with_size, Declaration, Simple, value, assign, change, First, first_declare, first_simple, Range}
+use Rattle.isp_tree.specs.Tree.{Stmt, block, empty, declare, simple, if_then, if_else, loop_while, loop_do, loop_for, foreach, foreach_active, foreach_unique, unmasked, jump}
+use Rattle.isp_tree.specs.Tree.{returning, print, assert, Block, braces, all, span_of_block, span_of_stmt, span_of_simple}
 use Rattle.isp_tree.specs.Views.{expr_of, simple_of, first_of, range_of}
 use Rattle.isp_grammar.specs.declared.declaration.ItemTail as rust_item
 use Rattle.isp_grammar.specs.declared.declaration.ItemTail.TheVariants as one

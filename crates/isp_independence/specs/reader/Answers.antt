@@ -1,9 +1,12 @@
 -- The breach that is answered of a node: of two the one that starts first, a tie by the lower number. No part of a promise.
 use Rattle.std.specs.Prelude.{Bool, true, false, cond, not, ◌&&◌, ◌||◌, ◌==◌, nat_lt, List, [], ◌∷◌, Option, Some, None, option_map}
 use Rattle.isp_base.specs.declared.types.Span.{Span}
-use Rattle.isp_typed.specs.Typed.{rate_of, TExpr, t_constant, t_program_index, t_place, t_convert, t_cast, t_unary, t_binary, t_compare, t_logic, t_choose, t_call, t_library, t_packed_store, t_packed_load, TPlace, t_variable, t_element, TBase, t_whole, t_from, TArgument, t_by_value, t_by_name, TCall, t_called, TArguments, t_no_arguments, t_argument_then, TExprs, t_no_exprs, t_expr_then}
+use Rattle.isp_typed.specs.Typed.{rate_of, TExpr, t_constant, t_program_index, t_place, t_convert, t_cast, t_unary, t_binary, t_compare, t_logic, t_choose, t_call}
+use Rattle.isp_typed.specs.Typed.{t_library, t_packed_store, t_packed_load, TPlace, t_variable, t_element, TBase, t_whole, t_from, TArgument, t_by_value, t_by_name, TCall}
+use Rattle.isp_typed.specs.Typed.{t_called, TArguments, t_no_arguments, t_argument_then, TExprs, t_no_exprs, t_expr_then}
 use Rattle.isp_typed.specs.Typed.{TItem, t_plain, t_with_value, t_with_size, TSimple, t_value, t_run, t_assign, t_update, t_step, TFirst, t_first_declare, t_first_simple, TRange}
-use Rattle.isp_typed.specs.Typed.{TStmt, t_block, t_declare, t_simple, t_if, t_if_else, t_while, t_do, t_for, t_foreach, t_foreach_active, t_foreach_unique, t_unmasked, t_jump, t_return, t_print, t_assert, TBlock, t_braces, TStmts, t_no_stmts, t_stmt_then, TFunction}
+use Rattle.isp_typed.specs.Typed.{TStmt, t_block, t_declare, t_simple, t_if, t_if_else, t_while, t_do, t_for, t_foreach, t_foreach_active, t_foreach_unique, t_unmasked}
+use Rattle.isp_typed.specs.Typed.{t_jump, t_return, t_print, t_assert, TBlock, t_braces, TStmts, t_no_stmts, t_stmt_then, TFunction}
 use Rattle.isp_independence.specs.declared.control.Control.{Control}
 use Rattle.isp_independence.specs.declared.dependence.Dependence.{Dependence}
 use Rattle.isp_independence.specs.declared.dependence.Restriction.TheVariants.{Crossing, Printing, SharedArray, Outside, Turned, Foreach, Return}
@@ -113,7 +116,9 @@ abbrev mutual
   stmt_answer w (t_if_else f n x a b s) = first_of (expr_answer x) (first_of (stmt_answer (branch (rate_of x) n w) a) (stmt_answer (branch (rate_of x) n w) b))
   stmt_answer w (t_while f n x a s) = first_of (expr_answer x) (stmt_answer (turn n a (loop (Some (rate_of x)) n a w)) a)
   stmt_answer w (t_do f n a x s) = first_of (stmt_answer (turn n a (loop (Some (rate_of x)) n a w)) a) (expr_answer x)
-  stmt_answer w (t_for f n i x p m a s) = first_of (of_any (first_answer (loop (option_map rate_of x) n a w)) i) (first_of (of_any expr_answer x) (first_of (of_any (simple_answer (loop (option_map rate_of x) n a w)) p) (stmt_answer (turn m a (loop (option_map rate_of x) n a w)) a)))
+  stmt_answer w (t_for f n i x p m a s) = first_of (of_any (first_answer (loop (option_map rate_of x) n a w)) i)
+      (first_of (of_any expr_answer x) (first_of (of_any (simple_answer (loop (option_map rate_of x) n a w)) p)
+      (stmt_answer (turn m a (loop (option_map rate_of x) n a w)) a)))
   -- the whole gang comes to a `foreach`
   stmt_answer w (t_foreach k n rs a s) = first_of (unless (not (w.incomplete || w.varying)) (at Foreach k)) (first_of (of_each range_answer rs) (stmt_answer (round n w) a))
   stmt_answer w (t_foreach_active k n i a s) = first_of (Some (at Crossing k)) (stmt_answer w a)

@@ -107,7 +107,9 @@ expression::arguments-loop-place-preserved t c =
     let kept = c.in_ok-register.ensures.register ∙ ap (λ r. argument_register l r (argument_of x) m) rate in
     let rest = t_arguments (arguments_of (drop (i + 1) xs)) in
     let next = c.next-slot.ensures in (
-      λ h y. c.loop-place.invariant.0 h (code_more l rs xs i x c.loop-place-test.true c.index-all-place.is c.loop-place.b c.argument.new.b h k m written (subst (λ (s : Slot). Appends c.argument.new.b h (λ pc p. arguments_code l (drop (i + 1) rs) rest pc p k s.number) (arguments_places l rest)) next y)),
+      λ h y. c.loop-place.invariant.0 h (code_more l rs xs i x c.loop-place-test.true c.index-all-place.is c.loop-place.b c.argument.new.b h k m
+          written (subst (λ (s : Slot). Appends c.argument.new.b h (λ pc p. arguments_code l (drop (i + 1) rs) rest pc p k s.number)
+          (arguments_places l rest)) next y)),
       subst (λ (s : Slot). Present c.args.on.now (arguments_asks rest s.number)) (sym next) (subst (Present c.args.on.now) (arguments_more m xs i x c.loop-place-test.true c.index-all-place.is) c.loop-place.invariant.1).1.1,
       ap (λ (ds : List Register). ds ++ argument_registers l (drop (i + 1) rs) rest c.next-slot.result.number) (c.in_ok-push.ensures.ok ∙ ap (λ d. c.loop-place.registers.items ++ d ∷ []) kept)
           ∙ ap (λ (s : Slot). (c.loop-place.registers.items ++ argument_register l (next_rate (drop i rs)) (argument_of x) m ∷ []) ++ argument_registers l (drop (i + 1) rs) rest s.number) next
@@ -176,7 +178,9 @@ expression::values-loop-place-preserved t c =
     let kept = c.in_ok-register.ensures.register ∙ ap (λ r. operand l r (expr_of x) m) rate in
     let rest = t_exprs (exprs_of (drop (i + 1) xs)) in
     let next = c.next-slot.ensures in (
-      λ h y. c.loop-place.invariant.0 h (row.code_more rs xs i l x c.loop-place-test.true c.index-all-place.is c.loop-place.b c.operand.new.b h k m written (subst (λ (s : Slot). Appends c.operand.new.b h (λ pc p. values_code l (drop (i + 1) rs) rest pc p k s.number) (values_places l rest)) next y)),
+      λ h y. c.loop-place.invariant.0 h (row.code_more rs xs i l x c.loop-place-test.true c.index-all-place.is c.loop-place.b c.operand.new.b h k m
+          written (subst (λ (s : Slot). Appends c.operand.new.b h (λ pc p. values_code l (drop (i + 1) rs) rest pc p k s.number)
+          (values_places l rest)) next y)),
       subst (λ (s : Slot). Present c.args.on.now (values_asks (drop (i + 1) rs) rest s.number)) (sym next) (subst (Present c.args.on.now) (values_more rs xs i m x c.loop-place-test.true c.index-all-place.is) c.loop-place.invariant.1).1.1,
       ap (λ (ds : List RegisterNumber). numbers ds ++ value_registers l (drop (i + 1) rs) rest c.next-slot.result.number) c.in_ok-push.ensures.ok
           ∙ ap (λ (s : Slot). numbers (c.loop-place.registers.items ++ c.in_ok-register.register ∷ []) ++ value_registers l (drop (i + 1) rs) rest s.number) next

@@ -109,9 +109,15 @@ decreases-expression::argument l = 8 * argument_nodes (argument_of l.x.now) + 5
 -- behind those of the arguments before
 abbrev pub invariant-expression::arguments-loop-place : goal.invariant-expression::arguments-loop-place
 invariant-expression::arguments-loop-place l =
-    ((h : Body) → Appends l.b h (λ pc p. arguments_code (layout l.on) (drop l.place ((layout l.on).rates l.function)) (t_arguments (arguments_of (drop l.place l.all))) pc p l.site.mask.number l.slot.number) (arguments_places (layout l.on) (t_arguments (arguments_of (drop l.place l.all)))) → Appends l.initial.b h (λ pc p. arguments_code (layout l.on) ((layout l.on).rates l.function) (t_arguments (arguments_of l.all)) pc p l.site.mask.number l.site.slot.number) (arguments_places (layout l.on) (t_arguments (arguments_of l.all))))
+    ((h : Body) → Appends l.b h (λ pc p. arguments_code (layout l.on) (drop l.place ((layout l.on).rates l.function))
+    (t_arguments (arguments_of (drop l.place l.all))) pc p l.site.mask.number l.slot.number)
+    (arguments_places (layout l.on) (t_arguments (arguments_of (drop l.place l.all))))
+    → Appends l.initial.b h (λ pc p. arguments_code (layout l.on) ((layout l.on).rates l.function) (t_arguments (arguments_of l.all)) pc p
+    l.site.mask.number l.site.slot.number) (arguments_places (layout l.on) (t_arguments (arguments_of l.all))))
     × Present l.on (arguments_asks (t_arguments (arguments_of (drop l.place l.all))) l.slot.number)
-    × (l.registers.items ++ argument_registers (layout l.on) (drop l.place ((layout l.on).rates l.function)) (t_arguments (arguments_of (drop l.place l.all))) l.slot.number ≡ argument_registers (layout l.on) ((layout l.on).rates l.function) (t_arguments (arguments_of l.all)) l.site.slot.number)
+    × (l.registers.items ++ argument_registers (layout l.on) (drop l.place ((layout l.on).rates l.function))
+    (t_arguments (arguments_of (drop l.place l.all))) l.slot.number
+    ≡ argument_registers (layout l.on) ((layout l.on).rates l.function) (t_arguments (arguments_of l.all)) l.site.slot.number)
 
 abbrev pub decreases-expression::library_to : goal.decreases-expression::library_to
 decreases-expression::library_to l = 8 * exprs_nodes (t_exprs (exprs_of l.all.now)) + 7
@@ -122,9 +128,15 @@ decreases-expression::values l = 8 * exprs_nodes (t_exprs (exprs_of l.all.now)) 
 -- the same of the values of a call of the library
 abbrev pub invariant-expression::values-loop-place : goal.invariant-expression::values-loop-place
 invariant-expression::values-loop-place l =
-    ((h : Body) → Appends l.b h (λ pc p. values_code (layout l.on) (drop l.place (library_rates l.function l.rate)) (t_exprs (exprs_of (drop l.place l.all))) pc p l.site.mask.number l.slot.number) (values_places (layout l.on) (t_exprs (exprs_of (drop l.place l.all)))) → Appends l.initial.b h (λ pc p. values_code (layout l.on) (library_rates l.function l.rate) (t_exprs (exprs_of l.all)) pc p l.site.mask.number l.site.slot.number) (values_places (layout l.on) (t_exprs (exprs_of l.all))))
+    ((h : Body) → Appends l.b h (λ pc p. values_code (layout l.on) (drop l.place (library_rates l.function l.rate))
+    (t_exprs (exprs_of (drop l.place l.all))) pc p l.site.mask.number l.slot.number)
+    (values_places (layout l.on) (t_exprs (exprs_of (drop l.place l.all))))
+    → Appends l.initial.b h (λ pc p. values_code (layout l.on) (library_rates l.function l.rate) (t_exprs (exprs_of l.all)) pc p
+    l.site.mask.number l.site.slot.number) (values_places (layout l.on) (t_exprs (exprs_of l.all))))
     × Present l.on (values_asks (drop l.place (library_rates l.function l.rate)) (t_exprs (exprs_of (drop l.place l.all))) l.slot.number)
-    × (numbers l.registers.items ++ value_registers (layout l.on) (drop l.place (library_rates l.function l.rate)) (t_exprs (exprs_of (drop l.place l.all))) l.slot.number ≡ value_registers (layout l.on) (library_rates l.function l.rate) (t_exprs (exprs_of l.all)) l.site.slot.number)
+    × (numbers l.registers.items ++ value_registers (layout l.on) (drop l.place (library_rates l.function l.rate))
+    (t_exprs (exprs_of (drop l.place l.all))) l.slot.number
+    ≡ value_registers (layout l.on) (library_rates l.function l.rate) (t_exprs (exprs_of l.all)) l.site.slot.number)
 
 abbrev pub decreases-packed::base : goal.decreases-packed::base
 decreases-packed::base l = 8 * base_nodes (base_of l.base.now) - 1

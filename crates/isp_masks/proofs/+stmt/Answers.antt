@@ -24,7 +24,8 @@ use Rattle.isp_masks.specs.Sets.{unite}
 use Rattle.isp_masks.specs.Rounds.{value_code, values_of}
 use Rattle.isp_masks.specs.Spots.{Numbers, next_of, own_spot, spot_of, widely}
 use Rattle.isp_masks.specs.Statements.{left_code, stmt_code, stmt_places, stmt_texts, stmts_code, stmts_places, stmts_texts, body_code, body_layout}
-use Rattle.isp_masks.specs.Written.{Piece, Writes, block_at, guarded_at, kept_at, next_at, step_in, stmt_at, test_in, turn_at, turning_at, turns_at, first_sweep, index_codes, outer_turn_at, place_test, range_begin, range_step, ranges_at, runs_at, runs_begin, runs_next}
+use Rattle.isp_masks.specs.Written.{Piece, Writes, block_at, guarded_at, kept_at, next_at, step_in, stmt_at, test_in, turn_at, turning_at, turns_at, first_sweep}
+use Rattle.isp_masks.specs.Written.{index_codes, outer_turn_at, place_test, range_begin, range_step, ranges_at, runs_at, runs_begin, runs_next}
 use Rattle.isp_masks.proofs.Awaiting.{awaits_end}
 use Rattle.isp_masks.proofs.Forms.{list_step, nodes_low, stmts_more}
 use Rattle.isp_masks.proofs.JumpsWritten.{left_written}
@@ -175,7 +176,8 @@ statement::block-returns t c =
     let seen : block_of a.body.now ≡ t_braces (t_stmts xs) a.body.now.span = block_view a.body.now ∙ ap (λ zs. t_braces (t_stmts (stmts_of zs)) a.body.now.span) (sym c.deref-x-items.ensures.value) in
     subst (λ (z : TBlock). Writes a.b.now c.land_all.new.b (block_at a.on.now z a.spot)) (sym seen)
     (awaits_end a.b.now c.loop-x.b c.land_all.new.b c.loop-x.jumps.items s.on (λ t pc z. flat h s t l false xs pc z) (stmts_places l (t_stmts xs)) (stmts_texts (t_stmts xs)) (λ pc z. stmts_code l h (t_stmts xs) pc z s)
-    (subst (λ zs. Awaits a.b.now c.loop-x.b c.loop-x.jumps.items s.on (λ t pc z. flat h s t l false (stmts_of zs) pc z) (stmts_places l (t_stmts (stmts_of zs))) (stmts_texts (t_stmts (stmts_of zs)))) (take_all c.loop-x.x-index items over) c.loop-x.invariant.0)
+    (subst (λ zs. Awaits a.b.now c.loop-x.b c.loop-x.jumps.items s.on (λ t pc z. flat h s t l false (stmts_of zs) pc z)
+    (stmts_places l (t_stmts (stmts_of zs))) (stmts_texts (t_stmts (stmts_of zs)))) (take_all c.loop-x.x-index items over) c.loop-x.invariant.0)
     (c.land_all.ensures.code ∙ ap (λ js. set_all c.loop-x.b.code.items js (jump_off s.on (length c.loop-x.b.code.items))) c.as_slice.ensures.value)
     c.land_all.ensures.places c.land_all.ensures.texts
     (λ t pc z e. flat_is h s t l xs pc z e))
@@ -296,7 +298,15 @@ statement::last_range-returns t c =
     let begun = subst (λ y. Appends a.b.now c.begin_runs.new.b (λ pc p. runs_begin l a.it y) []) c.run_place-place.ensures c.in_ok-begin_runs.ensures in
     let after = c.runs.new.b.code.items in
     let code = ap (λ r. slice_set after c.len-at.result (instr.JumpIf jump.Off r (length after))) (c.mask-2.ensures ∙ ap (λ (k : MaskNumber). mask_register k.number) c.mask.ensures) in
-    subst (λ (g : Bool). Writes a.b.now c.land.new.self (record { code = λ pc z. copy Uniform place (wide l e) 0 ∷ lanes ∷ guard (jump_off h) (pc + 1 + 1) (λ first. two first (index_codes h set ++ last_index l i place m n h) (λ top. body_code (within l i) a.on.now.answer x h z top ++ runs_next l i g a.it first top)); places = stmt_places (within l i) x; texts = stmt_texts x })) (sym (goes_on_codes (l.loaded i) h set))
+    subst (λ (g : Bool). Writes a.b.now c.land.new.self
+    (record {
+      code = λ pc z. copy Uniform place (wide l e) 0 ∷ lanes ∷ guard (jump_off h) (pc + 1 + 1)
+          (λ first. two first (index_codes h set ++ last_index l i place m n h)
+          (λ top. body_code (within l i) a.on.now.answer x h z top ++ runs_next l i g a.it first top));
+      places = stmt_places (within l i) x;
+      texts =
+          stmt_texts x;
+    })) (sym (goes_on_codes (l.loaded i) h set))
     (last_written a.b.now c.begin_runs.new.b c.push.new.self c.runs.new.b c.land.new.self (copy Uniform place (wide l e) 0) lanes (instr.Jump 0) (jump_off h) (runs_at a.on.now i x set a.it) c.len-at.result
     begun (c.len-at.ensures ∙ c.begin_runs.new.b.code.ok.0) c.in_ok-push.ensures c.in_ok-runs.ensures (c.land.ensures.code ∙ code) c.land.ensures.places c.land.ensures.texts)
 

@@ -117,7 +117,9 @@ decreases-statement::runs l = 8 * stmt_nodes (stmt_of l.body.stmt.now) + 2
 
 abbrev pub invariant-statement::block-loop-x : goal.invariant-statement::block-loop-x
 invariant-statement::block-loop-x l =
-    Awaits l.initial.b l.b l.jumps.items l.spot.masks.on.number (λ t pc z. flat l.on.answer (spot_of l.spot) t (layout l.on) false (stmts_of (take l.x-index l.x-items)) pc z) (stmts_places (layout l.on) (t_stmts (stmts_of (take l.x-index l.x-items)))) (stmts_texts (t_stmts (stmts_of (take l.x-index l.x-items))))
+    Awaits l.initial.b l.b l.jumps.items l.spot.masks.on.number
+    (λ t pc z. flat l.on.answer (spot_of l.spot) t (layout l.on) false (stmts_of (take l.x-index l.x-items)) pc z)
+    (stmts_places (layout l.on) (t_stmts (stmts_of (take l.x-index l.x-items)))) (stmts_texts (t_stmts (stmts_of (take l.x-index l.x-items))))
     × (l.left ≡ left_after false (stmts_of (take l.x-index l.x-items)))
     × Present l.on (stmts_asks l.on.answer (t_stmts (stmts_of (drop l.x-index l.x-items))) l.spot.slot.number)
     × (l.rest ≡ all_seen (t_stmts (stmts_of (drop l.x-index l.x-items))))

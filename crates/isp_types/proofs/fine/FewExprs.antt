@@ -16,7 +16,8 @@ use Rattle.isp_tree.specs.declared.expr.Prefix.{Prefix}
 use Rattle.isp_tree.specs.declared.expr.Prefix.TheVariants as sign
 use Rattle.isp_tree.specs.declared.types.Word.{Word}
 use Rattle.isp_tree.specs.Nodes.{nodes, nodes_of_place, nodes_of_argument, nodes_of_row}
-use Rattle.isp_tree.specs.Tree.{Expr, number, truth, program_index, program_count, place, call, brackets, cast, prefix, binary, choose, Place, variable, element, Argument, by_value, by_reference, Arguments, no_arguments, argument_then, span_of_argument}
+use Rattle.isp_tree.specs.Tree.{Expr, number, truth, program_index, program_count, place, call, brackets, cast, prefix, binary, choose, Place, variable, element}
+use Rattle.isp_tree.specs.Tree.{Argument, by_value, by_reference, Arguments, no_arguments, argument_then, span_of_argument}
 use Rattle.isp_typed.specs.declared.library.Part.{Part}
 use Rattle.isp_typed.specs.declared.variable.ArrayVariable.{ArrayVariable}
 use Rattle.isp_typed.specs.declared.variable.Holds.{Holds}

@@ -9,9 +9,12 @@ use Rattle.isp_base.specs.declared.types.Ty.{Ty}
 use Rattle.isp_base.specs.declared.operators.BinOp.{BinOp}
 use Rattle.isp_base.specs.Ranks.{common, operand}
 use Rattle.isp_lex.specs.declared.fault.Fault.{Fault}
-use Rattle.isp_tree.specs.Nodes.{nodes, nodes_of_option, nodes_of_all, nodes_of_item, nodes_of_declaration, nodes_of_simple, nodes_of_first, nodes_of_step, nodes_of_range, nodes_of_stmt, nodes_of_block, nodes_of_stmts, nodes_of_function, nodes_of_functions}
-use Rattle.isp_tree.specs.Tree.{Expr, number, truth, program_index, program_count, place, call, brackets, cast, prefix, binary, choose, variable, element, Item, plain, with_value, with_size, Declaration, Simple, value, assign, change, First, first_declare, first_simple, Range}
-use Rattle.isp_tree.specs.Tree.{Stmt, block, empty, declare, simple, if_then, if_else, loop_while, loop_do, loop_for, foreach, foreach_active, foreach_unique, unmasked, jump, returning, print, assert, Block, braces, Stmts, no_stmts, stmt_then, Param, Function}
+use Rattle.isp_tree.specs.Nodes.{nodes, nodes_of_option, nodes_of_all, nodes_of_item, nodes_of_declaration, nodes_of_simple, nodes_of_first, nodes_of_step}
+use Rattle.isp_tree.specs.Nodes.{nodes_of_range, nodes_of_stmt, nodes_of_block, nodes_of_stmts, nodes_of_function, nodes_of_functions}
+use Rattle.isp_tree.specs.Tree.{Expr, number, truth, program_index, program_count, place, call, brackets, cast, prefix, binary, choose, variable, element, Item, plain}
+use Rattle.isp_tree.specs.Tree.{with_value, with_size, Declaration, Simple, value, assign, change, First, first_declare, first_simple, Range}
+use Rattle.isp_tree.specs.Tree.{Stmt, block, empty, declare, simple, if_then, if_else, loop_while, loop_do, loop_for, foreach, foreach_active, foreach_unique}
+use Rattle.isp_tree.specs.Tree.{unmasked, jump, returning, print, assert, Block, braces, Stmts, no_stmts, stmt_then, Param, Function}
 use Rattle.isp_exprs.specs.Typing.{Typing, perhaps}
 use Rattle.isp_typed.specs.Nodes.{typed_nodes, place_nodes, item_nodes, simple_nodes, first_nodes, step_nodes, range_nodes, stmt_nodes, block_nodes, stmts_nodes, function_nodes}
 use Rattle.isp_typed.specs.Typed.{TExpr, TPlace, place_type, TItem, TSimple, TFirst, TRange, TStmt, TBlock, TStmts, TFunction, elem_of}

@@ -90,8 +90,12 @@ module _ (gang : Gang) (hs : List Heading) where
     body_fine ns vars [] b h scope g t i = block_fine gang hs gs all headed answer ns 0 vars b h scope g t i
     body_fine ns vars (p ∷ ps) b h scope g t i =
         let q = i.1.1 in
-        let g1 : Grown (vars ++ param_variable p ∷ []) all = and_then _ _ _ (params_grow (vars ++ param_variable p ∷ []) ps) (and_then _ _ _ (block_grows gang hs (params_names (param_names ns vars p) (vars ++ param_variable p ∷ []) ps) (params_after (vars ++ param_variable p ∷ []) ps) b) g) in
-        let scope1 : InScope all (param_names ns vars p) = subst (λ r. InScope all (with_name ns vars p.word.name r)) (sym (declared_is (value_said p.ty) q.0.0 (param_variable p) q.1.0)) (name_added all ns vars p.word.name (param_variable p) scope g1) in
+        let g1 : Grown (vars ++ param_variable p ∷ []) all = and_then _ _ _ (params_grow (vars ++ param_variable p ∷ []) ps)
+        (and_then _ _ _ (block_grows gang hs (params_names (param_names ns vars p) (vars ++ param_variable p ∷ []) ps)
+        (params_after (vars ++ param_variable p ∷ []) ps) b) g) in
+        let scope1 : InScope all (param_names ns vars p) = subst (λ r. InScope all (with_name ns vars p.word.name r))
+        (sym (declared_is (value_said p.ty) q.0.0 (param_variable p) q.1.0)) (name_added all ns vars p.word.name (param_variable p) scope g1)
+        in
         subst (FineBlock gs all answer) (sym q.2) (body_fine (param_names ns vars p) (vars ++ param_variable p ∷ []) ps b h scope1 g q.0.1 q.1.1)
 
 -- ---- functions
@@ -136,4 +140,10 @@ headings_right gang hs earlier (f ∷ fs) gs i (suc k) h t e a =
     rw i.2 (headings_right gang hs (earlier ++ f.word.name ∷ []) fs i.0.1 i.1.1 k h t e a)
 
 pub program_fine : (gang : Gang) (fs : List Function) (p : Program) → IsSound fs → IsProgram gang fs p → IsFine p
-program_fine gang fs p h i = subst IsFine (sym i.2) (record { each = functions_fine gang (map heading fs) i.0 (headings_right gang (map heading fs) [] fs i.0 i.1) [] fs h.each i.0 i.1; names = functions_differ gang (map heading fs) [] fs i.0 i.1; few = omega (arith, h.few, functions_few gang (map heading fs) [] fs i.0 i.1) })
+program_fine gang fs p h i = subst IsFine (sym i.2)
+    (record {
+      each = functions_fine gang (map heading fs) i.0 (headings_right gang (map heading fs) [] fs i.0 i.1) [] fs h.each i.0 i.1;
+      names =
+          functions_differ gang (map heading fs) [] fs i.0 i.1;
+      few = omega (arith, h.few, functions_few gang (map heading fs) [] fs i.0 i.1);
+    })

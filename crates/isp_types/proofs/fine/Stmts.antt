@@ -8,7 +8,8 @@ use Rattle.isp_base.specs.declared.types.Span.{Span}
 use Rattle.isp_base.specs.declared.types.Ty.{Ty}
 use Rattle.isp_base.specs.Ranks.{operand}
 use Rattle.isp_tree.specs.Sound.{IfAny, IsSoundExpr, IsSoundFirst, IsSoundSimple, IsSoundStmt, IsSoundBlock, AreSoundStmts}
-use Rattle.isp_tree.specs.Tree.{Expr, First, Simple, Stmt, block, empty, declare, simple, if_then, if_else, loop_while, loop_do, loop_for, foreach, foreach_active, foreach_unique, unmasked, jump, returning, print, assert, Block, braces, Stmts, no_stmts, stmt_then}
+use Rattle.isp_tree.specs.Tree.{Expr, First, Simple, Stmt, block, empty, declare, simple, if_then, if_else, loop_while, loop_do, loop_for, foreach, foreach_active}
+use Rattle.isp_tree.specs.Tree.{foreach_unique, unmasked, jump, returning, print, assert, Block, braces, Stmts, no_stmts, stmt_then}
 use Rattle.isp_typed.specs.declared.variable.Variable.{Variable}
 use Rattle.isp_typed.specs.Typed.{TExpr, TFirst, TSimple, TStmt, TBlock, TStmts, TFunction, elem_of}
 use Rattle.isp_typed.specs.Fine.{FineValue, FineFirst, FineSimple, FineReturned, FineStmt, FineBlock, FineStmts, active_index, unique_index}

@@ -14,7 +14,8 @@ use Rattle.isp_lex.specs.Faults.{fault}
 use Rattle.isp_tree.specs.declared.expr.Prefix.{Prefix}
 use Rattle.isp_tree.specs.declared.expr.Prefix.TheVariants as sign
 use Rattle.isp_tree.specs.declared.types.Word.{Word}
-use Rattle.isp_tree.specs.Tree.{Expr, number, truth, program_index, program_count, place, call, brackets, cast, prefix, binary, choose, Place, variable, element, Argument, by_value, by_reference, Arguments, no_arguments, argument_then, span_of_argument}
+use Rattle.isp_tree.specs.Tree.{Expr, number, truth, program_index, program_count, place, call, brackets, cast, prefix, binary, choose, Place, variable, element}
+use Rattle.isp_tree.specs.Tree.{Argument, by_value, by_reference, Arguments, no_arguments, argument_then, span_of_argument}
 use Rattle.isp_typed.specs.declared.library.Part.{Part}
 use Rattle.isp_typed.specs.declared.variable.ArrayVariable.{ArrayVariable}
 use Rattle.isp_typed.specs.declared.variable.Holds.{Holds}
@@ -206,7 +207,9 @@ module _ (gang : Gang) (hs : List Heading) (v : Scope) (ns : List Binding) (scop
   named_known = known_named (IsIn v) ns scope
 
   -- a call whose arguments are in scope
-  made_in : (w : Word) (xs : Arguments) (s : Span) (rule : Want → List Want → Typing (List Passed)) → ((ps : List Passed) → (rule (past_at hs w xs) (wants_at hs w xs)).is ps → AllPassedIn v ps) → (r : Called) → (call_typing hs w xs s rule).is r → CalledIn v r
+  made_in : (w : Word) (xs : Arguments) (s : Span) (rule : Want → List Want → Typing (List Passed))
+      → ((ps : List Passed) → (rule (past_at hs w xs) (wants_at hs w xs)).is ps → AllPassedIn v ps) → (r : Called) → (call_typing hs w xs s rule).is r
+      → CalledIn v r
   made_in w xs s rule inside r p = call_in v s p.0.0 p.0.1 (inside p.0.1 p.1.1) r p.2
 
   mutual

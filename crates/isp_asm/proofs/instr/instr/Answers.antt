@@ -21,7 +21,9 @@ returns-in_err-tail-clause-err c =
 pub returns-clause-spelled : goal.returns-clause-spelled
 returns-clause-spelled c =
     let e : c.assemble.result ≡ made c.args.op c.in_ok-registers.registers.items c.in_ok-tail.tail = search rules in
-    rw e (made_spelled c.args.op c.shape-shape.result c.shape-shape.ensures c.args.words.now c.in-Some.front.now c.in-Some.back.now c.in-Some.ensures.some c.in_ok-registers.registers.items c.in_ok-tail.tail c.in_ok-registers.ensures.spelled c.in_ok-tail.ensures.spelled c.in_ok-tail.ensures.ending)
+    rw e (made_spelled c.args.op c.shape-shape.result c.shape-shape.ensures c.args.words.now c.in-Some.front.now c.in-Some.back.now
+    c.in-Some.ensures.some c.in_ok-registers.registers.items c.in_ok-tail.tail c.in_ok-registers.ensures.spelled c.in_ok-tail.ensures.spelled
+    c.in_ok-tail.ensures.ending)
 
 pub returns-clause-ok : goal.returns-clause-ok
 returns-clause-ok c =
@@ -30,4 +32,6 @@ returns-clause-ok c =
 pub returns-clause-fits : goal.returns-clause-fits
 returns-clause-fits c =
     let e : c.assemble.result ≡ made c.args.op c.in_ok-registers.registers.items c.in_ok-tail.tail = search rules in
-    rw e (made_fits c.args.op c.shape-shape.result c.shape-shape.ensures c.args.words.now c.in-Some.front.now c.in-Some.back.now c.in-Some.ensures.some c.in_ok-registers.registers.items c.in_ok-tail.tail c.in_ok-registers.ensures.spelled c.in_ok-tail.ensures.ending c.in_ok-registers.ensures.fits c.in_ok-tail.ensures.fits)
+    rw e (made_fits c.args.op c.shape-shape.result c.shape-shape.ensures c.args.words.now c.in-Some.front.now c.in-Some.back.now
+    c.in-Some.ensures.some c.in_ok-registers.registers.items c.in_ok-tail.tail c.in_ok-registers.ensures.spelled c.in_ok-tail.ensures.ending
+    c.in_ok-registers.ensures.fits c.in_ok-tail.ensures.fits)

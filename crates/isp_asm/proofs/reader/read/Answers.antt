@@ -29,12 +29,14 @@ returns-in-Err-clause-only c =
 
 pub returns-then-may_end-clause-found : goal.returns-then-may_end-clause-found
 returns-then-may_end-clause-found c =
-    rw c.into_code.ensures.code (end_found (drafted c.loop-line.draft) c.loop-line.rest.now c.args.text.now c.loop-line.invariant.text (empty_list c.loop-line.rest.now c.is_empty.result c.is_empty.ensures c.if-is_empty.true) (sym c.may_end.ensures ∙ c.if-may_end.true))
+    rw c.into_code.ensures.code (end_found (drafted c.loop-line.draft) c.loop-line.rest.now c.args.text.now c.loop-line.invariant.text
+    (empty_list c.loop-line.rest.now c.is_empty.result c.is_empty.ensures c.if-is_empty.true) (sym c.may_end.ensures ∙ c.if-may_end.true))
 
 pub returns-then-may_end-clause-only : goal.returns-then-may_end-clause-only
 returns-then-may_end-clause-only c =
     only_code c.args.text.now c.into_code.result c.into_code.ensures.writable
-    (rw c.into_code.ensures.code (end_found (drafted c.loop-line.draft) c.loop-line.rest.now c.args.text.now c.loop-line.invariant.text (empty_list c.loop-line.rest.now c.is_empty.result c.is_empty.ensures c.if-is_empty.true) (sym c.may_end.ensures ∙ c.if-may_end.true)))
+    (rw c.into_code.ensures.code (end_found (drafted c.loop-line.draft) c.loop-line.rest.now c.args.text.now c.loop-line.invariant.text
+    (empty_list c.loop-line.rest.now c.is_empty.result c.is_empty.ensures c.if-is_empty.true) (sym c.may_end.ensures ∙ c.if-may_end.true)))
 
 pub returns-else-is_empty-clause-refused : goal.returns-else-is_empty-clause-refused
 returns-else-is_empty-clause-refused c =

@@ -22,7 +22,8 @@ pub returns-in-Xor : goal.returns-in-Xor
 returns-in-Xor c = word_xor c.args.elem c.args.x c.args.y c.requires.x_fits c.requires.y_fits ∙ ap (λ o. op_bits o c.args.elem c.args.x c.args.y) (sym c.in-Xor.is)
 
 pub returns-in-Shl : goal.returns-in-Shl
-returns-in-Shl c = ap₂ (λ m l. bit_and ((c.args.x * 2 ^ bit_and c.args.y m) % 2 ^ 64) l) c.amount_mask.ensures c.low_mask-low.ensures ∙ word_shl c.args.elem c.args.x c.args.y c.requires.x_fits c.requires.y_fits ∙ ap (λ o. op_bits o c.args.elem c.args.x c.args.y) (sym c.in-Shl.is)
+returns-in-Shl c = ap₂ (λ m l. bit_and ((c.args.x * 2 ^ bit_and c.args.y m) % 2 ^ 64) l) c.amount_mask.ensures c.low_mask-low.ensures
+    ∙ word_shl c.args.elem c.args.x c.args.y c.requires.x_fits c.requires.y_fits ∙ ap (λ o. op_bits o c.args.elem c.args.x c.args.y) (sym c.in-Shl.is)
 
 pub returns-then-is_less : goal.returns-then-is_less
 returns-then-is_less c =

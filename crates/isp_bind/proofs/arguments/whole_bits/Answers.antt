@@ -23,7 +23,17 @@ returns-then-whole-lt0-clause-bits c =
     let t = c.args.elem in
     let wide = width_le t in
     let most = greatest_lt t in
-    sym (taken t c.args.whole _ 1 (between t c.args.whole (omega (arith, ints, c.if-whole-greatest.false, c.greatest_of.ensures, c.from-greatest.ensures)) (omega (arith, ints, c.if-whole-greatest-2.false, c.greatest_of.ensures, c.from-greatest.ensures, c.low_mask.ensures, c.from-all_bits.ensures)))
+    sym (taken t c.args.whole _ 1 (between t c.args.whole
+    (omega (arith, ints, c.if-whole-greatest.false, c.greatest_of.ensures, c.from-greatest.ensures))
+    (omega (
+      arith,
+      ints,
+      c.if-whole-greatest-2.false,
+      c.greatest_of.ensures,
+      c.from-greatest.ensures,
+      c.low_mask.ensures,
+      c.from-all_bits.ensures,
+    )))
     (omega (arith, ints, c.if-whole-greatest-2.false, c.if-whole-lt0.true, c.greatest_of.ensures, c.from-greatest.ensures, c.low_mask.ensures, c.from-all_bits.ensures))
     (omega (arith, ints, c.if-whole-greatest-2.false, c.if-whole-lt0.true, c.greatest_of.ensures, c.from-greatest.ensures, c.low_mask.ensures, c.from-all_bits.ensures)))
 
@@ -32,6 +42,16 @@ returns-else-whole-lt0-clause-bits c =
     let t = c.args.elem in
     let wide = width_le t in
     let most = greatest_lt t in
-    sym (taken t c.args.whole _ 0 (between t c.args.whole (omega (arith, ints, c.if-whole-greatest.false, c.greatest_of.ensures, c.from-greatest.ensures)) (omega (arith, ints, c.if-whole-greatest-2.false, c.greatest_of.ensures, c.from-greatest.ensures, c.low_mask.ensures, c.from-all_bits.ensures)))
+    sym (taken t c.args.whole _ 0 (between t c.args.whole
+    (omega (arith, ints, c.if-whole-greatest.false, c.greatest_of.ensures, c.from-greatest.ensures))
+    (omega (
+      arith,
+      ints,
+      c.if-whole-greatest-2.false,
+      c.greatest_of.ensures,
+      c.from-greatest.ensures,
+      c.low_mask.ensures,
+      c.from-all_bits.ensures,
+    )))
     (omega (arith, ints, c.if-whole-lt0.false))
     (omega (arith, ints, c.if-whole-greatest.false, c.if-whole-lt0.false, c.greatest_of.ensures, c.from-greatest.ensures)))

@@ -24,5 +24,7 @@ put-requires g c =
     let n = g.row.N in
     let t = c.args.x.now.elem in
     let found : ℕ → ℕ = λ p. within n (λ q. Some (get_or c.active.result q 0)) (pos p +ℤ number I32 c.args.k) in
-    let fits : Fit t c.shifted-lanes.result = all_fit (2 ^ width t) n c.shifted-lanes.result found (pow_pos (width t)) (search rules) c.shifted-lanes.ensures (λ p. within_fits (2 ^ width t) n (λ q. Some (get_or c.active.result q 0)) (pow_pos (width t)) c.active.ensures.fits (pos p +ℤ number I32 c.args.k)) in
+    let fits : Fit t c.shifted-lanes.result = all_fit (2 ^ width t) n c.shifted-lanes.result found (pow_pos (width t)) (search rules)
+    c.shifted-lanes.ensures (λ p. within_fits (2 ^ width t) n (λ q. Some (get_or c.active.result q 0)) (pow_pos (width t))
+    c.active.ensures.fits (pos p +ℤ number I32 c.args.k)) in
     (search rules, (search rules, (search rules, subst (λ (e : Elem). Fit e c.shifted-lanes.result) c.requires.elem fits)))

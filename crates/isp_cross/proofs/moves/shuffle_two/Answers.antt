@@ -16,5 +16,6 @@ returns-clause-lanes g c =
     let n = g.row.N in
     written_is mask c.picked_of_two-lanes.result c.args.out.now (shuffle_two n x y (active mask index)) n c.put.ensures c.told.ensures.long (search rules) c.told-2.ensures.long (λ p h on.
     c.picked_of_two-lanes.ensures p h
-    ∙ of_two_same n (λ q. Some (get_or c.active-first.result q 0)) x (λ q. Some (get_or c.active-second.result q 0)) y (λ q. c.active-first.ensures.value q) (λ q. c.active-second.ensures.value q) (instance (2 * n) (number I32 (get_or c.bits.result p 0)))
+    ∙ of_two_same n (λ q. Some (get_or c.active-first.result q 0)) x (λ q. Some (get_or c.active-second.result q 0)) y
+    (λ q. c.active-first.ensures.value q) (λ q. c.active-second.ensures.value q) (instance (2 * n) (number I32 (get_or c.bits.result p 0)))
     ∙ ap (λ (b : ℕ). of_two n x y (instance (2 * n) (number I32 b))) (ap (λ (xs : List ℕ). get_or xs p 0) c.bits.ensures.value ∙ ap or_zero (sym (on_at mask index.bits p on))))

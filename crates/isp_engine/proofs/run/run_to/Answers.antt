@@ -22,7 +22,8 @@ pub returns-clause-machine : goal.returns-clause-machine
 returns-clause-machine g c = λ ne.
     let s = c.in-Some.ensures.found in
     rw (← c.verified-code.ensures)
-    (answers_of _ c.code-code.ensures.goes_on c.args.entry.now c.args.json.now c.args.budget s.0 s.1 s.2 _ s.3 c.in_ok-bound.bound.arguments.items c.in_ok-bound.ensures.ok _ _ _ c.run_for_gang.result c.run_for_gang.ensures.reports (c.run_for_gang.ensures.sends s.0 s.1 s.2) ne)
+    (answers_of _ c.code-code.ensures.goes_on c.args.entry.now c.args.json.now c.args.budget s.0 s.1 s.2 _ s.3 c.in_ok-bound.bound.arguments.items
+    c.in_ok-bound.ensures.ok _ _ _ c.run_for_gang.result c.run_for_gang.ensures.reports (c.run_for_gang.ensures.sends s.0 s.1 s.2) ne)
 
 pub returns-clause-means : goal.returns-clause-means
 returns-clause-means g c = λ ne gang text k. means k.program c.args.image.now k.accepted k.agrees c.args.entry.now c.args.json.now c.args.budget _ (returns-clause-machine g c ne)

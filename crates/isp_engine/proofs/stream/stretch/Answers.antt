@@ -14,8 +14,12 @@ slice_bounds-new-start g c =
 
 pub returns-in_err-write_all-clause-err : goal.returns-in_err-write_all-clause-err
 returns-in_err-write_all-clause-err g c =
-    on_err _ (wrote _ _ _ _ c.run-stop.ensures _ _ c.output-told.ensures c.output-output.ensures (λ bytes. TookSome bytes (g.W.Sink.written c.args.out.now) (g.W.Sink.written c.write_all.new.out) (g.W.Sink.has_failed c.write_all.new.out)) c.in_err-write_all.ensures.err)
+    on_err _ (wrote _ _ _ _ c.run-stop.ensures _ _ c.output-told.ensures c.output-output.ensures
+    (λ bytes. TookSome bytes (g.W.Sink.written c.args.out.now) (g.W.Sink.written c.write_all.new.out) (g.W.Sink.has_failed c.write_all.new.out))
+    c.in_err-write_all.ensures.err)
 
 pub returns-clause-ok : goal.returns-clause-ok
 returns-clause-ok g c =
-    wrote _ _ _ _ c.run-stop.ensures _ _ c.output-told.ensures c.output-output.ensures (λ bytes. TookAll bytes (g.W.Sink.written c.args.out.now) (g.W.Sink.written c.write_all.new.out) (g.W.Sink.has_failed c.write_all.new.out)) c.in_ok-write_all.ensures.ok
+    wrote _ _ _ _ c.run-stop.ensures _ _ c.output-told.ensures c.output-output.ensures
+    (λ bytes. TookAll bytes (g.W.Sink.written c.args.out.now) (g.W.Sink.written c.write_all.new.out) (g.W.Sink.has_failed c.write_all.new.out))
+    c.in_ok-write_all.ensures.ok

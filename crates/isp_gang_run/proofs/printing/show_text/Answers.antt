@@ -16,11 +16,17 @@ loop-place-preserved c =
     let h : k < length bs = omega (arith, c.loop-place-test.true) in
     elim c.if-text-place-eq37.branch [
       | then-text-place-eq37+in_ok-show_at w ↦ record {
-        written = ap (λ (o : Vec ℕ Global). so_far o.items (k + 1) c.if-text-place-eq37.next bs xs) w.output-is ∙ ap (λ (n : ℕ). so_far w.show_at.new.output.items (k + 1) n bs xs) w.next-is ∙ value_more c.loop-place.output.items w.show_at.new.output.items bs xs k c.loop-place.next _ h w.if-text-place-eq37.true w.in_ok-show_at.ensures ∙ c.loop-place.invariant.written;
+        written = ap (λ (o : Vec ℕ Global). so_far o.items (k + 1) c.if-text-place-eq37.next bs xs) w.output-is
+            ∙ ap (λ (n : ℕ). so_far w.show_at.new.output.items (k + 1) n bs xs) w.next-is
+            ∙ value_more c.loop-place.output.items w.show_at.new.output.items bs xs k c.loop-place.next _ h w.if-text-place-eq37.true
+            w.in_ok-show_at.ensures ∙ c.loop-place.invariant.written;
         low = omega (arith, w.next-is, c.loop-place.invariant.low);
       }
       | else-text-place-eq37+in_ok-push w ↦ record {
-        written = ap (λ (o : Vec ℕ Global). so_far o.items (k + 1) c.if-text-place-eq37.next bs xs) w.output-is ∙ ap (λ (n : ℕ). so_far w.push.new.self.items (k + 1) n bs xs) w.next-is ∙ byte_more c.loop-place.output.items w.push.new.self.items bs xs k c.loop-place.next _ h w.if-text-place-eq37.false w.in_ok-push.ensures.items ∙ c.loop-place.invariant.written;
+        written = ap (λ (o : Vec ℕ Global). so_far o.items (k + 1) c.if-text-place-eq37.next bs xs) w.output-is
+            ∙ ap (λ (n : ℕ). so_far w.push.new.self.items (k + 1) n bs xs) w.next-is
+            ∙ byte_more c.loop-place.output.items w.push.new.self.items bs xs k c.loop-place.next _ h w.if-text-place-eq37.false
+            w.in_ok-push.ensures.items ∙ c.loop-place.invariant.written;
         low = omega (arith, w.next-is, c.loop-place.invariant.low);
       }
     ]

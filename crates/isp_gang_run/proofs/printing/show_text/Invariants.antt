@@ -10,6 +10,8 @@ use Rattle.isp_gang_run.proofs.printing.show_text.Given as goal
 abbrev pub invariant-loop-place : goal.invariant-loop-place
 invariant-loop-place l =
     record {
-      written : so_far l.output.items l.place l.next l.text (shown_all (gang_width l.gang) (flag_of l.set) (exprs_of l.shown) (map payload_of l.values)) ≡ so_far l.initial.output.items 0 0 l.text (shown_all (gang_width l.gang) (flag_of l.set) (exprs_of l.shown) (map payload_of l.values));
+      written : so_far l.output.items l.place l.next l.text
+          (shown_all (gang_width l.gang) (flag_of l.set) (exprs_of l.shown) (map payload_of l.values))
+          ≡ so_far l.initial.output.items 0 0 l.text (shown_all (gang_width l.gang) (flag_of l.set) (exprs_of l.shown) (map payload_of l.values));
       low : l.next ≤ l.place;
     }

@@ -13,7 +13,10 @@ loop-place-init c = record { zeroed = zeroed_begins (flag_of c.args.set.now) c.a
 pub loop-place-preserved : goal.loop-place-preserved
 loop-place-preserved c =
     record {
-      zeroed = zeroed_next (flag_of c.args.set.now) (lanes_of c.args.rows.now.items) c.loop-place.rows.items c.loop-place.place c.cleared.result c.index.result.now c.loop-place.invariant.zeroed (omega (arith, c.loop-place.invariant.long, c.loop-place-test.true, c.len-place-end.ensures)) (c.cleared.ensures ∙ ap (λ z. with_zeros (flag_of c.args.set.now) (lane_of z)) c.index.ensures);
+      zeroed = zeroed_next (flag_of c.args.set.now) (lanes_of c.args.rows.now.items) c.loop-place.rows.items c.loop-place.place c.cleared.result
+          c.index.result.now c.loop-place.invariant.zeroed
+          (omega (arith, c.loop-place.invariant.long, c.loop-place-test.true, c.len-place-end.ensures))
+          (c.cleared.ensures ∙ ap (λ z. with_zeros (flag_of c.args.set.now) (lane_of z)) c.index.ensures);
       long = length-set c.loop-place.rows.items c.loop-place.place c.cleared.result ∙ c.loop-place.invariant.long;
     }
 

@@ -10,7 +10,9 @@ use Rattle.isp_gang_run.proofs.stores.clear_own.Goals as goal
 pub returns-then-array-arrays : goal.returns-then-array-arrays
 returns-then-array-arrays c =
     written (λ v. lanes_of v.items) (λ e p. 0) c.args.arrays.now _ c.args.array c.if-array-arrays.true
-    ∙ ap (put (own_of c.args.arrays.now) c.args.array) (c.clear_lanes.ensures ∙ ap {B = ℕ → Lanes} (λ f e. with_zeros (flag_of c.args.set.now) (f e)) (sym (at_there (λ v. lanes_of v.items) (λ e p. 0) c.args.arrays.now c.args.array c.index-arrays-array.result c.if-array-arrays.true)))
+    ∙ ap (put (own_of c.args.arrays.now) c.args.array)
+    (c.clear_lanes.ensures ∙ ap {B = ℕ → Lanes} (λ f e. with_zeros (flag_of c.args.set.now) (f e))
+    (sym (at_there (λ v. lanes_of v.items) (λ e p. 0) c.args.arrays.now c.args.array c.index-arrays-array.result c.if-array-arrays.true)))
 
 pub returns-else-array-arrays : goal.returns-else-array-arrays
 returns-else-array-arrays c =

@@ -9,7 +9,9 @@ loop-instance-init c = own_first (own_of c.args.arrays.now.items) c.args.array (
 
 pub loop-instance-preserved : goal.loop-instance-preserved
 loop-instance-preserved c =
-    own_next_store (own_of c.args.arrays.now.items) (own_of c.loop-instance.arrays.items) (own_of c.put_lane.new.arrays.items) c.args.array c.loop-instance.instance (map_of c.args.places.now) (map_of c.args.values.now) c.loop-instance.invariant c.in_ok-put_lane.ensures
+    own_next_store (own_of c.args.arrays.now.items) (own_of c.loop-instance.arrays.items) (own_of c.put_lane.new.arrays.items) c.args.array
+    c.loop-instance.instance (map_of c.args.places.now) (map_of c.args.values.now) c.loop-instance.invariant c.in_ok-put_lane.ensures
 
 pub returns : goal.returns
-returns c = own_last (own_of c.args.arrays.now.items) (own_of c.loop-instance.arrays.items) c.args.array c.loop-instance.instance c.args.places.now (map_of c.args.values.now) c.told-places (omega (arith, c.loop-instance-test.false, c.loop-instance.auto)) c.loop-instance.invariant
+returns c = own_last (own_of c.args.arrays.now.items) (own_of c.loop-instance.arrays.items) c.args.array c.loop-instance.instance c.args.places.now
+    (map_of c.args.values.now) c.told-places (omega (arith, c.loop-instance-test.false, c.loop-instance.auto)) c.loop-instance.invariant

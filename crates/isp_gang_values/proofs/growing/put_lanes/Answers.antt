@@ -13,7 +13,8 @@ loop-next-preserved c =
     }
 
 pub returns-then-place-len-clause-ok : goal.returns-then-place-len-clause-ok
-returns-then-place-len-clause-ok c = written lane_of (λ p. 0) c.loop-next.values.items c.args.lanes.now c.args.place (omega (arith, c.if-place-len.true, c.len.ensures)) ∙ ap (λ f. put f c.args.place (lane_of c.args.lanes.now)) c.loop-next.invariant.same
+returns-then-place-len-clause-ok c = written lane_of (λ p. 0) c.loop-next.values.items c.args.lanes.now c.args.place
+    (omega (arith, c.if-place-len.true, c.len.ensures)) ∙ ap (λ f. put f c.args.place (lane_of c.args.lanes.now)) c.loop-next.invariant.same
 
 pub returns-in_ok-push-2-clause-ok : goal.returns-in_ok-push-2-clause-ok
 returns-in_ok-push-2-clause-ok c =

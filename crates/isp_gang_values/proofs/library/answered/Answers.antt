@@ -25,5 +25,7 @@ returns-in-ReduceMax c =
 
 pub returns-in-Broadcast : goal.returns-in-Broadcast
 returns-in-Broadcast c =
-    ap Each (c.repeated.ensures ∙ ap (λ (v : ℕ). on (flag_of c.args.set.now) (λ p. v)) (c.extracted.ensures ∙ ap₂ (extract (gang_width c.args.gang)) c.spread-row.ensures (to_z-of_z w32 c.int-count.result (record { sfits = c.int-count.type_inv }) ∙ c.int-count.ensures ∙ ap (number I32) c.sole.ensures)))
+    ap Each (c.repeated.ensures ∙ ap (λ (v : ℕ). on (flag_of c.args.set.now) (λ p. v))
+    (c.extracted.ensures ∙ ap₂ (extract (gang_width c.args.gang)) c.spread-row.ensures
+    (to_z-of_z w32 c.int-count.result (record { sfits = c.int-count.type_inv }) ∙ c.int-count.ensures ∙ ap (number I32) c.sole.ensures)))
     ∙ sym (ap (λ f. library_value (gang_width c.args.gang) c.args.elem (flag_of c.args.set.now) f (payload_of c.args.x.now) (payload_of c.args.y.now) (payload_of c.args.z.now)) c.in-Broadcast.is)

@@ -13,5 +13,7 @@ returns c =
     let one : k + 1 ≡ suc k = omega arith in
     let r : c.reset.new.ranges.items ≡ restarted (suc k) xs = c.reset.ensures ∙ ap (λ (n : ℕ). restarted n xs) one in
     ap (λ (ys : List Range). set ys k (record c.index_mut.result.now { next = to_z w64 (of_z w64 c.further-next.result) })) r
-    ∙ carry_is k xs c.index.result.now c.index_mut.result.now _ (omega (arith, c.requires)) (subst (λ (ys : List Range). c.index.result.now ≡ get_or ys k c.index.result.now) r c.index.ensures) (subst (λ (ys : List Range). c.index_mut.result.now ≡ get_or ys k c.index_mut.result.now) r c.index_mut.ensures.value)
+    ∙ carry_is k xs c.index.result.now c.index_mut.result.now _ (omega (arith, c.requires))
+    (subst (λ (ys : List Range). c.index.result.now ≡ get_or ys k c.index.result.now) r c.index.ensures)
+    (subst (λ (ys : List Range). c.index_mut.result.now ≡ get_or ys k c.index_mut.result.now) r c.index_mut.ensures.value)
     (to_z-of_z w64 c.further-next.result (record { sfits = c.further-next.type_inv }) ∙ c.further-next.ensures)

@@ -20,6 +20,8 @@ loop-place-preserved c =
     let h : k < length xs = omega (arith, c.loop-place-test.true, c.len-place-end.ensures) in
     let more : k + 1 - f ≡ suc (k - f) = omega (arith, c.loop-place.auto.place) in
     ap (λ (ys : List Range). set ys k (record c.index_mut.result.now { next = to_z w64 (of_z w64 c.restart-next.result) })) inv
-    ∙ one_restarted f (k - f) k xs c.index.result.now c.index_mut.result.now _ e h (subst (λ (ys : List Range). c.index.result.now ≡ get_or ys k c.index.result.now) inv c.index.ensures) (subst (λ (ys : List Range). c.index_mut.result.now ≡ get_or ys k c.index_mut.result.now) inv c.index_mut.ensures.value)
+    ∙ one_restarted f (k - f) k xs c.index.result.now c.index_mut.result.now _ e h
+    (subst (λ (ys : List Range). c.index.result.now ≡ get_or ys k c.index.result.now) inv c.index.ensures)
+    (subst (λ (ys : List Range). c.index_mut.result.now ≡ get_or ys k c.index_mut.result.now) inv c.index_mut.ensures.value)
     (to_z-of_z w64 c.restart-next.result (record { sfits = c.restart-next.type_inv }) ∙ c.restart-next.ensures)
     ∙ ap (λ (n : ℕ). restarted_to f n xs) (sym more)

@@ -25,7 +25,8 @@ pub returns-then-not-starts_with-clause-value : goal.returns-then-not-starts_wit
 returns-then-not-starts_with-clause-value c =
     let v = c.each.invariant.value in
     let e : map item_of c.in_ok-all.all.items ≡ map item_of c.each.all.items ++ item_of c.in_ok-next.next.value ∷ [] = rw c.in_ok-all.ensures.items (map_push _ c.each.all.items c.in_ok-next.next.value) in
-    rw e (list_last (item_at c.args.left) v.0 (map item_of c.each.all.items) c.each.rest.now (item_of c.in_ok-next.next.value) c.in_ok-next.after.now (items_at c.args.left c.args.tokens.now) v.1 c.in_ok-next.ensures.value (sym c.starts_with.ensures ∙ c.if-not-starts_with.true) v.2)
+    rw e (list_last (item_at c.args.left) v.0 (map item_of c.each.all.items) c.each.rest.now (item_of c.in_ok-next.next.value) c.in_ok-next.after.now
+    (items_at c.args.left c.args.tokens.now) v.1 c.in_ok-next.ensures.value (sym c.starts_with.ensures ∙ c.if-not-starts_with.true) v.2)
 
 pub returns-then-not-starts_with-clause-end : goal.returns-then-not-starts_with-clause-end
 returns-then-not-starts_with-clause-end c =
@@ -36,7 +37,9 @@ pub each-preserved : goal.each-preserved
 each-preserved c =
     let v = c.each.invariant.value in
     let e : map item_of c.in_ok-all.all.items ≡ map item_of c.each.all.items ++ item_of c.in_ok-next.next.value ∷ [] = rw c.in_ok-all.ensures.items (map_push _ c.each.all.items c.in_ok-next.next.value) in
-    let s = list_step (item_at c.args.left) v.0 (map item_of c.each.all.items) c.each.rest.now (item_of c.in_ok-next.next.value) c.in_ok-next.after.now (items_at c.args.left c.args.tokens.now) v.1 (omega (arith, c.in_ok-next.ensures.rest)) c.in_ok-next.ensures.value (sym c.starts_with.ensures ∙ c.if-not-starts_with.false) v.2 in
+    let s = list_step (item_at c.args.left) v.0 (map item_of c.each.all.items) c.each.rest.now (item_of c.in_ok-next.next.value)
+    c.in_ok-next.after.now (items_at c.args.left c.args.tokens.now) v.1 (omega (arith, c.in_ok-next.ensures.rest)) c.in_ok-next.ensures.value
+    (sym c.starts_with.ensures ∙ c.if-not-starts_with.false) v.2 in
     record {
       rest = omega (arith, c.each.invariant.rest, c.in_ok-next.ensures.rest, ap length c.tail-rest.ensures, length-drop 1 c.in_ok-next.after.now);
       value = rw (e, c.tail-rest.ensures) s;

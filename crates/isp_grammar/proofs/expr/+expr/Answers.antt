@@ -13,7 +13,8 @@ use Rattle.std.proofs.lemmas.Result.{err_from_is_err_and}
 use Rattle.isp_grammar.proofs.Basics.{head_none, head_some}
 use Rattle.isp_grammar.proofs.Loops.{list_fails, list_last, list_step, listed_none, listed_some}
 use Rattle.isp_grammar.proofs.SimpleSteps.{fails_then, made_gives, shorter_found, shorter_made, height_made, bounded_made}
-use Rattle.isp_grammar.proofs.ExprSteps.{atom_depth, depth_pos, arguments_past, depth_past, first_fails, loop_begins, loop_ends, loop_deep, loop_fails, loop_step, test_fails, test_alone, test_deep, parts_fail, parts_made, operand_step, target_step, target_at_limit, expr_off, expr_deep, bracket_typed, bracket_closed, argument_referred, argument_valued}
+use Rattle.isp_grammar.proofs.ExprSteps.{atom_depth, depth_pos, arguments_past, depth_past, first_fails, loop_begins, loop_ends, loop_deep, loop_fails, loop_step, test_fails, test_alone, test_deep, parts_fail}
+use Rattle.isp_grammar.proofs.ExprSteps.{parts_made, operand_step, target_step, target_at_limit, expr_off, expr_deep, bracket_typed, bracket_closed, argument_referred, argument_valued}
 use Rattle.isp_grammar.proofs.Views.{brackets_view, cast_view, prefix_view, variable_view, element_view, value_view, reference_view}
 use Rattle.isp_grammar.proofs.expr.+expr.Goals as goal
 
@@ -23,7 +24,14 @@ pub argument-returns-in_err-place : goal.argument-returns-in_err-place
 argument-returns-in_err-place t c =
     let p = err_from_is_err_and c.from_residual.result c.from_residual.ensures.1 in
     record {
-      value = rw (p.1, p.2, argument_referred (expr_at c.args.left loosest) (target_at c.args.left) c.args.tokens.now (sym c.starts_with.ensures ∙ c.if-starts_with.true), sym c.tail.ensures) (fails_then c.in_err-place.field-0.0 _ _ c.in_err-place.ensures.value);
+      value = rw (
+        p.1,
+        p.2,
+        argument_referred (expr_at c.args.left loosest) (target_at c.args.left) c.args.tokens.now
+            (sym c.starts_with.ensures ∙ c.if-starts_with.true),
+        sym c.tail.ensures,
+      )
+          (fails_then c.in_err-place.field-0.0 _ _ c.in_err-place.ensures.value);
       height = rw p.1 tt;
       rest = rw p.1 tt;
       bounded = rw p.1 tt;
@@ -31,7 +39,15 @@ argument-returns-in_err-place t c =
 
 pub argument-returns-then-starts_with-clause-value : goal.argument-returns-then-starts_with-clause-value
 argument-returns-then-starts_with-clause-value t c =
-    rw (argument_referred (expr_at c.args.left loosest) (target_at c.args.left) c.args.tokens.now (sym c.starts_with.ensures ∙ c.if-starts_with.true), sym c.tail.ensures, c.in_ok-place.ensures.value, reference_view c.in_ok-place.place c.to-span.result, c.to-span.ensures, c.first_span.ensures, c.span.ensures) refl
+    rw (
+      argument_referred (expr_at c.args.left loosest) (target_at c.args.left) c.args.tokens.now (sym c.starts_with.ensures ∙ c.if-starts_with.true),
+      sym c.tail.ensures,
+      c.in_ok-place.ensures.value,
+      reference_view c.in_ok-place.place c.to-span.result,
+      c.to-span.ensures,
+      c.first_span.ensures,
+      c.span.ensures,
+    ) refl
 
 pub argument-returns-in_err-value : goal.argument-returns-in_err-value
 argument-returns-in_err-value t c =
@@ -81,7 +97,9 @@ arguments-returns-then-not-starts_with-clause-value t c =
     let one = argument_at (expr_at c.args.left loosest) (target_at c.args.left) in
     let w = listed_some mark.ParenClose one c.args.tokens.now (sym c.starts_with.ensures ∙ c.if-starts_with.false) in
     rw (w, c.in_ok-all.ensures.items, arguments_past c.each.all.items c.in_ok-next.next)
-    (list_last one v.0 (arguments_of c.each.all.items) c.each.rest.now (argument_of c.in_ok-next.next) c.in_ok-next.after.now (list_at one (length c.args.tokens.now + 1) c.args.tokens.now) v.1 c.in_ok-next.ensures.value (sym c.starts_with-in-each.ensures ∙ c.if-not-starts_with.true) v.2)
+    (list_last one v.0 (arguments_of c.each.all.items) c.each.rest.now (argument_of c.in_ok-next.next) c.in_ok-next.after.now
+    (list_at one (length c.args.tokens.now + 1) c.args.tokens.now) v.1 c.in_ok-next.ensures.value
+    (sym c.starts_with-in-each.ensures ∙ c.if-not-starts_with.true) v.2)
 
 pub arguments-returns-then-not-starts_with-clause-height : goal.arguments-returns-then-not-starts_with-clause-height
 arguments-returns-then-not-starts_with-clause-height t c =
@@ -91,7 +109,9 @@ pub arguments-each-preserved : goal.arguments-each-preserved
 arguments-each-preserved t c =
     let v = c.each.invariant.value in
     let one = argument_at (expr_at c.args.left loosest) (target_at c.args.left) in
-    let s = list_step one v.0 (arguments_of c.each.all.items) c.each.rest.now (argument_of c.in_ok-next.next) c.in_ok-next.after.now (list_at one (length c.args.tokens.now + 1) c.args.tokens.now) v.1 (omega (arith, c.in_ok-next.ensures.rest)) c.in_ok-next.ensures.value (sym c.starts_with-in-each.ensures ∙ c.if-not-starts_with.false) v.2 in
+    let s = list_step one v.0 (arguments_of c.each.all.items) c.each.rest.now (argument_of c.in_ok-next.next) c.in_ok-next.after.now
+    (list_at one (length c.args.tokens.now + 1) c.args.tokens.now) v.1 (omega (arith, c.in_ok-next.ensures.rest)) c.in_ok-next.ensures.value
+    (sym c.starts_with-in-each.ensures ∙ c.if-not-starts_with.false) v.2 in
     record {
       rest = omega (arith, c.each.invariant.rest, c.in_ok-next.ensures.rest, ap length c.tail-rest.ensures, length-drop 1 c.in_ok-next.after.now);
       height = rw (c.in_ok-all.ensures.items, depth_past c.each.all.items c.in_ok-next.next) (omega (arith, c.larger-height.ensures, c.each.invariant.height, c.in_ok-next.ensures.height));
@@ -116,20 +136,32 @@ binary-loop-op-init t c = record {
   rest = c.in_ok-found.ensures.rest;
   height = c.in_ok-found.ensures.height;
   bounded = c.in_ok-found.ensures.bounded;
-  value = (c.args.left - 1, omega (arith, depth_pos (expr_of c.in_ok-found.found.value), c.in_ok-found.ensures.height), loop_begins c.args.left c.args.looseness c.args.tokens.now (expr_of c.in_ok-found.found.value) c.in_ok-found.rest.now (omega arith) c.requires.level c.in_ok-found.ensures.value);
+  value = (
+    c.args.left - 1,
+    omega (arith, depth_pos (expr_of c.in_ok-found.found.value), c.in_ok-found.ensures.height),
+    loop_begins c.args.left
+        c.args.looseness c.args.tokens.now (expr_of c.in_ok-found.found.value) c.in_ok-found.rest.now (omega arith) c.requires.level
+        c.in_ok-found.ensures.value,
+  );
 }
 
 pub binary-returns-then-height-left-clause-value : goal.binary-returns-then-height-left-clause-value
 binary-returns-then-height-left-clause-value t c =
     let v = c.loop-op.invariant.value in
-    rw c.refuse.ensures (loop_deep c.args.left c.args.looseness v.0 (expr_of c.loop-op.found.value) c.loop-op.rest.now c.in-Some.op (expr_at c.args.left c.args.looseness c.args.tokens.now) (omega arith) (sym c.operator_at.ensures ∙ c.in-Some.is) (omega (arith, c.loop-op.invariant.height)) v.2)
+    rw c.refuse.ensures (loop_deep c.args.left c.args.looseness v.0 (expr_of c.loop-op.found.value) c.loop-op.rest.now c.in-Some.op
+    (expr_at c.args.left c.args.looseness c.args.tokens.now) (omega arith) (sym c.operator_at.ensures ∙ c.in-Some.is)
+    (omega (arith, c.loop-op.invariant.height)) v.2)
 
 pub binary-returns-in_err-right : goal.binary-returns-in_err-right
 binary-returns-in_err-right t c =
     let v = c.loop-op.invariant.value in
     let p = err_from_is_err_and c.from_residual-in_err-right.result c.from_residual-in_err-right.ensures.1 in
     record {
-      value = rw (p.1, p.2) (loop_fails c.in_err-right.field-0.0 c.args.left c.args.looseness v.0 (expr_of c.loop-op.found.value) c.loop-op.rest.now c.in-Some.op (expr_at c.args.left c.args.looseness c.args.tokens.now) (omega arith) (sym c.operator_at.ensures ∙ c.in-Some.is) (omega (arith, c.loop-op.invariant.height)) (omega (arith, c.loop-op.invariant.height, v.1)) (subst (λ (l : List Token). Fails c.in_err-right.field-0.0 (expr_at (c.args.left - 1) (c.args.looseness - 1) l)) c.tail.ensures c.in_err-right.ensures.value) v.2);
+      value = rw (p.1, p.2) (loop_fails c.in_err-right.field-0.0 c.args.left c.args.looseness v.0 (expr_of c.loop-op.found.value) c.loop-op.rest.now
+          c.in-Some.op (expr_at c.args.left c.args.looseness c.args.tokens.now) (omega arith) (sym c.operator_at.ensures ∙ c.in-Some.is)
+          (omega (arith, c.loop-op.invariant.height)) (omega (arith, c.loop-op.invariant.height, v.1))
+          (subst (λ (l : List Token). Fails c.in_err-right.field-0.0 (expr_at (c.args.left - 1) (c.args.looseness - 1) l)) c.tail.ensures
+          c.in_err-right.ensures.value) v.2);
       height = rw p.1 tt;
       rest = rw p.1 tt;
       bounded = rw p.1 tt;
@@ -154,7 +186,10 @@ binary-loop-op-preserved t c =
     let m = c.in_ok-found-2.ensures in
     let e : expr_of c.in_ok-found-2.field-0-0.value ≡ joined (expr_of c.loop-op.found.value) c.in-Some.op (expr_of c.in_ok-right.right.value) = m.value ∙ c.join.ensures in
     let w = subst (λ (l : List Token). expr_at (c.args.left - 1) (c.args.looseness - 1) l ≡ Ok (expr_of c.in_ok-right.right.value, c.in_ok-right.after.now)) c.tail.ensures c.in_ok-right.ensures.value in
-    let s = loop_step c.args.left c.args.looseness v.0 (expr_of c.loop-op.found.value) c.loop-op.rest.now c.in-Some.op (expr_of c.in_ok-right.right.value) c.in_ok-right.after.now (expr_at c.args.left c.args.looseness c.args.tokens.now) (omega arith) (sym c.operator_at.ensures ∙ c.in-Some.is) (omega (arith, c.loop-op.invariant.height)) (omega (arith, c.loop-op.invariant.height, v.1)) w v.2 in
+    let s = loop_step c.args.left c.args.looseness v.0 (expr_of c.loop-op.found.value) c.loop-op.rest.now c.in-Some.op
+    (expr_of c.in_ok-right.right.value) c.in_ok-right.after.now (expr_at c.args.left c.args.looseness c.args.tokens.now) (omega arith)
+    (sym c.operator_at.ensures ∙ c.in-Some.is) (omega (arith, c.loop-op.invariant.height)) (omega (arith, c.loop-op.invariant.height, v.1)) w
+    v.2 in
     let h : c.in_ok-found-2.field-0-1 ≡ depth (joined (expr_of c.loop-op.found.value) c.in-Some.op (expr_of c.in_ok-right.right.value)) = omega (arith, m.height, c.loop-op.invariant.height, c.in_ok-right.ensures.height, c.larger-deeper.ensures) in
     record {
       rest = omega (arith, ap length m.rest, c.loop-op.invariant.rest, c.in_ok-right.ensures.rest, ap length c.tail.ensures, length-drop 1 c.loop-op.rest.now);
@@ -192,7 +227,8 @@ pub expr-returns-in_err-parts : goal.expr-returns-in_err-parts
 expr-returns-in_err-parts t c =
     let p = err_from_is_err_and c.from_residual-in_err-parts.result c.from_residual-in_err-parts.ensures.1 in
     record {
-      value = rw (p.1, p.2) (parts_fail c.in_err-parts.field-0.0 c.args.left c.args.tokens.now (expr_of c.in_ok-test.test.value) c.in_ok-test.rest.now c.in_ok-test.ensures.value (sym c.starts_with.ensures ∙ c.if-not-starts_with.false) (omega (arith, c.in_ok-test.ensures.height))
+      value = rw (p.1, p.2) (parts_fail c.in_err-parts.field-0.0 c.args.left c.args.tokens.now (expr_of c.in_ok-test.test.value) c.in_ok-test.rest.now
+          c.in_ok-test.ensures.value (sym c.starts_with.ensures ∙ c.if-not-starts_with.false) (omega (arith, c.in_ok-test.ensures.height))
           (subst (λ (l : List Token). Fails c.in_err-parts.field-0.0 (parts_at (expr_at (c.args.left - 1) loosest) l)) c.tail.ensures c.in_err-parts.ensures.value));
       height = rw p.1 tt;
       rest = rw p.1 tt;
@@ -202,7 +238,12 @@ expr-returns-in_err-parts t c =
 pub expr-returns-clause-value : goal.expr-returns-clause-value
 expr-returns-clause-value t c =
     let w = subst (λ (l : List Token). parts_at (expr_at (c.args.left - 1) loosest) l ≡ Ok ((parts_of c.in_ok-parts.parts), c.in_ok-parts.rest.now)) c.tail.ensures c.in_ok-parts.ensures.value in
-    rw (parts_made c.args.left c.args.tokens.now (expr_of c.in_ok-test.test.value) c.in_ok-test.rest.now (parts_of c.in_ok-parts.parts) c.in_ok-parts.rest.now c.in_ok-test.ensures.value (sym c.starts_with.ensures ∙ c.if-not-starts_with.false) (omega (arith, c.in_ok-test.ensures.height)) w, sym c.choose.ensures)
+    rw (
+      parts_made c.args.left c.args.tokens.now (expr_of c.in_ok-test.test.value) c.in_ok-test.rest.now (parts_of c.in_ok-parts.parts)
+          c.in_ok-parts.rest.now c.in_ok-test.ensures.value (sym c.starts_with.ensures ∙ c.if-not-starts_with.false)
+          (omega (arith, c.in_ok-test.ensures.height)) w,
+      sym c.choose.ensures,
+    )
     (made_gives expr_of c.made.result _ _ c.made.ensures.value c.made.ensures.rest c.made.ensures.memory)
 
 -- ---- names and places
@@ -233,7 +274,17 @@ unfolding place_at index_at optional
 place-returns-in_err-index t c =
     let p = err_from_is_err_and c.from_residual-in_err-index.result c.from_residual-in_err-index.ensures.1 in
     record {
-      value = rw (p.1, p.2, target_step c.args.left c.args.tokens.now (omega arith), c.in_ok-word.ensures.value, sym c.starts_with.ensures ∙ c.if-not-starts_with.false, sym c.tail.ensures) (fails_then c.in_err-index.field-0.0 _ _ (fails_then c.in_err-index.field-0.0 _ _ (fails_then c.in_err-index.field-0.0 _ _ c.in_err-index.ensures.value)));
+      value = rw (
+        p.1,
+        p.2,
+        target_step c.args.left c.args.tokens.now (omega arith),
+        c.in_ok-word.ensures.value,
+        sym c.starts_with.ensures
+            ∙ c.if-not-starts_with.false,
+        sym c.tail.ensures,
+      )
+          (fails_then c.in_err-index.field-0.0 _ _ (fails_then c.in_err-index.field-0.0 _ _
+          (fails_then c.in_err-index.field-0.0 _ _ c.in_err-index.ensures.value)));
       height = rw p.1 tt;
       rest = rw p.1 tt;
       bounded = rw p.1 tt;
@@ -241,7 +292,17 @@ place-returns-in_err-index t c =
 
 pub place-returns-clause-value : goal.place-returns-clause-value
 unfolding place_at index_at optional
-place-returns-clause-value t c = rw (target_step c.args.left c.args.tokens.now (omega arith), c.in_ok-word.ensures.value, sym c.starts_with.ensures ∙ c.if-not-starts_with.false, sym c.tail.ensures, c.in_ok-index.ensures.value, element_view c.in_ok-word.word c.in_ok-index.index c.to-span.result, c.to-span.ensures) refl
+place-returns-clause-value t c = rw (
+  target_step c.args.left c.args.tokens.now (omega arith),
+  c.in_ok-word.ensures.value,
+  sym c.starts_with.ensures
+      ∙ c.if-not-starts_with.false,
+  sym c.tail.ensures,
+  c.in_ok-index.ensures.value,
+  element_view c.in_ok-word.word c.in_ok-index.index
+      c.to-span.result,
+  c.to-span.ensures,
+) refl
 
 pub suffix-returns-in_err-value : goal.suffix-returns-in_err-value
 unfolding suffix_at
@@ -325,7 +386,9 @@ unary-returns-then-left-eq0-clause-value t c =
 pub unary-returns-clause-value : goal.unary-returns-clause-value
 unary-returns-clause-value t c =
     let w : c.args.tokens.now ≡ c.in-Some.first.now ∷ c.in-Some.rest.now = search rules in
-    let p : expr_at c.args.left 0 c.args.tokens.now ≡ operand_from (expr_at (c.args.left - 1)) (target_at (c.args.left - 1)) (start_of c.in-Some.first.now.kind) c.in-Some.first.now c.in-Some.rest.now = rw w (operand_step c.args.left c.in-Some.first.now c.in-Some.rest.now (omega arith)) in
+    let p : expr_at c.args.left 0 c.args.tokens.now ≡ operand_from (expr_at (c.args.left - 1)) (target_at (c.args.left - 1))
+    (start_of c.in-Some.first.now.kind) c.in-Some.first.now c.in-Some.rest.now = rw w
+    (operand_step c.args.left c.in-Some.first.now c.in-Some.rest.now (omega arith)) in
     rw p c.unary_from.ensures.value
 
 pub unary_from-returns-in-Atom-clause-value : goal.unary_from-returns-in-Atom-clause-value
@@ -338,7 +401,11 @@ pub unary_from-returns-in-Bracket-clause-value : goal.unary_from-returns-in-Brac
 unary_from-returns-in-Bracket-clause-value t c = rw (sym c.start_of.ensures ∙ c.in-Bracket.is, bracket_typed (expr_at (c.args.left - 1)) c.args.first.now.span c.args.rest.now (sym c.begins_type.ensures ∙ c.if-begins_type.true)) c.cast.ensures.value
 
 pub unary_from-returns-in-Bracket-2-clause-value : goal.unary_from-returns-in-Bracket-2-clause-value
-unary_from-returns-in-Bracket-2-clause-value t c = rw (sym c.start_of.ensures ∙ c.in-Bracket-2.is, bracket_closed (expr_at (c.args.left - 1)) c.args.first.now.span c.args.rest.now (sym c.begins_type.ensures ∙ c.if-begins_type.false)) c.closed.ensures.value
+unary_from-returns-in-Bracket-2-clause-value t c = rw (
+  sym c.start_of.ensures ∙ c.in-Bracket-2.is,
+  bracket_closed (expr_at (c.args.left - 1)) c.args.first.now.span c.args.rest.now
+      (sym c.begins_type.ensures ∙ c.if-begins_type.false),
+) c.closed.ensures.value
 
 pub unary_from-returns-in-Prefix-clause-value : goal.unary_from-returns-in-Prefix-clause-value
 unary_from-returns-in-Prefix-clause-value t c = rw (sym c.start_of.ensures ∙ c.in-Prefix.is) c.prefixed.ensures.value
@@ -437,7 +504,15 @@ pub cast-returns-clause-value : goal.cast-returns-clause-value
 unfolding cast_at
 cast-returns-clause-value t c =
     let e : c.to-span.result ≡ span_to c.args.opening (span_of (expr_of c.in_ok-operand.operand.value)) = cc in
-    rw (c.in_ok-ty.ensures.value, c.in_ok-_close.ensures.value, c.in_ok-operand.ensures.value, sym e, sym (cast_view c.in_ok-ty.ty c.in_ok-operand.operand c.to-span.result)) (made_gives expr_of c.made.result _ _ c.made.ensures.value c.made.ensures.rest c.made.ensures.memory)
+    rw (
+      c.in_ok-ty.ensures.value,
+      c.in_ok-_close.ensures.value,
+      c.in_ok-operand.ensures.value,
+      sym e,
+      sym
+          (cast_view c.in_ok-ty.ty c.in_ok-operand.operand c.to-span.result),
+    )
+    (made_gives expr_of c.made.result _ _ c.made.ensures.value c.made.ensures.rest c.made.ensures.memory)
 
 pub closed-returns-in_err-inside : goal.closed-returns-in_err-inside
 unfolding closed_at
@@ -463,7 +538,14 @@ closed-returns-in_err-close t c =
 
 pub closed-returns-clause-value : goal.closed-returns-clause-value
 unfolding closed_at
-closed-returns-clause-value t c = rw (c.in_ok-inside.ensures.value, c.in_ok-close.ensures.value, sym c.to-span.ensures, sym (brackets_view c.in_ok-inside.inside c.to-span.result)) (made_gives expr_of c.made.result _ _ c.made.ensures.value c.made.ensures.rest c.made.ensures.memory)
+closed-returns-clause-value t c = rw (
+  c.in_ok-inside.ensures.value,
+  c.in_ok-close.ensures.value,
+  sym c.to-span.ensures,
+  sym
+      (brackets_view c.in_ok-inside.inside c.to-span.result),
+)
+    (made_gives expr_of c.made.result _ _ c.made.ensures.value c.made.ensures.rest c.made.ensures.memory)
 
 pub prefixed-returns-in_err-operand : goal.prefixed-returns-in_err-operand
 prefixed-returns-in_err-operand t c =

@@ -68,7 +68,9 @@ invariant-arguments-each l = record {
   rest : length l.rest ≤ length l.tokens;
   height : l.height ≡ depth_of_all (arguments_of l.all.items);
   bounded : l.height ≤ l.left;
-  value : (f : ℕ) × (length l.rest < f) × (with_front (arguments_of l.all.items) (list_at (argument_at (expr_at l.left loosest) (target_at l.left)) f l.rest) ≡ list_at (argument_at (expr_at l.left loosest) (target_at l.left)) (length l.tokens + 1) l.tokens);
+  value : (f : ℕ) × (length l.rest < f) × (with_front (arguments_of l.all.items)
+      (list_at (argument_at (expr_at l.left loosest) (target_at l.left)) f l.rest)
+      ≡ list_at (argument_at (expr_at l.left loosest) (target_at l.left)) (length l.tokens + 1) l.tokens);
 }
 
 abbrev pub decreases-arguments-each : goal.decreases-arguments-each

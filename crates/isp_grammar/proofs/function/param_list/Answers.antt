@@ -24,13 +24,17 @@ pub returns-then-not-starts_with-clause-value : goal.returns-then-not-starts_wit
 returns-then-not-starts_with-clause-value c =
     let v = c.each.invariant.value in
     let e : map param_of c.in_ok-all.all.items ≡ map param_of c.each.all.items ++ param_of c.in_ok-next.next.value ∷ [] = rw c.in_ok-all.ensures.items (map_push _ c.each.all.items c.in_ok-next.next.value) in
-    rw e (list_last param_at v.0 (map param_of c.each.all.items) c.each.rest.now (param_of c.in_ok-next.next.value) c.in_ok-next.after.now (list_at param_at (length c.args.tokens.now + 1) c.args.tokens.now) v.1 c.in_ok-next.ensures.value (sym c.starts_with.ensures ∙ c.if-not-starts_with.true) v.2)
+    rw e (list_last param_at v.0 (map param_of c.each.all.items) c.each.rest.now (param_of c.in_ok-next.next.value) c.in_ok-next.after.now
+    (list_at param_at (length c.args.tokens.now + 1) c.args.tokens.now) v.1 c.in_ok-next.ensures.value
+    (sym c.starts_with.ensures ∙ c.if-not-starts_with.true) v.2)
 
 pub each-preserved : goal.each-preserved
 each-preserved c =
     let v = c.each.invariant.value in
     let e : map param_of c.in_ok-all.all.items ≡ map param_of c.each.all.items ++ param_of c.in_ok-next.next.value ∷ [] = rw c.in_ok-all.ensures.items (map_push _ c.each.all.items c.in_ok-next.next.value) in
-    let s = list_step param_at v.0 (map param_of c.each.all.items) c.each.rest.now (param_of c.in_ok-next.next.value) c.in_ok-next.after.now (list_at param_at (length c.args.tokens.now + 1) c.args.tokens.now) v.1 (omega (arith, c.in_ok-next.ensures.rest)) c.in_ok-next.ensures.value (sym c.starts_with.ensures ∙ c.if-not-starts_with.false) v.2 in
+    let s = list_step param_at v.0 (map param_of c.each.all.items) c.each.rest.now (param_of c.in_ok-next.next.value) c.in_ok-next.after.now
+    (list_at param_at (length c.args.tokens.now + 1) c.args.tokens.now) v.1 (omega (arith, c.in_ok-next.ensures.rest))
+    c.in_ok-next.ensures.value (sym c.starts_with.ensures ∙ c.if-not-starts_with.false) v.2 in
     record {
       rest = omega (arith, c.each.invariant.rest, c.in_ok-next.ensures.rest, ap length c.tail-rest.ensures, length-drop 1 c.in_ok-next.after.now);
       value = rw (e, c.tail-rest.ensures) s;

@@ -19,14 +19,21 @@ pub returns-in_err-test-clause-value : goal.returns-in_err-test-clause-value
 unfolding head_at
 returns-in_err-test-clause-value c =
     let p = err_from_is_err_and c.from_residual-in_err-test.result c.from_residual-in_err-test.ensures.1 in
-    rw (p.1, p.2, c.in_ok-_open.ensures.value, c.in_ok-first.ensures.value) (fails_then c.in_err-test.field-0.0 _ _ (fails_then c.in_err-test.field-0.0 _ _ (fails_then c.in_err-test.field-0.0 _ _ (fails_then c.in_err-test.field-0.0 _ _ (fails_then c.in_err-test.field-0.0 _ _ c.in_err-test.ensures.value)))))
+    rw (p.1, p.2, c.in_ok-_open.ensures.value, c.in_ok-first.ensures.value)
+    (fails_then c.in_err-test.field-0.0 _ _ (fails_then c.in_err-test.field-0.0 _ _
+    (fails_then c.in_err-test.field-0.0 _ _ (fails_then c.in_err-test.field-0.0 _ _
+    (fails_then c.in_err-test.field-0.0 _ _ c.in_err-test.ensures.value)))))
 
 pub returns-in_err-step-clause-value : goal.returns-in_err-step-clause-value
 unfolding head_at
 returns-in_err-step-clause-value c =
     let p = err_from_is_err_and c.from_residual-in_err-step.result c.from_residual-in_err-step.ensures.1 in
-    rw (p.1, p.2, c.in_ok-_open.ensures.value, c.in_ok-first.ensures.value, c.in_ok-test.ensures.value) (fails_then c.in_err-step.field-0.0 _ _ (fails_then c.in_err-step.field-0.0 _ _ (fails_then c.in_err-step.field-0.0 _ _ (fails_then c.in_err-step.field-0.0 _ _ (fails_then c.in_err-step.field-0.0 _ _ c.in_err-step.ensures.value)))))
+    rw (p.1, p.2, c.in_ok-_open.ensures.value, c.in_ok-first.ensures.value, c.in_ok-test.ensures.value)
+    (fails_then c.in_err-step.field-0.0 _ _ (fails_then c.in_err-step.field-0.0 _ _
+    (fails_then c.in_err-step.field-0.0 _ _ (fails_then c.in_err-step.field-0.0 _ _
+    (fails_then c.in_err-step.field-0.0 _ _ c.in_err-step.ensures.value)))))
 
 pub returns-clause-value : goal.returns-clause-value
 unfolding head_at
-returns-clause-value c = rw (c.in_ok-_open.ensures.value, c.in_ok-first.ensures.value, c.in_ok-test.ensures.value, c.in_ok-step.ensures.value) (boxed_gives heading_of c.in_box.result _ _ c.in_box.ensures.value c.in_box.ensures.rest c.in_box.ensures.memory)
+returns-clause-value c = rw (c.in_ok-_open.ensures.value, c.in_ok-first.ensures.value, c.in_ok-test.ensures.value, c.in_ok-step.ensures.value)
+    (boxed_gives heading_of c.in_box.result _ _ c.in_box.ensures.value c.in_box.ensures.rest c.in_box.ensures.memory)

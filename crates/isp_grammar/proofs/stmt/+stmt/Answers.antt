@@ -22,7 +22,9 @@ stmt-returns-in_default-clause-value t c = rw c.refuse.ensures (stmt_none c.args
 pub stmt-returns-clause-value : goal.stmt-returns-clause-value
 stmt-returns-clause-value t c =
     let w : c.args.tokens.now ≡ c.in-Some.first.now ∷ c.in-Some.rest.now = search rules in
-    let p : stmt_at c.args.left c.args.tokens.now ≡ stmt_from (stmt_at (c.args.left - 1)) (block_at (c.args.left - 1)) (c.args.left - 1) (start_of c.in-Some.first.now.kind) c.in-Some.first.now c.in-Some.rest.now = rw w (stmt_step c.args.left c.in-Some.first.now c.in-Some.rest.now (omega arith)) in
+    let p : stmt_at c.args.left c.args.tokens.now ≡ stmt_from (stmt_at (c.args.left - 1)) (block_at (c.args.left - 1)) (c.args.left - 1)
+    (start_of c.in-Some.first.now.kind) c.in-Some.first.now c.in-Some.rest.now = rw w
+    (stmt_step c.args.left c.in-Some.first.now c.in-Some.rest.now (omega arith)) in
     rw p c.stmt_from.ensures.value
 
 -- ---- blocks
@@ -47,7 +49,8 @@ stmts-returns-in_err-next t c =
     let v = c.each.invariant.value in
     let p = err_from_is_err_and c.from_residual.result c.from_residual.ensures.1 in
     record {
-      value = rw (p.1, p.2) (until_fails mark.BraceClose c.in_err-next.field-0.0 (stmt_at c.args.left) v.0 (stmts_of c.each.all.items) c.each.rest.now (stmts_at (stmt_at c.args.left) c.args.tokens.now) v.1 (sym c.starts_with.ensures ∙ c.each-test.true) c.in_err-next.ensures.value v.2);
+      value = rw (p.1, p.2) (until_fails mark.BraceClose c.in_err-next.field-0.0 (stmt_at c.args.left) v.0 (stmts_of c.each.all.items) c.each.rest.now
+          (stmts_at (stmt_at c.args.left) c.args.tokens.now) v.1 (sym c.starts_with.ensures ∙ c.each-test.true) c.in_err-next.ensures.value v.2);
       rest = rw p.1 tt;
     }
 
@@ -55,7 +58,9 @@ pub stmts-each-preserved : goal.stmts-each-preserved
 stmts-each-preserved t c =
     let v = c.each.invariant.value in
     let e : stmts_of c.in_ok-all.all.items ≡ stmts_of c.each.all.items ++ stmt_of c.in_ok-next.next.value ∷ [] = rw c.in_ok-all.ensures.items (map_push _ c.each.all.items c.in_ok-next.next.value) in
-    let s = until_step mark.BraceClose (stmt_at c.args.left) v.0 (stmts_of c.each.all.items) c.each.rest.now (stmt_of c.in_ok-next.next.value) c.in_ok-next.after.now (stmts_at (stmt_at c.args.left) c.args.tokens.now) v.1 c.in_ok-next.ensures.rest (sym c.starts_with.ensures ∙ c.each-test.true) c.in_ok-next.ensures.value v.2 in
+    let s = until_step mark.BraceClose (stmt_at c.args.left) v.0 (stmts_of c.each.all.items) c.each.rest.now (stmt_of c.in_ok-next.next.value)
+    c.in_ok-next.after.now (stmts_at (stmt_at c.args.left) c.args.tokens.now) v.1 c.in_ok-next.ensures.rest
+    (sym c.starts_with.ensures ∙ c.each-test.true) c.in_ok-next.ensures.value v.2 in
     record {
       rest = omega (arith, c.each.invariant.rest, c.in_ok-next.ensures.rest);
       value = rw e s;
@@ -91,7 +96,9 @@ unfolding braced_at
 braced-returns-in_err-statements t c =
     let p = err_from_is_err_and c.from_residual-in_err-statements.result c.from_residual-in_err-statements.ensures.1 in
     record {
-      value = rw (p.1, p.2, c.in_ok-brace.ensures.value, c.in_ok-inside.ensures.value) (fails_then c.in_err-statements.field-0.0 _ _ (fails_then c.in_err-statements.field-0.0 _ _ (fails_then c.in_err-statements.field-0.0 _ _ c.in_err-statements.ensures.sign)));
+      value = rw (p.1, p.2, c.in_ok-brace.ensures.value, c.in_ok-inside.ensures.value)
+          (fails_then c.in_err-statements.field-0.0 _ _ (fails_then c.in_err-statements.field-0.0 _ _
+          (fails_then c.in_err-statements.field-0.0 _ _ c.in_err-statements.ensures.sign)));
       rest = rw p.1 tt;
     }
 
@@ -150,7 +157,8 @@ conditional-returns-in_err-other t c =
 
 pub conditional-returns-clause-value : goal.conditional-returns-clause-value
 unfolding if_at
-conditional-returns-clause-value t c = rw (c.in_ok-test.ensures.value, c.in_ok-then.ensures.value, c.in_ok-other.ensures.value, sym c.if_of.ensures) (boxed_made stmt_of c.boxed.result _ _ c.boxed.ensures.value c.boxed.ensures.rest c.boxed.ensures.memory)
+conditional-returns-clause-value t c = rw (c.in_ok-test.ensures.value, c.in_ok-then.ensures.value, c.in_ok-other.ensures.value, sym c.if_of.ensures)
+    (boxed_made stmt_of c.boxed.result _ _ c.boxed.ensures.value c.boxed.ensures.rest c.boxed.ensures.memory)
 
 pub loop_stmt-returns-in_err-head : goal.loop_stmt-returns-in_err-head
 loop_stmt-returns-in_err-head t c =
@@ -164,12 +172,19 @@ pub loop_stmt-returns-in_err-body : goal.loop_stmt-returns-in_err-body
 loop_stmt-returns-in_err-body t c =
     let p = err_from_is_err_and c.from_residual-in_err-body.result c.from_residual-in_err-body.ensures.1 in
     record {
-      value = rw (p.1, p.2, loop_headed (stmt_at c.args.inner) c.args.inner c.args.which c.args.keyword c.args.tokens.now, c.in_ok-head.ensures.value) (fails_then c.in_err-body.field-0.0 _ _ (fails_then c.in_err-body.field-0.0 _ _ c.in_err-body.ensures.value));
+      value = rw (p.1, p.2, loop_headed (stmt_at c.args.inner) c.args.inner c.args.which c.args.keyword c.args.tokens.now, c.in_ok-head.ensures.value)
+          (fails_then c.in_err-body.field-0.0 _ _ (fails_then c.in_err-body.field-0.0 _ _ c.in_err-body.ensures.value));
       rest = rw p.1 tt;
     }
 
 pub loop_stmt-returns-clause-value : goal.loop_stmt-returns-clause-value
-loop_stmt-returns-clause-value t c = rw (loop_headed (stmt_at c.args.inner) c.args.inner c.args.which c.args.keyword c.args.tokens.now, c.in_ok-head.ensures.value, c.in_ok-body.ensures.value, sym c.loop_of.ensures) (boxed_made stmt_of c.boxed.result _ _ c.boxed.ensures.value c.boxed.ensures.rest c.boxed.ensures.memory)
+loop_stmt-returns-clause-value t c = rw (
+  loop_headed (stmt_at c.args.inner) c.args.inner c.args.which c.args.keyword c.args.tokens.now,
+  c.in_ok-head.ensures.value,
+  c.in_ok-body.ensures.value,
+  sym c.loop_of.ensures,
+)
+    (boxed_made stmt_of c.boxed.result _ _ c.boxed.ensures.value c.boxed.ensures.rest c.boxed.ensures.memory)
 
 pub do_loop-returns-in_err-body : goal.do_loop-returns-in_err-body
 unfolding do_at

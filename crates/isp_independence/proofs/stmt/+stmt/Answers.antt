@@ -24,5 +24,20 @@ block-returns t c =
 
 pub stmt-returns-in-For : goal.stmt-returns-in-For
 stmt-returns-in-For t c =
-    rw (c.first-in-For-3.ensures, c.first-in-For-2.ensures, c.first-in-For.ensures, c.beginning-begun.ensures, c.given-asked.ensures, c.step-after.ensures, c.stmt-inner-in-For.ensures, c.turn-in-For.ensures, c.of_loop-around-in-For.ensures, c.test_rate.ensures, c.deref-in-For.ensures, c.deref-in-For-2.ensures, c.deref-in-For-3.ensures, c.in-For.is)
+    rw (
+      c.first-in-For-3.ensures,
+      c.first-in-For-2.ensures,
+      c.first-in-For.ensures,
+      c.beginning-begun.ensures,
+      c.given-asked.ensures,
+      c.step-after.ensures,
+      c.stmt-inner-in-For.ensures,
+      c.turn-in-For.ensures,
+      c.of_loop-around-in-For.ensures,
+      c.test_rate.ensures,
+      c.deref-in-For.ensures,
+      c.deref-in-For-2.ensures,
+      c.deref-in-For-3.ensures,
+      c.in-For.is,
+    )
     (sym (ap (stmt_answer c.args.control) (for_view c.in-For.form c.in-For.before c.in-For.part c.in-For.test c.in-For.last c.in-For.inside c.in-For.body c.in-For.span)))

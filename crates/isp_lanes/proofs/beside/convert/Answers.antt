@@ -8,5 +8,12 @@ use Rattle.isp_lanes.proofs.beside.convert.Goals as goal
 pub blend-requires : goal.blend-requires
 blend-requires g c =
     let xs = g.V.Words.words c.words_as-x.result in
-    let same = c.elem-to.ensures ∙ sym (elem_at c.args.vectors.now c.args.out _ _ c.requires.out) in
-    (search rules, (search rules, row_as g.row.N g.W.Words.width same c.convert-new.ensures (c.requires.words ∙ ap cell_width (elem_at c.args.vectors.now c.args.out _ _ c.requires.out)) (length-map xs _ ∙ c.words_as-x.ensures.row.long) (wrap_fits g.T.LaneElem.elem c.elem-to.result xs)))
+    let same = c.elem-to.ensures ∙ sym (elem_at c.args.vectors.now c.args.out _ _ c.requires.out) in (
+      search rules,
+      (
+        search rules,
+        row_as g.row.N g.W.Words.width same c.convert-new.ensures
+            (c.requires.words ∙ ap cell_width (elem_at c.args.vectors.now c.args.out _ _ c.requires.out))
+            (length-map xs _ ∙ c.words_as-x.ensures.row.long) (wrap_fits g.T.LaneElem.elem c.elem-to.result xs),
+      ),
+    )

@@ -12,5 +12,6 @@ loop-place-preserved c =
           ∙ types_step c.args.rows.now c.loop-place.place c.args.count _ c.loop-place.types.items c.loop-place-test.true w.if-place-count.true c.loop-place.invariant
       | else-place-count w ↦
           ap (λ (z : Vec Elem Global). z.items) w.types-is
-          ∙ types_skip c.args.rows.now c.loop-place.place c.args.count (get_or_row c.args.rows.now c.loop-place.place c.loop-place-test.true) c.loop-place.types.items c.loop-place-test.true (omega (arith, w.if-place-count.false)) c.loop-place.invariant
+          ∙ types_skip c.args.rows.now c.loop-place.place c.args.count (get_or_row c.args.rows.now c.loop-place.place c.loop-place-test.true)
+          c.loop-place.types.items c.loop-place-test.true (omega (arith, w.if-place-count.false)) c.loop-place.invariant
     ]

@@ -22,7 +22,9 @@ loop-x-preserved c =
       λ h y.
           c.loop-x.invariant.0 h
           (subst (λ zs. Appends c.loop-x.b h (λ pc p. items_code l (items_of zs) pc p k n) (items_places l (items_of zs))) (sym (drop_more xs i x c.loop-x-test.true ∙ ap (λ z. z ∷ drop (i + 1) xs) (sym c.x-item.is)))
-          (appends_then c.loop-x.b c.item.new.b h (λ pc p. item_code l (item_of x) pc p k n) (λ pc p. items_code l (items_of (drop (i + 1) xs)) pc p k n) (item_places l (item_of x)) (items_places l (items_of (drop (i + 1) xs))) c.in_ok-item.ensures y)),
+          (appends_then c.loop-x.b c.item.new.b h (λ pc p. item_code l (item_of x) pc p k n)
+          (λ pc p. items_code l (items_of (drop (i + 1) xs)) pc p k n) (item_places l (item_of x)) (items_places l (items_of (drop (i + 1) xs)))
+          c.in_ok-item.ensures y)),
       (subst (Present c.args.on.now) (items_more n xs i x c.loop-x-test.true c.x-item.is) c.loop-x.invariant.1).1,
     )
 

@@ -9,5 +9,8 @@ use Rattle.isp_lower.proofs.statements.declared.Given as goal
 -- whatever comes behind the items that are left comes behind all of them; and what they ask for is there
 abbrev pub invariant-loop-x : goal.invariant-loop-x
 invariant-loop-x l =
-    ((c : Body) → Appends l.b c (λ pc p. items_code (layout l.on) (items_of (drop l.x-index l.items)) pc p l.site.mask.number l.site.slot.number) (items_places (layout l.on) (items_of (drop l.x-index l.items))) → Appends l.initial.b c (λ pc p. items_code (layout l.on) (items_of l.items) pc p l.site.mask.number l.site.slot.number) (items_places (layout l.on) (items_of l.items)))
+    ((c : Body) → Appends l.b c (λ pc p. items_code (layout l.on) (items_of (drop l.x-index l.items)) pc p l.site.mask.number l.site.slot.number)
+    (items_places (layout l.on) (items_of (drop l.x-index l.items)))
+    → Appends l.initial.b c (λ pc p. items_code (layout l.on) (items_of l.items) pc p l.site.mask.number l.site.slot.number)
+    (items_places (layout l.on) (items_of l.items)))
     × Present l.on (items_asks l.site.slot.number (items_of (drop l.x-index l.items)))

@@ -38,7 +38,8 @@ pass_call-requires g c =
 pub begin-requires : goal.begin-requires
 begin-requires g c =
     let wide = c.told.ensures.wide in
-    let low : c.args.call.now.function < length c.args.code.now.routines = subst (λ (p : Listing). c.args.call.now.function < length p.routines) c.requires.code (found_low c.args.here.now.code.routines c.args.call.now.function c.requires.fine.callee c.requires.fine.found) in
+    let low : c.args.call.now.function < length c.args.code.now.routines = subst (λ (p : Listing). c.args.call.now.function < length p.routines)
+    c.requires.code (found_low c.args.here.now.code.routines c.args.call.now.function c.requires.fine.callee c.requires.fine.found) in
     search (rules, wide, low)
 
 pub returns-clause-ok : goal.returns-clause-ok
@@ -100,4 +101,6 @@ returns-then-len-clause-ok g c =
     let lanes = c.mask.ensures ∙ ap (λ (z : FrameRows). masks_at z k.mask.number) first in
     let lane = c.first_lane-lane.ensures.value ∙ (λ i. or_zero (lowest (runs.gang i) (lanes i))) in
     subst (λ (z : RunRows). Done g.row.N h (instr.Call k) r z (Trapped c.trap.result)) c.run.view_is
-    (called g.row.N h (instr.Call k) r at steady _ c.run.view_is (instr.Call k) refl s f ws _ (too_deep g.row.N h k s f ws runs found c.requires.fine c.trap.result many (c.trap.ensures ∙ ap (λ (l : ℕ). trap Depth (place_at h.code k.place) l) lane) sound))
+    (called g.row.N h (instr.Call k) r at steady _ c.run.view_is (instr.Call k) refl s f ws _
+    (too_deep g.row.N h k s f ws runs found c.requires.fine c.trap.result many
+    (c.trap.ensures ∙ ap (λ (l : ℕ). trap Depth (place_at h.code k.place) l) lane) sound))

@@ -20,7 +20,9 @@ returns-clause-written g c =
       written = record {
         lanes = on m (exchanged a.exchange (gang_width a.here.now.code.gang) (on m (vectors_at f a.x.number)) (number I32 (scalars_at f a.i.number)));
         value = λ ws out. refl;
-        bits = c.exchanged.ensures.lanes ∙ (λ j. over (on (c.mask-mask.ensures j) (exchanged a.exchange (c.requires.gang j) (on (c.mask-mask.ensures j) (c.vector-from.ensures.lanes j)) (number I32 (c.scalar-count.ensures.value j)))) (c.vector.ensures.lanes j));
+        bits = c.exchanged.ensures.lanes ∙ (λ j. over (on (c.mask-mask.ensures j)
+            (exchanged a.exchange (c.requires.gang j) (on (c.mask-mask.ensures j) (c.vector-from.ensures.lanes j))
+            (number I32 (c.scalar-count.ensures.value j)))) (c.vector.ensures.lanes j));
       };
       now = c.set_vector.ensures;
     }

@@ -20,7 +20,9 @@ returns-clause-written g c =
       written = record {
         lanes = on m (insert (gang_width a.here.now.code.gang) (on m (vectors_at f a.x.number)) (number I32 (scalars_at f a.i.number)) (scalars_at f a.y.number));
         value = λ ws out. refl;
-        bits = c.insert.ensures.lanes ∙ (λ j. over (on (c.mask-mask.ensures j) (insert (c.requires.gang j) (on (c.mask-mask.ensures j) (c.vector-from.ensures.lanes j)) (number I32 (c.scalar-lane.ensures.value j)) (c.scalar-bits.ensures.value j))) (c.vector.ensures.lanes j));
+        bits = c.insert.ensures.lanes ∙ (λ j. over (on (c.mask-mask.ensures j)
+            (insert (c.requires.gang j) (on (c.mask-mask.ensures j) (c.vector-from.ensures.lanes j)) (number I32 (c.scalar-lane.ensures.value j))
+            (c.scalar-bits.ensures.value j))) (c.vector.ensures.lanes j));
       };
       now = c.set_vector.ensures;
     }

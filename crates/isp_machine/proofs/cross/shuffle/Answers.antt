@@ -19,7 +19,9 @@ returns-clause-written g c =
       written = record {
         lanes = on m (shuffle (gang_width a.here.now.code.gang) (on m (vectors_at f a.x.number)) (on m (vectors_at f a.i.number)));
         value = λ ws out. refl;
-        bits = c.shuffle.ensures.lanes ∙ (λ j. over (on (c.mask-mask.ensures j) (shuffle (c.requires.gang j) (on (c.mask-mask.ensures j) (c.vector-from.ensures.lanes j)) (on (c.mask-mask.ensures j) (c.vector-lanes.ensures.lanes j)))) (c.vector.ensures.lanes j));
+        bits = c.shuffle.ensures.lanes ∙ (λ j. over (on (c.mask-mask.ensures j)
+            (shuffle (c.requires.gang j) (on (c.mask-mask.ensures j) (c.vector-from.ensures.lanes j))
+            (on (c.mask-mask.ensures j) (c.vector-lanes.ensures.lanes j)))) (c.vector.ensures.lanes j));
       };
       now = c.set_vector.ensures;
     }

@@ -28,7 +28,8 @@ returns-in-Ok-clause-ok g c =
     let left = c.in-Ok.ensures.lanes in
     let low : lowest_failing (gang_width h.code.gang) (is_zero o t) y ≡ None = sym (λ j. lowest_failing (c.requires.gang j) (is_zero o (c.vector_told.ensures.elem j)) y) ∙ c.in-Ok.ensures.none in
     λ s opened.
-    goes_by_vector h s f c.requires.shaped opened a.d (instr.Divide a.ratio.op a.d a.ratio.dividend a.ratio.divisor a.ratio.mask a.ratio.place) lanes (vector_in f a.d.number) left.value c.next.new.self c.requires.d refl (left.elem ∙ c.vector_told.ensures.elem)
+    goes_by_vector h s f c.requires.shaped opened a.d (instr.Divide a.ratio.op a.d a.ratio.dividend a.ratio.divisor a.ratio.mask a.ratio.place) lanes
+    (vector_in f a.d.number) left.value c.next.new.self c.requires.d refl (left.elem ∙ c.vector_told.ensures.elem)
     (λ ws out.
     ap (λ (r : Class). divided h.code h.routine (conf_of s f ws out) r o a.d a.ratio.dividend a.ratio.divisor a.ratio.mask a.ratio.place) c.requires.d.0
     ∙ ap (λ (l : Option ℕ). moved (unless h.code h.routine (conf_of s f ws out) l Divide a.ratio.place lanes) (set_vector (conf_of s f ws out) a.d)) low)

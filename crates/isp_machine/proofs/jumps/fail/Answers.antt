@@ -18,7 +18,9 @@ returns-then-any_lane-clause-err g c =
     let f = c.args.frame.now in
     let m = flag_of c.mask.result.now in
     let lane : c.first_lane-lane.result ≡ or_zero (lowest g.row.N m) = c.first_lane-lane.ensures.value ∙ (λ j. or_zero (lowest g.row.N ((c.mask-then-any_lane.ensures ∙ sym c.mask.ensures) j))) in
-    let low : lowest (gang_width h.code.gang) (masks_at f c.args.x.number) ≡ Some c.first_lane-lane.result = sym (λ j. lowest (c.requires.gang j) (c.mask.ensures j)) ∙ found_first g.row.N m c.first_lane-lane.result (sym c.any_lane.ensures ∙ c.if-any_lane.true) lane in
+    let low : lowest (gang_width h.code.gang) (masks_at f c.args.x.number)
+    ≡ Some c.first_lane-lane.result = sym (λ j. lowest (c.requires.gang j) (c.mask.ensures j))
+    ∙ found_first g.row.N m c.first_lane-lane.result (sym c.any_lane.ensures ∙ c.if-any_lane.true) lane in
     λ s ws out.
     ap (λ (l : Option ℕ). moved (unless h.code h.routine (conf_of s f ws out) l Assert c.args.place (next (conf_of s f ws out))) (λ c1. c1)) low ∙ ap (λ (t : Trap). Fail t) (sym c.trap.ensures)
 

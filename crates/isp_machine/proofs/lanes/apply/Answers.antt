@@ -23,7 +23,8 @@ returns-clause-written g c =
       written = record {
         lanes = map1 (unary_bits c.args.op (elem_of h c.args.target.register)) lanes;
         value = λ ws out. refl;
-        bits = views.mapped n (unary_bits c.args.op old.elem) ms xs old.bits c.mask_told.ensures.long c.vector_told-2.ensures.long c.vector_told.ensures.long ∙ (λ i. over (map1 (unary_bits c.args.op (c.vector_told.ensures.elem i)) lanes) (lane_of old.bits));
+        bits = views.mapped n (unary_bits c.args.op old.elem) ms xs old.bits c.mask_told.ensures.long c.vector_told-2.ensures.long
+            c.vector_told.ensures.long ∙ (λ i. over (map1 (unary_bits c.args.op (c.vector_told.ensures.elem i)) lanes) (lane_of old.bits));
       };
       now = c.unary.ensures;
     }

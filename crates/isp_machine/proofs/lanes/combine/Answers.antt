@@ -27,7 +27,9 @@ returns-clause-written g c =
       written = record {
         lanes = map2 (op_bits (plain_of c.args.op) (elem_of h c.args.target.register)) x y;
         value = λ ws out. refl;
-        bits = views.zipped n (op_bits c.plain_operator.result old.elem) ms xs ys old.bits c.mask_told.ensures.long c.vector_told-2.ensures.long c.vector_told-3.ensures.long c.vector_told.ensures.long ∙ (λ i. over (map2 (op_bits (c.plain_operator.ensures i) (c.vector_told.ensures.elem i)) x y) (lane_of old.bits));
+        bits = views.zipped n (op_bits c.plain_operator.result old.elem) ms xs ys old.bits c.mask_told.ensures.long c.vector_told-2.ensures.long
+            c.vector_told-3.ensures.long c.vector_told.ensures.long
+            ∙ (λ i. over (map2 (op_bits (c.plain_operator.ensures i) (c.vector_told.ensures.elem i)) x y) (lane_of old.bits));
       };
       now = c.in-Ok.ensures.value;
     }

@@ -27,7 +27,9 @@ returns-clause-written g c =
       written = record {
         lanes = map2 (compare_bits c.args.op (elem_of h c.args.x)) x y;
         value = λ ws out. refl;
-        bits = views.zipped n (compare_bits c.args.op t) ms xs ys old.bits c.mask_told.ensures.long c.vector_told-2.ensures.long c.vector_told-3.ensures.long c.vector_told.ensures.long ∙ (λ i. over (map2 (compare_bits c.args.op (c.vector_told-2.ensures.elem i)) x y) (lane_of old.bits));
+        bits = views.zipped n (compare_bits c.args.op t) ms xs ys old.bits c.mask_told.ensures.long c.vector_told-2.ensures.long
+            c.vector_told-3.ensures.long c.vector_told.ensures.long
+            ∙ (λ i. over (map2 (compare_bits c.args.op (c.vector_told-2.ensures.elem i)) x y) (lane_of old.bits));
       };
       now = c.compare.ensures;
     }

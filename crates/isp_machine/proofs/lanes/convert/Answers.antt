@@ -24,7 +24,9 @@ returns-clause-written g c =
       written = record {
         lanes = map1 (λ b. convert_bits (elem_of h c.args.target.register) (number (elem_of h c.args.x) b)) lanes;
         value = λ ws out. refl;
-        bits = views.mapped n (λ b. convert_bits old.elem (number from b)) ms xs old.bits c.mask_told.ensures.long c.vector_told-2.ensures.long c.vector_told.ensures.long ∙ (λ i. over (map1 (λ b. convert_bits (c.vector_told.ensures.elem i) (number (c.vector_told-2.ensures.elem i) b)) lanes) (lane_of old.bits));
+        bits = views.mapped n (λ b. convert_bits old.elem (number from b)) ms xs old.bits c.mask_told.ensures.long c.vector_told-2.ensures.long
+            c.vector_told.ensures.long ∙ (λ i. over (map1 (λ b. convert_bits (c.vector_told.ensures.elem i)
+            (number (c.vector_told-2.ensures.elem i) b)) lanes) (lane_of old.bits));
       };
       now = c.convert.ensures;
     }

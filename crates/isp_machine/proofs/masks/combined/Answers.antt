@@ -12,4 +12,6 @@ pub returns-in-Or : goal.returns-in-Or
 returns-in-Or g c = ap flag_of c.or.ensures ∙ joined g.row.N (λ a b. a || b) refl c.args.x.now c.args.y.now c.told.ensures.long c.told-2.ensures.long ∙ ap (λ (o : MaskOp). combined o (flag_of c.args.x.now) (flag_of c.args.y.now)) (sym c.in-Or.is)
 
 pub returns-in-AndNot : goal.returns-in-AndNot
-returns-in-AndNot g c = ap flag_of c.and_not.ensures ∙ joined g.row.N (λ a b. a && not b) refl c.args.x.now c.args.y.now c.told.ensures.long c.told-2.ensures.long ∙ ap (λ (o : MaskOp). combined o (flag_of c.args.x.now) (flag_of c.args.y.now)) (sym c.in-AndNot.is)
+returns-in-AndNot g c = ap flag_of c.and_not.ensures
+    ∙ joined g.row.N (λ a b. a && not b) refl c.args.x.now c.args.y.now c.told.ensures.long c.told-2.ensures.long
+    ∙ ap (λ (o : MaskOp). combined o (flag_of c.args.x.now) (flag_of c.args.y.now)) (sym c.in-AndNot.is)

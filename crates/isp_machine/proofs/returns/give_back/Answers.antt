@@ -33,7 +33,8 @@ returns-in-Some g c =
     let got = subst (λ (z : FrameRows). (t : Takes h.routine z) → Receives t.routine f c.args.x z new) into
     (subst (λ (z : FrameRows). (t : Takes h.routine c.deref_mut.result.now) → Receives t.routine z c.args.x c.deref_mut.result.now new) callee c.receive.ensures) in
     let kept : c.run-inside-in-Some.inside.0.1.1.0 ≡ s = search rules in
-    let stores = c.close_locals.ensures ∙ ap (λ (z : Held). record z { rows = take (z.params + c.locals.result) z.rows }) kept ∙ ap (λ k. record s { rows = take (s.params + k) s.rows }) (locals ∙ (got (takes g.row.N h c.args.x s f left fr runs)).locals_same) in
+    let stores = c.close_locals.ensures ∙ ap (λ (z : Held). record z { rows = take (z.params + c.locals.result) z.rows }) kept
+    ∙ ap (λ k. record s { rows = take (s.params + k) s.rows }) (locals ∙ (got (takes g.row.N h c.args.x s f left fr runs)).locals_same) in
     let waits : left ≡ c.run-inside-in-Some.inside.0.1.0.items = search rules in
     let out : c.run.inside.out.items ≡ c.run-inside-in-Some.inside.0.1.1.1.0.items = search rules in
     subst (λ (z : RunRows). Done g.row.N h (instr.Return c.args.x) c.args.run.now z c.args.ending.now) (λ j. run_of c.close_locals.new.self new (waits j) (out j))

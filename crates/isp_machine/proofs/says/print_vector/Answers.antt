@@ -12,4 +12,9 @@ pub returns-clause-ok : goal.returns-clause-ok
 returns-clause-ok g c =
     let h = c.args.here.now in
     let f = c.args.frame.now in
-    record { acts = λ s ws out. ap (λ (z : FrameRows). Say (list_text (elem_of h.routine c.args.x) (gang_width h.code.gang) (on (masks_at f c.args.k.number) (vectors_at f c.args.x.number))) (conf_of s z ws out)) (sym c.next.ensures); at_next = c.next.ensures }
+    record {
+      acts = λ s ws out. ap (λ (z : FrameRows). Say
+          (list_text (elem_of h.routine c.args.x) (gang_width h.code.gang) (on (masks_at f c.args.k.number) (vectors_at f c.args.x.number)))
+          (conf_of s z ws out)) (sym c.next.ensures);
+      at_next = c.next.ensures;
+    }

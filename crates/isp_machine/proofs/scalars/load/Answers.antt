@@ -10,7 +10,9 @@ use Rattle.isp_machine.proofs.scalars.load.Goals as goal
 
 pub returns-in-Ok-clause-value : goal.returns-in-Ok-clause-value
 returns-in-Ok-clause-value g c =
-    loaded c.args.here.now c.args.stores.now c.args.frame.now c.args.access.array c.args.access.index c.args.access.mask c.args.d c.args.access.place c.requires.operands.1.0.1 c.store-store.result c.scalar.result c.store-store.ensures.value c.store-store.ensures.size c.scalar.ensures.value c.in-Ok.bits c.in-Ok.ensures.inside c.in-Ok.ensures.value
+    loaded c.args.here.now c.args.stores.now c.args.frame.now c.args.access.array c.args.access.index c.args.access.mask c.args.d c.args.access.place
+    c.requires.operands.1.0.1 c.store-store.result c.scalar.result c.store-store.ensures.value c.store-store.ensures.size c.scalar.ensures.value
+    c.in-Ok.bits c.in-Ok.ensures.inside c.in-Ok.ensures.value
 
 pub returns-in-Ok-clause-fits : goal.returns-in-Ok-clause-fits
 returns-in-Ok-clause-fits g c = subst (λ (t : Elem). c.in-Ok.bits < 2 ^ width t) (c.store-store.ensures.elem ∙ c.requires.operands.1.0.2) c.in-Ok.ensures.fits
@@ -18,5 +20,7 @@ returns-in-Ok-clause-fits g c = subst (λ (t : Elem). c.in-Ok.bits < 2 ^ width t
 pub returns-in-Err-clause-value : goal.returns-in-Err-clause-value
 returns-in-Err-clause-value g c =
     subst (λ (t : Trap). ScalarIs c.args.here.now c.args.stores.now c.args.frame.now c.args.d (scalar.Load c.args.access.array c.args.access.index c.args.access.mask c.args.access.place) (Err t)) (sym c.trap.ensures)
-    (not_loaded c.args.here.now c.args.stores.now c.args.frame.now c.args.access.array c.args.access.index c.args.access.mask c.args.d c.args.access.place c.requires.operands.1.0.1 c.store-store.result c.scalar.result c.store-store.ensures.value c.store-store.ensures.size c.scalar.ensures.value
+    (not_loaded c.args.here.now c.args.stores.now c.args.frame.now c.args.access.array c.args.access.index c.args.access.mask c.args.d
+    c.args.access.place c.requires.operands.1.0.1 c.store-store.result c.scalar.result c.store-store.ensures.value c.store-store.ensures.size
+    c.scalar.ensures.value
     g.row.N (flag_of c.mask.result.now) c.in-Err.trap.instance c.requires.gang c.mask.ensures c.in-Err.ensures.lane c.in-Err.ensures.outside)

@@ -39,7 +39,9 @@ returns-in_ok-say-in-Say-clause-done g c =
     let stores : c.run-inside.inside.0.1.1.0 ≡ c.run.inside.stores = search rules in
     let out : c.run-inside.inside.0.1.1.1.0.items ≡ c.run.inside.out.items = search rules in
     let is = (λ j. run_of (stores j) (frame j) (waiting j) (out j)) ∙ c.run.view_is in
-    spoken g.row.N h c.args.instr.now c.args.run.now c.requires.found c.requires.sound _ is _ c.requires.went (instr.Say c.in-Say.text) c.in-Say.is low (slice_index_or h.code.texts c.in-Say.text []) c.say.new.frame c.say.new.out.items c.in_ok-say-in-Say.ensures.ok c.in_ok-say-in-Say.ensures.written
+    spoken g.row.N h c.args.instr.now c.args.run.now c.requires.found c.requires.sound _ is _ c.requires.went (instr.Say c.in-Say.text) c.in-Say.is
+    low (slice_index_or h.code.texts c.in-Say.text []) c.say.new.frame c.say.new.out.items c.in_ok-say-in-Say.ensures.ok
+    c.in_ok-say-in-Say.ensures.written
 
 pub returns-in_ok-print_scalar-in-PrintScalar-clause-done : goal.returns-in_ok-print_scalar-in-PrintScalar-clause-done
 returns-in_ok-print_scalar-in-PrintScalar-clause-done g c =
@@ -51,7 +53,9 @@ returns-in_ok-print_scalar-in-PrintScalar-clause-done g c =
     let out : c.run-inside-in-PrintScalar.inside.0.1.1.1.0.items ≡ c.run-in-PrintScalar.inside.out.items = search rules in
     let is = (λ j. run_of (stores j) (frame j) (waiting j) (out j)) ∙ c.run-in-PrintScalar.view_is in
     spoken g.row.N h c.args.instr.now c.args.run.now c.requires.found c.requires.sound _ is _ c.requires.went (instr.PrintScalar c.in-PrintScalar.x) c.in-PrintScalar.is low
-    (value_text (elem_of h.routine c.in-PrintScalar.x) (scalars_at c.deref_mut-in-PrintScalar.result.now c.in-PrintScalar.x.number)) c.print_scalar.new.frame c.print_scalar.new.out.items c.in_ok-print_scalar-in-PrintScalar.ensures.ok c.in_ok-print_scalar-in-PrintScalar.ensures.written
+    (value_text (elem_of h.routine c.in-PrintScalar.x) (scalars_at c.deref_mut-in-PrintScalar.result.now c.in-PrintScalar.x.number))
+    c.print_scalar.new.frame c.print_scalar.new.out.items c.in_ok-print_scalar-in-PrintScalar.ensures.ok
+    c.in_ok-print_scalar-in-PrintScalar.ensures.written
 
 pub returns-in_ok-print_vector-in-PrintVector-clause-done : goal.returns-in_ok-print_vector-in-PrintVector-clause-done
 returns-in_ok-print_vector-in-PrintVector-clause-done g c =
@@ -90,7 +94,8 @@ returns-in_default-compute g c =
     let out : c.run-inside-in_default.inside.0.1.1.1.0.items ≡ c.run-in_default.inside.out.items = search rules in
     let is = (λ j. run_of (stores j) (frame j) (waiting j) (out j)) ∙ c.run-in_default.view_is in
     record {
-      done = computed g.row.N c.args.here.now c.args.instr.now c.args.run.now c.requires.found c.requires.sound _ is computes c.requires.operands c.requires.next _ c.requires.went c.compute.new.stores c.compute.new.frame c.in_default-compute.ensures.ok;
+      done = computed g.row.N c.args.here.now c.args.instr.now c.args.run.now c.requires.found c.requires.sound _ is computes c.requires.operands
+          c.requires.next _ c.requires.went c.compute.new.stores c.compute.new.frame c.in_default-compute.ensures.ok;
       same = tt;
       same_ending = tt;
       refused = tt;

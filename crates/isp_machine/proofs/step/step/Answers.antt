@@ -27,7 +27,13 @@ execute-requires g c =
           subst (λ (q : Listing). slice_get q.routines r.frame.function ≡ Some h) (sym same) found,
           (
             subst (λ (q : Listing). Steady g.row.N q r) (sym same) c.requires.steady,
-            (subst (λ (q : Listing). AllFine q h (operands i)) (sym same) (line_fine p h r.frame.function r.frame.pc i never found at), (subst (λ (q : Listing). CallsFine q h i) (sym same) (line_calls p h r.frame.function r.frame.pc i never found at), (line_goes_on p h r.frame.function r.frame.pc i never found at, c.requires.went))),
+            (
+              subst (λ (q : Listing). AllFine q h (operands i)) (sym same) (line_fine p h r.frame.function r.frame.pc i never found at),
+              (
+                subst (λ (q : Listing). CallsFine q h i) (sym same) (line_calls p h r.frame.function r.frame.pc i never found at),
+                (line_goes_on p h r.frame.function r.frame.pc i never found at, c.requires.went),
+              ),
+            ),
           ),
         ),
       ),

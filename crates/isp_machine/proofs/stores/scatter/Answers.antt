@@ -21,8 +21,25 @@ scatter-requires g c =
     let o = subst (λ (z : Instr). AllFine a.here.now.code h (operands z)) i.is c.requires.operands in
     let there = o.0.0 in
     let shaped = c.requires.shaped in
-    let elem = vector_elem_is h f shaped i.value o.1.1.0.0 ∙ o.1.1.0.1 ∙ sym (array_elem_is h a.stores.now f shaped c.requires.arrays i.array there) in
-    (search rules, (array_low h a.stores.now f shaped c.requires.arrays i.array there, (search rules, (search rules, (search rules, (array_there h a.stores.now f shaped c.requires.arrays i.array there, (vector_elem_is h f shaped i.indices o.1.0.0 ∙ o.1.0.1, elem)))))))
+    let elem = vector_elem_is h f shaped i.value o.1.1.0.0 ∙ o.1.1.0.1 ∙ sym (array_elem_is h a.stores.now f shaped c.requires.arrays i.array there) in (
+      search rules,
+      (
+        array_low h a.stores.now f shaped c.requires.arrays i.array there,
+        (
+          search rules,
+          (
+            search rules,
+            (
+              search rules,
+              (
+                array_there h a.stores.now f shaped c.requires.arrays i.array there,
+                (vector_elem_is h f shaped i.indices o.1.0.0 ∙ o.1.0.1, elem),
+              ),
+            ),
+          ),
+        ),
+      ),
+    )
 
 pub returns-in-Ok : goal.returns-in-Ok
 returns-in-Ok g c =

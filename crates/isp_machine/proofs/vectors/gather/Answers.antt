@@ -15,8 +15,25 @@ gather-requires g c =
     let there = o.1.0.0 in
     let shaped = c.requires.shaped in
     let opened = c.requires.arrays in
-    let elem = vector_elem_is h f shaped a.d o.0.0 ∙ sym o.1.0.2 ∙ sym (array_elem_is h a.stores.now f shaped opened a.access.array there) in
-    (search rules, (search rules, (array_low h a.stores.now f shaped opened a.access.array there, (search rules, (search rules, (array_there h a.stores.now f shaped opened a.access.array there, (vector_elem_is h f shaped a.access.index o.1.1.0.0 ∙ o.1.1.0.1, elem)))))))
+    let elem = vector_elem_is h f shaped a.d o.0.0 ∙ sym o.1.0.2 ∙ sym (array_elem_is h a.stores.now f shaped opened a.access.array there) in (
+      search rules,
+      (
+        search rules,
+        (
+          array_low h a.stores.now f shaped opened a.access.array there,
+          (
+            search rules,
+            (
+              search rules,
+              (
+                array_there h a.stores.now f shaped opened a.access.array there,
+                (vector_elem_is h f shaped a.access.index o.1.1.0.0 ∙ o.1.1.0.1, elem),
+              ),
+            ),
+          ),
+        ),
+      ),
+    )
 
 pub returns-in-Ok-clause-ok : goal.returns-in-Ok-clause-ok
 returns-in-Ok-clause-ok g c =
@@ -24,7 +41,12 @@ returns-in-Ok-clause-ok g c =
     record {
       value = _;
       elem = c.in-Ok.ensures.elem;
-      written = record { lanes = _; value = gathered a.here.now a.stores.now a.frame.now a.access.array a.access.index a.access.mask a.d a.access.place c.requires.arrays c.requires.operands.1.0.0 g.row.N c.requires.gang c.in-Ok.ensures.inside; bits = c.in-Ok.ensures.lanes };
+      written = record {
+        lanes = _;
+        value = gathered a.here.now a.stores.now a.frame.now a.access.array a.access.index a.access.mask a.d
+            a.access.place c.requires.arrays c.requires.operands.1.0.0 g.row.N c.requires.gang c.in-Ok.ensures.inside;
+        bits = c.in-Ok.ensures.lanes;
+      };
       now = c.in-Ok.ensures.others;
     }
 

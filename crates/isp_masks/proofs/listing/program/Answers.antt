@@ -25,7 +25,9 @@ finish-requires c =
     let d = draft_of c.routines.new.e in
     let are = c.deref.ensures.value ∙ ap (λ (p : Program). p.functions.items) c.program.ensures.same in
     let lowered =
-    subst (λ fs. AreLowered fs p.functions (all_routines d) d.places d.texts) (ap (λ (z : Draft). z.callees) c.new-e.ensures) (subst (λ fs. AreLowered (draft_of c.new-e.result).callees (functions_of fs) (all_routines d) d.places d.texts) are c.in_ok-routines.ensures.lowered) in
+    subst (λ fs. AreLowered fs p.functions (all_routines d) d.places d.texts) (ap (λ (z : Draft). z.callees) c.new-e.ensures)
+    (subst (λ fs. AreLowered (draft_of c.new-e.result).callees (functions_of fs) (all_routines d) d.places d.texts) are
+    c.in_ok-routines.ensures.lowered) in
     let gang = c.in_ok-routines.ensures.gang ∙ ap (λ (z : Draft). z.gang) c.new-e.ensures in
     record {
       tables = c.in_ok-routines.ensures.tables;
@@ -38,6 +40,8 @@ returns-clause-code c =
     let d = draft_of c.routines.new.e in
     let are = c.deref.ensures.value ∙ ap (λ (p : Program). p.functions.items) c.program.ensures.same in
     let lowered =
-    subst (λ fs. AreLowered fs p.functions (all_routines d) d.places d.texts) (ap (λ (z : Draft). z.callees) c.new-e.ensures) (subst (λ fs. AreLowered (draft_of c.new-e.result).callees (functions_of fs) (all_routines d) d.places d.texts) are c.in_ok-routines.ensures.lowered) in
+    subst (λ fs. AreLowered fs p.functions (all_routines d) d.places d.texts) (ap (λ (z : Draft). z.callees) c.new-e.ensures)
+    (subst (λ fs. AreLowered (draft_of c.new-e.result).callees (functions_of fs) (all_routines d) d.places d.texts) are
+    c.in_ok-routines.ensures.lowered) in
     let gang = c.in_ok-routines.ensures.gang ∙ ap (λ (z : Draft). z.gang) c.new-e.ensures in
     IfOk-weaker c.finish.result (λ code. code ≡ finished d) (λ code. HasCode p code) (λ code is. subst (HasCode p) (sym is) (has_finished p d lowered gang)) c.finish.ensures

@@ -11,7 +11,9 @@ use Rattle.isp_masks.proofs.printing.values.Given as goal
 
 abbrev pub invariant-loop-x : goal.invariant-loop-x
 invariant-loop-x l =
-    ((h : Body) → Appends l.b h (code_of (layout l.on) (drop l.x-index l.all) l.site.mask.number l.slot.number) (places_of (layout l.on) (drop l.x-index l.all)) → Appends l.initial.b h (code_of (layout l.on) l.all l.site.mask.number l.site.slot.number) (places_of (layout l.on) l.all))
+    ((h : Body) → Appends l.b h (code_of (layout l.on) (drop l.x-index l.all) l.site.mask.number l.slot.number)
+    (places_of (layout l.on) (drop l.x-index l.all))
+    → Appends l.initial.b h (code_of (layout l.on) l.all l.site.mask.number l.site.slot.number) (places_of (layout l.on) l.all))
     × Present l.on (asked (drop l.x-index l.all) l.slot.number)
     × (rates_of l.shown.items ++ own_rates (exprs_of (drop l.x-index l.all)) ≡ own_rates (exprs_of l.all))
     × (registers_of l.shown.items ++ registers (layout l.on) (drop l.x-index l.all) l.slot.number ≡ registers (layout l.on) l.all l.site.slot.number)

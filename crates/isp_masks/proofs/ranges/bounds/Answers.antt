@@ -26,7 +26,9 @@ loop-x-preserved c =
       λ z g.
           c.loop-x.invariant.0 z
           (subst (λ zs. Appends c.loop-x.b z (λ pc p. bounds_code l zs pc p k m) (ranges_places l zs)) (sym more)
-          (appends_then c.loop-x.b c.bound.new.b z (λ pc p. bound_code l x pc p k m) (λ pc p. bound_code l y pc p k (m + 1) ++ bounds_code l left (pc + length (bound_code l y pc p k (m + 1))) (p + length (expr_places l y)) k (m + 1 + 1)) (expr_places l x) (expr_places l y ++ ranges_places l left)
+          (appends_then c.loop-x.b c.bound.new.b z (λ pc p. bound_code l x pc p k m)
+          (λ pc p. bound_code l y pc p k (m + 1) ++ bounds_code l left (pc + length (bound_code l y pc p k (m + 1)))
+          (p + length (expr_places l y)) k (m + 1 + 1)) (expr_places l x) (expr_places l y ++ ranges_places l left)
           c.in_ok-bound.ensures
           (appends_then c.bound.new.b c.bound-in-loop-x.new.b z (λ pc p. bound_code l y pc p k (m + 1)) (λ pc p. bounds_code l left pc p k (m + 1 + 1)) (expr_places l y) (ranges_places l left)
           end (subst (λ j. Appends c.bound-in-loop-x.new.b z (λ pc p. bounds_code l left pc p k j) (ranges_places l left)) next g)))),

@@ -21,7 +21,8 @@ returns c =
     let keep = c.in_ok-keep.ensures in
     adds h ks (draft_of c.args.e.now) (draft_of e) e.reserved r e.body c.body.new.b c.in_ok-begin.ensures.begun refl refl refl refl refl
     (longer_then e.reserved.registers m.registers r.registers (longer_grown e.reserved.registers m.registers asked.rows) keep.rows) asked.masks
-    (keeps_them _ h.variables h.answer e.reserved.registers m.registers r.registers ks (ap (λ (d : Draft). d.rows) c.in_ok-begin.ensures.begun) asked.rows keep (subst (λ zs. keep_steps zs ≤ 24) (sym c.as_slice-kept.ensures.value) c.in_ok-found.ensures))
+    (keeps_them _ h.variables h.answer e.reserved.registers m.registers r.registers ks (ap (λ (d : Draft). d.rows) c.in_ok-begin.ensures.begun)
+    asked.rows keep (subst (λ zs. keep_steps zs ≤ 24) (sym c.as_slice-kept.ensures.value) c.in_ok-found.ensures))
     (longer_has m r keep.rows (omega arith) (Both (constants_asks 3 ks) (block_asks h.answer h.body 3)) asked.body)
     c.in_ok-body.ensures c.requires.fine.0 c.requires.fine.1
 

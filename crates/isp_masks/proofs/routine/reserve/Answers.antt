@@ -20,7 +20,9 @@ returns-clause-body c =
     on_ok_weaker c.block.result
     (λ g.
     let both = both_given c.args.asked.now c.reserved.new.r c.block.new.r _ _ c.in_ok-reserved.ensures g in
-    all_there h.variables h.answer c.args.asked.now.registers c.requires.first c.block.new.r both.rows (Both (constants_asks 3 c.args.kept.now) (block_asks h.answer h.body 3)) both.has (constants_own h.variables h.answer 3 c.args.kept.now, c.requires.own))
+    all_there h.variables h.answer c.args.asked.now.registers c.requires.first c.block.new.r both.rows
+    (Both (constants_asks 3 c.args.kept.now) (block_asks h.answer h.body 3)) both.has
+    (constants_own h.variables h.answer 3 c.args.kept.now, c.requires.own))
     c.block.ensures
 
 pub returns-clause-result : goal.returns-clause-result

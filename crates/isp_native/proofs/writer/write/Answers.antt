@@ -5,4 +5,6 @@ use Rattle.isp_native.proofs.writer.write.Goals as goal
 pub returns : goal.returns
 returns c =
     c.into_text.ensures
-    ∙ listing_written c.args.code.now c.width.result c.first.new.self c.places-2.new.self c.texts.new.self c.all_declared.new.self c.all_defined.new.self c.entries.new.self (search rules) (search rules) (search rules) (search rules) (search rules) (search rules) (search rules)
+    ∙ listing_written c.args.code.now c.width.result c.first.new.self c.places-2.new.self c.texts.new.self c.all_declared.new.self
+    c.all_defined.new.self c.entries.new.self (search rules) (search rules) (search rules) (search rules) (search rules) (search rules)
+    (search rules)

@@ -41,4 +41,5 @@ expr-returns-after-loop-place t c =
     let fs = functions_of c.args.functions.now in
     let over : length c.deref-value-items.result.now ≤ c.loop-place.place = omega arith in
     let j = rw (drop_of_length-le c.deref-value-items.result.now over) at c.loop-place.invariant in
-    sym (first_none c.loop-place.seen) ∙ j ∙ (rw (c.deref-value-items.ensures.value, c.parts-parts.ensures, c.in-Library.is) (sym (ap (expr_fault fs) (library_view c.in-Library.function c.in-Library.elem c.in-Library.values c.in-Library.ty c.in-Library.span))))
+    sym (first_none c.loop-place.seen) ∙ j ∙ (rw (c.deref-value-items.ensures.value, c.parts-parts.ensures, c.in-Library.is)
+    (sym (ap (expr_fault fs) (library_view c.in-Library.function c.in-Library.elem c.in-Library.values c.in-Library.ty c.in-Library.span))))

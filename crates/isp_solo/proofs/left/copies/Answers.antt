@@ -10,7 +10,8 @@ use Rattle.isp_solo.proofs.left.copies.Goals as goal
 pub loop-place-preserved : goal.loop-place-preserved
 loop-place-preserved c =
     record {
-      same = copies_more c.loop-place.copies.items c.push_copy.new.copies.items (rows c.args.arguments.now) c.loop-place.place c.args.arguments.now c.index-arguments-place.result c.loop-place-test.true c.index-arguments-place.is c.in_ok-push_copy.ensures.more c.loop-place.invariant.same;
+      same = copies_more c.loop-place.copies.items c.push_copy.new.copies.items (rows c.args.arguments.now) c.loop-place.place c.args.arguments.now
+          c.index-arguments-place.result c.loop-place-test.true c.index-arguments-place.is c.in_ok-push_copy.ensures.more c.loop-place.invariant.same;
       fits = subst (λ (rs : List Row). All (λ (r : Row). Fit r.elem r.bits) rs) (sym c.in_ok-push_copy.ensures.more)
           (All-append (λ (r : Row). Fit r.elem r.bits) c.loop-place.copies.items (rows (c.index-arguments-place.result ∷ [])) c.loop-place.invariant.fits c.in_ok-push_copy.ensures.fits);
     }

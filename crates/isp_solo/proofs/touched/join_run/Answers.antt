@@ -11,7 +11,8 @@ pub loop-store-preserved : goal.loop-store-preserved
 loop-store-preserved c =
     record {
       joined = joined_next c.args.instance c.args.arrays.now.stores.items c.reach_array.new.touched.items c.loop-store.touched.items c.loop-store.store c.join.new.self c.index_mut.result.now c.index.result.now c.loop-store.invariant.joined
-          (omega (arith, c.loop-store.invariant.long, c.loop-store-test.true, c.len-store-end.ensures, c.in_ok-reach_array.ensures.long)) (omega (arith, c.loop-store-test.true, c.len-store-end.ensures)) c.index_mut.ensures.value c.index.ensures c.in_ok-join.ensures;
+          (omega (arith, c.loop-store.invariant.long, c.loop-store-test.true, c.len-store-end.ensures, c.in_ok-reach_array.ensures.long))
+          (omega (arith, c.loop-store-test.true, c.len-store-end.ensures)) c.index_mut.ensures.value c.index.ensures c.in_ok-join.ensures;
       long = length-set c.loop-store.touched.items c.loop-store.store c.join.new.self ∙ c.loop-store.invariant.long;
     }
 

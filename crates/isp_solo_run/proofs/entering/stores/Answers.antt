@@ -20,7 +20,8 @@ loop-place-preserved c =
 
 pub returns-clause-sizes : goal.returns-clause-sizes
 returns-clause-sizes c =
-    opening_sizes c.args.variables.now (map passed_seen c.args.passed.now) c.args.sizes.now.items c.loop-place.sizes.items c.loop-place.named.items c.loop-place.place c.loop-place.invariant (omega (arith, c.longer-count.ensures.first, c.loop-place-test.false))
+    opening_sizes c.args.variables.now (map passed_seen c.args.passed.now) c.args.sizes.now.items c.loop-place.sizes.items c.loop-place.named.items
+    c.loop-place.place c.loop-place.invariant (omega (arith, c.longer-count.ensures.first, c.loop-place-test.false))
 
 pub returns-clause-named : goal.returns-clause-named
 returns-clause-named c =

@@ -17,7 +17,11 @@ loop-next-preserved c =
 pub returns-in_ok-put : goal.returns-in_ok-put
 returns-in_ok-put c =
     written (λ v. values_of v.items) (λ e. 0) c.loop-next.arrays.items c.put.new.values c.args.array (omega (arith, c.if-array-len.true, c.len.ensures))
-    ∙ ap (put (own_of c.loop-next.arrays.items) c.args.array) (c.in_ok-put.ensures.ok ∙ ap (λ f. put f c.args.place c.args.bits) (ap (λ v. values_of v.items) c.index_mut.ensures.value ∙ sym (at_there (λ v. values_of v.items) (λ e. 0) c.loop-next.arrays.items c.args.array c.index_mut.result.now (omega (arith, c.if-array-len.true, c.len.ensures)))))
+    ∙ ap (put (own_of c.loop-next.arrays.items) c.args.array)
+    (c.in_ok-put.ensures.ok ∙ ap (λ f. put f c.args.place c.args.bits)
+    (ap (λ v. values_of v.items) c.index_mut.ensures.value
+    ∙ sym (at_there (λ v. values_of v.items) (λ e. 0) c.loop-next.arrays.items c.args.array c.index_mut.result.now
+    (omega (arith, c.if-array-len.true, c.len.ensures)))))
     ∙ put_inner (own_of c.loop-next.arrays.items) c.args.array c.args.place c.args.bits
     ∙ ap (λ f. put_in f c.args.array c.args.place c.args.bits) c.loop-next.invariant.same
 
@@ -25,6 +29,9 @@ pub returns-in_ok-push-2 : goal.returns-in_ok-push-2
 returns-in_ok-push-2 c =
     ap own_of c.in_ok-push-2.ensures.items
     ∙ pushed (λ v. values_of v.items) (λ e. 0) c.loop-next.arrays.items c.put-else-array-len.new.values c.args.array (omega (arith, c.loop-next.invariant.long, c.loop-next-test.false, c.if-array-len.false, c.len.ensures))
-    ∙ ap (put (own_of c.loop-next.arrays.items) c.args.array) (c.in_ok-put-2.ensures.ok ∙ ap (λ f. put f c.args.place c.args.bits) (ap values_of c.new-values.ensures.items ∙ sym (at_past (λ v. values_of v.items) (λ e. 0) c.loop-next.arrays.items c.args.array (omega (arith, c.if-array-len.false, c.len.ensures)))))
+    ∙ ap (put (own_of c.loop-next.arrays.items) c.args.array)
+    (c.in_ok-put-2.ensures.ok ∙ ap (λ f. put f c.args.place c.args.bits)
+    (ap values_of c.new-values.ensures.items ∙ sym (at_past (λ v. values_of v.items) (λ e. 0) c.loop-next.arrays.items c.args.array
+    (omega (arith, c.if-array-len.false, c.len.ensures)))))
     ∙ put_inner (own_of c.loop-next.arrays.items) c.args.array c.args.place c.args.bits
     ∙ ap (λ f. put_in f c.args.array c.args.place c.args.bits) c.loop-next.invariant.same

@@ -12,7 +12,8 @@ loop-place-init c = record { joined = joined_none (λ t e. touched t c.args.inst
 pub loop-place-preserved : goal.loop-place-preserved
 loop-place-preserved c =
     record {
-      joined = joined_one c.args.instance (read_in c.args.array.now) (λ e. is_some (wrote_in c.args.array.now e)) c.args.touches.now c.loop-place.touches c.loop-place.place c.touched.result _ c.read_at-read.result c.is_some-stored.result c.loop-place.invariant.joined
+      joined = joined_one c.args.instance (read_in c.args.array.now) (λ e. is_some (wrote_in c.args.array.now e)) c.args.touches.now
+          c.loop-place.touches c.loop-place.place c.touched.result _ c.read_at-read.result c.is_some-stored.result c.loop-place.invariant.joined
           (omega (arith, c.loop-place.invariant.long, c.loop-place-test.true)) c.touched.ensures c.read_at-read.ensures (c.is_some-stored.ensures ∙ ap is_some c.stored_at.ensures);
       long = length-set c.loop-place.touches c.loop-place.place c.touched.result ∙ c.loop-place.invariant.long;
     }

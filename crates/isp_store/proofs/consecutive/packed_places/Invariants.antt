@@ -8,4 +8,6 @@ use Rattle.isp_store.proofs.consecutive.packed_places.Given as goal
 
 abbrev pub invariant-loop-lane : goal.invariant-loop-lane
 invariant-loop-lane g l =
-    (lowest l.lane (packed_outside l.count (number I64 l.index) (flag_of l.mask)) ≡ None) × Placed l.count (packed_index (number I64 l.index) (flag_of l.mask)) (flag_of l.mask) l.places l.lane × (length l.places ≡ g.row.N) × (l.lower ≡ rank (flag_of l.mask) l.lane) × (l.lower ≤ l.lane)
+    (lowest l.lane (packed_outside l.count (number I64 l.index) (flag_of l.mask)) ≡ None)
+    × Placed l.count (packed_index (number I64 l.index) (flag_of l.mask)) (flag_of l.mask) l.places l.lane × (length l.places ≡ g.row.N)
+    × (l.lower ≡ rank (flag_of l.mask) l.lane) × (l.lower ≤ l.lane)

@@ -21,7 +21,10 @@ gathered-requires g c =
 pub returns-in-Bits8-clause-lanes : goal.returns-in-Bits8-clause-lanes
 returns-in-Bits8-clause-lanes g c =
     let a = c.args in
-    subst (λ (f : ℕ → ℕ → ℕ). IfOk c.gathered.result (λ _. lane_of c.gathered.new.into.bits ≡ over (λ p. each1 (λ y. f (element I64 y) p) (on (flag_of a.mask.now) (lane_of a.places.now) p)) (lane_of a.into.now.bits))) (found_in c.as_slice.result.now a.array.now.bits (c.as_slice.ensures.value ∙ sym (ap (λ (y : Cells). held y) c.in-Bits8.is) ∙ c.cells.ensures.words)) c.gathered.ensures.lanes
+    subst (λ (f : ℕ → ℕ → ℕ). IfOk c.gathered.result
+    (λ _. lane_of c.gathered.new.into.bits ≡ over (λ p. each1 (λ y. f (element I64 y) p) (on (flag_of a.mask.now) (lane_of a.places.now) p))
+    (lane_of a.into.now.bits))) (found_in c.as_slice.result.now a.array.now.bits
+    (c.as_slice.ensures.value ∙ sym (ap (λ (y : Cells). held y) c.in-Bits8.is) ∙ c.cells.ensures.words)) c.gathered.ensures.lanes
 
 pub gathered-requires-in-Bits16 : goal.gathered-requires-in-Bits16
 gathered-requires-in-Bits16 g c =
@@ -33,7 +36,12 @@ gathered-requires-in-Bits16 g c =
 pub returns-in-Bits16-clause-lanes : goal.returns-in-Bits16-clause-lanes
 returns-in-Bits16-clause-lanes g c =
     let a = c.args in
-    subst (λ (f : ℕ → ℕ → ℕ). IfOk c.gathered-in-Bits16.result (λ _. lane_of c.gathered-in-Bits16.new.into.bits ≡ over (λ p. each1 (λ y. f (element I64 y) p) (on (flag_of a.mask.now) (lane_of a.places.now) p)) (lane_of a.into.now.bits))) (found_in c.as_slice-in-Bits16.result.now a.array.now.bits (c.as_slice-in-Bits16.ensures.value ∙ sym (ap (λ (y : Cells). held y) c.in-Bits16.is) ∙ c.cells.ensures.words)) c.gathered-in-Bits16.ensures.lanes
+    subst (λ (f : ℕ → ℕ → ℕ). IfOk c.gathered-in-Bits16.result
+    (λ _. lane_of c.gathered-in-Bits16.new.into.bits
+    ≡ over (λ p. each1 (λ y. f (element I64 y) p) (on (flag_of a.mask.now) (lane_of a.places.now) p)) (lane_of a.into.now.bits)))
+    (found_in c.as_slice-in-Bits16.result.now a.array.now.bits
+    (c.as_slice-in-Bits16.ensures.value ∙ sym (ap (λ (y : Cells). held y) c.in-Bits16.is) ∙ c.cells.ensures.words))
+    c.gathered-in-Bits16.ensures.lanes
 
 pub gathered-requires-in-Bits32 : goal.gathered-requires-in-Bits32
 gathered-requires-in-Bits32 g c =
@@ -45,7 +53,12 @@ gathered-requires-in-Bits32 g c =
 pub returns-in-Bits32-clause-lanes : goal.returns-in-Bits32-clause-lanes
 returns-in-Bits32-clause-lanes g c =
     let a = c.args in
-    subst (λ (f : ℕ → ℕ → ℕ). IfOk c.gathered-in-Bits32.result (λ _. lane_of c.gathered-in-Bits32.new.into.bits ≡ over (λ p. each1 (λ y. f (element I64 y) p) (on (flag_of a.mask.now) (lane_of a.places.now) p)) (lane_of a.into.now.bits))) (found_in c.as_slice-in-Bits32.result.now a.array.now.bits (c.as_slice-in-Bits32.ensures.value ∙ sym (ap (λ (y : Cells). held y) c.in-Bits32.is) ∙ c.cells.ensures.words)) c.gathered-in-Bits32.ensures.lanes
+    subst (λ (f : ℕ → ℕ → ℕ). IfOk c.gathered-in-Bits32.result
+    (λ _. lane_of c.gathered-in-Bits32.new.into.bits
+    ≡ over (λ p. each1 (λ y. f (element I64 y) p) (on (flag_of a.mask.now) (lane_of a.places.now) p)) (lane_of a.into.now.bits)))
+    (found_in c.as_slice-in-Bits32.result.now a.array.now.bits
+    (c.as_slice-in-Bits32.ensures.value ∙ sym (ap (λ (y : Cells). held y) c.in-Bits32.is) ∙ c.cells.ensures.words))
+    c.gathered-in-Bits32.ensures.lanes
 
 pub gathered-requires-in-Bits64 : goal.gathered-requires-in-Bits64
 gathered-requires-in-Bits64 g c =
@@ -57,4 +70,9 @@ gathered-requires-in-Bits64 g c =
 pub returns-in-Bits64-clause-lanes : goal.returns-in-Bits64-clause-lanes
 returns-in-Bits64-clause-lanes g c =
     let a = c.args in
-    subst (λ (f : ℕ → ℕ → ℕ). IfOk c.gathered-in-Bits64.result (λ _. lane_of c.gathered-in-Bits64.new.into.bits ≡ over (λ p. each1 (λ y. f (element I64 y) p) (on (flag_of a.mask.now) (lane_of a.places.now) p)) (lane_of a.into.now.bits))) (found_in c.as_slice-in-Bits64.result.now a.array.now.bits (c.as_slice-in-Bits64.ensures.value ∙ sym (ap (λ (y : Cells). held y) c.in-Bits64.is) ∙ c.cells.ensures.words)) c.gathered-in-Bits64.ensures.lanes
+    subst (λ (f : ℕ → ℕ → ℕ). IfOk c.gathered-in-Bits64.result
+    (λ _. lane_of c.gathered-in-Bits64.new.into.bits
+    ≡ over (λ p. each1 (λ y. f (element I64 y) p) (on (flag_of a.mask.now) (lane_of a.places.now) p)) (lane_of a.into.now.bits)))
+    (found_in c.as_slice-in-Bits64.result.now a.array.now.bits
+    (c.as_slice-in-Bits64.ensures.value ∙ sym (ap (λ (y : Cells). held y) c.in-Bits64.is) ∙ c.cells.ensures.words))
+    c.gathered-in-Bits64.ensures.lanes

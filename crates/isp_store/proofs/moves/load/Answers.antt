@@ -18,7 +18,10 @@ loaded-requires g c =
 pub returns-in-Bits8-clause-lanes : goal.returns-in-Bits8-clause-lanes
 returns-in-Bits8-clause-lanes g c =
     let a = c.args in
-    subst (λ (f : ℕ → ℕ → ℕ). lane_of c.loaded.new.into.bits ≡ over (λ p. each1 (λ y. f y p) (on (flag_of a.mask.now) (lane_of a.places.now) p)) (lane_of a.into.now.bits)) (found_in c.as_slice.result.now a.array.now.bits (c.as_slice.ensures.value ∙ sym (ap (λ (y : Cells). held y) c.in-Bits8.is) ∙ c.cells.ensures.words)) c.loaded.ensures.lanes
+    subst (λ (f : ℕ → ℕ → ℕ). lane_of c.loaded.new.into.bits
+    ≡ over (λ p. each1 (λ y. f y p) (on (flag_of a.mask.now) (lane_of a.places.now) p)) (lane_of a.into.now.bits))
+    (found_in c.as_slice.result.now a.array.now.bits
+    (c.as_slice.ensures.value ∙ sym (ap (λ (y : Cells). held y) c.in-Bits8.is) ∙ c.cells.ensures.words)) c.loaded.ensures.lanes
 
 pub loaded-requires-in-Bits16 : goal.loaded-requires-in-Bits16
 loaded-requires-in-Bits16 g c =
@@ -30,7 +33,11 @@ loaded-requires-in-Bits16 g c =
 pub returns-in-Bits16-clause-lanes : goal.returns-in-Bits16-clause-lanes
 returns-in-Bits16-clause-lanes g c =
     let a = c.args in
-    subst (λ (f : ℕ → ℕ → ℕ). lane_of c.loaded-in-Bits16.new.into.bits ≡ over (λ p. each1 (λ y. f y p) (on (flag_of a.mask.now) (lane_of a.places.now) p)) (lane_of a.into.now.bits)) (found_in c.as_slice-in-Bits16.result.now a.array.now.bits (c.as_slice-in-Bits16.ensures.value ∙ sym (ap (λ (y : Cells). held y) c.in-Bits16.is) ∙ c.cells.ensures.words)) c.loaded-in-Bits16.ensures.lanes
+    subst (λ (f : ℕ → ℕ → ℕ). lane_of c.loaded-in-Bits16.new.into.bits
+    ≡ over (λ p. each1 (λ y. f y p) (on (flag_of a.mask.now) (lane_of a.places.now) p)) (lane_of a.into.now.bits))
+    (found_in c.as_slice-in-Bits16.result.now a.array.now.bits
+    (c.as_slice-in-Bits16.ensures.value ∙ sym (ap (λ (y : Cells). held y) c.in-Bits16.is) ∙ c.cells.ensures.words))
+    c.loaded-in-Bits16.ensures.lanes
 
 pub loaded-requires-in-Bits32 : goal.loaded-requires-in-Bits32
 loaded-requires-in-Bits32 g c =
@@ -42,7 +49,11 @@ loaded-requires-in-Bits32 g c =
 pub returns-in-Bits32-clause-lanes : goal.returns-in-Bits32-clause-lanes
 returns-in-Bits32-clause-lanes g c =
     let a = c.args in
-    subst (λ (f : ℕ → ℕ → ℕ). lane_of c.loaded-in-Bits32.new.into.bits ≡ over (λ p. each1 (λ y. f y p) (on (flag_of a.mask.now) (lane_of a.places.now) p)) (lane_of a.into.now.bits)) (found_in c.as_slice-in-Bits32.result.now a.array.now.bits (c.as_slice-in-Bits32.ensures.value ∙ sym (ap (λ (y : Cells). held y) c.in-Bits32.is) ∙ c.cells.ensures.words)) c.loaded-in-Bits32.ensures.lanes
+    subst (λ (f : ℕ → ℕ → ℕ). lane_of c.loaded-in-Bits32.new.into.bits
+    ≡ over (λ p. each1 (λ y. f y p) (on (flag_of a.mask.now) (lane_of a.places.now) p)) (lane_of a.into.now.bits))
+    (found_in c.as_slice-in-Bits32.result.now a.array.now.bits
+    (c.as_slice-in-Bits32.ensures.value ∙ sym (ap (λ (y : Cells). held y) c.in-Bits32.is) ∙ c.cells.ensures.words))
+    c.loaded-in-Bits32.ensures.lanes
 
 pub loaded-requires-in-Bits64 : goal.loaded-requires-in-Bits64
 loaded-requires-in-Bits64 g c =
@@ -54,4 +65,8 @@ loaded-requires-in-Bits64 g c =
 pub returns-in-Bits64-clause-lanes : goal.returns-in-Bits64-clause-lanes
 returns-in-Bits64-clause-lanes g c =
     let a = c.args in
-    subst (λ (f : ℕ → ℕ → ℕ). lane_of c.loaded-in-Bits64.new.into.bits ≡ over (λ p. each1 (λ y. f y p) (on (flag_of a.mask.now) (lane_of a.places.now) p)) (lane_of a.into.now.bits)) (found_in c.as_slice-in-Bits64.result.now a.array.now.bits (c.as_slice-in-Bits64.ensures.value ∙ sym (ap (λ (y : Cells). held y) c.in-Bits64.is) ∙ c.cells.ensures.words)) c.loaded-in-Bits64.ensures.lanes
+    subst (λ (f : ℕ → ℕ → ℕ). lane_of c.loaded-in-Bits64.new.into.bits
+    ≡ over (λ p. each1 (λ y. f y p) (on (flag_of a.mask.now) (lane_of a.places.now) p)) (lane_of a.into.now.bits))
+    (found_in c.as_slice-in-Bits64.result.now a.array.now.bits
+    (c.as_slice-in-Bits64.ensures.value ∙ sym (ap (λ (y : Cells). held y) c.in-Bits64.is) ∙ c.cells.ensures.words))
+    c.loaded-in-Bits64.ensures.lanes

@@ -35,4 +35,6 @@ returns-clause-shapes g c = row_shapes c.args.rows.now c.args.array _ c.write.ne
 pub returns-clause-lowest : goal.returns-clause-lowest
 returns-clause-lowest g c =
     let a = c.args in
-    subst (λ (xs : List ℕ). IfErr c.write.result (λ trap. lowest_failing g.row.N (is_outside I64 (length xs)) (on (flag_of a.mask.now) (lane_of a.index.now.bits)) ≡ Some trap.instance)) (sym (row_bits_at a.rows.now a.array _ c.requires.there)) c.write.ensures.lowest
+    subst (λ (xs : List ℕ). IfErr c.write.result (λ trap. lowest_failing g.row.N (is_outside I64 (length xs))
+    (on (flag_of a.mask.now) (lane_of a.index.now.bits)) ≡ Some trap.instance)) (sym (row_bits_at a.rows.now a.array _ c.requires.there))
+    c.write.ensures.lowest

@@ -7,7 +7,10 @@ use Rattle.isp_verify.proofs.check.first_fault.Goals as goal
 
 pub invariant_of-checker : goal.invariant_of-checker
 invariant_of-checker c =
-    record { table = at_maps table_of routine_of c.functions-functions.result.now c.args.code.now.routines c.args.registers.now c.loop-k.k _ _ c.loop-k-test.true c.functions-functions.ensures.same c.requires c.index-functions-k.is c.index-registers-k.is }
+    record {
+      table = at_maps table_of routine_of c.functions-functions.result.now c.args.code.now.routines c.args.registers.now c.loop-k.k _ _
+          c.loop-k-test.true c.functions-functions.ensures.same c.requires c.index-functions-k.is c.index-registers-k.is;
+    }
 
 pub loop-k-preserved : goal.loop-k-preserved
 loop-k-preserved c =

@@ -18,6 +18,7 @@ loop-param-preserved c =
     let had = c.loop-param.invariant.names x.name in
     let added = c.in_ok-insert.ensures.added ∙ (ap (λ w. not (has_name c.loop-param.names w)) c.as_str.ensures ∙ ap not had) in
     record {
-      names = λ w. with_one (λ (p : Param). p.name) c.loop-param.names c.insert.new.self c.args.params.now c.loop-param.param-index x c.as_str.result c.loop-param-test.true (sym c.param-item.is) c.as_str.ensures c.in_ok-insert.ensures.updates w (c.loop-param.invariant.names w);
+      names = λ w. with_one (λ (p : Param). p.name) c.loop-param.names c.insert.new.self c.args.params.now c.loop-param.param-index x c.as_str.result
+          c.loop-param-test.true (sym c.param-item.is) c.as_str.ensures c.in_ok-insert.ensures.updates w (c.loop-param.invariant.names w);
       differ = differ_step c.args.params.now c.loop-param.param-index x true c.loop-param-test.true c.param-item.is c.loop-param.invariant.differ (sym c.if-not-branch.false ∙ added);
     }

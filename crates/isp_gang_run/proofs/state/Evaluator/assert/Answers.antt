@@ -14,9 +14,13 @@ returns-in_err-checked-clause-err c =
     let old = c.args.self.now in
     let h = c.in_err-checked.ensures.err in
     at_err c.from_residual.result c.in_err-checked.field-0.0 (Halts old old (does old (task.Assert c.args.span c.args.set))) c.from_residual.ensures.1
-    (assert_halts old old c.args.span c.args.set c.lowest_false-offender.result (c.lowest_false-offender.ensures ∙ ap (λ g. offender (gang_width g) is_false (flag_of c.args.set) (payload_of old.value)) c.gang.ensures) c.in_err-checked.field-0.0 h.0 h.1 refl h.2)
+    (assert_halts old old c.args.span c.args.set c.lowest_false-offender.result
+    (c.lowest_false-offender.ensures ∙ ap (λ g. offender (gang_width g) is_false (flag_of c.args.set) (payload_of old.value)) c.gang.ensures)
+    c.in_err-checked.field-0.0 h.0 h.1 refl h.2)
 
 pub returns-clause-ok : goal.returns-clause-ok
 returns-clause-ok c =
     let old = c.args.self.now in
-    assert_comes old c.leave.new.self c.args.span c.args.set c.lowest_false-offender.result (c.lowest_false-offender.ensures ∙ ap (λ g. offender (gang_width g) is_false (flag_of c.args.set) (payload_of old.value)) c.gang.ensures) c.all.result c.in_ok-checked.ensures.ok c.all.ensures c.leave.ensures
+    assert_comes old c.leave.new.self c.args.span c.args.set c.lowest_false-offender.result
+    (c.lowest_false-offender.ensures ∙ ap (λ g. offender (gang_width g) is_false (flag_of c.args.set) (payload_of old.value)) c.gang.ensures)
+    c.all.result c.in_ok-checked.ensures.ok c.all.ensures c.leave.ensures

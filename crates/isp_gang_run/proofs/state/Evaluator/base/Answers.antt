@@ -25,5 +25,7 @@ pub returns-in_ok-both-in-From-clause-ok : goal.returns-in_ok-both-in-From-claus
 returns-in_ok-both-in-From-clause-ok c =
     from_comes c.args.self.now c.both.new.self c.tick.new.self c.tick.ensures c.args.packing c.args.base.now c.args.span c.args.set c.in-From.array c.deref-in-From.result c.ty.result.elem c.in-From.span
     (ap (λ t. t.elem) c.ty.ensures ∙ ap (λ l. (type_of (expr_of l)).elem) (c.deref.ensures ∙ sym c.deref-in-From.ensures))
-    (ap base_of (c.in-From.is ∙ sym (variant.rolls-From c.in-From.array c.in-From.index c.in-From.span)) ∙ fold-roll-TypedBase TArgument TBase TExpr TPlace TCall argument_step base_step expr_step place_step call_step _ ∙ ap (λ i. t_from c.in-From.array (expr_of i) c.in-From.span) (sym c.deref-in-From.ensures))
+    (ap base_of (c.in-From.is ∙ sym (variant.rolls-From c.in-From.array c.in-From.index c.in-From.span))
+    ∙ fold-roll-TypedBase TArgument TBase TExpr TPlace TCall argument_step base_step expr_step place_step call_step _
+    ∙ ap (λ i. t_from c.in-From.array (expr_of i) c.in-From.span) (sym c.deref-in-From.ensures))
     c.in_ok-both-in-From.ensures.ok

@@ -11,4 +11,6 @@ returns-in_ok-begin_rounds-in-empty-clause-ok c =
 
 pub returns-in_ok-both-in-len1-up-clause-ok : goal.returns-in_ok-both-in-len1-up-clause-ok
 returns-in_ok-both-in-len1-up-clause-ok c =
-    bounds_next c.args.self.now c.both.new.self c.args.body c.args.set c.args.rest.now _ _ c.args.done c.in_ok-bounds-in-len1-up.bounds _ (headed c.args.rest.now c.range-item.result (omega (arith, c.in-len1-up.len_at_least)) c.range-item.is) c.in_ok-bounds-in-len1-up.ensures.ok refl c.in_ok-both-in-len1-up.ensures.ok
+    bounds_next c.args.self.now c.both.new.self c.args.body c.args.set c.args.rest.now _ _ c.args.done c.in_ok-bounds-in-len1-up.bounds _
+    (headed c.args.rest.now c.range-item.result (omega (arith, c.in-len1-up.len_at_least)) c.range-item.is) c.in_ok-bounds-in-len1-up.ensures.ok
+    refl c.in_ok-both-in-len1-up.ensures.ok

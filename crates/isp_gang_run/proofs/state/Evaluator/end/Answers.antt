@@ -13,5 +13,7 @@ seen i a b p q e f = ap₂ (λ (x y : ℤ). record { index = i; start = x; end =
 pub returns-clause-ok : goal.returns-clause-ok
 returns-clause-ok c =
     end_goes c.args.self.now c.bounds.new.self c.args.bounds c.args.start c.into_inner-done.result _ c.push.new.self.items c.into_inner-done.ensures
-    (seen c.into_inner-done.result.range.now.index _ _ _ _ (to_z-of_z w32 c.int-start.result (record { sfits = c.int-start.type_inv }) ∙ c.int-start.ensures) (to_z-of_z w32 c.int-end.result (record { sfits = c.int-end.type_inv }) ∙ c.int-end.ensures ∙ ap (number I32) c.sole.ensures))
+    (seen c.into_inner-done.result.range.now.index _ _ _ _
+    (to_z-of_z w32 c.int-start.result (record { sfits = c.int-start.type_inv }) ∙ c.int-start.ensures)
+    (to_z-of_z w32 c.int-end.result (record { sfits = c.int-end.type_inv }) ∙ c.int-end.ensures ∙ ap (number I32) c.sole.ensures))
     c.in_ok-push.ensures.items c.in_ok-bounds.ensures.ok

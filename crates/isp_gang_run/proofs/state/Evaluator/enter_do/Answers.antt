@@ -9,7 +9,8 @@ use Rattle.isp_gang_run.proofs.state.Evaluator.enter_do.Goals as goal
 pub returns-in_err-turn-clause-err : goal.returns-in_err-turn-clause-err
 returns-in_err-turn-clause-err c =
     at_err c.from_residual.result c.in_err-turn.field-0.0 (Halts c.args.self.now c.turn.new.self (enters_by_turn c.args.self.now (Some c.args.test) c.args.body (flag_of c.args.set))) c.from_residual.ensures.1
-    (enters_turns_halts c.args.self.now c.turn.new.self c.tick.new.self c.tick.ensures c.args.set (Some c.args.test) None c.args.body c.new-turning.result c.new-turning.ensures.entered c.new-turning.ensures.returned refl c.in_err-turn.field-0.0 c.in_err-turn.ensures.err)
+    (enters_turns_halts c.args.self.now c.turn.new.self c.tick.new.self c.tick.ensures c.args.set (Some c.args.test) None c.args.body
+    c.new-turning.result c.new-turning.ensures.entered c.new-turning.ensures.returned refl c.in_err-turn.field-0.0 c.in_err-turn.ensures.err)
 
 pub returns-clause-ok : goal.returns-clause-ok
 returns-clause-ok c =

@@ -9,7 +9,8 @@ use Rattle.isp_gang_run.proofs.state.Evaluator.enter_while.Goals as goal
 pub returns-in_err-test-clause-err : goal.returns-in_err-test-clause-err
 returns-in_err-test-clause-err c =
     at_err c.from_residual.result c.in_err-test.field-0.0 (Halts c.args.self.now c.test.new.self (enters c.args.self.now None (Some c.args.test) None c.args.body (flag_of c.args.set))) c.from_residual.ensures.1
-    (enters_tests_halts c.args.self.now c.test.new.self c.tick.new.self c.tick.ensures c.args.set (Some c.args.test) None c.args.body c.new-turning.result c.new-turning.ensures.entered c.new-turning.ensures.returned c.in_err-test.field-0.0 c.in_err-test.ensures.err)
+    (enters_tests_halts c.args.self.now c.test.new.self c.tick.new.self c.tick.ensures c.args.set (Some c.args.test) None c.args.body
+    c.new-turning.result c.new-turning.ensures.entered c.new-turning.ensures.returned c.in_err-test.field-0.0 c.in_err-test.ensures.err)
 
 pub returns-clause-ok : goal.returns-clause-ok
 returns-clause-ok c =

@@ -12,7 +12,9 @@ loop-count-init c = leads_begin c.args.self.now
 pub loop-count-preserved : goal.loop-count-preserved
 loop-count-preserved c =
     let now = c.loop-count.self in
-    leads_next c.args.self.now now (record now { tasks = c.pop.new.self }) c.in-Some.task c.loop-count.invariant (c.pop.ensures.items ∙ ap (λ (o : Option Task). c.pop.new.self.items ++ option_to_list o) c.in-Some.is) refl c.act.new.self c.in_ok-act-in-Some.ensures.ok
+    leads_next c.args.self.now now (record now { tasks = c.pop.new.self }) c.in-Some.task c.loop-count.invariant
+    (c.pop.ensures.items ∙ ap (λ (o : Option Task). c.pop.new.self.items ++ option_to_list o) c.in-Some.is) refl c.act.new.self
+    c.in_ok-act-in-Some.ensures.ok
 
 pub returns-in-None-clause-ok : goal.returns-in-None-clause-ok
 returns-in-None-clause-ok c =
@@ -25,4 +27,6 @@ pub returns-in_err-act-in-Some-clause-err : goal.returns-in_err-act-in-Some-clau
 returns-in_err-act-in-Some-clause-err c =
     let now = c.loop-count.self in
     at_err c.from_residual.result c.in_err-act-in-Some.field-0.0 (Halts c.args.self.now c.act.new.self (rest c.args.self.now)) c.from_residual.ensures.1
-    (leads_halt c.args.self.now now (record now { tasks = c.pop.new.self }) c.in-Some.task c.loop-count.invariant (c.pop.ensures.items ∙ ap (λ (o : Option Task). c.pop.new.self.items ++ option_to_list o) c.in-Some.is) refl c.act.new.self c.in_err-act-in-Some.field-0.0 c.in_err-act-in-Some.ensures.err)
+    (leads_halt c.args.self.now now (record now { tasks = c.pop.new.self }) c.in-Some.task c.loop-count.invariant
+    (c.pop.ensures.items ∙ ap (λ (o : Option Task). c.pop.new.self.items ++ option_to_list o) c.in-Some.is) refl c.act.new.self
+    c.in_err-act-in-Some.field-0.0 c.in_err-act-in-Some.ensures.err)

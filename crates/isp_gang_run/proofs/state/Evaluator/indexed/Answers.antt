@@ -13,7 +13,9 @@ pub returns-clause-err : goal.returns-clause-err
 returns-clause-err c =
     let old = c.args.self.now in
     if_err c.placed.result
-    (λ e h. halts_same old c.placed.new.self (does old (task.Indexed c.args.target c.args.array c.args.elem c.args.writing c.args.set)) (writes old c.args.writing (place_of c.args.target.now) (Element c.args.array c.args.elem (payload_of old.value)) (flag_of c.args.set)) e (λ w. refl) h)
+    (λ e h. halts_same old c.placed.new.self (does old (task.Indexed c.args.target c.args.array c.args.elem c.args.writing c.args.set))
+    (writes old c.args.writing (place_of c.args.target.now) (Element c.args.array c.args.elem (payload_of old.value)) (flag_of c.args.set)) e
+    (λ w. refl) h)
     c.placed.ensures.err
 
 pub returns-clause-ok : goal.returns-clause-ok

@@ -16,7 +16,9 @@ returns-in_ok-write-in-Plain-clause-ok c =
     let old = c.args.self.now in
     let a = flag_of c.args.set in
     subst (λ (e : Evaluator). Comes old e (declares old (item_of c.args.item.now) a)) (sym c.forget.ensures)
-    (item_changes old c.tick.new.self c.tick.ensures c.args.item.now c.args.set c.write.new.self (t_plain c.in-Plain.number c.in-Plain.ty c.in-Plain.span) (written c.in-Plain.ty.rate c.in-Plain.number a (One 0)) (ap item_of c.in-Plain.is) (λ w. refl) c.in_ok-write-in-Plain.ensures.ok)
+    (item_changes old c.tick.new.self c.tick.ensures c.args.item.now c.args.set c.write.new.self
+    (t_plain c.in-Plain.number c.in-Plain.ty c.in-Plain.span) (written c.in-Plain.ty.rate c.in-Plain.number a (One 0)) (ap item_of c.in-Plain.is)
+    (λ w. refl) c.in_ok-write-in-Plain.ensures.ok)
 
 pub returns-in-Array-clause-ok : goal.returns-in-Array-clause-ok
 returns-in-Array-clause-ok c =

@@ -15,7 +15,9 @@ returns-in-Convert-clause-ok c =
     on_ok c.both.result
     (convert_node c.args.self.now c.both.new.self c.args.x c.deref-in-Convert.result c.args.set c.ty.result.elem c.in-Convert.elem
     (ap (λ t. t.elem) c.ty.ensures ∙ ap (λ l. (type_of (expr_of l)).elem) (c.deref.ensures ∙ sym c.deref-in-Convert.ensures))
-    (ap expr_of (c.in-Convert.is ∙ sym (variant.rolls-Convert c.in-Convert.elem c.in-Convert.operand)) ∙ fold-roll-TypedExpr TArgument TBase TExpr TPlace TCall argument_step base_step expr_step place_step call_step _ ∙ ap (λ i. t_convert c.in-Convert.elem (expr_of i)) (sym c.deref-in-Convert.ensures)))
+    (ap expr_of (c.in-Convert.is ∙ sym (variant.rolls-Convert c.in-Convert.elem c.in-Convert.operand))
+    ∙ fold-roll-TypedExpr TArgument TBase TExpr TPlace TCall argument_step base_step expr_step place_step call_step _
+    ∙ ap (λ i. t_convert c.in-Convert.elem (expr_of i)) (sym c.deref-in-Convert.ensures)))
     c.both.ensures.ok
 
 pub returns-in-Convert-clause-err : goal.returns-in-Convert-clause-err
@@ -25,7 +27,9 @@ pub returns-in-Cast-clause-ok : goal.returns-in-Cast-clause-ok
 returns-in-Cast-clause-ok c =
     on_both c.later.result
     (λ i s. cast_node c.args.self.now c.later.new.self c.tick.new.self c.tick.ensures c.args.x c.deref-in-Cast.result c.args.set c.in-Cast.ty c.in-Cast.span
-    (ap expr_of (c.in-Cast.is ∙ sym (variant.rolls-Cast c.in-Cast.operand c.in-Cast.ty c.in-Cast.span)) ∙ fold-roll-TypedExpr TArgument TBase TExpr TPlace TCall argument_step base_step expr_step place_step call_step _ ∙ ap (λ i. t_cast (expr_of i) c.in-Cast.ty c.in-Cast.span) (sym c.deref-in-Cast.ensures))
+    (ap expr_of (c.in-Cast.is ∙ sym (variant.rolls-Cast c.in-Cast.operand c.in-Cast.ty c.in-Cast.span))
+    ∙ fold-roll-TypedExpr TArgument TBase TExpr TPlace TCall argument_step base_step expr_step place_step call_step _
+    ∙ ap (λ i. t_cast (expr_of i) c.in-Cast.ty c.in-Cast.span) (sym c.deref-in-Cast.ensures))
     (record { items = i; same = s }))
     c.later.ensures.ok c.later.ensures.rest
 
@@ -36,7 +40,9 @@ pub returns-in-Unary-clause-ok : goal.returns-in-Unary-clause-ok
 returns-in-Unary-clause-ok c =
     on_ok c.reach.result
     (unary_node c.args.self.now c.reach.new.self c.args.x c.deref-in-Unary.result c.args.set c.in-Unary.operator c.in-Unary.ty c.in-Unary.span
-    (ap expr_of (c.in-Unary.is ∙ sym (variant.rolls-Unary c.in-Unary.operator c.in-Unary.operand c.in-Unary.ty c.in-Unary.span)) ∙ fold-roll-TypedExpr TArgument TBase TExpr TPlace TCall argument_step base_step expr_step place_step call_step _ ∙ ap (λ i. t_unary c.in-Unary.operator (expr_of i) c.in-Unary.ty c.in-Unary.span) (sym c.deref-in-Unary.ensures)))
+    (ap expr_of (c.in-Unary.is ∙ sym (variant.rolls-Unary c.in-Unary.operator c.in-Unary.operand c.in-Unary.ty c.in-Unary.span))
+    ∙ fold-roll-TypedExpr TArgument TBase TExpr TPlace TCall argument_step base_step expr_step place_step call_step _
+    ∙ ap (λ i. t_unary c.in-Unary.operator (expr_of i) c.in-Unary.ty c.in-Unary.span) (sym c.deref-in-Unary.ensures)))
     c.reach.ensures.ok
 
 pub returns-in-Unary-clause-err : goal.returns-in-Unary-clause-err

@@ -13,7 +13,10 @@ pub returns-in-Logic-clause-ok : goal.returns-in-Logic-clause-ok
 returns-in-Logic-clause-ok c =
     on_ok c.reach.result
     (logic_node c.args.self.now c.reach.new.self c.args.x c.deref.result c.args.set c.in-Logic.logic c.deref-in-Logic.result c.in-Logic.rate c.in-Logic.span
-    (ap expr_of (c.in-Logic.is ∙ sym (variant.rolls-Logic c.in-Logic.logic c.in-Logic.left c.in-Logic.right c.in-Logic.rate c.in-Logic.span)) ∙ fold-roll-TypedExpr TArgument TBase TExpr TPlace TCall argument_step base_step expr_step place_step call_step _ ∙ ap₂ (λ l r. t_logic c.in-Logic.logic (expr_of l) (expr_of r) c.in-Logic.rate c.in-Logic.span) (sym c.deref.ensures) (sym c.deref-in-Logic.ensures)))
+    (ap expr_of (c.in-Logic.is ∙ sym (variant.rolls-Logic c.in-Logic.logic c.in-Logic.left c.in-Logic.right c.in-Logic.rate c.in-Logic.span))
+    ∙ fold-roll-TypedExpr TArgument TBase TExpr TPlace TCall argument_step base_step expr_step place_step call_step _
+    ∙ ap₂ (λ l r. t_logic c.in-Logic.logic (expr_of l) (expr_of r) c.in-Logic.rate c.in-Logic.span) (sym c.deref.ensures)
+    (sym c.deref-in-Logic.ensures)))
     c.reach.ensures.ok
 
 pub returns-in-Logic-clause-err : goal.returns-in-Logic-clause-err
@@ -23,7 +26,10 @@ pub returns-in-Choose-clause-ok : goal.returns-in-Choose-clause-ok
 returns-in-Choose-clause-ok c =
     on_ok c.reach-in-Choose.result
     (choose_node c.args.self.now c.reach-in-Choose.new.self c.args.x c.deref-in-Choose-3.result c.args.set c.deref-in-Choose.result c.deref-in-Choose-2.result c.in-Choose.ty c.in-Choose.span
-    (ap expr_of (c.in-Choose.is ∙ sym (variant.rolls-Choose c.in-Choose.test c.in-Choose.then c.in-Choose.otherwise c.in-Choose.ty c.in-Choose.span)) ∙ fold-roll-TypedExpr TArgument TBase TExpr TPlace TCall argument_step base_step expr_step place_step call_step _ ∙ ap₂ (λ l r. t_choose (expr_of l) (expr_of r) (expr_of c.in-Choose.otherwise.value) c.in-Choose.ty c.in-Choose.span) (sym c.deref-in-Choose-3.ensures) (sym c.deref-in-Choose.ensures)
+    (ap expr_of (c.in-Choose.is ∙ sym (variant.rolls-Choose c.in-Choose.test c.in-Choose.then c.in-Choose.otherwise c.in-Choose.ty c.in-Choose.span))
+    ∙ fold-roll-TypedExpr TArgument TBase TExpr TPlace TCall argument_step base_step expr_step place_step call_step _
+    ∙ ap₂ (λ l r. t_choose (expr_of l) (expr_of r) (expr_of c.in-Choose.otherwise.value) c.in-Choose.ty c.in-Choose.span)
+    (sym c.deref-in-Choose-3.ensures) (sym c.deref-in-Choose.ensures)
     ∙ ap (λ u. t_choose (expr_of c.deref-in-Choose-3.result.now) (expr_of c.deref-in-Choose.result.now) (expr_of u) c.in-Choose.ty c.in-Choose.span) (sym c.deref-in-Choose-2.ensures)))
     c.reach-in-Choose.ensures.ok
 

@@ -13,7 +13,10 @@ pub returns-in-Binary-clause-ok : goal.returns-in-Binary-clause-ok
 returns-in-Binary-clause-ok c =
     on_ok c.reach.result
     (binary_node c.args.self.now c.reach.new.self c.args.x c.deref.result c.args.set c.in-Binary.operator c.deref-in-Binary.result c.in-Binary.ty c.in-Binary.span
-    (ap expr_of (c.in-Binary.is ∙ sym (variant.rolls-Binary c.in-Binary.operator c.in-Binary.left c.in-Binary.right c.in-Binary.ty c.in-Binary.span)) ∙ fold-roll-TypedExpr TArgument TBase TExpr TPlace TCall argument_step base_step expr_step place_step call_step _ ∙ ap₂ (λ l r. t_binary c.in-Binary.operator (expr_of l) (expr_of r) c.in-Binary.ty c.in-Binary.span) (sym c.deref.ensures) (sym c.deref-in-Binary.ensures)))
+    (ap expr_of (c.in-Binary.is ∙ sym (variant.rolls-Binary c.in-Binary.operator c.in-Binary.left c.in-Binary.right c.in-Binary.ty c.in-Binary.span))
+    ∙ fold-roll-TypedExpr TArgument TBase TExpr TPlace TCall argument_step base_step expr_step place_step call_step _
+    ∙ ap₂ (λ l r. t_binary c.in-Binary.operator (expr_of l) (expr_of r) c.in-Binary.ty c.in-Binary.span) (sym c.deref.ensures)
+    (sym c.deref-in-Binary.ensures)))
     c.reach.ensures.ok
 
 pub returns-in-Binary-clause-err : goal.returns-in-Binary-clause-err
@@ -24,7 +27,10 @@ returns-in-Compare-clause-ok c =
     on_ok c.reach-in-Compare.result
     (compare_node c.args.self.now c.reach-in-Compare.new.self c.args.x c.deref-in-Compare-2.result c.args.set c.in-Compare.comparison c.ty.result.elem c.deref-in-Compare-3.result c.in-Compare.rate c.in-Compare.span
     (ap (λ t. t.elem) c.ty.ensures ∙ ap (λ l. (type_of (expr_of l)).elem) (c.deref-in-Compare.ensures ∙ sym c.deref-in-Compare-2.ensures))
-    (ap expr_of (c.in-Compare.is ∙ sym (variant.rolls-Compare c.in-Compare.comparison c.in-Compare.left c.in-Compare.right c.in-Compare.rate c.in-Compare.span)) ∙ fold-roll-TypedExpr TArgument TBase TExpr TPlace TCall argument_step base_step expr_step place_step call_step _ ∙ ap₂ (λ l r. t_compare c.in-Compare.comparison (expr_of l) (expr_of r) c.in-Compare.rate c.in-Compare.span) (sym c.deref-in-Compare-2.ensures) (sym c.deref-in-Compare-3.ensures)))
+    (ap expr_of (c.in-Compare.is ∙ sym (variant.rolls-Compare c.in-Compare.comparison c.in-Compare.left c.in-Compare.right c.in-Compare.rate
+    c.in-Compare.span)) ∙ fold-roll-TypedExpr TArgument TBase TExpr TPlace TCall argument_step base_step expr_step place_step call_step _
+    ∙ ap₂ (λ l r. t_compare c.in-Compare.comparison (expr_of l) (expr_of r) c.in-Compare.rate c.in-Compare.span)
+    (sym c.deref-in-Compare-2.ensures) (sym c.deref-in-Compare-3.ensures)))
     c.reach-in-Compare.ensures.ok
 
 pub returns-in-Compare-clause-err : goal.returns-in-Compare-clause-err

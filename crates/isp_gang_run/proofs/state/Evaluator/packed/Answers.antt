@@ -12,4 +12,5 @@ returns-in-Load-clause-ok c =
 
 pub returns-in-Load-clause-err : goal.returns-in-Load-clause-err
 returns-in-Load-clause-err c =
-    if_err c.packed_load.result (λ e h. load_next_halts c.args.self.now c.packed_load.new.self c.in-Load.variable c.sole-first.result c.args.array c.args.elem c.args.span c.args.set c.args.packing e c.in-Load.is c.sole-first.ensures h) c.packed_load.ensures.err
+    if_err c.packed_load.result (λ e h. load_next_halts c.args.self.now c.packed_load.new.self c.in-Load.variable c.sole-first.result c.args.array
+    c.args.elem c.args.span c.args.set c.args.packing e c.in-Load.is c.sole-first.ensures h) c.packed_load.ensures.err

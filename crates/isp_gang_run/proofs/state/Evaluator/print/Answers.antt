@@ -12,4 +12,6 @@ pub returns-clause-ok : goal.returns-clause-ok
 returns-clause-ok c =
     let old = c.args.self.now in
     print_comes old c.leave.new.self c.show_text.new.output c.args.text.now c.args.shown.now c.args.values.now c.args.set c.all.result
-    (c.in_ok-show_text.ensures ∙ ap (λ g. old.output.items ++ print_text c.args.text.now (shown_all (gang_width g) (flag_of c.args.set) (exprs_of c.args.shown.now) (map payload_of c.args.values.now))) c.gang-gang.ensures) c.all.ensures c.leave.ensures
+    (c.in_ok-show_text.ensures ∙ ap (λ g. old.output.items
+    ++ print_text c.args.text.now (shown_all (gang_width g) (flag_of c.args.set) (exprs_of c.args.shown.now) (map payload_of c.args.values.now)))
+    c.gang-gang.ensures) c.all.ensures c.leave.ensures

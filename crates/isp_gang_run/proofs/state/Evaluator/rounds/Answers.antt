@@ -19,5 +19,7 @@ returns-else-ready-clause-ok c =
 pub returns-in_ok-round-clause-ok : goal.returns-in_ok-round-clause-ok
 returns-in_ok-round-clause-ok c =
     let g = c.args.self.now.program.now.gang in
-    rounds_same c.args.self.now c.round.new.self c.args.rounds (record c.args.rounds { value = record c.deref_mut.result.now { ranges = c.carry.new.ranges } }) (ap (λ (x : Rounds). x.body) c.deref_mut.ensures.value) (ap (λ (x : Rounds). x.set) c.deref_mut.ensures.value)
+    rounds_same c.args.self.now c.round.new.self c.args.rounds
+    (record c.args.rounds { value = record c.deref_mut.result.now { ranges = c.carry.new.ranges } })
+    (ap (λ (x : Rounds). x.body) c.deref_mut.ensures.value) (ap (λ (x : Rounds). x.set) c.deref_mut.ensures.value)
     (c.carry.ensures.left g ∙ ap (λ (x : Rounds). runs_left (gang_width g) x.ranges.items) c.deref_mut.ensures.value) c.in_ok-round.ensures.ok

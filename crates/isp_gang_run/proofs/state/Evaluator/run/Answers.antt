@@ -25,7 +25,10 @@ returns-in-Block-clause-err c = memory_err c.args.self.now c.block.new.self _ c.
 pub returns-in-Declare-clause-ok : goal.returns-in-Declare-clause-ok
 returns-in-Declare-clause-ok c =
     arm_ok c.args.self.now c.declare.new.self c.args.statement c.args.set _ _
-    (ap stmt_of (c.in-Declare.is ∙ sym (variant.rolls-Declare c.in-Declare.items c.in-Declare.span)) ∙ fold-roll-TypedStmt TStmt TBlock stmt_step block_step _ ∙ ap (λ (ys : List TypedItem). t_declare (items_of ys) c.in-Declare.span) (sym c.as_slice.ensures.value)) (λ w. refl) c.declare.result c.declare.ensures.ok
+    (ap stmt_of (c.in-Declare.is ∙ sym (variant.rolls-Declare c.in-Declare.items c.in-Declare.span))
+    ∙ fold-roll-TypedStmt TStmt TBlock stmt_step block_step _
+    ∙ ap (λ (ys : List TypedItem). t_declare (items_of ys) c.in-Declare.span) (sym c.as_slice.ensures.value)) (λ w. refl) c.declare.result
+    c.declare.ensures.ok
 
 pub returns-in-Declare-clause-err : goal.returns-in-Declare-clause-err
 returns-in-Declare-clause-err c = memory_err c.args.self.now c.declare.new.self _ c.declare.result c.declare.ensures.err
@@ -41,7 +44,9 @@ returns-in-Simple-clause-err c = memory_err c.args.self.now c.all_do.new.self _ 
 pub returns-in-If-clause-ok : goal.returns-in-If-clause-ok
 returns-in-If-clause-ok c =
     arm_ok c.args.self.now c.choice.new.self c.args.statement c.args.set _ _
-    (ap stmt_of c.in-If.is ∙ if_view c.in-If.form c.in-If.before c.in-If.test c.in-If.then c.in-If.span ∙ ap (λ (k : TypedStmt). t_if c.in-If.form c.in-If.before (expr_of c.in-If.test) (stmt_of k) c.in-If.span) (sym c.deref.ensures)) (λ w. refl) c.choice.result c.choice.ensures.ok
+    (ap stmt_of c.in-If.is ∙ if_view c.in-If.form c.in-If.before c.in-If.test c.in-If.then c.in-If.span
+    ∙ ap (λ (k : TypedStmt). t_if c.in-If.form c.in-If.before (expr_of c.in-If.test) (stmt_of k) c.in-If.span) (sym c.deref.ensures)) (λ w. refl)
+    c.choice.result c.choice.ensures.ok
 
 pub returns-in-If-clause-err : goal.returns-in-If-clause-err
 returns-in-If-clause-err c = memory_err c.args.self.now c.choice.new.self _ c.choice.result c.choice.ensures.err
@@ -49,7 +54,10 @@ returns-in-If-clause-err c = memory_err c.args.self.now c.choice.new.self _ c.ch
 pub returns-in-IfElse-clause-ok : goal.returns-in-IfElse-clause-ok
 returns-in-IfElse-clause-ok c =
     arm_ok c.args.self.now c.choice-in-IfElse.new.self c.args.statement c.args.set _ _
-    (ap stmt_of c.in-IfElse.is ∙ if_else_view c.in-IfElse.form c.in-IfElse.before c.in-IfElse.test c.in-IfElse.then c.in-IfElse.otherwise c.in-IfElse.span ∙ ap₂ (λ (k l : TypedStmt). t_if_else c.in-IfElse.form c.in-IfElse.before (expr_of c.in-IfElse.test) (stmt_of k) (stmt_of l) c.in-IfElse.span) (sym c.deref-in-IfElse.ensures) (sym c.deref-in-IfElse-2.ensures)) (λ w. refl) c.choice-in-IfElse.result c.choice-in-IfElse.ensures.ok
+    (ap stmt_of c.in-IfElse.is ∙ if_else_view c.in-IfElse.form c.in-IfElse.before c.in-IfElse.test c.in-IfElse.then c.in-IfElse.otherwise
+    c.in-IfElse.span ∙ ap₂ (λ (k l : TypedStmt). t_if_else c.in-IfElse.form c.in-IfElse.before (expr_of c.in-IfElse.test) (stmt_of k) (stmt_of l)
+    c.in-IfElse.span) (sym c.deref-in-IfElse.ensures) (sym c.deref-in-IfElse-2.ensures)) (λ w. refl) c.choice-in-IfElse.result
+    c.choice-in-IfElse.ensures.ok
 
 pub returns-in-IfElse-clause-err : goal.returns-in-IfElse-clause-err
 returns-in-IfElse-clause-err c = memory_err c.args.self.now c.choice-in-IfElse.new.self _ c.choice-in-IfElse.result c.choice-in-IfElse.ensures.err
@@ -57,29 +65,43 @@ returns-in-IfElse-clause-err c = memory_err c.args.self.now c.choice-in-IfElse.n
 pub returns-in-While-clause-ok : goal.returns-in-While-clause-ok
 returns-in-While-clause-ok c =
     arm_ok c.args.self.now c.enter_while.new.self c.args.statement c.args.set _ _
-    (ap stmt_of c.in-While.is ∙ while_view c.in-While.form c.in-While.before c.in-While.test c.in-While.body c.in-While.span ∙ ap (λ (k : TypedStmt). t_while c.in-While.form c.in-While.before (expr_of c.in-While.test) (stmt_of k) c.in-While.span) (sym c.deref-in-While.ensures)) (λ w. refl) c.enter_while.result c.enter_while.ensures.ok
+    (ap stmt_of c.in-While.is ∙ while_view c.in-While.form c.in-While.before c.in-While.test c.in-While.body c.in-While.span
+    ∙ ap (λ (k : TypedStmt). t_while c.in-While.form c.in-While.before (expr_of c.in-While.test) (stmt_of k) c.in-While.span)
+    (sym c.deref-in-While.ensures)) (λ w. refl) c.enter_while.result c.enter_while.ensures.ok
 
 pub returns-in-While-clause-err : goal.returns-in-While-clause-err
 returns-in-While-clause-err c =
     arm_err c.args.self.now c.enter_while.new.self c.args.statement c.args.set _ _
-    (ap stmt_of c.in-While.is ∙ while_view c.in-While.form c.in-While.before c.in-While.test c.in-While.body c.in-While.span ∙ ap (λ (k : TypedStmt). t_while c.in-While.form c.in-While.before (expr_of c.in-While.test) (stmt_of k) c.in-While.span) (sym c.deref-in-While.ensures)) (λ w. refl) c.enter_while.result c.enter_while.ensures.err
+    (ap stmt_of c.in-While.is ∙ while_view c.in-While.form c.in-While.before c.in-While.test c.in-While.body c.in-While.span
+    ∙ ap (λ (k : TypedStmt). t_while c.in-While.form c.in-While.before (expr_of c.in-While.test) (stmt_of k) c.in-While.span)
+    (sym c.deref-in-While.ensures)) (λ w. refl) c.enter_while.result c.enter_while.ensures.err
 
 pub returns-in-Do-clause-ok : goal.returns-in-Do-clause-ok
 returns-in-Do-clause-ok c =
     arm_ok c.args.self.now c.enter_do.new.self c.args.statement c.args.set _ _
-    (ap stmt_of c.in-Do.is ∙ do_view c.in-Do.form c.in-Do.before c.in-Do.body c.in-Do.test c.in-Do.span ∙ ap (λ (k : TypedStmt). t_do c.in-Do.form c.in-Do.before (stmt_of k) (expr_of c.in-Do.test) c.in-Do.span) (sym c.deref-in-Do.ensures)) (λ w. refl) c.enter_do.result c.enter_do.ensures.ok
+    (ap stmt_of c.in-Do.is ∙ do_view c.in-Do.form c.in-Do.before c.in-Do.body c.in-Do.test c.in-Do.span
+    ∙ ap (λ (k : TypedStmt). t_do c.in-Do.form c.in-Do.before (stmt_of k) (expr_of c.in-Do.test) c.in-Do.span) (sym c.deref-in-Do.ensures))
+    (λ w. refl) c.enter_do.result c.enter_do.ensures.ok
 
 pub returns-in-Do-clause-err : goal.returns-in-Do-clause-err
 returns-in-Do-clause-err c =
     arm_err c.args.self.now c.enter_do.new.self c.args.statement c.args.set _ _
-    (ap stmt_of c.in-Do.is ∙ do_view c.in-Do.form c.in-Do.before c.in-Do.body c.in-Do.test c.in-Do.span ∙ ap (λ (k : TypedStmt). t_do c.in-Do.form c.in-Do.before (stmt_of k) (expr_of c.in-Do.test) c.in-Do.span) (sym c.deref-in-Do.ensures)) (λ w. refl) c.enter_do.result c.enter_do.ensures.err
+    (ap stmt_of c.in-Do.is ∙ do_view c.in-Do.form c.in-Do.before c.in-Do.body c.in-Do.test c.in-Do.span
+    ∙ ap (λ (k : TypedStmt). t_do c.in-Do.form c.in-Do.before (stmt_of k) (expr_of c.in-Do.test) c.in-Do.span) (sym c.deref-in-Do.ensures))
+    (λ w. refl) c.enter_do.result c.enter_do.ensures.err
 
 pub returns-in-For-clause-ok : goal.returns-in-For-clause-ok
 returns-in-For-clause-ok c =
     arm_ok c.args.self.now c.enter_for.new.self c.args.statement c.args.set _ _
     (ap stmt_of c.in-For.is ∙ for_view c.in-For.form c.in-For.before c.in-For.first c.in-For.test c.in-For.step c.in-For.inside c.in-For.body c.in-For.span
-    ∙ ap₂ (λ (i : Option TFirst) (k : TypedStmt). t_for c.in-For.form c.in-For.before i (option_map expr_of c.in-For.test) (option_map simple_of c.in-For.step) c.in-For.inside (stmt_of k) c.in-For.span) (part_is first_of c.in-For.first c.as_ref.result c.as_ref.ensures.value) (sym c.deref-in-For.ensures)
-    ∙ ap₂ (λ (x : Option TExpr) (p : Option TSimple). t_for c.in-For.form c.in-For.before (option_map (λ (v : Bor TypedFirst). first_of v.now) c.as_ref.result) x p c.in-For.inside (stmt_of c.deref-in-For.result.now) c.in-For.span) (part_is expr_of c.in-For.test c.as_ref-in-For.result c.as_ref-in-For.ensures.value) (part_is simple_of c.in-For.step c.as_ref-in-For-2.result c.as_ref-in-For-2.ensures.value)) (λ w. refl) c.enter_for.result c.enter_for.ensures.ok
+    ∙ ap₂ (λ (i : Option TFirst) (k : TypedStmt). t_for c.in-For.form c.in-For.before i (option_map expr_of c.in-For.test)
+    (option_map simple_of c.in-For.step) c.in-For.inside (stmt_of k) c.in-For.span)
+    (part_is first_of c.in-For.first c.as_ref.result c.as_ref.ensures.value) (sym c.deref-in-For.ensures)
+    ∙ ap₂ (λ (x : Option TExpr) (p : Option TSimple). t_for c.in-For.form c.in-For.before
+    (option_map (λ (v : Bor TypedFirst). first_of v.now) c.as_ref.result) x p c.in-For.inside (stmt_of c.deref-in-For.result.now) c.in-For.span)
+    (part_is expr_of c.in-For.test c.as_ref-in-For.result c.as_ref-in-For.ensures.value)
+    (part_is simple_of c.in-For.step c.as_ref-in-For-2.result c.as_ref-in-For-2.ensures.value)) (λ w. refl) c.enter_for.result
+    c.enter_for.ensures.ok
 
 pub returns-in-For-clause-err : goal.returns-in-For-clause-err
 returns-in-For-clause-err c = memory_err c.args.self.now c.enter_for.new.self _ c.enter_for.result c.enter_for.ensures.err
@@ -87,7 +109,10 @@ returns-in-For-clause-err c = memory_err c.args.self.now c.enter_for.new.self _ 
 pub returns-in-Foreach-clause-ok : goal.returns-in-Foreach-clause-ok
 returns-in-Foreach-clause-ok c =
     arm_ok c.args.self.now c.foreach.new.self c.args.statement c.args.set _ _
-    (ap stmt_of c.in-Foreach.is ∙ foreach_view c.in-Foreach.keyword c.in-Foreach.before c.in-Foreach.ranges c.in-Foreach.body c.in-Foreach.span ∙ ap₂ (λ (rs : List TypedRange) (k : TypedStmt). t_foreach c.in-Foreach.keyword c.in-Foreach.before (ranges_of rs) (stmt_of k) c.in-Foreach.span) (sym c.as_slice-in-Foreach.ensures.value) (sym c.deref-in-Foreach.ensures)) (λ w. refl) c.foreach.result c.foreach.ensures.ok
+    (ap stmt_of c.in-Foreach.is ∙ foreach_view c.in-Foreach.keyword c.in-Foreach.before c.in-Foreach.ranges c.in-Foreach.body c.in-Foreach.span
+    ∙ ap₂ (λ (rs : List TypedRange) (k : TypedStmt). t_foreach c.in-Foreach.keyword c.in-Foreach.before (ranges_of rs) (stmt_of k)
+    c.in-Foreach.span) (sym c.as_slice-in-Foreach.ensures.value) (sym c.deref-in-Foreach.ensures)) (λ w. refl) c.foreach.result
+    c.foreach.ensures.ok
 
 pub returns-in-Foreach-clause-err : goal.returns-in-Foreach-clause-err
 returns-in-Foreach-clause-err c = memory_err c.args.self.now c.foreach.new.self _ c.foreach.result c.foreach.ensures.err
@@ -95,7 +120,10 @@ returns-in-Foreach-clause-err c = memory_err c.args.self.now c.foreach.new.self 
 pub returns-in-ForeachActive-clause-ok : goal.returns-in-ForeachActive-clause-ok
 returns-in-ForeachActive-clause-ok c =
     arm_ok c.args.self.now c.foreach_active.new.self c.args.statement c.args.set _ _
-    (ap stmt_of c.in-ForeachActive.is ∙ active_view c.in-ForeachActive.keyword c.in-ForeachActive.before c.in-ForeachActive.index c.in-ForeachActive.body c.in-ForeachActive.span ∙ ap (λ (k : TypedStmt). t_foreach_active c.in-ForeachActive.keyword c.in-ForeachActive.before c.in-ForeachActive.index (stmt_of k) c.in-ForeachActive.span) (sym c.deref-in-ForeachActive.ensures)) (λ w. refl) c.foreach_active.result c.foreach_active.ensures.ok
+    (ap stmt_of c.in-ForeachActive.is ∙ active_view c.in-ForeachActive.keyword c.in-ForeachActive.before c.in-ForeachActive.index
+    c.in-ForeachActive.body c.in-ForeachActive.span ∙ ap
+    (λ (k : TypedStmt). t_foreach_active c.in-ForeachActive.keyword c.in-ForeachActive.before c.in-ForeachActive.index (stmt_of k)
+    c.in-ForeachActive.span) (sym c.deref-in-ForeachActive.ensures)) (λ w. refl) c.foreach_active.result c.foreach_active.ensures.ok
 
 pub returns-in-ForeachActive-clause-err : goal.returns-in-ForeachActive-clause-err
 returns-in-ForeachActive-clause-err c = memory_err c.args.self.now c.foreach_active.new.self _ c.foreach_active.result c.foreach_active.ensures.err
@@ -124,7 +152,9 @@ pub returns-in-Return-clause-ok : goal.returns-in-Return-clause-ok
 returns-in-Return-clause-ok c =
     arm_ok c.args.self.now c.give.new.self c.args.statement c.args.set _ _
     (ap stmt_of (c.in-Return.is ∙ sym (variant.rolls-Return c.in-Return.keyword c.in-Return.value c.in-Return.span)) ∙ fold-roll-TypedStmt TStmt TBlock stmt_step block_step _
-    ∙ ap (λ (x : Option TExpr). t_return c.in-Return.keyword x c.in-Return.span) (part_is expr_of c.in-Return.value c.as_ref-in-Return.result c.as_ref-in-Return.ensures.value)) (return_is c.args.self.now c.args.set c.in-Return.keyword c.in-Return.span c.as_ref-in-Return.result) c.give.result c.give.ensures.ok
+    ∙ ap (λ (x : Option TExpr). t_return c.in-Return.keyword x c.in-Return.span)
+    (part_is expr_of c.in-Return.value c.as_ref-in-Return.result c.as_ref-in-Return.ensures.value))
+    (return_is c.args.self.now c.args.set c.in-Return.keyword c.in-Return.span c.as_ref-in-Return.result) c.give.result c.give.ensures.ok
 
 pub returns-in-Return-clause-err : goal.returns-in-Return-clause-err
 returns-in-Return-clause-err c = memory_err c.args.self.now c.give.new.self _ c.give.result c.give.ensures.err
@@ -132,7 +162,10 @@ returns-in-Return-clause-err c = memory_err c.args.self.now c.give.new.self _ c.
 pub returns-in-Print-clause-ok : goal.returns-in-Print-clause-ok
 returns-in-Print-clause-ok c =
     arm_ok c.args.self.now c.print_all.new.self c.args.statement c.args.set _ _
-    (ap stmt_of (c.in-Print.is ∙ sym (variant.rolls-Print c.in-Print.keyword c.in-Print.text c.in-Print.values c.in-Print.span)) ∙ fold-roll-TypedStmt TStmt TBlock stmt_step block_step _ ∙ ap₂ (λ (bs : List ℕ) (xs : List TypedExpr). t_print c.in-Print.keyword bs (exprs_of xs) c.in-Print.span) (sym c.as_slice-in-Print.ensures) (sym c.as_slice-in-Print-2.ensures.value)) (λ w. refl) c.print_all.result c.print_all.ensures.ok
+    (ap stmt_of (c.in-Print.is ∙ sym (variant.rolls-Print c.in-Print.keyword c.in-Print.text c.in-Print.values c.in-Print.span))
+    ∙ fold-roll-TypedStmt TStmt TBlock stmt_step block_step _
+    ∙ ap₂ (λ (bs : List ℕ) (xs : List TypedExpr). t_print c.in-Print.keyword bs (exprs_of xs) c.in-Print.span) (sym c.as_slice-in-Print.ensures)
+    (sym c.as_slice-in-Print-2.ensures.value)) (λ w. refl) c.print_all.result c.print_all.ensures.ok
 
 pub returns-in-Print-clause-err : goal.returns-in-Print-clause-err
 returns-in-Print-clause-err c = memory_err c.args.self.now c.print_all.new.self _ c.print_all.result c.print_all.ensures.err

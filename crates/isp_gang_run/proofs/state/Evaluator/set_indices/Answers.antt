@@ -16,7 +16,9 @@ loop-place-preserved c =
     let k = c.loop-place.place in
     let h : k < length rs = omega (arith, c.loop-place-test.true, c.len-place-end.ensures) in
     let n : c.len.result ≡ length rs = omega (arith, c.len.ensures) in
-    index_set c.args.self.now c.loop-place.self c.write.new.self (flag_of c.args.set.now) k rs c.index-range.result.now (nat_eq (k + 1) c.len.result) (Each (map_of c.index_row-row.result)) c.loop-place.invariant h c.index-range.ensures (last_place k c.len.result rs h n) (ap Each c.index_row-row.ensures) c.in_ok-write.ensures.ok
+    index_set c.args.self.now c.loop-place.self c.write.new.self (flag_of c.args.set.now) k rs c.index-range.result.now (nat_eq (k + 1) c.len.result)
+    (Each (map_of c.index_row-row.result)) c.loop-place.invariant h c.index-range.ensures (last_place k c.len.result rs h n)
+    (ap Each c.index_row-row.ensures) c.in_ok-write.ensures.ok
 
 pub returns-clause-ok : goal.returns-clause-ok
 returns-clause-ok c =

@@ -31,14 +31,18 @@ returns-in-Assign-clause-err c =
 pub returns-in-Update-clause-ok : goal.returns-in-Update-clause-ok
 returns-in-Update-clause-ok c =
     on_ok c.target-in-Update.result
-    (simple_target c.args.self.now c.target-in-Update.new.self c.tick.new.self c.tick.ensures c.args.simple c.args.set (place_of c.in-Update.target) (writing.Update (record { operator = c.in-Update.operator; elem = c.in-Update.elem; span = c.in-Update.span }) (record { ref_ptr = c.args.simple.ref_ptr; now = c.in-Update.value }))
+    (simple_target c.args.self.now c.target-in-Update.new.self c.tick.new.self c.tick.ensures c.args.simple c.args.set (place_of c.in-Update.target)
+    (writing.Update (record { operator = c.in-Update.operator; elem = c.in-Update.elem; span = c.in-Update.span })
+    (record { ref_ptr = c.args.simple.ref_ptr; now = c.in-Update.value }))
     (t_update c.in-Update.operator c.in-Update.elem (place_of c.in-Update.target) (expr_of c.in-Update.value) c.in-Update.span) (ap simple_of c.in-Update.is) (λ k. refl))
     c.target-in-Update.ensures.ok
 
 pub returns-in-Update-clause-err : goal.returns-in-Update-clause-err
 returns-in-Update-clause-err c =
     if_err c.target-in-Update.result
-    (λ e h. simple_target_halts c.args.self.now c.target-in-Update.new.self c.tick.new.self c.tick.ensures c.args.simple c.args.set (place_of c.in-Update.target) (writing.Update (record { operator = c.in-Update.operator; elem = c.in-Update.elem; span = c.in-Update.span }) (record { ref_ptr = c.args.simple.ref_ptr; now = c.in-Update.value }))
+    (λ e h. simple_target_halts c.args.self.now c.target-in-Update.new.self c.tick.new.self c.tick.ensures c.args.simple c.args.set
+    (place_of c.in-Update.target) (writing.Update (record { operator = c.in-Update.operator; elem = c.in-Update.elem; span = c.in-Update.span })
+    (record { ref_ptr = c.args.simple.ref_ptr; now = c.in-Update.value }))
     (t_update c.in-Update.operator c.in-Update.elem (place_of c.in-Update.target) (expr_of c.in-Update.value) c.in-Update.span) e (ap simple_of c.in-Update.is) (λ k. refl) h)
     c.target-in-Update.ensures.err
 
@@ -52,6 +56,7 @@ returns-in-Step-clause-ok c =
 pub returns-in-Step-clause-err : goal.returns-in-Step-clause-err
 returns-in-Step-clause-err c =
     if_err c.target-in-Step.result
-    (λ e h. simple_target_halts c.args.self.now c.target-in-Step.new.self c.tick.new.self c.tick.ensures c.args.simple c.args.set (place_of c.in-Step.target) (writing.Step (record { operator = c.in-Step.operator; elem = c.in-Step.elem; span = c.in-Step.span }))
+    (λ e h. simple_target_halts c.args.self.now c.target-in-Step.new.self c.tick.new.self c.tick.ensures c.args.simple c.args.set
+    (place_of c.in-Step.target) (writing.Step (record { operator = c.in-Step.operator; elem = c.in-Step.elem; span = c.in-Step.span }))
     (t_step c.in-Step.operator c.in-Step.elem (place_of c.in-Step.target) c.in-Step.span) e (ap simple_of c.in-Step.is) (λ k. refl) h)
     c.target-in-Step.ensures.err

@@ -10,4 +10,6 @@ pub returns-in_ok-both-in-len1-up-clause-ok : goal.returns-in_ok-both-in-len1-up
 returns-in_ok-both-in-len1-up-clause-ok c =
     let e = c.in_ok-others-in-len1-up.ensures.ok in
     let h = ap (λ (x : Statements). x.rest.now) e in
-    block_goes c.args.self.now c.both.new.self c.args.rest.now _ _ c.in_ok-others-in-len1-up.others c.args.before c.args.set (headed c.args.rest.now c.next-item.result (omega (arith, c.in-len1-up.len_at_least)) c.next-item.is) h (ap (λ (x : Statements). x.before) e) c.in_ok-both-in-len1-up.ensures.ok
+    block_goes c.args.self.now c.both.new.self c.args.rest.now _ _ c.in_ok-others-in-len1-up.others c.args.before c.args.set
+    (headed c.args.rest.now c.next-item.result (omega (arith, c.in-len1-up.len_at_least)) c.next-item.is) h (ap (λ (x : Statements). x.before) e)
+    c.in_ok-both-in-len1-up.ensures.ok

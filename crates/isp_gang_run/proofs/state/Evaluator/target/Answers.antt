@@ -27,5 +27,7 @@ pub returns-in_ok-both-in-Element-clause-ok : goal.returns-in_ok-both-in-Element
 returns-in_ok-both-in-Element-clause-ok c =
     target_element c.args.self.now c.both.new.self c.tick.new.self c.tick.ensures c.args.target c.deref-in-Element.result c.args.set c.args.writing c.in-Element.array c.ty.result.elem c.in-Element.ty c.in-Element.span
     (ap (λ t. t.elem) c.ty.ensures ∙ ap (λ l. (type_of (expr_of l)).elem) (c.deref.ensures ∙ sym c.deref-in-Element.ensures))
-    (ap place_of (c.in-Element.is ∙ sym (variant.rolls-Element c.in-Element.array c.in-Element.index c.in-Element.ty c.in-Element.span)) ∙ fold-roll-TypedPlace TArgument TBase TExpr TPlace TCall argument_step base_step expr_step place_step call_step _ ∙ ap (λ i. t_element c.in-Element.array (expr_of i) c.in-Element.ty c.in-Element.span) (sym c.deref-in-Element.ensures))
+    (ap place_of (c.in-Element.is ∙ sym (variant.rolls-Element c.in-Element.array c.in-Element.index c.in-Element.ty c.in-Element.span))
+    ∙ fold-roll-TypedPlace TArgument TBase TExpr TPlace TCall argument_step base_step expr_step place_step call_step _
+    ∙ ap (λ i. t_element c.in-Element.array (expr_of i) c.in-Element.ty c.in-Element.span) (sym c.deref-in-Element.ensures))
     c.in_ok-both-in-Element.ensures.ok

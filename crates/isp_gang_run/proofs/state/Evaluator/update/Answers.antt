@@ -39,6 +39,8 @@ returns-in_err-checked-clause-err c =
 pub returns-in_err-checked-2-clause-err : goal.returns-in_err-checked-2-clause-err
 returns-in_err-checked-2-clause-err c =
     let h = c.in_err-checked-2.ensures.err in
-    at_err c.from_residual-in_err-checked-2.result c.in_err-checked-2.field-0.0 (Halts c.args.self.now c.args.self.now (does c.args.self.now (task.Update c.args.operation c.args.place c.args.target c.args.set))) c.from_residual-in_err-checked-2.ensures.1
+    at_err c.from_residual-in_err-checked-2.result c.in_err-checked-2.field-0.0
+    (Halts c.args.self.now c.args.self.now (does c.args.self.now (task.Update c.args.operation c.args.place c.args.target c.args.set)))
+    c.from_residual-in_err-checked-2.ensures.1
     (update_halts_zero c.args.self.now c.args.operation c.args.place c.args.target c.args.set c.args.self.now c.in_err-checked-2.field-0.0 h.0 (sym c.outside.ensures ∙ c.in_ok-checked.ensures.ok)
     (ap (λ g. offender (gang_width g) (is_zero c.args.operation.operator c.args.operation.elem) (flag_of c.args.set) (payload_of c.args.self.now.value)) (sym c.gang.ensures) ∙ sym c.dividing_by_zero-offender.ensures ∙ h.1) refl h.2)

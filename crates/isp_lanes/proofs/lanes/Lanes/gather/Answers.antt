@@ -20,6 +20,8 @@ invariant_of-self g c =
     let new = zip2 word (range_with_len 0 n) c.args.places.now in
     let all : (length (held c.gather.new.self) ≡ n) × Fit t (held c.gather.new.self) =
     either c.gather.result c.gather.ensures.words c.gather.ensures.same
-    (λ e. settled n t c.args.mask.now new (held c.self.inside.row) (held c.gather.new.self) e c.told.ensures.long (row_long word n c.args.places.now c.told-places) c.self.invariant.0 (zip2_fits (2 ^ width t) word (pow_pos (width t)) below (range_with_len 0 n) c.args.places.now) c.self.invariant.2)
+    (λ e. settled n t c.args.mask.now new (held c.self.inside.row) (held c.gather.new.self) e c.told.ensures.long
+    (row_long word n c.args.places.now c.told-places) c.self.invariant.0
+    (zip2_fits (2 ^ width t) word (pow_pos (width t)) below (range_with_len 0 n) c.args.places.now) c.self.invariant.2)
     (λ e. subst (λ (r : Words n). (length (held r) ≡ n) × Fit t (held r)) (sym e) (c.self.invariant.0, c.self.invariant.2)) in
     (all.0, c.gather.ensures.wide ∙ c.self.invariant.1, all.1)

@@ -13,7 +13,9 @@ invariant_of-result g c =
     let same : length xs ≡ length ys = omega (arith, c.self.invariant.0, c.requires) in
     let row = row_op2 bit_and (λ a _. a) (λ _ b. cond (is_on b) 1 0) xs ys (row_left xs ys same) (c.flags-flags.ensures ∙ row_map_right _ xs ys same) in (
       ap length row ∙ length_zip2 _ xs ys g.row.N c.self.invariant.0 c.requires,
-      λ k. subst (λ (zs : List ℕ). get_or zs k 0 < 2) (sym row) (each_lane (λ a. a < 2) (λ _. Unit {0}) 2 (λ a b. bit_and a (cond (is_on b) 1 0)) (lit≤ tt) (λ a b p q. and_lt 1 a (cond (is_on b) 1 0) p (flag_lt (is_on b))) xs ys c.self.invariant.1 (λ _. tt) k),
+      λ k. subst (λ (zs : List ℕ). get_or zs k 0 < 2) (sym row)
+          (each_lane (λ a. a < 2) (λ _. Unit {0}) 2 (λ a b. bit_and a (cond (is_on b) 1 0)) (lit≤ tt)
+          (λ a b p q. and_lt 1 a (cond (is_on b) 1 0) p (flag_lt (is_on b))) xs ys c.self.invariant.1 (λ _. tt) k),
       c.self.invariant.2,
     )
 

@@ -11,7 +11,8 @@ invariant_of-self-in_err-append c =
       elim c.if-is_none.branch [
         | then-is_none+in_ok-insert w ↦ rw (ap (λ z. z.places) w.self-inside-is)
             (subst (λ zs. Tells w.insert.new.self (map row_of zs)) (sym (c.in_err-append.ensures.err ∙ ap (λ z. z.rows.items) w.self-inside-is))
-            (refused_new s.rows.items c.args.row c.find.result s.places w.insert.new.self w.name_number.result w.len.result c.self.invariant.0 w.if-is_none.ensures (rw (sym c.self.view_is) at c.find.ensures.none) w.name_number.ensures w.in_ok-insert.ensures.updates.0))
+            (refused_new s.rows.items c.args.row c.find.result s.places w.insert.new.self w.name_number.result w.len.result c.self.invariant.0
+            w.if-is_none.ensures (rw (sym c.self.view_is) at c.find.ensures.none) w.name_number.ensures w.in_ok-insert.ensures.updates.0))
         | else-is_none w ↦ rw (ap (λ z. z.places) w.self-inside-is)
             (subst (λ zs. Tells s.places (map row_of zs)) (sym (c.in_err-append.ensures.err ∙ ap (λ z. z.rows.items) w.self-inside-is)) c.self.invariant.0)
       ],

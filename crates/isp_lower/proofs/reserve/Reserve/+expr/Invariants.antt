@@ -70,7 +70,8 @@ decreases-values l = 8 * exprs_nodes (t_exprs (exprs_of l.all.now)) + 5
 
 abbrev pub invariant-values-loop-place : goal.invariant-values-loop-place
 invariant-values-loop-place l =
-    (c : Reserve) → Gives l.self c (values_asks (drop l.place (library_rates l.function l.rate)) (t_exprs (exprs_of (drop l.place l.all))) l.at.number) → Gives l.initial.self c (values_asks (library_rates l.function l.rate) (t_exprs (exprs_of l.all)) l.initial.at.number)
+    (c : Reserve) → Gives l.self c (values_asks (drop l.place (library_rates l.function l.rate)) (t_exprs (exprs_of (drop l.place l.all)))
+    l.at.number) → Gives l.initial.self c (values_asks (library_rates l.function l.rate) (t_exprs (exprs_of l.all)) l.initial.at.number)
 
 abbrev pub decreases-base : goal.decreases-base
 decreases-base l = 8 * base_nodes (base_of l.base.now) - 1

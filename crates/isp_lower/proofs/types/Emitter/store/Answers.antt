@@ -27,10 +27,19 @@ returns-clause-code c =
     let grown : Grows c.args.self.now.reserved.registers asked.registers = subst (λ (r : Reserve). Grows r.registers asked.registers) c.in_ok-asked.ensures gives.rows in
     let more : c.args.self.now.reserved.masks ≤ asked.masks = subst (λ (r : Reserve). r.masks ≤ asked.masks) c.in_ok-asked.ensures gives.masks in
     record {
-      appends = apart_appends c.args.self.now.body c.in_ok-written.written c.simple-2.new.b _ _ c.in_ok-written.ensures.code c.in_ok-written.ensures.places c.in_ok-simple-2.ensures c.join.new.self c.in_ok-join.ensures.code c.in_ok-join.ensures.places c.in_ok-join.ensures.texts;
+      appends = apart_appends c.args.self.now.body c.in_ok-written.written c.simple-2.new.b _ _ c.in_ok-written.ensures.code
+          c.in_ok-written.ensures.places c.in_ok-simple-2.ensures c.join.new.self c.in_ok-join.ensures.code c.in_ok-join.ensures.places
+          c.in_ok-join.ensures.texts;
       rows = grown;
       masks = more;
-      kept = ap (λ (ts : Vec (Vec ℕ Global) Global). record (draft_of c.args.self.now) { places = c.join.new.self.places.items; texts = map (λ t. t.items) ts.items; rows = rows_of asked.registers; masks = asked.masks; code = c.join.new.self.code.items }) c.in_ok-join.ensures.texts;
+      kept = ap (λ (ts : Vec (Vec ℕ Global) Global). record (draft_of c.args.self.now) {
+        places = c.join.new.self.places.items;
+        texts = map (λ t. t.items) ts.items;
+        rows = rows_of asked.registers;
+        masks = asked.masks;
+        code =
+            c.join.new.self.code.items;
+      }) c.in_ok-join.ensures.texts;
     }
 
 pub returns-clause-has : goal.returns-clause-has
@@ -49,5 +58,6 @@ returns-clause-all_named c =
     let low : c.args.site.mask.number < asked.masks = omega (arith, c.requires.mask, more) in
     λ h.
     all_named c.args.self.now _ _ _ (returns-clause-code c)
-    (simple_named (draft_of c.args.self.now).callees asked _ _ c.args.site.mask.number c.args.site.slot.number low (simple_of c.args.x.now) (simple_tree (draft_of c.args.self.now).callees c.requires.fine.0 (simple_of c.args.x.now) c.requires.fine.1 c.requires.rated)
+    (simple_named (draft_of c.args.self.now).callees asked _ _ c.args.site.mask.number c.args.site.slot.number low (simple_of c.args.x.now)
+    (simple_tree (draft_of c.args.self.now).callees c.requires.fine.0 (simple_of c.args.x.now) c.requires.fine.1 c.requires.rated)
     (all_joined c.args.self.now.reserved asked grown (simple_asks (simple_of c.args.x.now) c.args.site.slot.number) gives.has c.requires.own)) h

@@ -21,8 +21,23 @@ scatter-requires g c =
     let low_y : c.args.y < length c.self.inside.vectors.items = subst (λ (f : FrameRows). c.args.y < length f.vectors) (sym c.self.view_is) c.requires.y in
     let array = sym (get_or_read c.self.inside.arrays.items c.args.a _ low c.index_mut.ensures.value (no_array 0) ∙ (λ j. array_in (c.self.view_is j) c.args.a)) in
     let index = get_or_read c.self.inside.vectors.items c.args.i _ low_i c.index-index.ensures no_row ∙ (λ j. vector_in (c.self.view_is j) c.args.i) in
-    let value = get_or_read c.self.inside.vectors.items c.args.y _ low_y c.index-value.ensures no_row ∙ (λ j. vector_in (c.self.view_is j) c.args.y) in
-    (search rules, (search rules, (search rules, (along (λ j. ArrayThere c.args.stores.now (array j)) c.requires.there, (ap (λ (r : Row). r.elem) index ∙ c.requires.index, ap (λ (r : Row). r.elem) value ∙ c.requires.elem ∙ (λ j. array_elem c.args.stores.now (array j)))))))
+    let value = get_or_read c.self.inside.vectors.items c.args.y _ low_y c.index-value.ensures no_row ∙ (λ j. vector_in (c.self.view_is j) c.args.y) in (
+      search rules,
+      (
+        search rules,
+        (
+          search rules,
+          (
+            along (λ j. ArrayThere c.args.stores.now (array j)) c.requires.there,
+            (
+              ap (λ (r : Row). r.elem) index ∙ c.requires.index,
+              ap (λ (r : Row). r.elem) value ∙ c.requires.elem
+                  ∙ (λ j. array_elem c.args.stores.now (array j)),
+            ),
+          ),
+        ),
+      ),
+    )
 
 pub returns-clause-inside : goal.returns-clause-inside
 returns-clause-inside g c =
@@ -45,7 +60,9 @@ returns-clause-written g c =
     let value = ap (λ (r : Row). lane_of r.bits) (get_or_read c.self.inside.vectors.items c.args.y _ low_y c.index-value.ensures no_row) ∙ (λ j. vectors_at (c.self.view_is j) c.args.y) in
     let mask = ap flag_of (get_or_read c.self.inside.masks.items c.args.k _ low_k c.index-mask.ensures []) ∙ (λ j. masks_at (c.self.view_is j) c.args.k) in
     let new = sym (get_or-set_same c.self.inside.arrays.items c.args.a c.scatter.new.self (no_array 0) low) in
-    along (λ j. IfOk c.scatter.result (λ _. Rewritten c.args.stores.now (array j) c.scatter.new.stores (new j) (scatter g.row.N (map1 (element I64) (on (mask j) (index j))) (on (mask j) (value j))) (own_put (map1 (element I64) (on (mask j) (index j))) (value j)))) c.scatter.ensures.written
+    along (λ j. IfOk c.scatter.result (λ _. Rewritten c.args.stores.now (array j) c.scatter.new.stores (new j)
+    (scatter g.row.N (map1 (element I64) (on (mask j) (index j))) (on (mask j) (value j)))
+    (own_put (map1 (element I64) (on (mask j) (index j))) (value j)))) c.scatter.ensures.written
 
 pub returns-clause-lowest : goal.returns-clause-lowest
 returns-clause-lowest g c =

@@ -9,7 +9,8 @@ loop-store-init c = record { fresh = fresh_none c.args.self.now.stores.items; lo
 pub loop-store-preserved : goal.loop-store-preserved
 loop-store-preserved c =
     record {
-      fresh = fresh_next c.loop-store.self.stores.items c.loop-store.store c.begin.new.self c.loop-store.invariant.fresh (omega (arith, c.loop-store.invariant.long, c.loop-store-test.true, c.len-store-end.ensures)) c.begin.ensures.wrote c.begin.ensures.read;
+      fresh = fresh_next c.loop-store.self.stores.items c.loop-store.store c.begin.new.self c.loop-store.invariant.fresh
+          (omega (arith, c.loop-store.invariant.long, c.loop-store-test.true, c.len-store-end.ensures)) c.begin.ensures.wrote c.begin.ensures.read;
       long = length-set c.loop-store.self.stores.items c.loop-store.store c.begin.new.self ∙ c.loop-store.invariant.long;
     }
 

@@ -14,7 +14,8 @@ pub returns-in-Convert : goal.returns-in-Convert
 returns-in-Convert c = acts c.give.result c.args.self.now c.give.new.self c.args.task _ _ c.in-Convert.is (ap (λ k. given (store_seen c.args.self.now) (Has k (state_seen c.args.self.now))) (sym c.convert.ensures)) c.give.ensures
 
 pub returns-in-Unary : goal.returns-in-Unary
-returns-in-Unary c = acts c.give-in-Unary.result c.args.self.now c.give-in-Unary.new.self c.args.task _ _ c.in-Unary.is (ap (λ k. given (store_seen c.args.self.now) (Has k (state_seen c.args.self.now))) (sym c.apply_unary.ensures)) c.give-in-Unary.ensures
+returns-in-Unary c = acts c.give-in-Unary.result c.args.self.now c.give-in-Unary.new.self c.args.task _ _ c.in-Unary.is
+    (ap (λ k. given (store_seen c.args.self.now) (Has k (state_seen c.args.self.now))) (sym c.apply_unary.ensures)) c.give-in-Unary.ensures
 
 pub returns-in-Right : goal.returns-in-Right
 returns-in-Right c = acts c.right.result c.args.self.now c.right.new.self c.args.task _ _ c.in-Right.is refl c.right.ensures

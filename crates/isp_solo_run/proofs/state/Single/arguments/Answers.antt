@@ -29,7 +29,9 @@ pub returns-in-Ok : goal.returns-in-Ok
 returns-in-Ok c =
     let old = c.args.self.now in
     tells_by c.later.result old c.later.new.self _ _
-    (named_argument old (store_seen old) c.args.call.now c.args.rest.now c.next-item.result (record { ref_ptr = (0, 0); now = take (length c.args.rest.now - 1) (drop 1 c.args.rest.now) }) c.in-Array.array c.in-Array.span c.store.result c.args.done.items c.push.new.self.items
+    (named_argument old (store_seen old) c.args.call.now c.args.rest.now c.next-item.result
+    (record { ref_ptr = (0, 0); now = take (length c.args.rest.now - 1) (drop 1 c.args.rest.now) }) c.in-Array.array c.in-Array.span
+    c.store.result c.args.done.items c.push.new.self.items
     (headed c.args.rest.now c.next-item.result (omega (arith, c.in-len1-up.len_at_least)) c.next-item.is)
     (ap argument_of (c.in-Array.is ∙ sym (variant.rolls-Array c.in-Array.array c.in-Array.span)) ∙ fold-roll-TypedArgument TArgument TBase TExpr TPlace TCall argument_step base_step expr_step place_step call_step _)
     c.store.ensures c.in-Ok.ensures.items)

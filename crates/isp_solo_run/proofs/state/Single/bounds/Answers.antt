@@ -16,5 +16,8 @@ pub returns-in-Ok : goal.returns-in-Ok
 returns-in-Ok c =
     let old = c.args.self.now in
     tells_by c.both.result old c.both.new.self _ _
-    (bounds_next old (store_seen old) c.args.rest.now _ _ c.args.done c.args.body c.in-Ok.bounds (record { ref_ptr = (0, 0); now = c.range-item.result.start }) (headed c.args.rest.now c.range-item.result (omega (arith, c.in-len1-up.len_at_least)) c.range-item.is) (at_found _ c.new.result _ c.in-Ok.is c.new.ensures.ok) refl)
+    (bounds_next old (store_seen old) c.args.rest.now _ _ c.args.done c.args.body c.in-Ok.bounds
+    (record { ref_ptr = (0, 0); now = c.range-item.result.start })
+    (headed c.args.rest.now c.range-item.result (omega (arith, c.in-len1-up.len_at_least)) c.range-item.is)
+    (at_found _ c.new.result _ c.in-Ok.is c.new.ensures.ok) refl)
     c.both.ensures

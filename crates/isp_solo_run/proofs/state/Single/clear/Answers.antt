@@ -10,7 +10,9 @@ use Rattle.isp_solo_run.proofs.state.Single.clear.Goals as goal
 pub returns-in_ok-declare-in-Uniform : goal.returns-in_ok-declare-in-Uniform
 returns-in_ok-declare-in-Uniform c =
     let old = c.args.self.now in
-    arrays_changed old c.declare.new.self (cleared (frame_seen old.here) c.args.array.ty.rate c.args.array.number) (put (state_seen old).wrote c.store-store.result (λ e. Some 0)) c.in_ok-declare-in-Uniform.ensures.wrote c.in_ok-declare-in-Uniform.ensures.read
+    arrays_changed old c.declare.new.self (cleared (frame_seen old.here) c.args.array.ty.rate c.args.array.number)
+    (put (state_seen old).wrote c.store-store.result (λ e. Some 0)) c.in_ok-declare-in-Uniform.ensures.wrote
+    c.in_ok-declare-in-Uniform.ensures.read
     (ap (λ (r : Rate). cleared (frame_seen old.here) r c.args.array.number (state_seen old)) c.in-Uniform.is ∙ ap (λ b. record (state_seen old) { wrote = put (state_seen old).wrote b (λ e. Some 0) }) (sym c.store-store.ensures))
 
 pub returns-in-Varying : goal.returns-in-Varying

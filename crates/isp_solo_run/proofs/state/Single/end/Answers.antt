@@ -15,6 +15,8 @@ returns-in-Ok c =
     let old = c.args.self.now in
     tells_by c.bounds.result old c.bounds.new.self _ _
     (end_is old (store_seen old) c.args.bounds c.args.start c.into_inner-done.result _ c.push.new.self.items c.into_inner-done.ensures
-    (seen c.into_inner-done.result.range.now.index _ _ _ _ (to_z-of_z w32 c.int-start.result (record { sfits = c.int-start.type_inv }) ∙ c.int-start.ensures) (to_z-of_z w32 c.int-end.result (record { sfits = c.int-end.type_inv }) ∙ c.int-end.ensures))
+    (seen c.into_inner-done.result.range.now.index _ _ _ _
+    (to_z-of_z w32 c.int-start.result (record { sfits = c.int-start.type_inv }) ∙ c.int-start.ensures)
+    (to_z-of_z w32 c.int-end.result (record { sfits = c.int-end.type_inv }) ∙ c.int-end.ensures))
     c.in-Ok.ensures.items)
     c.bounds.ensures

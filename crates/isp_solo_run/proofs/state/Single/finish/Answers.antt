@@ -16,7 +16,9 @@ loop-count-preserved c =
 pub returns-in-Err : goal.returns-in-Err
 returns-in-Err c =
     let now = c.loop-count.self in
-    leads_stop c.args.self.now now c.pop.new.self c.in-Some.task c.loop-count.invariant (c.pop.ensures.items ∙ ap (λ (o : Option Task). c.pop.new.self.items ++ option_to_list o) c.in-Some.is) c.act.result c.in-Err.stop c.act.new.self c.in-Err.is c.act.ensures
+    leads_stop c.args.self.now now c.pop.new.self c.in-Some.task c.loop-count.invariant
+    (c.pop.ensures.items ∙ ap (λ (o : Option Task). c.pop.new.self.items ++ option_to_list o) c.in-Some.is) c.act.result c.in-Err.stop
+    c.act.new.self c.in-Err.is c.act.ensures
 
 pub returns-in-None : goal.returns-in-None
 returns-in-None c =

@@ -12,7 +12,9 @@ use Rattle.isp_solo_run.proofs.state.Single.first.Goals as goal
 pub returns-in-None : goal.returns-in-None
 returns-in-None c =
     let old = c.args.self.now in
-    tells_by c.later.result old c.later.new.self _ _ (no_first old (store_seen old) c.args.turning c.in-Ok.after _ (at_found _ c.new.result _ c.in-Ok.is c.new.ensures.ok) (ap (option_map (λ (x : Bor TypedFirst). first_of x.now)) c.in-None.is)) c.later.ensures
+    tells_by c.later.result old c.later.new.self _ _
+    (no_first old (store_seen old) c.args.turning c.in-Ok.after _ (at_found _ c.new.result _ c.in-Ok.is c.new.ensures.ok)
+    (ap (option_map (λ (x : Bor TypedFirst). first_of x.now)) c.in-None.is)) c.later.ensures
 
 pub returns-in-Some : goal.returns-in-Some
 returns-in-Some c =

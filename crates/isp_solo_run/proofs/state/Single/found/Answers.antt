@@ -15,7 +15,8 @@ returns-in-Ok c =
       ap (λ (r : Rate). found (bound_in old.setting) old.setting.instance (frame_seen old.here) r c.args.array c.args.place (state_seen old)) c.in-Uniform.is
           ∙ ap (λ b. Has (or_old ((state_seen old).wrote b c.args.place) (bound_in old.setting b c.args.place)) (record (state_seen old) { read = put_in (state_seen old).read b c.args.place true })) (sym c.store-store.ensures)
           ∙ ap (λ x. Has x (record (state_seen old) { read = put_in (state_seen old).read c.store-store.result c.args.place true })) (sym (at_found _ c.read.result _ c.in-Ok.is c.read.ensures.found))
-          ∙ ap₂ (λ (w : ℕ → ℕ → Option ℕ) (k : ℕ → ℕ → Bool). Has c.in-Ok.bits (record (state_seen old) { wrote = w; read = k })) (sym (at_ok c.read.result _ c.in-Ok.is c.read.ensures.wrote)) (sym (at_ok c.read.result _ c.in-Ok.is c.read.ensures.read)),
+          ∙ ap₂ (λ (w : ℕ → ℕ → Option ℕ) (k : ℕ → ℕ → Bool). Has c.in-Ok.bits (record (state_seen old) { wrote = w; read = k }))
+          (sym (at_ok c.read.result _ c.in-Ok.is c.read.ensures.wrote)) (sym (at_ok c.read.result _ c.in-Ok.is c.read.ensures.read)),
       refl,
     )
 

@@ -20,4 +20,5 @@ returns-then-is_outside c =
 pub returns-else-is_outside : goal.returns-else-is_outside
 returns-else-is_outside c =
     let old = c.args.self.now in
-    found_finds old c.args.place.now c.args.span c.in-Element.array c.in-Element.elem c.in-Element.index c.found.new.self c.element.result c.found.result c.in-Element.is c.element.ensures (sym c.is_outside.ensures ∙ c.if-is_outside.false) c.found.ensures
+    found_finds old c.args.place.now c.args.span c.in-Element.array c.in-Element.elem c.in-Element.index c.found.new.self c.element.result
+    c.found.result c.in-Element.is c.element.ensures (sym c.is_outside.ensures ∙ c.if-is_outside.false) c.found.ensures

@@ -25,5 +25,6 @@ returns-in-Value c =
 pub returns-in-Ok-clear : goal.returns-in-Ok-clear
 returns-in-Ok-clear c =
     let old = c.args.self.now in
-    changed_tells c.go_on-in-Ok-clear.result old c.clear.new.self c.go_on-in-Ok-clear.new.self (declares old (item_of c.args.item.now)) (cleared (frame_seen old.here) c.in-Array.array.ty.rate c.in-Array.array.number) (at_ok c.clear.result _ c.in-Ok-clear.is c.clear.ensures)
+    changed_tells c.go_on-in-Ok-clear.result old c.clear.new.self c.go_on-in-Ok-clear.new.self (declares old (item_of c.args.item.now))
+    (cleared (frame_seen old.here) c.in-Array.array.ty.rate c.in-Array.array.number) (at_ok c.clear.result _ c.in-Ok-clear.is c.clear.ensures)
     (ap (λ k. declares old (item_of k) (store_seen old)) c.in-Array.is) c.go_on-in-Ok-clear.ensures

@@ -19,6 +19,8 @@ returns-in-Ok c =
     let mid = c.push.new.self in
     let same = at_ok c.push.result _ c.in-Ok.is c.push.ensures.rest in
     tells_by c.item.result old c.item.new.self _ _
-    (one_item old (store_seen old) c.args.items.now c.item-item.result (record { ref_ptr = (0, 0); now = take (length c.args.items.now - 1) (drop 1 c.args.items.now) }) (headed c.args.items.now c.item-item.result (omega (arith, c.in-len1-up.len_at_least)) c.item-item.is))
+    (one_item old (store_seen old) c.args.items.now c.item-item.result
+    (record { ref_ptr = (0, 0); now = take (length c.args.items.now - 1) (drop 1 c.args.items.now) })
+    (headed c.args.items.now c.item-item.result (omega (arith, c.in-len1-up.len_at_least)) c.item-item.is))
     (then_tells c.item.result old mid c.item.new.self _ (declares old (item_of c.item-item.result)) (at_ok c.push.result _ c.in-Ok.is c.push.ensures.more) same
     (tells_by c.item.result mid c.item.new.self (declares old (item_of c.item-item.result)) (declares mid (item_of c.item-item.result)) (ap (λ (e : Single). declares e (item_of c.item-item.result) (store_seen mid)) (sym same)) c.item.ensures))

@@ -12,4 +12,8 @@ returns-in-Variable c =
 
 pub returns-in-Element : goal.returns-in-Element
 returns-in-Element c =
-    subst (λ (k : Place). OnOk c.store.result (Changes c.args.self.now c.store.new.self (kept (frame_seen c.args.self.now.here) (spot_seen k) c.args.bits))) (sym c.in-Element.is) (subst (λ e. OnOk c.store.result (Changes c.args.self.now c.store.new.self (element_kept (frame_seen c.args.self.now.here) c.in-Element.array.ty.rate c.in-Element.array e c.args.bits))) c.element.ensures c.store.ensures)
+    subst (λ (k : Place). OnOk c.store.result (Changes c.args.self.now c.store.new.self
+    (kept (frame_seen c.args.self.now.here) (spot_seen k) c.args.bits))) (sym c.in-Element.is)
+    (subst (λ e. OnOk c.store.result (Changes c.args.self.now c.store.new.self
+    (element_kept (frame_seen c.args.self.now.here) c.in-Element.array.ty.rate c.in-Element.array e c.args.bits))) c.element.ensures
+    c.store.ensures)

@@ -33,15 +33,21 @@ returns-in-Block c =
 pub returns-in-Declare : goal.returns-in-Declare
 returns-in-Declare c =
     stmt_by c.later.result c.args.self.now c.later.new.self c.args.statement _ _
-    (ap stmt_of (c.in-Declare.is ∙ sym (variant.rolls-Declare c.in-Declare.items c.in-Declare.span)) ∙ fold-roll-TypedStmt TStmt TBlock stmt_step block_step _ ∙ ap (λ (ys : List TypedItem). t_declare (items_of ys) c.in-Declare.span) (sym c.as_slice.ensures.value))
-    (ran_goes (store_seen c.args.self.now) (items (bound_in c.args.self.now.setting) c.args.self.now.setting.instance (store_seen c.args.self.now).frame (calls_in c.args.self.now.setting (store_seen c.args.self.now).left) (items_of c.as_slice.result.now) (store_seen c.args.self.now).state))
+    (ap stmt_of (c.in-Declare.is ∙ sym (variant.rolls-Declare c.in-Declare.items c.in-Declare.span))
+    ∙ fold-roll-TypedStmt TStmt TBlock stmt_step block_step _
+    ∙ ap (λ (ys : List TypedItem). t_declare (items_of ys) c.in-Declare.span) (sym c.as_slice.ensures.value))
+    (ran_goes (store_seen c.args.self.now) (items (bound_in c.args.self.now.setting) c.args.self.now.setting.instance
+    (store_seen c.args.self.now).frame (calls_in c.args.self.now.setting (store_seen c.args.self.now).left) (items_of c.as_slice.result.now)
+    (store_seen c.args.self.now).state))
     c.later.ensures
 
 pub returns-in-Simple : goal.returns-in-Simple
 returns-in-Simple c =
     stmt_by c.later-in-Simple.result c.args.self.now c.later-in-Simple.new.self c.args.statement _ _
     (ap stmt_of (c.in-Simple.is ∙ sym (variant.rolls-Simple c.in-Simple.simple c.in-Simple.span)) ∙ fold-roll-TypedStmt TStmt TBlock stmt_step block_step _)
-    (ran_goes (store_seen c.args.self.now) (simple (bound_in c.args.self.now.setting) c.args.self.now.setting.instance (store_seen c.args.self.now).frame (calls_in c.args.self.now.setting (store_seen c.args.self.now).left) (simple_of c.in-Simple.simple) (store_seen c.args.self.now).state))
+    (ran_goes (store_seen c.args.self.now) (simple (bound_in c.args.self.now.setting) c.args.self.now.setting.instance
+    (store_seen c.args.self.now).frame (calls_in c.args.self.now.setting (store_seen c.args.self.now).left) (simple_of c.in-Simple.simple)
+    (store_seen c.args.self.now).state))
     c.later-in-Simple.ensures
 
 pub returns-in-If : goal.returns-in-If
@@ -54,14 +60,18 @@ returns-in-If c =
 pub returns-in-IfElse : goal.returns-in-IfElse
 returns-in-IfElse c =
     stmt_by c.choice-in-IfElse.result c.args.self.now c.choice-in-IfElse.new.self c.args.statement _ _
-    (ap stmt_of c.in-IfElse.is ∙ if_else_view c.in-IfElse.form c.in-IfElse.before c.in-IfElse.test c.in-IfElse.then c.in-IfElse.otherwise c.in-IfElse.span ∙ ap₂ (λ (k l : TypedStmt). t_if_else c.in-IfElse.form c.in-IfElse.before (expr_of c.in-IfElse.test) (stmt_of k) (stmt_of l) c.in-IfElse.span) (sym c.deref-in-IfElse.ensures) (sym c.deref-in-IfElse-2.ensures))
+    (ap stmt_of c.in-IfElse.is ∙ if_else_view c.in-IfElse.form c.in-IfElse.before c.in-IfElse.test c.in-IfElse.then c.in-IfElse.otherwise
+    c.in-IfElse.span ∙ ap₂ (λ (k l : TypedStmt). t_if_else c.in-IfElse.form c.in-IfElse.before (expr_of c.in-IfElse.test) (stmt_of k) (stmt_of l)
+    c.in-IfElse.span) (sym c.deref-in-IfElse.ensures) (sym c.deref-in-IfElse-2.ensures))
     (if_else_is c.args.self.now (store_seen c.args.self.now) (expr_of c.in-IfElse.test) (record { then = c.deref-in-IfElse.result; otherwise = Some c.deref-in-IfElse-2.result }) c.deref-in-IfElse-2.result refl)
     c.choice-in-IfElse.ensures
 
 pub returns-in-While : goal.returns-in-While
 returns-in-While c =
     stmt_by c.test.result c.args.self.now c.test.new.self c.args.statement _ _
-    (ap stmt_of c.in-While.is ∙ while_view c.in-While.form c.in-While.before c.in-While.test c.in-While.body c.in-While.span ∙ ap (λ (k : TypedStmt). t_while c.in-While.form c.in-While.before (expr_of c.in-While.test) (stmt_of k) c.in-While.span) (sym c.deref-in-While.ensures))
+    (ap stmt_of c.in-While.is ∙ while_view c.in-While.form c.in-While.before c.in-While.test c.in-While.body c.in-While.span
+    ∙ ap (λ (k : TypedStmt). t_while c.in-While.form c.in-While.before (expr_of c.in-While.test) (stmt_of k) c.in-While.span)
+    (sym c.deref-in-While.ensures))
     (ap (λ (t : Turning). tests_on c.args.self.now t (store_seen c.args.self.now)) (sym c.new-turning.ensures))
     c.test.ensures
 
@@ -76,8 +86,13 @@ pub returns-in-For : goal.returns-in-For
 returns-in-For c =
     stmt_by c.first.result c.args.self.now c.first.new.self c.args.statement _ _
     (ap stmt_of c.in-For.is ∙ for_view c.in-For.form c.in-For.before c.in-For.first c.in-For.test c.in-For.step c.in-For.inside c.in-For.body c.in-For.span
-    ∙ ap₂ (λ (i : Option TFirst) (k : TypedStmt). t_for c.in-For.form c.in-For.before i (option_map expr_of c.in-For.test) (option_map simple_of c.in-For.step) c.in-For.inside (stmt_of k) c.in-For.span) (part_is first_of c.in-For.first c.as_ref-in-For-2.result c.as_ref-in-For-2.ensures.value) (sym c.deref-in-For.ensures)
-    ∙ ap₂ (λ (x : Option TExpr) (p : Option TSimple). t_for c.in-For.form c.in-For.before (option_map (λ (v : Bor TypedFirst). first_of v.now) c.as_ref-in-For-2.result) x p c.in-For.inside (stmt_of c.deref-in-For.result.now) c.in-For.span) (part_is expr_of c.in-For.test c.as_ref.result c.as_ref.ensures.value) (part_is simple_of c.in-For.step c.as_ref-in-For.result c.as_ref-in-For.ensures.value))
+    ∙ ap₂ (λ (i : Option TFirst) (k : TypedStmt). t_for c.in-For.form c.in-For.before i (option_map expr_of c.in-For.test)
+    (option_map simple_of c.in-For.step) c.in-For.inside (stmt_of k) c.in-For.span)
+    (part_is first_of c.in-For.first c.as_ref-in-For-2.result c.as_ref-in-For-2.ensures.value) (sym c.deref-in-For.ensures)
+    ∙ ap₂ (λ (x : Option TExpr) (p : Option TSimple). t_for c.in-For.form c.in-For.before
+    (option_map (λ (v : Bor TypedFirst). first_of v.now) c.as_ref-in-For-2.result) x p c.in-For.inside (stmt_of c.deref-in-For.result.now)
+    c.in-For.span) (part_is expr_of c.in-For.test c.as_ref.result c.as_ref.ensures.value)
+    (part_is simple_of c.in-For.step c.as_ref-in-For.result c.as_ref-in-For.ensures.value))
     (ap (λ (t : Turning). firsts c.args.self.now (option_map (λ (v : Bor TypedFirst). first_of v.now) c.as_ref-in-For-2.result) t (store_seen c.args.self.now)) (sym c.new-turning-in-For.ensures))
     c.first.ensures
 
@@ -92,7 +107,10 @@ returns-in-Foreach c =
 pub returns-in-ForeachActive : goal.returns-in-ForeachActive
 returns-in-ForeachActive c =
     stmt_by c.alone.result c.args.self.now c.alone.new.self c.args.statement _ _
-    (ap stmt_of c.in-ForeachActive.is ∙ active_view c.in-ForeachActive.keyword c.in-ForeachActive.before c.in-ForeachActive.index c.in-ForeachActive.body c.in-ForeachActive.span ∙ ap (λ (k : TypedStmt). t_foreach_active c.in-ForeachActive.keyword c.in-ForeachActive.before c.in-ForeachActive.index (stmt_of k) c.in-ForeachActive.span) (sym c.deref-in-ForeachActive.ensures))
+    (ap stmt_of c.in-ForeachActive.is ∙ active_view c.in-ForeachActive.keyword c.in-ForeachActive.before c.in-ForeachActive.index
+    c.in-ForeachActive.body c.in-ForeachActive.span ∙ ap
+    (λ (k : TypedStmt). t_foreach_active c.in-ForeachActive.keyword c.in-ForeachActive.before c.in-ForeachActive.index (stmt_of k)
+    c.in-ForeachActive.span) (sym c.deref-in-ForeachActive.ensures))
     refl
     c.alone.ensures
 
@@ -118,8 +136,13 @@ returns-in-Ok c =
 pub returns-in-Print : goal.returns-in-Print
 returns-in-Print c =
     stmt_by c.values.result c.args.self.now c.values.new.self c.args.statement _ _
-    (ap stmt_of (c.in-Print.is ∙ sym (variant.rolls-Print c.in-Print.keyword c.in-Print.text c.in-Print.values c.in-Print.span)) ∙ fold-roll-TypedStmt TStmt TBlock stmt_step block_step _ ∙ ap (λ (xs : List TypedExpr). t_print c.in-Print.keyword c.in-Print.text (exprs_of xs) c.in-Print.span) (sym c.as_slice-in-Print.ensures.value))
-    (printed_by c.args.self.now (store_seen c.args.self.now) (exprs_of c.as_slice-in-Print.result.now) ∙ ap (λ (ds : List ℕ). gathers c.args.self.now gathering.Print (exprs_of c.as_slice-in-Print.result.now) ds (store_seen c.args.self.now)) (sym c.new-in-Print.ensures.items))
+    (ap stmt_of (c.in-Print.is ∙ sym (variant.rolls-Print c.in-Print.keyword c.in-Print.text c.in-Print.values c.in-Print.span))
+    ∙ fold-roll-TypedStmt TStmt TBlock stmt_step block_step _
+    ∙ ap (λ (xs : List TypedExpr). t_print c.in-Print.keyword c.in-Print.text (exprs_of xs) c.in-Print.span)
+    (sym c.as_slice-in-Print.ensures.value))
+    (printed_by c.args.self.now (store_seen c.args.self.now) (exprs_of c.as_slice-in-Print.result.now)
+    ∙ ap (λ (ds : List ℕ). gathers c.args.self.now gathering.Print (exprs_of c.as_slice-in-Print.result.now) ds (store_seen c.args.self.now))
+    (sym c.new-in-Print.ensures.items))
     c.values.ensures
 
 pub returns-in-Assert : goal.returns-in-Assert

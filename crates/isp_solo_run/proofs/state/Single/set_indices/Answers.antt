@@ -18,7 +18,11 @@ loop-place-preserved c =
     let k = c.loop-place.place in
     let h : k < length rs = omega (arith, c.loop-place-test.true, c.len-place-end.ensures) in
     let n : c.len.result ≡ length rs = omega (arith, c.len.ensures) in
-    index_set c.args.self.now c.loop-place.self c.write.new.self c.args.self.now.setting.instance k rs c.index-range.result.now (nat_eq (k + 1) c.len.result) c.index_at-bits.result c.loop-place.invariant h c.index-range.ensures (last_place k c.len.result rs h n) (c.index_at-bits.ensures ∙ ap (λ (e : Single). wrap I32 (number_now c.index-range.result.now.next (nat_eq (k + 1) c.len.result) e.setting.instance)) c.loop-place.invariant.same) c.in_ok-write.ensures
+    index_set c.args.self.now c.loop-place.self c.write.new.self c.args.self.now.setting.instance k rs c.index-range.result.now
+    (nat_eq (k + 1) c.len.result) c.index_at-bits.result c.loop-place.invariant h c.index-range.ensures (last_place k c.len.result rs h n)
+    (c.index_at-bits.ensures ∙ ap (λ (e : Single). wrap I32
+    (number_now c.index-range.result.now.next (nat_eq (k + 1) c.len.result) e.setting.instance)) c.loop-place.invariant.same)
+    c.in_ok-write.ensures
 
 pub returns : goal.returns
 returns c =

@@ -10,7 +10,8 @@ pub returns-in-Declare : goal.returns-in-Declare
 returns-in-Declare c =
     let old = c.args.self.now in
     tells_by c.both.result old c.both.new.self _ _
-    (first_items old (store_seen old) c.args.after.value c.args.after c.as_slice.result c.in-Declare.items.items (Some (first_of c.args.first.now)) c.in-Declare.span refl c.as_slice.ensures.value (ap (λ (x : TypedFirst). Some (first_of x)) c.in-Declare.is))
+    (first_items old (store_seen old) c.args.after.value c.args.after c.as_slice.result c.in-Declare.items.items (Some (first_of c.args.first.now))
+    c.in-Declare.span refl c.as_slice.ensures.value (ap (λ (x : TypedFirst). Some (first_of x)) c.in-Declare.is))
     c.both.ensures
 
 pub returns-in-Simple : goal.returns-in-Simple

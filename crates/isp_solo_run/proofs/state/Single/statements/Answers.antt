@@ -16,5 +16,7 @@ pub returns-in-Ok : goal.returns-in-Ok
 returns-in-Ok c =
     let old = c.args.self.now in
     tells_by c.both.result old c.both.new.self _ _
-    (one_next old (store_seen old) c.args.statements.now _ (record { ref_ptr = (0, 0); now = c.first-item.result }) c.in-Ok.others (headed c.args.statements.now c.first-item.result (omega (arith, c.in-len1-up.len_at_least)) c.first-item.is) (ap (λ (x : Statements). x.rest.now) (at_found _ c.new.result _ c.in-Ok.is c.new.ensures.ok)))
+    (one_next old (store_seen old) c.args.statements.now _ (record { ref_ptr = (0, 0); now = c.first-item.result }) c.in-Ok.others
+    (headed c.args.statements.now c.first-item.result (omega (arith, c.in-len1-up.len_at_least)) c.first-item.is)
+    (ap (λ (x : Statements). x.rest.now) (at_found _ c.new.result _ c.in-Ok.is c.new.ensures.ok)))
     c.both.ensures

@@ -10,11 +10,15 @@ use Rattle.isp_solo_run.proofs.state.Single.store.Goals as goal
 pub returns-in_ok-store-in-Uniform : goal.returns-in_ok-store-in-Uniform
 returns-in_ok-store-in-Uniform c =
     let old = c.args.self.now in
-    arrays_changed old c.store.new.self (element_kept (frame_seen old.here) c.args.array.ty.rate c.args.array c.args.place c.args.bits) (put_in (state_seen old).wrote c.store-store.result c.args.place (Some c.args.bits)) c.in_ok-store-in-Uniform.ensures.wrote c.in_ok-store-in-Uniform.ensures.read
-    (ap (λ (r : Rate). element_kept (frame_seen old.here) r c.args.array c.args.place c.args.bits (state_seen old)) c.in-Uniform.is ∙ ap (λ b. record (state_seen old) { wrote = put_in (state_seen old).wrote b c.args.place (Some c.args.bits) }) (sym c.store-store.ensures))
+    arrays_changed old c.store.new.self (element_kept (frame_seen old.here) c.args.array.ty.rate c.args.array c.args.place c.args.bits)
+    (put_in (state_seen old).wrote c.store-store.result c.args.place (Some c.args.bits)) c.in_ok-store-in-Uniform.ensures.wrote
+    c.in_ok-store-in-Uniform.ensures.read
+    (ap (λ (r : Rate). element_kept (frame_seen old.here) r c.args.array c.args.place c.args.bits (state_seen old)) c.in-Uniform.is
+    ∙ ap (λ b. record (state_seen old) { wrote = put_in (state_seen old).wrote b c.args.place (Some c.args.bits) }) (sym c.store-store.ensures))
 
 pub returns-in_ok-put_own-in-Varying : goal.returns-in_ok-put_own-in-Varying
 returns-in_ok-put_own-in-Varying c =
     let old = c.args.self.now in
-    own_changed old c.put_own.new.arrays (element_kept (frame_seen old.here) c.args.array.ty.rate c.args.array c.args.place c.args.bits) (put_in (own_of old.here.own.items) c.args.array.number c.args.place c.args.bits) c.in_ok-put_own-in-Varying.ensures
+    own_changed old c.put_own.new.arrays (element_kept (frame_seen old.here) c.args.array.ty.rate c.args.array c.args.place c.args.bits)
+    (put_in (own_of old.here.own.items) c.args.array.number c.args.place c.args.bits) c.in_ok-put_own-in-Varying.ensures
     (ap (λ (r : Rate). element_kept (frame_seen old.here) r c.args.array c.args.place c.args.bits (state_seen old)) c.in-Varying.is)

@@ -14,13 +14,19 @@ pub returns-in-Variable : goal.returns-in-Variable
 returns-in-Variable c =
     let r = (store_seen c.args.self.now) in
     tells_by c.placed.result c.args.self.now c.placed.new.self _ _
-    (ap (λ k. done r (and_then (spot (bound_in c.args.self.now.setting) c.args.self.now.setting.instance r.frame (calls_in c.args.self.now.setting r.left) k r.state) (λ z s. write c.args.self.now.setting c.args.writing (place_of c.args.target.now) z r s)))
+    (ap (λ k. done r (and_then (spot (bound_in c.args.self.now.setting) c.args.self.now.setting.instance r.frame
+    (calls_in c.args.self.now.setting r.left) k r.state)
+    (λ z s. write c.args.self.now.setting c.args.writing (place_of c.args.target.now) z r s)))
     (ap place_of (c.in-Variable.is ∙ sym (variant.rolls-Variable c.in-Variable.number c.in-Variable.ty c.in-Variable.span)) ∙ fold-roll-TypedPlace TArgument TBase TExpr TPlace TCall argument_step base_step expr_step place_step call_step _))
     c.placed.ensures
 
 pub returns-in-Element : goal.returns-in-Element
 returns-in-Element c =
     tells_by c.both.result c.args.self.now c.both.new.self _ _
-    (target_node c.args.self.now (store_seen c.args.self.now) c.in-Element.array c.args.target c.deref-in-Element.result c.ty.result.elem c.in-Element.ty c.in-Element.span c.args.writing (ap (λ t. t.elem) c.ty.ensures ∙ ap (λ l. (type_of (expr_of l)).elem) (c.deref.ensures ∙ sym c.deref-in-Element.ensures))
-    (ap place_of (c.in-Element.is ∙ sym (variant.rolls-Element c.in-Element.array c.in-Element.index c.in-Element.ty c.in-Element.span)) ∙ fold-roll-TypedPlace TArgument TBase TExpr TPlace TCall argument_step base_step expr_step place_step call_step _ ∙ ap (λ i. t_element c.in-Element.array (expr_of i) c.in-Element.ty c.in-Element.span) (sym c.deref-in-Element.ensures)))
+    (target_node c.args.self.now (store_seen c.args.self.now) c.in-Element.array c.args.target c.deref-in-Element.result c.ty.result.elem
+    c.in-Element.ty c.in-Element.span c.args.writing
+    (ap (λ t. t.elem) c.ty.ensures ∙ ap (λ l. (type_of (expr_of l)).elem) (c.deref.ensures ∙ sym c.deref-in-Element.ensures))
+    (ap place_of (c.in-Element.is ∙ sym (variant.rolls-Element c.in-Element.array c.in-Element.index c.in-Element.ty c.in-Element.span))
+    ∙ fold-roll-TypedPlace TArgument TBase TExpr TPlace TCall argument_step base_step expr_step place_step call_step _
+    ∙ ap (λ i. t_element c.in-Element.array (expr_of i) c.in-Element.ty c.in-Element.span) (sym c.deref-in-Element.ensures)))
     c.both.ensures

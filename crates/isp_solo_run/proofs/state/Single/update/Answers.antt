@@ -32,5 +32,7 @@ returns-in-Ok-keep c =
     update_tells old c.hold.new.self c.args.operator t (place_of c.args.target.now) (spot_seen c.args.place) c.args.right c.in-Ok.bits c.args.span
     (subst (λ (s : Span). Finds (Ok c.in-Ok.bits) old c.hold.new.self s (spot_seen c.args.place)) c.span.ensures (subst (λ (q : Result ℕ Stop). Finds q old c.hold.new.self c.span.result (spot_seen c.args.place)) c.in-Ok.is c.hold.ensures))
     c.go_on.result c.keep.new.self c.go_on.new.self c.is_zero.result c.convert-2.result c.is_zero.ensures c.if-is_zero.false
-    (c.convert-2.ensures ∙ ap (converted t c.ty-own.result.elem) (c.operated-bits.ensures ∙ ap (λ z. op_bits c.args.operator t z c.args.right) c.convert.ensures) ∙ ap (λ (u : Ty). converted t u.elem (op_bits c.args.operator t (converted u.elem t c.in-Ok.bits) c.args.right)) c.ty-own.ensures)
+    (c.convert-2.ensures ∙ ap (converted t c.ty-own.result.elem)
+    (c.operated-bits.ensures ∙ ap (λ z. op_bits c.args.operator t z c.args.right) c.convert.ensures)
+    ∙ ap (λ (u : Ty). converted t u.elem (op_bits c.args.operator t (converted u.elem t c.in-Ok.bits) c.args.right)) c.ty-own.ensures)
     (at_ok c.keep.result _ c.in-Ok-keep.is c.keep.ensures) c.go_on.ensures

@@ -30,5 +30,7 @@ pub returns : goal.returns
 returns c =
     let old = c.args.self.now in
     tells_by c.both.result old c.both.new.self _ _
-    (values_next old (store_seen old) c.args.gathering c.args.done (record { ref_ptr = (0, 0); now = c.x-item.result }) (record { ref_ptr = (0, 0); now = take (length c.args.rest.now - 1) (drop 1 c.args.rest.now) }) c.args.rest.now (headed c.args.rest.now c.x-item.result (omega (arith, c.in-len1-up.len_at_least)) c.x-item.is))
+    (values_next old (store_seen old) c.args.gathering c.args.done (record { ref_ptr = (0, 0); now = c.x-item.result })
+    (record { ref_ptr = (0, 0); now = take (length c.args.rest.now - 1) (drop 1 c.args.rest.now) }) c.args.rest.now
+    (headed c.args.rest.now c.x-item.result (omega (arith, c.in-len1-up.len_at_least)) c.x-item.is))
     c.both.ensures

@@ -22,7 +22,12 @@ returns-then-out-index-clause-lanes g c =
     let new = left_new a.vectors.now front back two.ensures.value a.out c.gather.new.into low in
     let places = right_is a.vectors.now front back two.ensures.value a.index c.index-back-0.result two.ensures.front_len some in
     let Lanes : List Row → Row → List ℕ → Row → Type 0 = λ rs r xs o. IfOk c.gather.result (λ _. lane_of r.bits ≡ over (map1 (λ x. bits_of rs a.array (element I64 x)) (on (flag_of a.mask.now) (lane_of xs))) (lane_of o.bits)) in
-    subst (λ r. Lanes a.self.now.rows r (vector a.vectors.now a.index).bits (vector a.vectors.now a.out)) (sym new) (subst (λ o. Lanes a.self.now.rows c.gather.new.into (vector a.vectors.now a.index).bits o) (sym old) (subst (λ xs. Lanes a.self.now.rows c.gather.new.into xs (get_or front a.out c.index-front-out.result)) (c.wide_words.ensures ∙ sym (ap (λ (r : Row). r.bits) places)) (subst (λ rs. Lanes rs c.gather.new.into c.wide_words.result.now (get_or front a.out c.index-front-out.result)) (c.deref.ensures.value ∙ ap (λ (h : Held). h.rows) c.self.view_is) c.gather.ensures.lanes)))
+    subst (λ r. Lanes a.self.now.rows r (vector a.vectors.now a.index).bits (vector a.vectors.now a.out)) (sym new)
+    (subst (λ o. Lanes a.self.now.rows c.gather.new.into (vector a.vectors.now a.index).bits o) (sym old)
+    (subst (λ xs. Lanes a.self.now.rows c.gather.new.into xs (get_or front a.out c.index-front-out.result))
+    (c.wide_words.ensures ∙ sym (ap (λ (r : Row). r.bits) places))
+    (subst (λ rs. Lanes rs c.gather.new.into c.wide_words.result.now (get_or front a.out c.index-front-out.result))
+    (c.deref.ensures.value ∙ ap (λ (h : Held). h.rows) c.self.view_is) c.gather.ensures.lanes)))
 
 pub returns-then-out-index-clause-others : goal.returns-then-out-index-clause-others
 returns-then-out-index-clause-others g c =
@@ -44,7 +49,12 @@ returns-then-index-out-clause-lanes g c =
     let new = right_new a.vectors.now front back two.ensures.value a.out into two.ensures.front_len some in
     let places = left_is a.vectors.now front back two.ensures.value a.index c.index-front-index.result low in
     let Lanes : List Row → Row → List ℕ → Row → Type 0 = λ rs r xs o. IfOk c.gather-then-index-out.result (λ _. lane_of r.bits ≡ over (map1 (λ x. bits_of rs a.array (element I64 x)) (on (flag_of a.mask.now) (lane_of xs))) (lane_of o.bits)) in
-    subst (λ r. Lanes a.self.now.rows r (vector a.vectors.now a.index).bits (vector a.vectors.now a.out)) (sym new) (subst (λ o. Lanes a.self.now.rows into (vector a.vectors.now a.index).bits o) (sym old) (subst (λ xs. Lanes a.self.now.rows into xs (get_or back 0 c.index-back-0-then-index-out.result)) (c.wide_words-then-index-out.ensures ∙ sym (ap (λ (r : Row). r.bits) places)) (subst (λ rs. Lanes rs into c.wide_words-then-index-out.result.now (get_or back 0 c.index-back-0-then-index-out.result)) (c.deref-then-index-out.ensures.value ∙ ap (λ (h : Held). h.rows) c.self.view_is) c.gather-then-index-out.ensures.lanes)))
+    subst (λ r. Lanes a.self.now.rows r (vector a.vectors.now a.index).bits (vector a.vectors.now a.out)) (sym new)
+    (subst (λ o. Lanes a.self.now.rows into (vector a.vectors.now a.index).bits o) (sym old)
+    (subst (λ xs. Lanes a.self.now.rows into xs (get_or back 0 c.index-back-0-then-index-out.result))
+    (c.wide_words-then-index-out.ensures ∙ sym (ap (λ (r : Row). r.bits) places))
+    (subst (λ rs. Lanes rs into c.wide_words-then-index-out.result.now (get_or back 0 c.index-back-0-then-index-out.result))
+    (c.deref-then-index-out.ensures.value ∙ ap (λ (h : Held). h.rows) c.self.view_is) c.gather-then-index-out.ensures.lanes)))
 
 pub returns-then-index-out-clause-others : goal.returns-then-index-out-clause-others
 returns-then-index-out-clause-others g c =

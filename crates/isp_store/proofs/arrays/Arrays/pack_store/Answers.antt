@@ -20,7 +20,9 @@ returns-clause-elements g c =
     ap bits_of (handed_back c.self.inside.items.len c.put_lanes.new.rows c.self.inside.items.items (c.put_lanes.auto.rows ∙ c.deref_mut.ensures.len)) ∙ c.put_lanes.ensures.elements
     ∙ ap (λ (rs : List Row). put (bits_of rs) a.array (scatter g.row.N places values (bits_of rs a.array))) c.deref_mut.ensures.value
     ∙ ap (λ (s : Held). put (elements s) a.array (scatter g.row.N places values (elements s a.array))) c.self.view_is
-    ∙ ap (λ (x : Map). put (elements a.self.now) a.array (scatter g.row.N x values (elements a.self.now a.array))) (on_same m (lane_of c.packed_places.new.places) (λ p. unsigned_abs (packed_index (number I64 a.index) (flag_of a.mask.now) p)) c.in_ok-stored.ensures.places)
+    ∙ ap (λ (x : Map). put (elements a.self.now) a.array (scatter g.row.N x values (elements a.self.now a.array)))
+    (on_same m (lane_of c.packed_places.new.places) (λ p. unsigned_abs (packed_index (number I64 a.index) (flag_of a.mask.now) p))
+    c.in_ok-stored.ensures.places)
 
 pub returns-clause-few : goal.returns-clause-few
 returns-clause-few g c =

@@ -22,7 +22,10 @@ returns-then-out-index-clause-lanes g c =
     let new = left_new a.vectors.now front back two.ensures.value a.out c.gather_from.new.into low in
     let places = right_is a.vectors.now front back two.ensures.value a.index c.index-back-0.result two.ensures.front_len some in
     let Lanes : Row → List ℕ → Row → Type 0 = λ r xs o. IfOk c.gather_from.result (λ _. lane_of r.bits ≡ over (λ p. each1 (λ x. own a.self.now (element I64 x) p) (on (flag_of a.mask.now) (lane_of xs) p)) (lane_of o.bits)) in
-    subst (λ r. Lanes r (vector a.vectors.now a.index).bits (vector a.vectors.now a.out)) (sym new) (subst (λ o. Lanes c.gather_from.new.into (vector a.vectors.now a.index).bits o) (sym old) (subst (λ xs. Lanes c.gather_from.new.into xs (get_or front a.out c.index-front-out.result)) (c.wide_words.ensures ∙ sym (ap (λ (r : Row). r.bits) places)) c.gather_from.ensures.lanes))
+    subst (λ r. Lanes r (vector a.vectors.now a.index).bits (vector a.vectors.now a.out)) (sym new)
+    (subst (λ o. Lanes c.gather_from.new.into (vector a.vectors.now a.index).bits o) (sym old)
+    (subst (λ xs. Lanes c.gather_from.new.into xs (get_or front a.out c.index-front-out.result))
+    (c.wide_words.ensures ∙ sym (ap (λ (r : Row). r.bits) places)) c.gather_from.ensures.lanes))
 
 pub returns-then-out-index-clause-others : goal.returns-then-out-index-clause-others
 returns-then-out-index-clause-others g c =
@@ -44,7 +47,10 @@ returns-then-index-out-clause-lanes g c =
     let new = right_new a.vectors.now front back two.ensures.value a.out into two.ensures.front_len some in
     let places = left_is a.vectors.now front back two.ensures.value a.index c.index-front-index.result low in
     let Lanes : Row → List ℕ → Row → Type 0 = λ r xs o. IfOk c.gather_from-then-index-out.result (λ _. lane_of r.bits ≡ over (λ p. each1 (λ x. own a.self.now (element I64 x) p) (on (flag_of a.mask.now) (lane_of xs) p)) (lane_of o.bits)) in
-    subst (λ r. Lanes r (vector a.vectors.now a.index).bits (vector a.vectors.now a.out)) (sym new) (subst (λ o. Lanes into (vector a.vectors.now a.index).bits o) (sym old) (subst (λ xs. Lanes into xs (get_or back 0 c.index-back-0-then-index-out.result)) (c.wide_words-then-index-out.ensures ∙ sym (ap (λ (r : Row). r.bits) places)) c.gather_from-then-index-out.ensures.lanes))
+    subst (λ r. Lanes r (vector a.vectors.now a.index).bits (vector a.vectors.now a.out)) (sym new)
+    (subst (λ o. Lanes into (vector a.vectors.now a.index).bits o) (sym old)
+    (subst (λ xs. Lanes into xs (get_or back 0 c.index-back-0-then-index-out.result))
+    (c.wide_words-then-index-out.ensures ∙ sym (ap (λ (r : Row). r.bits) places)) c.gather_from-then-index-out.ensures.lanes))
 
 pub returns-then-index-out-clause-others : goal.returns-then-index-out-clause-others
 returns-then-index-out-clause-others g c =
