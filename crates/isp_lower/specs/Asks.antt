@@ -82,20 +82,8 @@ index_asks r i n a = Both (lift_asks r (type_of i).rate I64 n) (whole_asks i n a
 -- The lanes' elements of an array stand in a row where all share it and the index is the number of the lane, with nothing around it; then
 -- a scalar of slot n has the number of the first one.
 abbrev pub is_lane : TExpr → Bool
-is_lane (t_constant v sp) = false
 is_lane (t_program_index sp) = true
-is_lane (t_place q) = false
-is_lane (t_convert e x) = false
-is_lane (t_cast x t sp) = false
-is_lane (t_unary o x t sp) = false
-is_lane (t_binary o x y t sp) = false
-is_lane (t_compare c x y r sp) = false
-is_lane (t_logic g x y r sp) = false
-is_lane (t_choose c x y t sp) = false
-is_lane (t_call c t) = false
-is_lane (t_library f e xs t sp) = false
-is_lane (t_packed_store b x sp) = false
-is_lane (t_packed_load b v sp) = false
+is_lane x = false
 
 -- or where it is a variable that counts the lanes of a run, whose place has a register; whether it does is not asked here
 abbrev pub place_asks : Rate → Ask
@@ -107,20 +95,9 @@ counter_asks (t_variable v t sp) = place_asks t.rate
 counter_asks (t_element b i t sp) = Nothing
 
 abbrev pub start_asks : TExpr → ℕ → Ask
-start_asks (t_constant v sp) n = Nothing
 start_asks (t_program_index sp) n = spare_ask Uniform I64 n
 start_asks (t_place q) n = counter_asks q
-start_asks (t_convert e x) n = Nothing
-start_asks (t_cast x t sp) n = Nothing
-start_asks (t_unary o x t sp) n = Nothing
-start_asks (t_binary o x y t sp) n = Nothing
-start_asks (t_compare c x y r sp) n = Nothing
-start_asks (t_logic l x y r sp) n = Nothing
-start_asks (t_choose c x y t sp) n = Nothing
-start_asks (t_call c t) n = Nothing
-start_asks (t_library f e xs t sp) n = Nothing
-start_asks (t_packed_store b x sp) n = Nothing
-start_asks (t_packed_load b v sp) n = Nothing
+start_asks x n = Nothing
 
 abbrev pub run_asks : Rate → TExpr → ℕ → Ask
 run_asks Uniform i n = start_asks i n

@@ -26,20 +26,9 @@ module _ (l : Layout) where
 
   -- an index that counts the lanes, with nothing around it
   abbrev pub counts : TExpr → Bool
-  counts (t_constant v sp) = false
   counts (t_program_index sp) = true
   counts (t_place q) = place_counts q
-  counts (t_convert e x) = false
-  counts (t_cast x t sp) = false
-  counts (t_unary o x t sp) = false
-  counts (t_binary o x y t sp) = false
-  counts (t_compare c x y r sp) = false
-  counts (t_logic g x y r sp) = false
-  counts (t_choose c x y t sp) = false
-  counts (t_call c t) = false
-  counts (t_library f e xs t sp) = false
-  counts (t_packed_store b x sp) = false
-  counts (t_packed_load b v sp) = false
+  counts x = false
 
   -- the lanes' elements of an array stand in a row where all share it and the index counts the lanes
   abbrev pub is_run : Rate → TExpr → Bool

@@ -16,15 +16,8 @@ use Rattle.isp_lower.specs.Known.{constant_of, known, bits_as, unless_kept}
 
 -- the type in which code has an index
 abbrev pub is_whole : Elem → Bool
-is_whole Truth = false
-is_whole I8 = false
-is_whole U8 = false
-is_whole I16 = false
-is_whole U16 = false
-is_whole I32 = false
-is_whole U32 = false
 is_whole I64 = true
-is_whole U64 = false
+is_whole e = false
 
 module _ (l : Layout) where
   -- ---- a value of one rate where another is wanted

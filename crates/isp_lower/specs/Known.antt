@@ -8,19 +8,7 @@ use Rattle.isp_meaning.specs.Payloads.{converted}
 
 abbrev pub constant_of : TExpr → Option Value
 constant_of (t_constant v sp) = Some v
-constant_of (t_program_index sp) = None
-constant_of (t_place p) = None
-constant_of (t_convert e x) = None
-constant_of (t_cast x t sp) = None
-constant_of (t_unary o x t sp) = None
-constant_of (t_binary o x y t sp) = None
-constant_of (t_compare c x y r sp) = None
-constant_of (t_logic l x y r sp) = None
-constant_of (t_choose c x y t sp) = None
-constant_of (t_call c t) = None
-constant_of (t_library f e xs t sp) = None
-constant_of (t_packed_store b x sp) = None
-constant_of (t_packed_load b v sp) = None
+constant_of x = None
 
 -- the constant that an expression is, converted or not
 abbrev pub known_as : Elem → Option Value → Option Value

@@ -12,20 +12,10 @@ module _ (l : Layout) where
   -- a variable that stays in place, in brackets or not, and a constant that is kept: it has no code where its own rate is wanted
   abbrev pub stays : TExpr → Bool
   stays (t_constant v sp) = l.kept Uniform v.elem v.bits
-  stays (t_program_index sp) = false
   stays (t_place (t_variable v t sp)) = not (is_copied l t.rate v)
-  stays (t_place (t_element b i t sp)) = false
   stays (t_convert e x) = is_kept l (constant_of x) (type_of x).rate e
   stays (t_cast x t sp) = same_rate t.rate (type_of x).rate && stays x
-  stays (t_unary o x t sp) = false
-  stays (t_binary o x y t sp) = false
-  stays (t_compare c x y r sp) = false
-  stays (t_logic g x y r sp) = false
-  stays (t_choose c x y t sp) = false
-  stays (t_call c t) = false
-  stays (t_library f e xs t sp) = false
-  stays (t_packed_store b x sp) = false
-  stays (t_packed_load b v sp) = false
+  stays x = false
 
   abbrev pub stays_at : Rate → TExpr → Bool
   stays_at r x = same_rate r (type_of x).rate && stays x
@@ -42,17 +32,9 @@ module _ (l : Layout) where
 
   abbrev pub writes_last : TExpr → Bool
   writes_last (t_constant v sp) = not (l.kept Uniform v.elem v.bits)
-  writes_last (t_program_index sp) = true
   writes_last (t_place (t_variable v t sp)) = is_copied l t.rate v
-  writes_last (t_place (t_element b i t sp)) = true
   writes_last (t_convert e x) = not (is_kept l (constant_of x) (type_of x).rate e)
   writes_last (t_cast x t sp) = writes_part t.rate (type_of x).rate (writes_last x)
-  writes_last (t_unary o x t sp) = true
-  writes_last (t_binary o x y t sp) = true
-  writes_last (t_compare c x y r sp) = true
   writes_last (t_logic g x y r sp) = false
   writes_last (t_choose c x y t sp) = is_short t.rate c x y
-  writes_last (t_call c t) = true
-  writes_last (t_library f e xs t sp) = true
-  writes_last (t_packed_store b x sp) = true
-  writes_last (t_packed_load b v sp) = true
+  writes_last x = true

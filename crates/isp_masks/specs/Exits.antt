@@ -69,21 +69,8 @@ both_go_on x y = all_go_on x && all_go_on y
 abbrev mutual
   pub only_jump : TStmt → Option Jump
   only_jump (t_block b) = block_jump b
-  only_jump (t_declare xs sp) = None
-  only_jump (t_simple x sp) = None
-  only_jump (t_if f g e x sp) = None
-  only_jump (t_if_else f g e x y sp) = None
-  only_jump (t_while f g e x sp) = None
-  only_jump (t_do f g x e sp) = None
-  only_jump (t_for f g first e step i x sp) = None
-  only_jump (t_foreach w g rs x sp) = None
-  only_jump (t_foreach_active w g i x sp) = None
-  only_jump (t_foreach_unique w g i t e x sp) = None
-  only_jump (t_unmasked w b sp) = None
   only_jump (t_jump j w sp) = Some j
-  only_jump (t_return w x sp) = None
-  only_jump (t_print w text xs sp) = None
-  only_jump (t_assert x c sp) = None
+  only_jump x = None
 
   pub block_jump : TBlock → Option Jump
   block_jump (t_braces t_no_stmts sp) = None
