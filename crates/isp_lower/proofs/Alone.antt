@@ -23,7 +23,8 @@ use Rattle.isp_lower.specs.Runs.{Enters, DoneRuns}
 use Rattle.isp_lower.specs.Setting.{Setting, IsSettled, gang_of, calls_of, AreAt, At, Stands}
 use Rattle.isp_lower.proofs.Base.{are_front, are_back}
 use Rattle.isp_lower.proofs.Done.{done_after, bind_done}
-use Rattle.isp_lower.proofs.Exprs.{arguments_run, called_here, rates_here}
+use Rattle.isp_lower.proofs.CallNodes.{called_here, rates_here}
+use Rattle.isp_lower.proofs.Exprs.{arguments_run}
 use Rattle.isp_lower.proofs.GivenBack.{GivesBackBy, call_gives}
 use Rattle.isp_lower.proofs.Nodes.{enters_part}
 use Rattle.isp_lower.proofs.Parts.{CallParts}

@@ -22,7 +22,9 @@ use Rattle.isp_lower.specs.Simple.{assign_code, assign_places}
 use Rattle.isp_lower.proofs.Base.{are_front, are_back, spares_less}
 use Rattle.isp_lower.proofs.Found.{few}
 use Rattle.isp_lower.proofs.Nodes.{enters_part, enters_later, operand_runs}
-use Rattle.isp_lower.proofs.Exprs.{means, PlaceHolds, expr_runs}
+use Rattle.isp_lower.proofs.PlainNodes.{means}
+use Rattle.isp_lower.proofs.ElementRuns.{PlaceHolds}
+use Rattle.isp_lower.proofs.Exprs.{expr_runs}
 use Rattle.isp_lower.proofs.Done.{done_after, bind_done}
 use Rattle.isp_lower.proofs.Places.{place_runs, place_kept}
 use Rattle.isp_lower.proofs.Writes.{element_done}

@@ -28,6 +28,12 @@ mod Logic
 mod ChangedBy
 mod Choose
 mod Short
+mod PlainNodes
+mod ElementRuns
+mod ChoiceNodes
+mod PackedNodes
+mod LibraryNodes
+mod CallNodes
 mod Exprs
 mod Leaving
 mod Alone

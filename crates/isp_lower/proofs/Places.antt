@@ -24,7 +24,8 @@ use Rattle.isp_lower.proofs.Base.{comes_none, at_to, spares_all}
 use Rattle.isp_lower.proofs.Found.{few, index_low}
 use Rattle.isp_lower.proofs.Nodes.{enters_part}
 use Rattle.isp_lower.proofs.Consecutive.{IndexHolds, InReach, lanes_by, run_lane, Counting, counter_is, run_is}
-use Rattle.isp_lower.proofs.Exprs.{PlaceHolds, element_index_runs, expr_runs}
+use Rattle.isp_lower.proofs.ElementRuns.{PlaceHolds, element_index_runs}
+use Rattle.isp_lower.proofs.Exprs.{expr_runs}
 use Rattle.isp_lower.proofs.Kept.{Keeps, held_kept, low_spare}
 use Rattle.isp_lower.proofs.Parts.{ExprParts, PlaceParts}
 use Rattle.isp_lower.specs.Asks.{beyond, is_lane}

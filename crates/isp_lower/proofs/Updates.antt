@@ -42,7 +42,9 @@ use Rattle.isp_lower.specs.Known.{unless_kept}
 use Rattle.isp_lower.specs.Spans.{index_places, expr_places}
 use Rattle.isp_lower.proofs.Splits.{same_elem-is}
 use Rattle.isp_lower.proofs.Found.{few, operand_low}
-use Rattle.isp_lower.proofs.Exprs.{means, PlaceHolds, variable_held, element_runs, expr_runs}
+use Rattle.isp_lower.proofs.PlainNodes.{means, variable_held}
+use Rattle.isp_lower.proofs.ElementRuns.{PlaceHolds, element_runs}
+use Rattle.isp_lower.proofs.Exprs.{expr_runs}
 use Rattle.isp_lower.proofs.Done.{done_after, bind_done, bind_checked}
 use Rattle.isp_lower.proofs.Places.{place_runs, place_kept, index_kept}
 use Rattle.isp_lower.proofs.Assigns.{beyond_more, assign_runs, value_runs}

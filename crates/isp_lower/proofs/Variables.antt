@@ -28,8 +28,13 @@ use Rattle.isp_lower.proofs.Found.{few}
 use Rattle.isp_lower.proofs.Values.{wrap_bits}
 use Rattle.isp_lower.proofs.Targets.{InVariable}
 use Rattle.isp_lower.proofs.Nodes.{enters_part, operand_runs}
-use Rattle.isp_lower.proofs.Exprs.{means, NodeRuns, constant_runs, index_node, element_node, convert_node, unary_node, binary_node, compare_node, choose_node, expr_runs}
-use Rattle.isp_lower.proofs.Exprs.{call_node, copied_node, packed_store_node, packed_load_node, base_runs, library_node, values_run, arguments_run}
+use Rattle.isp_lower.proofs.PlainNodes.{means, NodeRuns, constant_runs, index_node, convert_node, unary_node, binary_node, compare_node, copied_node}
+use Rattle.isp_lower.proofs.ElementRuns.{element_node}
+use Rattle.isp_lower.proofs.ChoiceNodes.{choose_node}
+use Rattle.isp_lower.proofs.PackedNodes.{packed_store_node, packed_load_node}
+use Rattle.isp_lower.proofs.LibraryNodes.{library_node}
+use Rattle.isp_lower.proofs.CallNodes.{call_node}
+use Rattle.isp_lower.proofs.Exprs.{expr_runs, base_runs, values_run, arguments_run}
 use Rattle.isp_lower.proofs.Parts.{ExprParts, OperandFits}
 use Rattle.isp_lower.specs.Rated.{Reaches}
 use Rattle.isp_lower.specs.Tables.{IsTyped}
