@@ -28,6 +28,8 @@ mod Foreach
 mod Asserts
 mod Prints
 mod Stmts
+mod LoopParts
+mod LoopTests
 mod Turns
 mod Loops
 mod Parts

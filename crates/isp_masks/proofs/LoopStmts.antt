@@ -37,7 +37,7 @@ use Rattle.isp_masks.proofs.Loops.{loops_run}
 use Rattle.isp_masks.proofs.Names.{named_before, named_past}
 use Rattle.isp_masks.proofs.Sequences.{set_aside}
 use Rattle.isp_masks.proofs.Parts.{FirstFits, StepFits, StmtParts}
-use Rattle.isp_masks.proofs.Turns.{none_done}
+use Rattle.isp_masks.proofs.LoopParts.{none_done}
 
 -- the masks of a loop, for its body
 pub masks_of : (n : ℕ) → AreThree (body_spot n)

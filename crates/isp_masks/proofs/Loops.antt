@@ -18,7 +18,9 @@ use Rattle.isp_masks.specs.Loops.{enter_code, loop_end_code, turn_code, next_cod
 use Rattle.isp_masks.specs.Spots.{Spot}
 use Rattle.isp_masks.specs.StmtRuns.{AreThree, EntersAt, StmtRuns}
 use Rattle.isp_masks.specs.declared.exits.Exits.{Exits}
-use Rattle.isp_masks.proofs.Turns.{none_done, KeptRuns, TopRuns, tested_runs, kept_runs, step_runs, jump_runs, again_runs, begin_runs}
+use Rattle.isp_masks.proofs.LoopParts.{none_done}
+use Rattle.isp_masks.proofs.LoopTests.{KeptRuns, tested_runs}
+use Rattle.isp_masks.proofs.Turns.{TopRuns, kept_runs, step_runs, jump_runs, again_runs, begin_runs}
 
 module _ (w : Setting) (ready : IsSettled w) (e : Exits) (spot : Spot) (three : AreThree spot) (all : Mask) where
   abbrev n : ℕ

@@ -1,9 +1,9 @@
--- The turns of a loop: its end, a turn, the test before or behind it, and what stands between two turns; by induction on the
--- turns that are left.
+-- The turns of a loop: a turn, the test behind it, and what stands between two turns; by induction on the turns that are
+-- left.
 use Rattle.std.proofs.Common.{◌≡◌, ◌≢◌, ℕ, zero, suc, ◌+◌, ◌*◌, ◌<◌, ◌≤◌, List, [], ◌∷◌, ◌++◌, length, Bool, true, false, refl, sym, ap, ◌∙◌, subst, arith, length-append}
 use Rattle.std.specs.Prelude.{not, if◌then◌else◌, ◌||◌}
 use Rattle.isp_base.specs.Maps.{on, where_true}
-use Rattle.isp_base.specs.Sets.{Mask, nobody, union, without, any, all as all_of}
+use Rattle.isp_base.specs.Sets.{Mask, nobody, union, without, any}
 use Rattle.isp_base.specs.declared.types.Rate.{Rate}
 use Rattle.isp_base.specs.declared.types.Rate.TheVariants.{Uniform, Varying}
 use Rattle.isp_code.specs.Conf.{Conf}
@@ -16,23 +16,24 @@ use Rattle.isp_meaning.specs.Loops.{loop_end, stepped, turns}
 use Rattle.isp_meaning.specs.Outcomes.{Val, Gives, Fails, Stops, Done, Res, Went, Trapped, Cut, go_on, with_value, if_so}
 use Rattle.isp_meaning.specs.Payloads.{Payload, is_true, kept_by, bit}
 use Rattle.isp_meaning.specs.State.{State, tick}
-use Rattle.isp_lower.specs.Instructions.{the_others}
 use Rattle.isp_lower.specs.Pieces.{two}
 use Rattle.isp_lower.specs.Layout.{register, mask_register}
-use Rattle.isp_lower.specs.Runs.{Comes, Enters, Runs, DoneOk, DoneRuns, Stopped}
-use Rattle.isp_lower.specs.Setting.{Setting, IsSettled, gang_of, AreAt, At, Stands, Spares, Holds, Allowed}
+use Rattle.isp_lower.specs.Runs.{Comes, Runs, DoneRuns}
+use Rattle.isp_lower.specs.Setting.{Setting, IsSettled, gang_of, AreAt, At, Holds, Allowed}
 use Rattle.isp_lower.proofs.Lemmas.{are_front, are_back, put_same, put_other, comes_none, comes_on, step_go, at_to, spares_all, spares_less, spares_on, failed_after, stopped_after, failed_less}
-use Rattle.isp_lower.proofs.Lemmas.{stopped_less, jumped, jump_comes, jump_at, masked, where_comes, others_comes, masked_at, any_nobody, where_inside, at_kept}
+use Rattle.isp_lower.proofs.Lemmas.{stopped_less, jumped, jump_comes, jump_at, masked, where_comes, masked_at, any_nobody, where_inside, at_kept}
 use Rattle.isp_masks.specs.LoopRuns.{TestRuns, BodyRuns, StepRuns}
-use Rattle.isp_masks.specs.Loops.{copy_mask, if_needed, enter_code, loop_end_code, rejoin_code, turn_code, sift_code, live_code, again_code, next_code}
-use Rattle.isp_masks.specs.Sets.{unite, clear_mask}
+use Rattle.isp_masks.specs.Loops.{if_needed, enter_code, loop_end_code, rejoin_code, turn_code, live_code, again_code, next_code}
+use Rattle.isp_masks.specs.Sets.{clear_mask}
 use Rattle.isp_masks.specs.Spots.{Spot, body_spot}
 use Rattle.isp_masks.specs.StmtRuns.{AreThree, EntersAt, Inside, StmtOk, StmtRuns}
 use Rattle.isp_masks.specs.declared.exits.Exits.{Exits}
 use Rattle.isp_masks.proofs.Combine.{stmt_after}
 use Rattle.isp_masks.specs.Exits.{nobody_leaves, Leave}
 use Rattle.isp_masks.proofs.Members.{none_of, whole}
-use Rattle.isp_masks.proofs.Unions.{union_nobody, without_nobody, union_full}
+use Rattle.isp_masks.proofs.Unions.{union_nobody}
+use Rattle.isp_masks.proofs.LoopParts.{fewer, stmt_further, Gone, gone_moved, InLoop, end_runs, Moved, cleared, rejoined, entered}
+use Rattle.isp_masks.proofs.LoopTests.{KeptRuns}
 
 -- ---- sets of a turn
 
@@ -59,44 +60,10 @@ live_in a g b c r s parts p h = go (g p) refl h
     go false e k = third_in (c p) (a p) _ _ _ (parts p) k
 
 module _ (w : Setting) (ready : IsSettled w) where
-  -- nothing is done
-  pub none_done : (pc k n q : ℕ) (a : Mask) (s : State) (c : Conf) → Enters w pc k n a s c q → DoneOk w c (pc + 0) n q s
-  none_done pc k n q a s c b = record {
-    conf = c;
-    steps = 0;
-    comes = comes_none w c;
-    at = at_to w c pc (pc + 0) b.at (omega arith);
-    stands = b.stands;
-    spares = spares_all w n c;
-    masks = λ r lt. refl;
-    bound = omega (arith, b.used);
-  }
-
-  -- a cut past more turns is one past fewer
-  fewer : (t m : ℕ) (c : Conf) (q : ℕ) (s : State) → m ≤ t → Stopped w t c q s → Stopped w m c q s
-  fewer t m c q s le f = record { conf = f.conf; steps = f.steps; far = omega (arith, f.far); goes = f.goes; out_is = f.out_is; bound = f.bound }
-
-  stmt_fewer : (t m : ℕ) (c : Conf) (pc : ℕ) (spot : Spot) (q : ℕ) (v : Res) → m ≤ t → StmtRuns w t c pc spot q v → StmtRuns w m c pc spot q v
-  stmt_fewer t m c pc spot q (Went s g b ct rt) le r = r
-  stmt_fewer t m c pc spot q (Trapped p s) le r = r
-  stmt_fewer t m c pc spot q (Cut s) le r = fewer t m c q s le r
-
-  -- after a step that came before, it is one past one more
-  stmt_further : (m : ℕ) (c c1 : Conf) (d pc : ℕ) (spot : Spot) (q : ℕ) (v : Res) → Comes w c (suc d) c1 → Spares w spot.slot c c1
-      → ((r : ℕ) → r < spot.slot → r ≢ spot.on → c1.masks r ≡ c.masks r) → AreThree spot → StmtRuns w m c1 pc spot (suc d + q) v
-      → StmtRuns w (suc m) c pc spot q v
-  stmt_further m c c1 d pc spot q (Went s g b ct rt) h sp ma th r = stmt_after w ready m c c1 (suc d) pc spot q (Went s g b ct rt) h sp ma th r
-  stmt_further m c c1 d pc spot q (Trapped p s) h sp ma th r = failed_after w ready c c1 (suc d) q p s h r
-  stmt_further m c c1 d pc spot q (Cut s) h sp ma th r =
-      record { conf = r.conf; steps = suc d + r.steps; far = omega (arith, r.far); goes = comes_on w c c1 r.conf (suc d) r.steps h r.goes; out_is = r.out_is; bound = omega (arith, r.bound) }
-
   module _ (wide : Bool) (e : Exits) (spot : Spot) (three : AreThree spot) (all : Mask) where
     -- the masks of the whole, and the first slot
     abbrev k : ℕ
     k = spot.on
-
-    abbrev co : ℕ
-    co = spot.continued
 
     abbrev rr : ℕ
     rr = spot.returned
@@ -107,260 +74,17 @@ module _ (w : Setting) (ready : IsSettled w) where
     lk : k < n
     lk = three.low_on
 
-    lco : co < n
-    lco = three.low_continued
-
-    lrr : rr < n
-    lrr = three.low_returned
-
-    -- those that returned so far: in mask n + 2, or nobody where the body lets nobody return
-    abbrev pub Gone : Bool → Mask → Conf → Type 0
-    Gone true r c = c.masks (n + 2) ≡ r
-    Gone false r c = r ≡ nobody
-
-    gone_moved : (b : Bool) (returned : Mask) (c c1 : Conf) → c1.masks (n + 2) ≡ c.masks (n + 2) → Gone b returned c → Gone b returned c1
-    gone_moved true returned c c1 same g = same ∙ g
-    gone_moved false returned c c1 same g = g
-
-    -- the machine stands in the loop, with these live
-    pub record InLoop (pc : ℕ) (live returned : Mask) (s : State) (c : Conf) : Type 0 where
-      pub at : At w c pc
-      pub all_is : c.masks k ≡ all
-      pub live_is : c.masks n ≡ live
-      pub gone : Gone e.returns returned c
-      pub stands : Stands w s c
-
-    -- ---- the end
-
-    pub end_runs : (t pc q : ℕ) (live returned : Mask) (s : State) (c : Conf) → InLoop pc live returned s c → 2 + q ≤ 32 * s.work
-        → AreAt w.routine.code pc (loop_end_code e k rr n)
-        → StmtRuns w t c (pc + length (loop_end_code e k rr n)) spot q (Went s (without all returned) nobody nobody returned)
-    end_runs t pc q live returned s c i le has = go e.returns i.gone has
-      where
-        ck : co ≢ k
-        ck = λ h. three.on_continued (sym h)
-
-        rk : rr ≢ k
-        rk = λ h. three.on_returned (sym h)
-
-        m2k : n + 2 ≢ k
-        m2k = omega arith
-
-        go : (b : Bool) → Gone b returned c → AreAt w.routine.code pc (if_needed b (the_others k k (n + 2) ∷ unite rr rr (n + 2) ∷ []))
-            → StmtOk w c (pc + length (if_needed b (the_others k k (n + 2) ∷ unite rr rr (n + 2) ∷ []))) spot q s (without all returned) nobody
-            returned
-        go false g h = record {
-          conf = c;
-          steps = 0;
-          comes = comes_none w c;
-          at = at_to w c pc (pc + 0) i.at (omega arith);
-          stands = i.stands;
-          spares = spares_all w n c;
-          went = i.all_is ∙ sym (without_nobody all) ∙ ap (without all) (sym g);
-          continued = sym (union_nobody (c.masks co));
-          returned = sym (union_nobody (c.masks rr)) ∙ ap (union (c.masks rr)) (sym g);
-          masks = λ j lt x y z. refl;
-          bound = omega (arith, le);
-        }
-        go true g h = record {
-          conf = c2;
-          steps = 2;
-          comes = comes_on w c c1 c2 1 1 (others_comes w ready c pc k k (n + 2) i.at h.0) (step_go w c1 (pc + 1) (unite rr rr (n + 2)) c2 ready at1 h.1.0 refl);
-          at = at_to w c2 (pc + 1 + 1) (pc + 2) (masked_at w ready c1 (pc + 1) rr u2 at1) (omega arith);
-          stands = i.stands;
-          spares = spares_all w n c;
-          went = put_other c1.masks rr u2 k three.on_returned ∙ put_same c.masks k u1 ∙ ap (λ z. without z (c.masks (n + 2))) i.all_is ∙ ap (without all) g;
-          continued = put_other c1.masks rr u2 co three.continued_returned ∙ put_other c.masks k u1 co ck ∙ sym (union_nobody (c.masks co));
-          returned = put_same c1.masks rr u2 ∙ ap (λ z. union z (c1.masks (n + 2))) (put_other c.masks k u1 rr rk) ∙ ap (union (c.masks rr)) (put_other c.masks k u1 (n + 2) m2k ∙ g);
-          masks = λ j lt x y z. put_other c1.masks rr u2 j z ∙ put_other c.masks k u1 j x;
-          bound = omega (arith, le);
-        }
-          where
-            u1 : Mask
-            u1 = without (c.masks k) (c.masks (n + 2))
-
-            c1 : Conf
-            c1 = masked w ready c k u1
-
-            at1 : At w c1 (pc + 1)
-            at1 = masked_at w ready c pc k u1 i.at
-
-            u2 : Mask
-            u2 = union (c1.masks rr) (c1.masks (n + 2))
-
-            c2 : Conf
-            c2 = masked w ready c1 rr u2
-
-    -- ---- a turn
-
-    -- from one place in the loop to another, in at least so many steps
-    pub record Moved (pc : ℕ) (live returned : Mask) (s : State) (c : Conf) (most : ℕ) : Type 0 where
-      pub conf : Conf
-      pub steps : ℕ
-      pub comes : Comes w c steps conf
-      pub few : steps ≤ most
-      pub spares : Spares w n c conf
-      pub masks : (r : ℕ) → r < n → conf.masks r ≡ c.masks r
-      pub loop : InLoop pc live returned s conf
-
-    -- nobody has continued yet
-    cleared : (pc : ℕ) (kept returned : Mask) (s : State) (c : Conf) → InLoop pc kept returned s c
-        → AreAt w.routine.code pc (if_needed e.continues (clear_mask (n + 1) ∷ []))
-        → (m : Moved (pc + length (if_needed e.continues (clear_mask (n + 1) ∷ []))) kept returned s c 1)
-        × (e.continues ≡ true → m.conf.masks (n + 1) ≡ nobody)
-    cleared pc kept returned s c i has = go e.continues has
-      where
-        c1 : Conf
-        c1 = masked w ready c (n + 1) nobody
-
-        n1 : n ≢ n + 1
-        n1 = omega arith
-
-        n2 : n + 2 ≢ n + 1
-        n2 = omega arith
-
-        k1 : k ≢ n + 1
-        k1 = omega (arith, three.low_on)
-
-        gone_on : (b : Bool) → Gone b returned c → Gone b returned c1
-        gone_on true g = put_other c.masks (n + 1) nobody (n + 2) n2 ∙ g
-        gone_on false g = g
-
-        go : (b : Bool) → AreAt w.routine.code pc (if_needed b (clear_mask (n + 1) ∷ [])) → (m : Moved (pc + length (if_needed b (clear_mask (n + 1) ∷ []))) kept returned s c 1) × (b ≡ true → m.conf.masks (n + 1) ≡ nobody)
-        go true h = (
-          record {
-            conf = c1;
-            steps = 1;
-            comes = step_go w c pc (clear_mask (n + 1)) c1 ready i.at h.0 refl;
-            few = omega arith;
-            spares = spares_all w n c;
-            masks = λ r lt. let ne : r ≢ n + 1 = omega arith in put_other c.masks (n + 1) nobody r ne;
-            loop = record { at = masked_at w ready c pc (n + 1) nobody i.at; all_is = put_other c.masks (n + 1) nobody k k1 ∙ i.all_is; live_is = put_other c.masks (n + 1) nobody n n1 ∙ i.live_is; gone = gone_on e.returns i.gone; stands = i.stands };
-          },
-          λ z. put_same c.masks (n + 1) nobody,
-        )
-        go false h = (
-          record {
-            conf = c;
-            steps = 0;
-            comes = comes_none w c;
-            few = omega arith;
-            spares = spares_all w n c;
-            masks = λ r lt. refl;
-            loop = record
-                { at = at_to w c pc (pc + 0) i.at (omega arith); all_is = i.all_is; live_is = i.live_is; gone = i.gone; stands = i.stands };
-          },
-          λ z. absurd (cc),
-        )
-
-    -- those that continued come back
-    joined : (pc : ℕ) (live returned ct : Mask) (s : State) (c : Conf) → InLoop pc live returned s c → (e.continues ≡ true → c.masks (n + 1) ≡ ct)
-        → (e.continues ≡ false → ct ≡ nobody) → AreAt w.routine.code pc (if_needed e.continues (unite n n (n + 1) ∷ []))
-        → Moved (pc + length (if_needed e.continues (unite n n (n + 1) ∷ []))) (union live ct) returned s c 1
-    joined pc live returned ct s c i those none has = go e.continues those none has
-      where
-        go : (x : Bool) → (x ≡ true → c.masks (n + 1) ≡ ct) → (x ≡ false → ct ≡ nobody) → AreAt w.routine.code pc (if_needed x (unite n n (n + 1) ∷ [])) → Moved (pc + length (if_needed x (unite n n (n + 1) ∷ []))) (union live ct) returned s c 1
-        go true those none h = record {
-          conf = c3;
-          steps = 1;
-          comes = step_go w c pc (unite n n (n + 1)) c3 ready i.at h.0 refl;
-          few = omega arith;
-          spares = spares_all w n c;
-          masks = λ r lt. let ne : r ≢ n = omega arith in put_other c.masks n u3 r ne;
-          loop = record {
-            at = masked_at w ready c pc n u3 i.at;
-            all_is = put_other c.masks n u3 k kn ∙ i.all_is;
-            live_is = put_same c.masks n u3
-                ∙ ap (λ m. union m (c.masks (n + 1))) i.live_is ∙ ap (union live) (those refl);
-            gone = gone_put e.returns i.gone;
-            stands = i.stands;
-          };
-        }
-          where
-            u3 : Mask
-            u3 = union (c.masks n) (c.masks (n + 1))
-
-            c3 : Conf
-            c3 = masked w ready c n u3
-
-            kn : k ≢ n
-            kn = omega (arith, three.low_on)
-
-            n2 : n + 2 ≢ n
-            n2 = omega arith
-
-            gone_put : (y : Bool) → Gone y returned c → Gone y returned c3
-            gone_put true m = put_other c.masks n u3 (n + 2) n2 ∙ m
-            gone_put false m = m
-        go false those none h = record {
-          conf = c;
-          steps = 0;
-          comes = comes_none w c;
-          few = omega arith;
-          spares = spares_all w n c;
-          masks = λ r lt. refl;
-          loop = record { at = at_to w c pc (pc + 0) i.at (omega arith); all_is = i.all_is; live_is = i.live_is ∙ sym (union_nobody live) ∙ ap (union live) (sym (none refl)); gone = i.gone; stands = i.stands };
-        }
-
-    -- a wide loop jumps past this where all lanes are live
-    rejoined : (pc : ℕ) (live returned ct : Mask) (s : State) (c : Conf) → InLoop pc live returned s c → (e.continues ≡ true → c.masks (n + 1) ≡ ct)
-        → (e.continues ≡ false → ct ≡ nobody) → Inside w ct → AreAt w.routine.code pc (rejoin_code wide e pc n)
-        → Moved (pc + length (rejoin_code wide e pc n)) (union live ct) returned s c 2
-    rejoined pc live returned ct s c i those none inside has = by wide has
-      where
-        join : List Instr
-        join = if_needed e.continues (unite n n (n + 1) ∷ [])
-
-        out : ℕ
-        out = pc + 1 + length join
-
-        ends : out ≡ pc + suc (length join)
-        ends = omega arith
-
-        c1 : Conf
-        c1 = jumped w ready c jump.All (mask_register n) out
-
-        full_is : (b : Bool) → all_of (gang_of w) live ≡ b → jumps w.code w.routine c jump.All (mask_register n) ≡ b
-        full_is b h = ap (all_of (gang_of w)) i.live_is ∙ h
-
-        here : (pc1 : ℕ) → At w c1 pc1 → InLoop pc1 live returned s c1
-        here pc1 at = record { at = at; all_is = i.all_is; live_is = i.live_is; gone = gone_moved e.returns returned c c1 refl i.gone; stands = i.stands }
-
-        by : (b : Bool) → AreAt w.routine.code pc (rejoin_code b e pc n) → Moved (pc + length (rejoin_code b e pc n)) (union live ct) returned s c 2
-        by false h = let m = joined pc live returned ct s c i those none h in record { conf = m.conf; steps = m.steps; comes = m.comes; few = omega (arith, m.few); spares = m.spares; masks = m.masks; loop = m.loop }
-        by true h = go (all_of (gang_of w) live) refl
-          where
-            comes : Comes w c 1 c1
-            comes = jump_comes w ready c pc jump.All (mask_register n) out i.at h.0
-
-            go : (b : Bool) → all_of (gang_of w) live ≡ b → Moved (pc + suc (length join)) (union live ct) returned s c 2
-            go true full =
-                let at = at_to w c1 out (pc + suc (length join)) (jump_at w ready c pc jump.All (mask_register n) out true i.at (full_is true full)) ends in
-                let same = union_full (gang_of w) live ct full (λ p h. (inside p h).0) in
-                record { conf = c1; steps = 1; comes = comes; few = omega arith; spares = spares_all w n c; masks = λ r lt. refl; loop = subst (λ z. InLoop (pc + suc (length join)) z returned s c1) (sym same) (here (pc + suc (length join)) at) }
-            go false full =
-                let m = joined (pc + 1) live returned ct s c1 (here (pc + 1) (jump_at w ready c pc jump.All (mask_register n) out false i.at (full_is false full))) those none h.1 in
-                record {
-                  conf = m.conf;
-                  steps = 1 + m.steps;
-                  comes = comes_on w c c1 m.conf 1 m.steps comes m.comes;
-                  few = omega (arith, m.few);
-                  spares = m.spares;
-                  masks = m.masks;
-                  loop = subst (λ z. InLoop z (union live ct) returned s m.conf) ends m.loop;
-                }
-
     -- where a turn begins with some kept: the body runs, and what follows goes on from those that are live
     pub turn_runs : (m pc end q : ℕ) (kept returned : Mask) (s : State) (c : Conf) (code : ℕ → List Instr) (body : Mask → State → Res)
-        (go : Mask → Mask → State → Res) → m ≤ w.turns → InLoop pc kept returned s c → any (gang_of w) kept ≡ true → Inside w kept → q ≤ 32 * s.work
+        (go : Mask → Mask → State → Res) → m ≤ w.turns → InLoop w ready wide e spot three all pc kept returned s c → any (gang_of w) kept ≡ true → Inside w kept → q ≤ 32 * s.work
         → AreAt w.routine.code pc (turn_code wide e pc n code) → BodyRuns w n code body → ((T : Mask) (s : State) → Parted T (body T s))
         → ((T : Mask) (s : State) → Leave e (body T s)) →
-        ((live returned : Mask) (s1 : State) (c1 : Conf) (q1 : ℕ) → InLoop (pc + length (turn_code wide e pc n code)) live returned s1 c1
+        ((live returned : Mask) (s1 : State) (c1 : Conf) (q1 : ℕ) → InLoop w ready wide e spot three all (pc + length (turn_code wide e pc n code)) live returned s1 c1
         → ((p : ℕ) → live p ≡ true → kept p ≡ true) → (nobody_leaves e ≡ true → live ≡ kept) → 10 + q1 ≤ 32 * s1.work
         → StmtRuns w m c1 end spot q1 (go live returned s1))
         → StmtRuns w m c end spot q (go_on (body kept (tick s)) (λ s1 g b c r. go (union g c) (union returned r) s1))
     turn_runs m pc end q kept returned s c code body go le i some inside used has run parts leaves next =
-        let first = cleared pc kept returned s c i (are_front w.routine.code pc (if_needed e.continues (clear_mask (n + 1) ∷ [])) _ has) in
+        let first = cleared w ready wide e spot three all pc kept returned s c i (are_front w.routine.code pc (if_needed e.continues (clear_mask (n + 1) ∷ [])) _ has) in
         with_body first (body kept (tick s)) (run kept (tick s) first.0.conf p1 (first.0.steps + (12 + q)) at_body
         (record {
           at = first.0.loop.at;
@@ -398,7 +122,8 @@ module _ (w : Setting) (ready : IsSettled w) where
         ends = omega (arith, length-append clear (code p1 ++ join), length-append (code p1) join)
 
         -- behind the body, before those that continued come back
-        behind_body : (g b ct rt : Mask) (s1 : State) (z : ℕ) (c1 : Conf) → (ok : StmtOk w c1 p2 (body_spot n) z s1 g ct rt) → c1.masks k ≡ all → Gone e.returns returned c1 → Leave e (Went s1 g b ct rt) → InLoop p2 g (union returned rt) s1 ok.conf
+        behind_body : (g b ct rt : Mask) (s1 : State) (z : ℕ) (c1 : Conf) → (ok : StmtOk w c1 p2 (body_spot n) z s1 g ct rt)
+            → c1.masks k ≡ all → Gone w ready wide e spot three all e.returns returned c1 → Leave e (Went s1 g b ct rt) → InLoop w ready wide e spot three all p2 g (union returned rt) s1 ok.conf
         behind_body g b ct rt s1 z c1 ok ek gone leave = record {
           at = ok.at;
           all_is = (let k0 : k ≢ n = omega (arith, three.low_on) in let k1 : k ≢ n + 1 = omega (arith, three.low_on) in let k2 : k ≢ n + 2 = omega (arith, three.low_on) in ok.masks k (omega (arith, three.low_on)) k0 k1 k2) ∙ ek;
@@ -407,18 +132,18 @@ module _ (w : Setting) (ready : IsSettled w) where
           stands = ok.stands;
         }
           where
-            gone2 : (x : Bool) → e.returns ≡ x → Gone x returned c1 → Gone x (union returned rt) ok.conf
+            gone2 : (x : Bool) → e.returns ≡ x → Gone w ready wide e spot three all x returned c1 → Gone w ready wide e spot three all x (union returned rt) ok.conf
             gone2 true er h = ok.returned ∙ ap (λ m. union m rt) h
             gone2 false er h = ap (λ m. union m rt) h ∙ ap (union nobody) (leave.2 er)
 
-        with_body : (first : (m : Moved p1 kept returned s c 1) × (e.continues ≡ true → m.conf.masks (n + 1) ≡ nobody)) (v : Res)
+        with_body : (first : (m : Moved w ready wide e spot three all p1 kept returned s c 1) × (e.continues ≡ true → m.conf.masks (n + 1) ≡ nobody)) (v : Res)
             → StmtRuns w w.turns first.0.conf p2 (body_spot n) (first.0.steps + (12 + q)) v → Parted kept v → Leave e v
             → StmtRuns w m c end spot q (go_on v (λ s1 g b c r. go (union g c) (union returned r) s1))
         with_body first (Trapped t s1) r pa lv = failed_after w ready c first.0.conf first.0.steps q t s1 first.0.comes
             (failed_less w ready first.0.conf 12 (first.0.steps + q) t s1
             (let eq : first.0.steps + (12 + q) ≡ 12 + (first.0.steps + q) = omega arith in subst
             (λ z. StmtRuns w w.turns first.0.conf p2 (body_spot n) z (Trapped t s1)) eq r))
-        with_body first (Cut s1) r pa lv = fewer w.turns m c q s1 le
+        with_body first (Cut s1) r pa lv = fewer w ready w.turns m c q s1 le
             (stopped_after w ready w.turns c first.0.conf first.0.steps q s1 first.0.comes
             (stopped_less w ready w.turns first.0.conf 12 (first.0.steps + q) s1
             (let eq : first.0.steps + (12 + q) ≡ 12 + (first.0.steps + q) = omega arith in subst
@@ -428,7 +153,7 @@ module _ (w : Setting) (ready : IsSettled w) where
             let i2 = behind_body g b ct rt s1 (f.steps + (12 + q)) f.conf r f.loop.all_is f.loop.gone lv in
             let those : e.continues ≡ true → r.conf.masks (n + 1) ≡ ct = (λ ec. r.continued ∙ ap (λ m. union m ct) (first.1 ec)) in
             let in_gang : Inside w ct = (λ p h. inside p (live_in kept g b ct rt s1 pa p (second_so (g p) (ct p) h))) in
-            let j = rejoined p2 g (union returned rt) ct s1 r.conf i2 those lv.1 in_gang at_join in
+            let j = rejoined w ready wide e spot three all p2 g (union returned rt) ct s1 r.conf i2 those lv.1 in_gang at_join in
             let d = f.steps + (r.steps + j.steps) in
             let low : (x : ℕ) → x < n → j.conf.masks x ≡ c.masks x =
             (λ x lt. (let x0 : x ≢ n = omega arith in let x1 : x ≢ n + 1 = omega arith in let x2 : x ≢ n + 2 = omega arith in j.masks x lt ∙ r.masks x (omega arith) x0 x1 x2) ∙ f.masks x lt) in
@@ -436,164 +161,16 @@ module _ (w : Setting) (ready : IsSettled w) where
             (comes_on w c f.conf j.conf f.steps (r.steps + j.steps) f.comes (comes_on w f.conf r.conf j.conf r.steps j.steps r.comes j.comes))
             (spares_on w n c f.conf j.conf f.spares (spares_on w n f.conf r.conf j.conf
             (spares_less w n (n + 3) f.conf r.conf (omega arith) r.spares) j.spares)) (λ x lt ne. low x lt) three
-            (next (union g ct) (union returned rt) s1 j.conf (d + q) (subst (λ z. InLoop z (union g ct) (union returned rt) s1 j.conf) ends j.loop)
+            (next (union g ct) (union returned rt) s1 j.conf (d + q) (subst (λ z. InLoop w ready wide e spot three all z (union g ct) (union returned rt) s1 j.conf) ends j.loop)
             (live_in kept g b ct rt s1 pa) (λ none. ap (union g) (lv.1 (none_of e.breaks e.continues e.returns none).1) ∙ union_nobody g
             ∙ whole e kept g b ct rt s1 pa lv none) (omega (arith, r.bound, j.few)))
-
-    -- ---- the test
-
-    -- what goes on behind a test, for those that pass
-    abbrev pub KeptRuns : ℕ → (ℕ → List Instr) → ℕ → ℕ → (Mask → Mask → State → Res) → Type 0
-    KeptRuns t rest past end turn =
-        (kept returned : Mask) (s : State) (c : Conf) (pc q : ℕ) → AreAt w.routine.code pc (rest pc) → pc + length (rest pc) ≡ past
-        → InLoop pc kept returned s c → any (gang_of w) kept ≡ true → Inside w kept → q ≤ 32 * s.work
-        → StmtRuns w t c end spot q (turn kept returned s)
-
-    -- the test's value is known
-    sifted : (t : ℕ) (r : Rate) (x pc past q : ℕ) (live returned : Mask) (m : Payload) (s : State) (c : Conf) (rest : ℕ → List Instr)
-        (turn : Mask → Mask → State → Res) → pc + length (sift_code r x pc n rest) ≡ past → InLoop pc live returned s c → Inside w live
-        → any (gang_of w) live ≡ true → Holds r live x m c → 4 + q ≤ 32 * s.work → AreAt w.routine.code pc (sift_code r x pc n rest)
-        → AreAt w.routine.code past (loop_end_code e k rr n) → KeptRuns t rest past (past + length (loop_end_code e k rr n)) turn
-        → StmtRuns w t c (past + length (loop_end_code e k rr n)) spot q
-        (if_so (any (gang_of w) (kept_by is_true live m)) (turn (kept_by is_true live m) returned)
-        (λ s1. Went s1 (without all returned) nobody nobody returned) s)
-    sifted t Uniform x pc past q live returned m s c rest turn eq i inside some hold used has has_end f =
-        subst (λ z. StmtRuns w t c end spot q (if_so (any (gang_of w) (kept_by is_true live z)) (turn (kept_by is_true live z) returned) (λ s1. Went s1 (without all returned) nobody nobody returned) s)) (sym hold)
-        (stmt_after w ready t c c4 1 end spot q _ (jump_comes w ready c pc jump.False (register Uniform x) to i.at has.0) (spares_all w n c) (λ y lt ne. refl) three (go (is_true (c.scalars x)) refl))
-      where
-        to : ℕ
-        to = pc + 1 + length (rest (pc + 1))
-
-        end : ℕ
-        end = past + length (loop_end_code e k rr n)
-
-        to_past : to ≡ past
-        to_past = omega (arith, eq)
-
-        c4 : Conf
-        c4 = jumped w ready c jump.False (register Uniform x) to
-
-        at4 : (b : Bool) → is_true (c.scalars x) ≡ b → At w c4 (if not b then to else pc + 1)
-        at4 b h = jump_at w ready c pc jump.False (register Uniform x) to (not b) i.at (ap not h)
-
-        go : (b : Bool) → is_true (c.scalars x) ≡ b → StmtRuns w t c4 end spot (1 + q) (if_so (any (gang_of w) (if b then live else nobody)) (turn (if b then live else nobody) returned) (λ s1. Went s1 (without all returned) nobody nobody returned) s)
-        go true h =
-            subst (λ z. StmtRuns w t c4 end spot (1 + q) (if_so z (turn live returned) (λ s1. Went s1 (without all returned) nobody nobody returned) s)) (sym some)
-            (f live returned s c4 (pc + 1) (1 + q) has.1 to_past (record { at = at4 true h; all_is = i.all_is; live_is = i.live_is; gone = gone_moved e.returns returned c c4 refl i.gone; stands = i.stands }) some inside (omega (arith, used)))
-        go false h =
-            subst (λ z. StmtRuns w t c4 end spot (1 + q) (if_so z (turn nobody returned) (λ s1. Went s1 (without all returned) nobody nobody returned) s)) (sym (any_nobody (gang_of w)))
-            (end_runs t past (1 + q) live returned s c4 (record {
-              at = at_to w c4 to past (at4 false h) to_past;
-              all_is = i.all_is;
-              live_is = i.live_is;
-              gone = gone_moved e.returns returned c c4
-                  refl i.gone;
-              stands = i.stands;
-            }) (omega (arith, used)) has_end)
-    sifted t Varying x pc past q live returned m s c rest turn eq i inside some hold used has has_end f =
-        subst (λ z. StmtRuns w t c end spot q (if_so (any (gang_of w) z) (turn z returned) (λ s1. Went s1 (without all returned) nobody nobody returned) s)) (sym (at_kept Varying live is_true m ∙ ap (kept_by is_true live) hold))
-        (stmt_after w ready t c c4 2 end spot q _ (comes_on w c c3 c4 1 1 (where_comes w ready c pc n x n i.at has.0)
-        (jump_comes w ready c3 (pc + 1) jump.Off (mask_register n) to at3 has.1.0)) (spares_all w n c) (λ y lt ne. low y lt) three
-        (go (any (gang_of w) kept) refl))
-      where
-        kept : Mask
-        kept = where_true is_true (on live (c.vectors x))
-
-        u3 : Mask
-        u3 = where_true is_true (on (c.masks n) (c.vectors x))
-
-        c3 : Conf
-        c3 = masked w ready c n u3
-
-        at3 : At w c3 (pc + 1)
-        at3 = masked_at w ready c pc n u3 i.at
-
-        to : ℕ
-        to = pc + 1 + 1 + length (rest (pc + 1 + 1))
-
-        end : ℕ
-        end = past + length (loop_end_code e k rr n)
-
-        to_past : to ≡ past
-        to_past = omega (arith, eq)
-
-        c4 : Conf
-        c4 = jumped w ready c3 jump.Off (mask_register n) to
-
-        low : (y : ℕ) → y < n → c4.masks y ≡ c.masks y
-        low y lt = let ne : y ≢ n = omega arith in put_other c.masks n u3 y ne
-
-        kept_is : c4.masks n ≡ kept
-        kept_is = put_same c.masks n u3 ∙ ap (λ z. where_true is_true (on z (c.vectors x))) i.live_is
-
-        n2 : n + 2 ≢ n
-        n2 = omega arith
-
-        gone4 : Gone e.returns returned c4
-        gone4 = gone_moved e.returns returned c c4 (put_other c.masks n u3 (n + 2) n2) i.gone
-
-        off_is : (b : Bool) → any (gang_of w) kept ≡ b → jumps w.code w.routine c3 jump.Off (mask_register n) ≡ not b
-        off_is b h = ap (λ z. not (any (gang_of w) z)) kept_is ∙ ap not h
-
-        at4 : (b : Bool) → any (gang_of w) kept ≡ b → At w c4 (if not b then to else pc + 1 + 1)
-        at4 b h = jump_at w ready c3 (pc + 1) jump.Off (mask_register n) to (not b) at3 (off_is b h)
-
-        go : (b : Bool) → any (gang_of w) kept ≡ b → StmtRuns w t c4 end spot (2 + q) (if_so b (turn kept returned) (λ s1. Went s1 (without all returned) nobody nobody returned) s)
-        go true h =
-            f kept returned s c4 (pc + 1 + 1) (2 + q) has.1.1 to_past
-            (record { at = at4 true h; all_is = low k lk ∙ i.all_is; live_is = kept_is; gone = gone4; stands = i.stands }) h
-            (where_inside (Allowed w) live is_true (c.vectors x) inside) (omega (arith, used))
-        go false h =
-            end_runs t past (2 + q) kept returned s c4 (record { at = at_to w c4 to past (at4 false h) to_past; all_is = low k lk ∙ i.all_is; live_is = kept_is; gone = gone4; stands = i.stands }) (omega (arith, used)) has_end
-
-    -- from where the test begins
-    pub tested_runs : (t : ℕ) (r : Rate) (x top past q : ℕ) (live returned : Mask) (s : State) (c : Conf) (code rest : ℕ → List Instr)
-        (test : Mask → State → Val Payload) (turn : Mask → Mask → State → Res) → t ≤ w.turns
-        → top + length (code top) + length (sift_code r x (top + length (code top)) n rest) ≡ past → InLoop top live returned s c → Inside w live
-        → any (gang_of w) live ≡ true → q ≤ 32 * s.work → AreAt w.routine.code top (code top)
-        → AreAt w.routine.code (top + length (code top)) (sift_code r x (top + length (code top)) n rest)
-        → AreAt w.routine.code past (loop_end_code e k rr n) → TestRuns w n r x code test
-        → KeptRuns t rest past (past + length (loop_end_code e k rr n)) turn
-        → StmtRuns w t c (past + length (loop_end_code e k rr n)) spot q
-        (with_value (test live s) (λ m s1. if_so (any (gang_of w) (kept_by is_true live m)) (turn (kept_by is_true live m) returned)
-        (λ s2. Went s2 (without all returned) nobody nobody returned) s1))
-    tested_runs t r x top past q live returned s c code rest test turn le eq i inside some used at_test at_sift at_end run f =
-        go (test live s) (run live s c top q at_test (record { at = i.at; mask = i.live_is; some = some; inside = inside; stands = i.stands; used = used; low = omega arith }))
-      where
-        pc1 : ℕ
-        pc1 = top + length (code top)
-
-        end : ℕ
-        end = past + length (loop_end_code e k rr n)
-
-        go : (v : Val Payload) → Runs w c pc1 (n + 3) (4 + q) (Holds r live x) v
-            → StmtRuns w t c end spot q (with_value v (λ m s1. if_so (any (gang_of w) (kept_by is_true live m))
-            (turn (kept_by is_true live m) returned) (λ s2. Went s2 (without all returned) nobody nobody returned) s1))
-        go (Gives m s1) ok =
-            let c1 = ok.conf in
-            let same : (y : ℕ) → y < n + 3 → c1.masks y ≡ c.masks y = ok.masks in
-            stmt_after w ready t c c1 ok.steps end spot q _ ok.comes (spares_less w n (n + 3) c c1 (omega arith) ok.spares) (λ y lt ne. ok.masks y (omega arith)) three
-            (sifted t r x pc1 past (ok.steps + q) live returned m s1 c1 rest turn eq
-            (record {
-              at = ok.at;
-              all_is = ok.masks k (omega (arith, three.low_on)) ∙ i.all_is;
-              live_is = ok.masks n (omega arith)
-                  ∙ i.live_is;
-              gone = gone_moved e.returns returned c c1 (ok.masks (n + 2) (omega arith)) i.gone;
-              stands = ok.stands;
-            }) inside some
-            ok.holds (omega (arith, ok.bound)) at_sift at_end f)
-        go (Fails p s1) bad = failed_less w ready c 4 q p s1 bad
-        go (Stops s1) cut = fewer w.turns t c q s1 le (stopped_less w ready w.turns c 4 q s1 cut)
-
-    -- ---- turns, by induction on how many are left
 
     -- what stands behind a turn is asked: the step and the test for those that are live, if there are any, and the next turn;
     -- else the end
     abbrev pub Behind : ℕ → (ℕ → List Instr) → ℕ → ℕ → (Mask → Mask → State → Res) → Type 0
     Behind m code past end next =
         (live returned : Mask) (s : State) (c : Conf) (pc q : ℕ) → AreAt w.routine.code pc (code pc) → pc + length (code pc) ≡ past
-        → InLoop pc live returned s c → Inside w live → (nobody_leaves e ≡ true → any (gang_of w) live ≡ true) → 10 + q ≤ 32 * s.work
+        → InLoop w ready wide e spot three all pc live returned s c → Inside w live → (nobody_leaves e ≡ true → any (gang_of w) live ≡ true) → 10 + q ≤ 32 * s.work
         → StmtRuns w (suc m) c end spot q (if_so (any (gang_of w) live) (next live returned)
         (λ s1. Went s1 (without all returned) nobody nobody returned) s)
 
@@ -605,9 +182,9 @@ module _ (w : Setting) (ready : IsSettled w) where
       rest pc = two pc (turn_code wide e pc n body_code) behind
 
       pub kept_runs : BodyRuns w n body_code body → ((T : Mask) (s : State) → Parted T (body T s)) → ((T : Mask) (s : State) → Leave e (body T s))
-          → ((m : ℕ) → suc m ≤ w.turns → KeptRuns m rest past end (turns_of m)
+          → ((m : ℕ) → suc m ≤ w.turns → KeptRuns w ready wide e spot three all m rest past end (turns_of m)
           → Behind m behind past end (stepped (gang_of w) test body step all (turns_of m))) → (m : ℕ) → m ≤ w.turns
-          → KeptRuns m rest past end (turns_of m)
+          → KeptRuns w ready wide e spot three all m rest past end (turns_of m)
       kept_runs run_body parts leaves next zero le kept returned s c pc q has to i some inside used = record { conf = c; steps = 0; far = omega arith; goes = comes_none w c; out_is = i.stands.out_is; bound = omega (arith, used) }
       kept_runs run_body parts leaves next (suc m) le kept returned s c pc q has to i some inside used =
           turn_runs (suc m) pc end q kept returned s c body_code body
@@ -623,7 +200,7 @@ module _ (w : Setting) (ready : IsSettled w) where
           pc1 = pc + length turn
 
           on_from : Behind m behind past end (stepped (gang_of w) test body step all (turns_of m))
-              → (live ret : Mask) (s1 : State) (c1 : Conf) (q1 : ℕ) → InLoop pc1 live ret s1 c1 → ((p : ℕ) → live p ≡ true → kept p ≡ true)
+              → (live ret : Mask) (s1 : State) (c1 : Conf) (q1 : ℕ) → InLoop w ready wide e spot three all pc1 live ret s1 c1 → ((p : ℕ) → live p ≡ true → kept p ≡ true)
               → (nobody_leaves e ≡ true → live ≡ kept) → 10 + q1 ≤ 32 * s1.work
               → StmtRuns w (suc m) c1 end spot q1 (if_so (any (gang_of w) live) (stepped (gang_of w) test body step all (turns_of m) live ret)
               (loop_end (gang_of w) test body step all ret) s1)
@@ -631,13 +208,13 @@ module _ (w : Setting) (ready : IsSettled w) where
               f live ret s1 c1 pc1 q1 (are_back w.routine.code pc turn (behind pc1) has) (omega (arith, to, length-append turn (behind pc1))) j (λ p h. inside p (sub p h)) (λ h. ap (any (gang_of w)) (whole h) ∙ some) le1
 
     -- a step of the machine to another instruction of the loop
-    moved_on : (pc : ℕ) (live returned : Mask) (s : State) (c : Conf) (to : ℕ) → InLoop pc live returned s c → InLoop to live returned s (record c { pc = to })
+    moved_on : (pc : ℕ) (live returned : Mask) (s : State) (c : Conf) (to : ℕ) → InLoop w ready wide e spot three all pc live returned s c → InLoop w ready wide e spot three all to live returned s (record c { pc = to })
     moved_on pc live returned s c to i = record {
       at = record { home_is = i.at.home_is; waiting_is = i.at.waiting_is; pc_is = refl };
       all_is =
           i.all_is;
       live_is = i.live_is;
-      gone = gone_moved e.returns returned c (record c { pc = to }) refl i.gone;
+      gone = gone_moved w ready wide e spot three all e.returns returned c (record c { pc = to }) refl i.gone;
       stands = i.stands;
     }
 
@@ -645,8 +222,8 @@ module _ (w : Setting) (ready : IsSettled w) where
     live_runs : (t : ℕ) (d : Bool) (past end pc q : ℕ) (live returned : Mask) (s : State) (c : Conf) (code : ℕ → List Instr)
         (go : Mask → Mask → State → Res) → end ≡ past + length (loop_end_code e k rr n) → (d ≡ true → any (gang_of w) live ≡ true)
         → AreAt w.routine.code pc (live_code d n pc code) → pc + length (live_code d n pc code) ≡ past
-        → AreAt w.routine.code past (loop_end_code e k rr n) → InLoop pc live returned s c → 10 + q ≤ 32 * s.work
-        → ((c1 : Conf) (pc1 q1 : ℕ) → AreAt w.routine.code pc1 (code pc1) → pc1 + length (code pc1) ≡ past → InLoop pc1 live returned s c1
+        → AreAt w.routine.code past (loop_end_code e k rr n) → InLoop w ready wide e spot three all pc live returned s c → 10 + q ≤ 32 * s.work
+        → ((c1 : Conf) (pc1 q1 : ℕ) → AreAt w.routine.code pc1 (code pc1) → pc1 + length (code pc1) ≡ past → InLoop w ready wide e spot three all pc1 live returned s c1
         → any (gang_of w) live ≡ true → 9 + q1 ≤ 32 * s.work → StmtRuns w t c1 end spot q1 (go live returned s))
         → StmtRuns w t c end spot q (if_so (any (gang_of w) live) (go live returned) (λ s1. Went s1 (without all returned) nobody nobody returned) s)
     live_runs t true past end pc q live returned s c code go ends must has to at_end i used f =
@@ -666,27 +243,27 @@ module _ (w : Setting) (ready : IsSettled w) where
         off_is : (b : Bool) → any (gang_of w) live ≡ b → jumps w.code w.routine c jump.Off (mask_register n) ≡ not b
         off_is b h = ap (λ z. not (any (gang_of w) z)) i.live_is ∙ ap not h
 
-        in4 : (pc1 : ℕ) → At w c4 pc1 → InLoop pc1 live returned s c4
-        in4 pc1 at = record { at = at; all_is = i.all_is; live_is = i.live_is; gone = gone_moved e.returns returned c c4 refl i.gone; stands = i.stands }
+        in4 : (pc1 : ℕ) → At w c4 pc1 → InLoop w ready wide e spot three all pc1 live returned s c4
+        in4 pc1 at = record { at = at; all_is = i.all_is; live_is = i.live_is; gone = gone_moved w ready wide e spot three all e.returns returned c c4 refl i.gone; stands = i.stands }
 
         by : (b : Bool) → any (gang_of w) live ≡ b → StmtRuns w t c4 end spot (1 + q) (if_so b (go live returned) (λ s1. Went s1 (without all returned) nobody nobody returned) s)
         by true h = f c4 (pc + 1) (1 + q) has.1 out_is (in4 (pc + 1) (jump_at w ready c pc jump.Off (mask_register n) out false i.at (off_is true h))) h (omega (arith, used))
         by false h =
             subst (λ z. StmtRuns w t c4 z spot (1 + q) (Went s (without all returned) nobody nobody returned)) (sym ends)
-            (end_runs t past (1 + q) live returned s c4 (in4 past (at_to w c4 out past (jump_at w ready c pc jump.Off (mask_register n) out true i.at (off_is false h)) out_is)) (omega (arith, used)) at_end)
+            (end_runs w ready wide e spot three all t past (1 + q) live returned s c4 (in4 past (at_to w c4 out past (jump_at w ready c pc jump.Off (mask_register n) out true i.at (off_is false h)) out_is)) (omega (arith, used)) at_end)
 
     -- ---- the step, and what leads back
 
     -- what goes on from where a turn begins, or the test before it
     abbrev pub TopRuns : ℕ → ℕ → ℕ → (Mask → Mask → State → Res) → Type 0
     TopRuns t top end value =
-        (q : ℕ) (live returned : Mask) (s : State) (c : Conf) → InLoop top live returned s c → Inside w live → any (gang_of w) live ≡ true → q ≤ 32 * s.work → StmtRuns w t c end spot q (value live returned s)
+        (q : ℕ) (live returned : Mask) (s : State) (c : Conf) → InLoop w ready wide e spot three all top live returned s c → Inside w live → any (gang_of w) live ≡ true → q ≤ 32 * s.work → StmtRuns w t c end spot q (value live returned s)
 
     -- what leads back to the next turn, behind the step
     abbrev pub BackRuns : ℕ → (ℕ → List Instr) → ℕ → ℕ → (Mask → Mask → State → Res) → Type 0
     BackRuns m back past end next =
         (live returned : Mask) (s : State) (c : Conf) (pc q : ℕ) → AreAt w.routine.code pc (back pc) → pc + length (back pc) ≡ past
-        → InLoop pc live returned s c → Inside w live → any (gang_of w) live ≡ true → 4 + q ≤ 32 * s.work
+        → InLoop w ready wide e spot three all pc live returned s c → Inside w live → any (gang_of w) live ≡ true → 4 + q ≤ 32 * s.work
         → StmtRuns w (suc m) c end spot q (next live returned s)
 
     pub step_runs : (m past end : ℕ) (step_code back : ℕ → List Instr) (step : Mask → State → Val Done) (next : Mask → Mask → State → Res)
@@ -707,7 +284,7 @@ module _ (w : Setting) (ready : IsSettled w) where
           low = omega arith;
         })))
       where
-        go : (c1 : Conf) (pc1 q1 : ℕ) → InLoop pc1 live returned s c1 → any (gang_of w) live ≡ true → (v : Val Done)
+        go : (c1 : Conf) (pc1 q1 : ℕ) → InLoop w ready wide e spot three all pc1 live returned s c1 → any (gang_of w) live ≡ true → (v : Val Done)
             → AreAt w.routine.code pc1 (two pc1 (step_code pc1) back) → pc1 + length (two pc1 (step_code pc1) back) ≡ past
             → DoneRuns w c1 (pc1 + length (step_code pc1)) (n + 3) (4 + q1) v
             → StmtRuns w (suc m) c1 end spot q1 (with_value v (λ _ s1. next live returned s1))
@@ -722,25 +299,25 @@ module _ (w : Setting) (ready : IsSettled w) where
               all_is = ok.masks k (omega (arith, three.low_on)) ∙ i1.all_is;
               live_is = ok.masks n (omega arith)
                   ∙ i1.live_is;
-              gone = gone_moved e.returns returned c1 c2 (ok.masks (n + 2) (omega arith)) i1.gone;
+              gone = gone_moved w ready wide e spot three all e.returns returned c1 c2 (ok.masks (n + 2) (omega arith)) i1.gone;
               stands = ok.stands;
             }) inside some
             (omega (arith, ok.bound)))
         go c1 pc1 q1 i1 some (Fails p s1) at to1 bad = failed_less w ready c1 4 q1 p s1 bad
-        go c1 pc1 q1 i1 some (Stops s1) at to1 cut = fewer w.turns (suc m) c1 q1 s1 le (stopped_less w ready w.turns c1 4 q1 s1 cut)
+        go c1 pc1 q1 i1 some (Stops s1) at to1 cut = fewer w ready w.turns (suc m) c1 q1 s1 le (stopped_less w ready w.turns c1 4 q1 s1 cut)
 
     -- a jump, where there is no test
     pub jump_runs : (m top past end : ℕ) (next : Mask → Mask → State → Res) → TopRuns m top end next → BackRuns m (λ pc. instr.Jump top ∷ []) past end next
     jump_runs m top past end next f live returned s c pc q has to i inside some used =
         let c1 : Conf = record c { pc = top } in
-        stmt_further m c c1 0 end spot q _ (step_go w c pc (instr.Jump top) c1 ready i.at has.0 refl) (spares_all w n c) (λ y lt ne. refl) three
+        stmt_further w ready m c c1 0 end spot q _ (step_go w c pc (instr.Jump top) c1 ready i.at has.0 refl) (spares_all w n c) (λ y lt ne. refl) three
         (f (1 + q) live returned s c1 (moved_on pc live returned s c top i) inside some (omega (arith, used)))
 
     -- a test, and a jump back to the body
     pub again_runs : (m : ℕ) (r : Rate) (x top past end : ℕ) (test_code rest_code : ℕ → List Instr) (test : Mask → State → Val Payload)
         (turn : Mask → Mask → State → Res) → suc m ≤ w.turns → end ≡ past + length (loop_end_code e k rr n)
         → AreAt w.routine.code past (loop_end_code e k rr n) → AreAt w.routine.code top (rest_code top) → top + length (rest_code top) ≡ past
-        → TestRuns w n r x test_code test → KeptRuns m rest_code past end turn
+        → TestRuns w n r x test_code test → KeptRuns w ready wide e spot three all m rest_code past end turn
         → BackRuns m (λ pc. test_code pc ++ again_code r x n top) past end
         (λ live returned s. with_value (test live s) (λ v s1. if_so (any (gang_of w) (kept_by is_true live v))
         (turn (kept_by is_true live v) returned) (λ s2. Went s2 (without all returned) nobody nobody returned) s1))
@@ -754,7 +331,7 @@ module _ (w : Setting) (ready : IsSettled w) where
         finish s2 = Went s2 (without all returned) nobody nobody returned
 
         -- the jump is taken, or the end follows; the test's value is known
-        jump_back : (r : Rate) (pc2 q2 : ℕ) (v : Payload) (s1 : State) (c2 : Conf) → InLoop pc2 live returned s1 c2 → any (gang_of w) live ≡ true
+        jump_back : (r : Rate) (pc2 q2 : ℕ) (v : Payload) (s1 : State) (c2 : Conf) → InLoop w ready wide e spot three all pc2 live returned s1 c2 → any (gang_of w) live ≡ true
             → Holds r live x v c2 → 4 + q2 ≤ 32 * s1.work → AreAt w.routine.code pc2 (again_code r x n top)
             → pc2 + length (again_code r x n top) ≡ past → StmtRuns w (suc m) c2 end spot q2
             (if_so (any (gang_of w) (kept_by is_true live v)) (turn (kept_by is_true live v) returned) finish s1)
@@ -764,8 +341,8 @@ module _ (w : Setting) (ready : IsSettled w) where
             c3 : Conf
             c3 = jumped w ready c2 jump.True (register Uniform x) top
 
-            in3 : (pc3 : ℕ) → At w c3 pc3 → InLoop pc3 live returned s1 c3
-            in3 pc3 h = record { at = h; all_is = j.all_is; live_is = j.live_is; gone = gone_moved e.returns returned c2 c3 refl j.gone; stands = j.stands }
+            in3 : (pc3 : ℕ) → At w c3 pc3 → InLoop w ready wide e spot three all pc3 live returned s1 c3
+            in3 pc3 h = record { at = h; all_is = j.all_is; live_is = j.live_is; gone = gone_moved w ready wide e spot three all e.returns returned c2 c3 refl j.gone; stands = j.stands }
 
             comes : Comes w c2 1 c3
             comes = jump_comes w ready c2 pc2 jump.True (register Uniform x) top j.at at.0
@@ -773,13 +350,13 @@ module _ (w : Setting) (ready : IsSettled w) where
             by : (b : Bool) → is_true (c2.scalars x) ≡ b → StmtRuns w (suc m) c2 end spot q2 (if_so (any (gang_of w) (if b then live else nobody)) (turn (if b then live else nobody) returned) finish s1)
             by true h =
                 subst (λ z. StmtRuns w (suc m) c2 end spot q2 (if_so z (turn live returned) finish s1)) (sym some)
-                (stmt_further m c2 c3 0 end spot q2 _ comes (spares_all w n c2) (λ y lt ne. refl) three
+                (stmt_further w ready m c2 c3 0 end spot q2 _ comes (spares_all w n c2) (λ y lt ne. refl) three
                 (f live returned s1 c3 top (1 + q2) at_top top_past (in3 top (jump_at w ready c2 pc2 jump.True (register Uniform x) top true j.at h)) some inside (omega (arith, used2))))
             by false h =
                 subst (λ z. StmtRuns w (suc m) c2 end spot q2 (if_so z (turn nobody returned) finish s1)) (sym (any_nobody (gang_of w)))
                 (stmt_after w ready (suc m) c2 c3 1 end spot q2 (finish s1) comes (spares_all w n c2) (λ y lt ne. refl) three
                 (subst (λ z. StmtRuns w (suc m) c3 z spot (1 + q2) (finish s1)) (sym ends)
-                (end_runs (suc m) past (1 + q2) live returned s1 c3
+                (end_runs w ready wide e spot three all (suc m) past (1 + q2) live returned s1 c3
                 (in3 past (at_to w c3 (pc2 + 1) past (jump_at w ready c2 pc2 jump.True (register Uniform x) top false j.at h)
                 (omega (arith, to2)))) (omega (arith, used2)) at_end)))
         jump_back Varying pc2 q2 v s1 c2 j some hold used2 at to2 =
@@ -809,8 +386,8 @@ module _ (w : Setting) (ready : IsSettled w) where
             n2 : n + 2 ≢ n
             n2 = omega arith
 
-            in4 : (pc3 : ℕ) → At w c4 pc3 → InLoop pc3 kept returned s1 c4
-            in4 pc3 h = record { at = h; all_is = low k lk ∙ j.all_is; live_is = kept_is; gone = gone_moved e.returns returned c2 c4 (put_other c2.masks n u3 (n + 2) n2) j.gone; stands = j.stands }
+            in4 : (pc3 : ℕ) → At w c4 pc3 → InLoop w ready wide e spot three all pc3 kept returned s1 c4
+            in4 pc3 h = record { at = h; all_is = low k lk ∙ j.all_is; live_is = kept_is; gone = gone_moved w ready wide e spot three all e.returns returned c2 c4 (put_other c2.masks n u3 (n + 2) n2) j.gone; stands = j.stands }
 
             comes : Comes w c2 2 c4
             comes = comes_on w c2 c3 c4 1 1 (where_comes w ready c2 pc2 n x n j.at at.0) (jump_comes w ready c3 (pc2 + 1) jump.On (mask_register n) top at3 at.1.0)
@@ -820,16 +397,16 @@ module _ (w : Setting) (ready : IsSettled w) where
 
             by : (b : Bool) → any (gang_of w) kept ≡ b → StmtRuns w (suc m) c2 end spot q2 (if_so b (turn kept returned) finish s1)
             by true h =
-                stmt_further m c2 c4 1 end spot q2 _ comes (spares_all w n c2) (λ y lt ne. low y lt) three
+                stmt_further w ready m c2 c4 1 end spot q2 _ comes (spares_all w n c2) (λ y lt ne. low y lt) three
                 (f kept returned s1 c4 top (2 + q2) at_top top_past (in4 top (jump_at w ready c3 (pc2 + 1) jump.On (mask_register n) top true at3 (on_is true h))) h (where_inside (Allowed w) live is_true (c2.vectors x) inside) (omega (arith, used2)))
             by false h =
                 stmt_after w ready (suc m) c2 c4 2 end spot q2 (finish s1) comes (spares_all w n c2) (λ y lt ne. low y lt) three
                 (subst (λ z. StmtRuns w (suc m) c4 z spot (2 + q2) (finish s1)) (sym ends)
-                (end_runs (suc m) past (2 + q2) kept returned s1 c4
+                (end_runs w ready wide e spot three all (suc m) past (2 + q2) kept returned s1 c4
                 (in4 past (at_to w c4 (pc2 + 1 + 1) past (jump_at w ready c3 (pc2 + 1) jump.On (mask_register n) top false at3 (on_is false h))
                 (omega (arith, to2)))) (omega (arith, used2)) at_end))
 
-        go : (c1 : Conf) (pc1 q1 : ℕ) → InLoop pc1 live returned s c1 → any (gang_of w) live ≡ true → (v : Val Payload)
+        go : (c1 : Conf) (pc1 q1 : ℕ) → InLoop w ready wide e spot three all pc1 live returned s c1 → any (gang_of w) live ≡ true → (v : Val Payload)
             → AreAt w.routine.code (pc1 + length (test_code pc1)) (again_code r x n top)
             → pc1 + length (test_code pc1) + length (again_code r x n top) ≡ past
             → Runs w c1 (pc1 + length (test_code pc1)) (n + 3) (4 + q1) (Holds r live x) v
@@ -844,83 +421,19 @@ module _ (w : Setting) (ready : IsSettled w) where
               all_is = ok.masks k (omega (arith, three.low_on)) ∙ i1.all_is;
               live_is = ok.masks n (omega arith)
                   ∙ i1.live_is;
-              gone = gone_moved e.returns returned c1 c2 (ok.masks (n + 2) (omega arith)) i1.gone;
+              gone = gone_moved w ready wide e spot three all e.returns returned c1 c2 (ok.masks (n + 2) (omega arith)) i1.gone;
               stands = ok.stands;
             }) some ok.holds
             (omega (arith, ok.bound)) at to2)
         go c1 pc1 q1 i1 some (Fails p s1) at to2 bad = failed_less w ready c1 4 q1 p s1 bad
-        go c1 pc1 q1 i1 some (Stops s1) at to2 cut = fewer w.turns (suc m) c1 q1 s1 le (stopped_less w ready w.turns c1 4 q1 s1 cut)
+        go c1 pc1 q1 i1 some (Stops s1) at to2 cut = fewer w ready w.turns (suc m) c1 q1 s1 le (stopped_less w ready w.turns c1 4 q1 s1 cut)
 
     -- ---- the beginning
-
-    -- all of the set run, and nobody has returned
-    pub entered : (pc : ℕ) (s : State) (c : Conf) → At w c pc → c.masks k ≡ all → Stands w s c → AreAt w.routine.code pc (enter_code e k n) → Moved (pc + length (enter_code e k n)) all nobody s c 2
-    entered pc s c at ek st has = go e.returns refl has
-      where
-        c1 : Conf
-        c1 = masked w ready c n (c.masks k)
-
-        at1 : At w c1 (pc + 1)
-        at1 = masked_at w ready c pc n (c.masks k) at
-
-        first : Comes w c 1 c1
-        first = step_go w c pc (copy_mask n k) c1 ready at has.0 refl
-
-        kn : k ≢ n
-        kn = omega (arith, three.low_on)
-
-        low1 : (y : ℕ) → y < n → c1.masks y ≡ c.masks y
-        low1 y lt = let ne : y ≢ n = omega arith in put_other c.masks n (c.masks k) y ne
-
-        c2 : Conf
-        c2 = masked w ready c1 (n + 2) nobody
-
-        n2 : n ≢ n + 2
-        n2 = omega arith
-
-        k2 : k ≢ n + 2
-        k2 = omega (arith, three.low_on)
-
-        gone2 : (b : Bool) → Gone b nobody c2
-        gone2 true = put_same c1.masks (n + 2) nobody
-        gone2 false = refl
-
-        gone1 : (b : Bool) → b ≡ false → Gone b nobody c1
-        gone1 true h = absurd (cc)
-        gone1 false h = refl
-
-        go : (b : Bool) → e.returns ≡ b → AreAt w.routine.code pc (copy_mask n k ∷ if_needed b (clear_mask (n + 2) ∷ [])) → Moved (pc + length (copy_mask n k ∷ if_needed b (clear_mask (n + 2) ∷ []))) all nobody s c 2
-        go false h code = record {
-          conf = c1;
-          steps = 1;
-          comes = first;
-          few = omega arith;
-          spares = spares_all w n c;
-          masks = low1;
-          loop = record { at = at_to w c1 (pc + 1) _ at1 (omega arith); all_is = low1 k lk ∙ ek; live_is = put_same c.masks n (c.masks k) ∙ ek; gone = gone1 e.returns h; stands = st };
-        }
-        go true h code = record {
-          conf = c2;
-          steps = 2;
-          comes = comes_on w c c1 c2 1 1 first (step_go w c1 (pc + 1) (clear_mask (n + 2)) c2 ready at1 code.1.0 refl);
-          few = omega arith;
-          spares = spares_all w n c;
-          masks = λ y lt. (let ne : y ≢ n + 2 = omega arith in put_other c1.masks (n + 2) nobody y ne) ∙ low1 y lt;
-          loop = record {
-            at = at_to w c2 (pc + 1 + 1) _ (masked_at w ready c1 (pc + 1) (n + 2) nobody at1) (omega arith);
-            all_is = put_other c1.masks
-                (n + 2) nobody k k2 ∙ low1 k lk ∙ ek;
-            live_is = put_other c1.masks (n + 2) nobody n n2 ∙ put_same c.masks n (c.masks k)
-                ∙ ek;
-            gone = gone2 e.returns;
-            stands = st;
-          };
-        }
 
     -- a loop begins
     pub begin_runs : (pc end q : ℕ) (s : State) (c : Conf) (value : Mask → Mask → State → Res) → AreAt w.routine.code pc (enter_code e k n)
         → EntersAt w pc spot all s c (3 + q) → TopRuns w.turns (pc + length (enter_code e k n)) end value
         → StmtRuns w w.turns c end spot (1 + q) (value all nobody s)
     begin_runs pc end q s c value has b f =
-        let m = entered pc s c b.at b.mask b.stands has in
+        let m = entered w ready wide e spot three all pc s c b.at b.mask b.stands has in
         stmt_after w ready w.turns c m.conf m.steps end spot (1 + q) (value all nobody s) m.comes m.spares (λ y lt ne. m.masks y lt) three (f (m.steps + (1 + q)) all nobody s m.conf m.loop b.inside b.some (omega (arith, m.few, b.used)))
