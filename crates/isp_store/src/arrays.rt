@@ -1,13 +1,14 @@
 //! The arrays that all lanes share.
-ghost use Rattle.std.specs.Prelude.{◌≡◌, ◌+◌, ◌<◌, ◌≤◌, ◌^◌, ◌++◌, ◌∷◌, [], unsigned_abs, length, take, replicate, slice_set, true, false, Some, None, IfOk, IfErr, OnOk, OnErr};
+ghost use Rattle.std.specs.Prelude.{◌≡◌, ◌+◌, ◌<◌, ◌≤◌, ◌^◌, length, take, slice_set, true, false, Some, None, IfOk, IfErr, OnOk, OnErr};
 ghost use Rattle.isp_base.specs.declared.types.Elem.TheVariants.{I64};
 ghost use Rattle.isp_base.specs.Access.{is_outside, element, scatter};
-ghost use Rattle.isp_base.specs.Maps.{lane_of, on, over, map1, lowest_failing, put};
-ghost use Rattle.isp_base.specs.Cross.{rank, run_index, run_outside, run_places, packed_index, packed_outside, packed_places};
+ghost use Rattle.isp_base.specs.Maps.{lane_of, on, put};
+ghost use Rattle.isp_base.specs.Cross.{rank, run_places, packed_places};
 ghost use Rattle.isp_base.specs.Sets.{flag_of, lowest};
 ghost use Rattle.isp_base.specs.Values.{number, width};
 ghost use Rattle.isp_lanes.specs.Lanes.{vector};
-ghost use Rattle.isp_store.specs.Held.{elements, size, elem, shapes, named};
+ghost use Rattle.isp_store.specs.Held.{changed, elements, size, elem, shapes, named, with_array};
+ghost use Rattle.isp_store.specs.Access.{gathered, lowest_out, packed_loaded, packed_out, packed_stored, run_loaded, run_out, run_stored, scattered};
 
 use crate::consecutive::{is_whole, packed_places, run_places};
 use crate::index::{IndexTrap, limit, trap_under};
@@ -93,7 +94,7 @@ impl Arrays {
     /// One more local array, of `count` elements, all zero. 0 where memory is refused, and then
     /// nothing changes.
     pub fn open_local(&mut self, elem: Elem, count: usize) -> Result<(), AllocError>
-        ensures ok { OnOk result (self.new ≡ record self.old { rows = self.old.rows ++ record { elem = elem; bits = replicate count 0 } ∷ [] }) }
+        ensures ok { OnOk result (self.new ≡ with_array self.old elem count) }
         ensures err { OnErr result (self.new ≡ self.old) }
     {
         let array = rows::zeros(self.alloc, elem, count)?;
@@ -155,7 +156,7 @@ impl Arrays {
         requires there { array < length self.old.rows }
         requires fits { bits < 2 ^ width (elem self.old array) }
         ensures inside { IfOk result (λ _. is_outside I64 (size self.old array) index ≡ false) }
-        ensures elements { IfOk result (λ _. elements self.new ≡ put (elements self.old) array (put (elements self.old array) (element I64 index) bits)) }
+        ensures elements { IfOk result (λ _. elements self.new ≡ changed self.old array (λ f. put f (element I64 index) bits)) }
         ensures shapes { shapes self.new ≡ shapes self.old }
         ensures outside { IfErr result (λ t. is_outside I64 (size self.old array) index ≡ true) }
         ensures lane { IfErr result (λ t. t.instance ≡ named N (flag_of mask.now)) }
@@ -181,10 +182,10 @@ impl Arrays {
         requires there { array < length self.now.rows }
         requires index { index.now.elem ≡ I64 }
         requires elem { into.old.elem ≡ elem self.now array }
-        ensures inside { IfOk result (λ _. lowest_failing N (is_outside I64 (size self.now array)) (on (flag_of mask.now) (lane_of index.now.bits)) ≡ None) }
-        ensures lanes { IfOk result (λ _. lane_of into.new.bits ≡ over (map1 (λ x. elements self.now array (element I64 x)) (on (flag_of mask.now) (lane_of index.now.bits))) (lane_of into.old.bits)) }
+        ensures inside { IfOk result (λ _. lowest_out N (size self.now array) mask.now index.now.bits ≡ None) }
+        ensures lanes { IfOk result (λ _. lane_of into.new.bits ≡ gathered (elements self.now array) mask.now index.now.bits into.old.bits) }
         ensures elem { into.new.elem ≡ into.old.elem }
-        ensures lowest { IfErr result (λ t. lowest_failing N (is_outside I64 (size self.now array)) (on (flag_of mask.now) (lane_of index.now.bits)) ≡ Some t.instance) }
+        ensures lowest { IfErr result (λ t. lowest_out N (size self.now array) mask.now index.now.bits ≡ Some t.instance) }
         ensures same { IfErr result (λ t. into.new ≡ into.old) }
     {
         rows::gather(&self.items, array, index.wide_words(), mask, into)
@@ -207,11 +208,11 @@ impl Arrays {
         requires index { index < length vectors.old }
         requires index_elem { (vector vectors.old index).elem ≡ I64 }
         requires elem { (vector vectors.old out).elem ≡ elem self.now array }
-        ensures inside { IfOk result (λ _. lowest_failing N (is_outside I64 (size self.now array)) (on (flag_of mask.now) (lane_of (vector vectors.old index).bits)) ≡ None) }
-        ensures lanes { IfOk result (λ _. lane_of (vector vectors.new out).bits ≡ over (map1 (λ x. elements self.now array (element I64 x)) (on (flag_of mask.now) (lane_of (vector vectors.old index).bits))) (lane_of (vector vectors.old out).bits)) }
+        ensures inside { IfOk result (λ _. lowest_out N (size self.now array) mask.now (vector vectors.old index).bits ≡ None) }
+        ensures lanes { IfOk result (λ _. lane_of (vector vectors.new out).bits ≡ gathered (elements self.now array) mask.now (vector vectors.old index).bits (vector vectors.old out).bits) }
         ensures elem { (vector vectors.new out).elem ≡ (vector vectors.old out).elem }
         ensures others { vectors.new ≡ slice_set vectors.old out (vector vectors.new out) }
-        ensures lowest { IfErr result (λ t. lowest_failing N (is_outside I64 (size self.now array)) (on (flag_of mask.now) (lane_of (vector vectors.old index).bits)) ≡ Some t.instance) }
+        ensures lowest { IfErr result (λ t. lowest_out N (size self.now array) mask.now (vector vectors.old index).bits ≡ Some t.instance) }
         ensures same { IfErr result (λ t. vectors.new ≡ vectors.old) }
     {
         // The indices are read where they stand, unless it is their vector that is written.
@@ -252,10 +253,10 @@ impl Arrays {
         requires there { array < length self.old.rows }
         requires index { index.now.elem ≡ I64 }
         requires elem { value.now.elem ≡ elem self.old array }
-        ensures inside { IfOk result (λ _. lowest_failing N (is_outside I64 (size self.old array)) (on (flag_of mask.now) (lane_of index.now.bits)) ≡ None) }
-        ensures elements { IfOk result (λ _. elements self.new ≡ put (elements self.old) array (scatter N (map1 (element I64) (on (flag_of mask.now) (lane_of index.now.bits))) (on (flag_of mask.now) (lane_of value.now.bits)) (elements self.old array))) }
+        ensures inside { IfOk result (λ _. lowest_out N (size self.old array) mask.now index.now.bits ≡ None) }
+        ensures elements { IfOk result (λ _. elements self.new ≡ changed self.old array (scattered N mask.now index.now.bits value.now.bits)) }
         ensures shapes { shapes self.new ≡ shapes self.old }
-        ensures lowest { IfErr result (λ t. lowest_failing N (is_outside I64 (size self.old array)) (on (flag_of mask.now) (lane_of index.now.bits)) ≡ Some t.instance) }
+        ensures lowest { IfErr result (λ t. lowest_out N (size self.old array) mask.now index.now.bits ≡ Some t.instance) }
         ensures same { IfErr result (λ t. self.new ≡ self.old) }
     {
         rows::scatter(&mut self.items, self.alloc, array, index, mask, value)
@@ -276,10 +277,10 @@ impl Arrays {
     ) -> Result<(), IndexTrap>
         requires there { array < length self.now.rows }
         requires elem { into.old.elem ≡ elem self.now array }
-        ensures inside { IfOk result (λ _. lowest N (run_outside (size self.now array) (number I64 index) (flag_of mask.now)) ≡ None) }
-        ensures lanes { IfOk result (λ _. lane_of into.new.bits ≡ over (on (flag_of mask.now) (λ p. elements self.now array (unsigned_abs (run_index (number I64 index) p)))) (lane_of into.old.bits)) }
+        ensures inside { IfOk result (λ _. run_out N (size self.now array) index mask.now ≡ None) }
+        ensures lanes { IfOk result (λ _. lane_of into.new.bits ≡ run_loaded (elements self.now array) index mask.now into.old.bits) }
         ensures elem { into.new.elem ≡ into.old.elem }
-        ensures lowest { IfErr result (λ t. lowest N (run_outside (size self.now array) (number I64 index) (flag_of mask.now)) ≡ Some t.instance) }
+        ensures lowest { IfErr result (λ t. run_out N (size self.now array) index mask.now ≡ Some t.instance) }
         ensures same { IfErr result (λ t. into.new ≡ into.old) }
     {
         mask.told();
@@ -307,10 +308,10 @@ impl Arrays {
     ) -> Result<(), IndexTrap>
         requires there { array < length self.old.rows }
         requires elem { value.now.elem ≡ elem self.old array }
-        ensures inside { IfOk result (λ _. lowest N (run_outside (size self.old array) (number I64 index) (flag_of mask.now)) ≡ None) }
-        ensures elements { IfOk result (λ _. elements self.new ≡ put (elements self.old) array (scatter N (run_places (number I64 index) (flag_of mask.now)) (on (flag_of mask.now) (lane_of value.now.bits)) (elements self.old array))) }
+        ensures inside { IfOk result (λ _. run_out N (size self.old array) index mask.now ≡ None) }
+        ensures elements { IfOk result (λ _. elements self.new ≡ changed self.old array (run_stored N index mask.now value.now.bits)) }
         ensures shapes { shapes self.new ≡ shapes self.old }
-        ensures lowest { IfErr result (λ t. lowest N (run_outside (size self.old array) (number I64 index) (flag_of mask.now)) ≡ Some t.instance) }
+        ensures lowest { IfErr result (λ t. run_out N (size self.old array) index mask.now ≡ Some t.instance) }
         ensures same { IfErr result (λ t. self.new ≡ self.old) }
     {
         mask.told();
@@ -338,12 +339,12 @@ impl Arrays {
     ) -> Result<u64, IndexTrap>
         requires there { array < length self.now.rows }
         requires elem { into.old.elem ≡ elem self.now array }
-        ensures inside { IfOk result (λ _. lowest N (packed_outside (size self.now array) (number I64 index) (flag_of mask.now)) ≡ None) }
+        ensures inside { IfOk result (λ _. packed_out N (size self.now array) index mask.now ≡ None) }
         ensures count { IfOk result (λ n. n ≡ rank (flag_of mask.now) N) }
         ensures few { IfOk result (λ n. n ≤ 64) }
-        ensures lanes { IfOk result (λ _. lane_of into.new.bits ≡ over (on (flag_of mask.now) (λ p. elements self.now array (unsigned_abs (packed_index (number I64 index) (flag_of mask.now) p)))) (lane_of into.old.bits)) }
+        ensures lanes { IfOk result (λ _. lane_of into.new.bits ≡ packed_loaded (elements self.now array) index mask.now into.old.bits) }
         ensures elem { into.new.elem ≡ into.old.elem }
-        ensures lowest { IfErr result (λ t. lowest N (packed_outside (size self.now array) (number I64 index) (flag_of mask.now)) ≡ Some t.instance) }
+        ensures lowest { IfErr result (λ t. packed_out N (size self.now array) index mask.now ≡ Some t.instance) }
         ensures same { IfErr result (λ t. into.new ≡ into.old) }
     {
         mask.told();
@@ -366,12 +367,12 @@ impl Arrays {
     ) -> Result<u64, IndexTrap>
         requires there { array < length self.old.rows }
         requires elem { value.now.elem ≡ elem self.old array }
-        ensures inside { IfOk result (λ _. lowest N (packed_outside (size self.old array) (number I64 index) (flag_of mask.now)) ≡ None) }
+        ensures inside { IfOk result (λ _. packed_out N (size self.old array) index mask.now ≡ None) }
         ensures count { IfOk result (λ n. n ≡ rank (flag_of mask.now) N) }
         ensures few { IfOk result (λ n. n ≤ 64) }
-        ensures elements { IfOk result (λ _. elements self.new ≡ put (elements self.old) array (scatter N (packed_places (number I64 index) (flag_of mask.now)) (on (flag_of mask.now) (lane_of value.now.bits)) (elements self.old array))) }
+        ensures elements { IfOk result (λ _. elements self.new ≡ changed self.old array (packed_stored N index mask.now value.now.bits)) }
         ensures shapes { shapes self.new ≡ shapes self.old }
-        ensures lowest { IfErr result (λ t. lowest N (packed_outside (size self.old array) (number I64 index) (flag_of mask.now)) ≡ Some t.instance) }
+        ensures lowest { IfErr result (λ t. packed_out N (size self.old array) index mask.now ≡ Some t.instance) }
         ensures same { IfErr result (λ t. self.new ≡ self.old) }
     {
         mask.told();

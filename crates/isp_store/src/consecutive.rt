@@ -1,11 +1,12 @@
 //! Places of consecutive elements, one for each lane of a mask, from an index on.
 ghost use Rattle.std.specs.Prelude.{◌≡◌, ℕ, ◌<◌, ◌≤◌, ◌+◌, ◌^◌, pos, ◌+ℤ◌, unsigned_abs, true, false, Some, None, IfOk, IfErr, IfSome};
 ghost use Rattle.isp_base.specs.Access.{is_beyond};
-ghost use Rattle.isp_base.specs.Cross.{rank, run_index, run_outside, packed_index, packed_outside};
+ghost use Rattle.isp_base.specs.Cross.{rank, run_index, packed_index};
 ghost use Rattle.isp_base.specs.Maps.{lane_of};
 ghost use Rattle.isp_base.specs.Sets.{flag_of, lowest};
 ghost use Rattle.isp_base.specs.Values.{number};
 ghost use Rattle.isp_base.specs.declared.types.Elem.TheVariants.{I64};
+ghost use Rattle.isp_store.specs.Access.{packed_out, run_out};
 
 use crate::index::IndexTrap;
 use isp_base::{Elem, number};
@@ -49,10 +50,10 @@ pub(crate) fn run_places<const N: usize>(
     mask: &LaneMask<N>,
     places: &mut [u64; N],
 ) -> Result<(), IndexTrap>
-    ensures inside { IfOk result (λ _. lowest N (run_outside count (number I64 index) (flag_of mask.now)) ≡ None) }
+    ensures inside { IfOk result (λ _. run_out N count index mask.now ≡ None) }
     ensures places { IfOk result (λ _. (p : ℕ) → flag_of mask.now p ≡ true → lane_of places.new p ≡ unsigned_abs (run_index (number I64 index) p)) }
     ensures there { IfOk result (λ _. (p : ℕ) → flag_of mask.now p ≡ true → lane_of places.new p < count) }
-    ensures lowest { IfErr result (λ trap. lowest N (run_outside count (number I64 index) (flag_of mask.now)) ≡ Some trap.instance) }
+    ensures lowest { IfErr result (λ trap. run_out N count index mask.now ≡ Some trap.instance) }
 {
     mask.told();
     for lane in 0..N {
@@ -77,12 +78,12 @@ pub(crate) fn packed_places<const N: usize>(
     mask: &LaneMask<N>,
     places: &mut [u64; N],
 ) -> Result<u64, IndexTrap>
-    ensures inside { IfOk result (λ _. lowest N (packed_outside count (number I64 index) (flag_of mask.now)) ≡ None) }
+    ensures inside { IfOk result (λ _. packed_out N count index mask.now ≡ None) }
     ensures count { IfOk result (λ n. n ≡ rank (flag_of mask.now) N) }
     ensures few { IfOk result (λ n. n ≤ N) }
     ensures places { IfOk result (λ _. (p : ℕ) → flag_of mask.now p ≡ true → lane_of places.new p ≡ unsigned_abs (packed_index (number I64 index) (flag_of mask.now) p)) }
     ensures there { IfOk result (λ _. (p : ℕ) → flag_of mask.now p ≡ true → lane_of places.new p < count) }
-    ensures lowest { IfErr result (λ trap. lowest N (packed_outside count (number I64 index) (flag_of mask.now)) ≡ Some trap.instance) }
+    ensures lowest { IfErr result (λ trap. packed_out N count index mask.now ≡ Some trap.instance) }
 {
     mask.told();
     let mut lower = 0;

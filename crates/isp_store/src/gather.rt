@@ -1,11 +1,11 @@
 //! Elements from an array into lanes, and back, where the width of the words is known.
 ghost use Rattle.std.specs.Prelude.{◌≡◌, ℕ, ◌<◌, ◌^◌, length, true, Some, None, IfOk, IfErr};
 ghost use Rattle.isp_base.specs.declared.types.Elem.TheVariants.{I64};
-ghost use Rattle.isp_base.specs.Access.{element, is_outside};
-ghost use Rattle.isp_base.specs.Maps.{lane_of, each1, on, over, lowest_failing};
+ghost use Rattle.isp_base.specs.Maps.{lane_of, each1, over};
 ghost use Rattle.isp_base.specs.Sets.{flag_of};
 ghost use Rattle.isp_base.specs.Values.{width};
 ghost use Rattle.isp_store.specs.Cells.{found, stored, cleared};
+ghost use Rattle.isp_store.specs.Access.{lanes_on, lowest_out, own_gathered};
 
 use crate::cell::Cell;
 use crate::elements::Elements;
@@ -24,10 +24,10 @@ pub(crate) fn gathered<C: Cell<N>, const N: usize>(
     into: &mut Lanes<N>,
 ) -> Result<(), IndexTrap>
     requires { (e p : ℕ) → found C.find cells.now e p < 2 ^ width into.old.elem }
-    ensures inside { IfOk result (λ _. lowest_failing N (is_outside I64 (length cells.now)) (on (flag_of mask.now) (lane_of places.now)) ≡ None) }
-    ensures lanes { IfOk result (λ _. lane_of into.new.bits ≡ over (λ p. each1 (λ x. found C.find cells.now (element I64 x) p) (on (flag_of mask.now) (lane_of places.now) p)) (lane_of into.old.bits)) }
+    ensures inside { IfOk result (λ _. lowest_out N (length cells.now) mask.now places.now ≡ None) }
+    ensures lanes { IfOk result (λ _. lane_of into.new.bits ≡ own_gathered (found C.find cells.now) mask.now places.now into.old.bits) }
     ensures elem { into.new.elem ≡ into.old.elem }
-    ensures lowest { IfErr result (λ trap. lowest_failing N (is_outside I64 (length cells.now)) (on (flag_of mask.now) (lane_of places.now)) ≡ Some trap.instance) }
+    ensures lowest { IfErr result (λ trap. lowest_out N (length cells.now) mask.now places.now ≡ Some trap.instance) }
     ensures same { IfErr result (λ trap. into.new ≡ into.old) }
 {
     mask.told();
@@ -47,7 +47,7 @@ pub(crate) fn loaded<C: Cell<N>, const N: usize>(
     into: &mut Lanes<N>,
 )
     requires { (e p : ℕ) → found C.find cells.now e p < 2 ^ width into.old.elem }
-    ensures lanes { lane_of into.new.bits ≡ over (λ p. each1 (λ x. found C.find cells.now x p) (on (flag_of mask.now) (lane_of places.now) p)) (lane_of into.old.bits) }
+    ensures lanes { lane_of into.new.bits ≡ over (λ p. each1 (λ x. found C.find cells.now x p) (lanes_on mask.now places.now p)) (lane_of into.old.bits) }
     ensures elem { into.new.elem ≡ into.old.elem }
 {
     mask.told();
@@ -70,9 +70,9 @@ pub(crate) fn scattered<C: Cell<N>, R: Cell<N>, const N: usize>(
 ) -> Result<(), IndexTrap>
     requires index { index.now.elem ≡ I64 }
     requires fits { (p : ℕ) → R.find row.now p < 2 ^ C.width }
-    ensures inside { IfOk result (λ _. lowest_failing N (is_outside I64 (length cells.old)) (on (flag_of mask.now) (lane_of index.now.bits)) ≡ None) }
+    ensures inside { IfOk result (λ _. lowest_out N (length cells.old) mask.now index.now.bits ≡ None) }
     ensures words { IfOk result (λ _. cells.new ≡ stored C.with N (flag_of mask.now) (lane_of index.now.bits) (R.find row.now) cells.old) }
-    ensures lowest { IfErr result (λ trap. lowest_failing N (is_outside I64 (length cells.old)) (on (flag_of mask.now) (lane_of index.now.bits)) ≡ Some trap.instance) }
+    ensures lowest { IfErr result (λ trap. lowest_out N (length cells.old) mask.now index.now.bits ≡ Some trap.instance) }
     ensures same { IfErr result (λ trap. cells.new ≡ cells.old) }
 {
     index.told();

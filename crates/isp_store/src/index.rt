@@ -2,9 +2,10 @@
 ghost use Rattle.std.specs.Prelude.{◌≡◌, ℕ, ◌<◌, ◌^◌, not, nat_lt, true};
 ghost use Rattle.isp_base.specs.declared.types.Elem.TheVariants.{I64};
 ghost use Rattle.isp_base.specs.Access.{is_outside};
-ghost use Rattle.isp_base.specs.Maps.{lane_of, on, lowest_failing};
+ghost use Rattle.isp_base.specs.Maps.{lane_of, on};
 ghost use Rattle.isp_base.specs.Sets.{flag_of};
 ghost use Rattle.isp_store.specs.Held.{named};
+ghost use Rattle.isp_store.specs.Access.{lowest_out};
 
 use isp_lanes::LaneMask;
 use thiserror::Error;
@@ -32,7 +33,7 @@ pub(crate) fn first_outside<const N: usize>(
     places: &[u64; N],
     mask: &LaneMask<N>,
 ) -> Option<usize>
-    ensures { result ≡ lowest_failing N (is_outside I64 count) (on (flag_of mask.now) (lane_of places.now)) }
+    ensures { result ≡ lowest_out N count mask.now places.now }
 {
     if are_below(places, limit(count)) {
         None
@@ -68,7 +69,7 @@ fn lowest_outside<const N: usize>(
     places: &[u64; N],
     mask: &LaneMask<N>,
 ) -> Option<usize>
-    ensures { result ≡ lowest_failing N (is_outside I64 count) (on (flag_of mask.now) (lane_of places.now)) }
+    ensures { result ≡ lowest_out N count mask.now places.now }
 {
     for lane in 0..N {
         if mask.get(lane) && lies_outside(count, places[lane]) {

@@ -1,12 +1,13 @@
 //! Arrays of which each lane has its own.
 ghost use Rattle.std.specs.Prelude.{◌≡◌, ◌<◌, ◌≤◌, length, slice_set, Some, None, IfOk, IfErr, if◌then◌else◌};
 ghost use Rattle.isp_base.specs.declared.types.Elem.TheVariants.{I64};
-ghost use Rattle.isp_base.specs.Access.{is_outside, element};
-ghost use Rattle.isp_base.specs.Maps.{lane_of, on, over, map1, each1, lowest_failing};
+ghost use Rattle.isp_base.specs.Access.{element};
+ghost use Rattle.isp_base.specs.Maps.{lane_of, on, map1};
 ghost use Rattle.isp_base.specs.Sets.{flag_of};
 ghost use Rattle.isp_lanes.specs.Lanes.{vector};
 ghost use Rattle.isp_base.specs.Stores.{own_put};
 ghost use Rattle.isp_store.specs.Own.{own, size};
+ghost use Rattle.isp_store.specs.Access.{lanes_on, lowest_out, own_gathered};
 
 use crate::index::IndexTrap;
 use crate::lane_rows::LaneRows;
@@ -59,10 +60,10 @@ impl<const N: usize> LaneArray<N> {
     ) -> Result<(), IndexTrap>
         requires index { index.now.elem ≡ I64 }
         requires elem { into.old.elem ≡ self.now.elem }
-        ensures inside { IfOk result (λ _. lowest_failing N (is_outside I64 (size self.now)) (on (flag_of mask.now) (lane_of index.now.bits)) ≡ None) }
-        ensures lanes { IfOk result (λ _. lane_of into.new.bits ≡ over (λ p. each1 (λ x. own self.now (element I64 x) p) (on (flag_of mask.now) (lane_of index.now.bits) p)) (lane_of into.old.bits)) }
+        ensures inside { IfOk result (λ _. lowest_out N (size self.now) mask.now index.now.bits ≡ None) }
+        ensures lanes { IfOk result (λ _. lane_of into.new.bits ≡ own_gathered (own self.now) mask.now index.now.bits into.old.bits) }
         ensures elem { into.new.elem ≡ into.old.elem }
-        ensures lowest { IfErr result (λ t. lowest_failing N (is_outside I64 (size self.now)) (on (flag_of mask.now) (lane_of index.now.bits)) ≡ Some t.instance) }
+        ensures lowest { IfErr result (λ t. lowest_out N (size self.now) mask.now index.now.bits ≡ Some t.instance) }
         ensures same { IfErr result (λ t. into.new ≡ into.old) }
     {
         self.gather_from(index.wide_words(), mask, into)
@@ -83,11 +84,11 @@ impl<const N: usize> LaneArray<N> {
         requires index { index < length vectors.old }
         requires index_elem { (vector vectors.old index).elem ≡ I64 }
         requires elem { (vector vectors.old out).elem ≡ self.now.elem }
-        ensures inside { IfOk result (λ _. lowest_failing N (is_outside I64 (size self.now)) (on (flag_of mask.now) (lane_of (vector vectors.old index).bits)) ≡ None) }
-        ensures lanes { IfOk result (λ _. lane_of (vector vectors.new out).bits ≡ over (λ p. each1 (λ x. own self.now (element I64 x) p) (on (flag_of mask.now) (lane_of (vector vectors.old index).bits) p)) (lane_of (vector vectors.old out).bits)) }
+        ensures inside { IfOk result (λ _. lowest_out N (size self.now) mask.now (vector vectors.old index).bits ≡ None) }
+        ensures lanes { IfOk result (λ _. lane_of (vector vectors.new out).bits ≡ own_gathered (own self.now) mask.now (vector vectors.old index).bits (vector vectors.old out).bits) }
         ensures elem { (vector vectors.new out).elem ≡ (vector vectors.old out).elem }
         ensures others { vectors.new ≡ slice_set vectors.old out (vector vectors.new out) }
-        ensures lowest { IfErr result (λ t. lowest_failing N (is_outside I64 (size self.now)) (on (flag_of mask.now) (lane_of (vector vectors.old index).bits)) ≡ Some t.instance) }
+        ensures lowest { IfErr result (λ t. lowest_out N (size self.now) mask.now (vector vectors.old index).bits ≡ Some t.instance) }
         ensures same { IfErr result (λ t. vectors.new ≡ vectors.old) }
     {
         // The indices are read where they stand, unless it is their vector that is written.
@@ -114,11 +115,11 @@ impl<const N: usize> LaneArray<N> {
     ) -> Result<(), IndexTrap>
         requires index { index.now.elem ≡ I64 }
         requires elem { value.now.elem ≡ self.old.elem }
-        ensures inside { IfOk result (λ _. lowest_failing N (is_outside I64 (size self.old)) (on (flag_of mask.now) (lane_of index.now.bits)) ≡ None) }
-        ensures elements { IfOk result (λ _. own self.new ≡ own_put (map1 (element I64) (on (flag_of mask.now) (lane_of index.now.bits))) (lane_of value.now.bits) (own self.old)) }
+        ensures inside { IfOk result (λ _. lowest_out N (size self.old) mask.now index.now.bits ≡ None) }
+        ensures elements { IfOk result (λ _. own self.new ≡ own_put (map1 (element I64) (lanes_on mask.now index.now.bits)) (lane_of value.now.bits) (own self.old)) }
         ensures elem { self.new.elem ≡ self.old.elem }
         ensures size { size self.new ≡ size self.old }
-        ensures lowest { IfErr result (λ t. lowest_failing N (is_outside I64 (size self.old)) (on (flag_of mask.now) (lane_of index.now.bits)) ≡ Some t.instance) }
+        ensures lowest { IfErr result (λ t. lowest_out N (size self.old) mask.now index.now.bits ≡ Some t.instance) }
         ensures same { IfErr result (λ t. self.new ≡ self.old) }
     {
         index.told();
@@ -150,10 +151,10 @@ impl<const N: usize> LaneArray<N> {
         into: &mut Lanes<N>,
     ) -> Result<(), IndexTrap>
         requires { into.old.elem ≡ self.now.elem }
-        ensures inside { IfOk result (λ _. lowest_failing N (is_outside I64 (size self.now)) (on (flag_of mask.now) (lane_of places.now)) ≡ None) }
-        ensures lanes { IfOk result (λ _. lane_of into.new.bits ≡ over (λ p. each1 (λ x. own self.now (element I64 x) p) (on (flag_of mask.now) (lane_of places.now) p)) (lane_of into.old.bits)) }
+        ensures inside { IfOk result (λ _. lowest_out N (size self.now) mask.now places.now ≡ None) }
+        ensures lanes { IfOk result (λ _. lane_of into.new.bits ≡ own_gathered (own self.now) mask.now places.now into.old.bits) }
         ensures elem { into.new.elem ≡ into.old.elem }
-        ensures lowest { IfErr result (λ t. lowest_failing N (is_outside I64 (size self.now)) (on (flag_of mask.now) (lane_of places.now)) ≡ Some t.instance) }
+        ensures lowest { IfErr result (λ t. lowest_out N (size self.now) mask.now places.now ≡ Some t.instance) }
         ensures same { IfErr result (λ t. into.new ≡ into.old) }
     {
         self.rows.gather(places, mask, into)

@@ -1,13 +1,14 @@
 //! The words of an array of which each lane has its own: a row for each element, with a word for each lane.
 ghost use Rattle.std.specs.Prelude.{◌≡◌, ℕ, ◌<◌, ◌≤◌, ◌^◌, length, replicate, Some, None, IfOk, IfErr};
 ghost use Rattle.isp_base.specs.declared.types.Elem.TheVariants.{I64};
-ghost use Rattle.isp_base.specs.Access.{element, is_outside};
+ghost use Rattle.isp_base.specs.Access.{element};
 ghost use Rattle.isp_base.specs.Cells.{cell_width};
-ghost use Rattle.isp_base.specs.Maps.{lane_of, each1, on, over, lowest_failing};
+ghost use Rattle.isp_base.specs.Maps.{lane_of};
 ghost use Rattle.isp_base.specs.Sets.{flag_of};
 ghost use Rattle.isp_base.specs.Values.{width};
 ghost use Rattle.isp_store.specs.Cells.{found, stored, cleared, row_word, row_with};
 ghost use Rattle.isp_store.specs.LaneRows.{lists, rows_width};
+ghost use Rattle.isp_store.specs.Access.{lowest_out, own_gathered};
 
 use crate::gather::{clear, gathered, scattered};
 use crate::index::IndexTrap;
@@ -49,10 +50,10 @@ impl<const N: usize> LaneRows<N> {
         into: &mut Lanes<N>,
     ) -> Result<(), IndexTrap>
         requires { (e p : ℕ) → found row_word (lists self.now) e p < 2 ^ width into.old.elem }
-        ensures inside { IfOk result (λ _. lowest_failing N (is_outside I64 (length (lists self.now))) (on (flag_of mask.now) (lane_of places.now)) ≡ None) }
-        ensures lanes { IfOk result (λ _. lane_of into.new.bits ≡ over (λ p. each1 (λ x. found row_word (lists self.now) (element I64 x) p) (on (flag_of mask.now) (lane_of places.now) p)) (lane_of into.old.bits)) }
+        ensures inside { IfOk result (λ _. lowest_out N (length (lists self.now)) mask.now places.now ≡ None) }
+        ensures lanes { IfOk result (λ _. lane_of into.new.bits ≡ own_gathered (found row_word (lists self.now)) mask.now places.now into.old.bits) }
         ensures elem { into.new.elem ≡ into.old.elem }
-        ensures lowest { IfErr result (λ trap. lowest_failing N (is_outside I64 (length (lists self.now))) (on (flag_of mask.now) (lane_of places.now)) ≡ Some trap.instance) }
+        ensures lowest { IfErr result (λ trap. lowest_out N (length (lists self.now)) mask.now places.now ≡ Some trap.instance) }
         ensures same { IfErr result (λ trap. into.new ≡ into.old) }
     {
         match self {
@@ -75,10 +76,10 @@ impl<const N: usize> LaneRows<N> {
         requires index { index.now.elem ≡ I64 }
         requires wide { rows_width self.old ≡ cell_width value.now.elem }
         requires fits { (p : ℕ) → lane_of value.now.bits p < 2 ^ rows_width self.old }
-        ensures inside { IfOk result (λ _. lowest_failing N (is_outside I64 (length (lists self.old))) (on (flag_of mask.now) (lane_of index.now.bits)) ≡ None) }
+        ensures inside { IfOk result (λ _. lowest_out N (length (lists self.old)) mask.now index.now.bits ≡ None) }
         ensures lists { IfOk result (λ _. lists self.new ≡ stored row_with N (flag_of mask.now) (lane_of index.now.bits) (lane_of value.now.bits) (lists self.old)) }
         ensures wide { rows_width self.new ≡ rows_width self.old }
-        ensures lowest { IfErr result (λ trap. lowest_failing N (is_outside I64 (length (lists self.old))) (on (flag_of mask.now) (lane_of index.now.bits)) ≡ Some trap.instance) }
+        ensures lowest { IfErr result (λ trap. lowest_out N (length (lists self.old)) mask.now index.now.bits ≡ Some trap.instance) }
         ensures same { IfErr result (λ trap. lists self.new ≡ lists self.old) }
     {
         match (self, value.row()) {

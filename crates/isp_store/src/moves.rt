@@ -2,12 +2,13 @@
 ghost use Rattle.std.specs.Prelude.{◌≡◌, ℕ, ◌<◌, ◌≤◌, ◌+◌, ◌^◌, length, true, Some, None, IfOk, IfErr};
 ghost use Rattle.std.specs.Simd.Lanes.{chunk, put_chunk};
 ghost use Rattle.isp_base.specs.declared.types.Elem.TheVariants.{I64};
-ghost use Rattle.isp_base.specs.Access.{element, is_outside, scatter};
+ghost use Rattle.isp_base.specs.Access.{element, scatter};
 ghost use Rattle.isp_base.specs.Cells.{cell_width};
 ghost use Rattle.isp_base.specs.Held.{held, held_width};
-ghost use Rattle.isp_base.specs.Maps.{lane_of, map1, on, over, lowest_failing};
+ghost use Rattle.isp_base.specs.Maps.{lane_of, map1, on, over};
 ghost use Rattle.isp_base.specs.Sets.{flag_of};
 ghost use Rattle.isp_store.specs.Cells.{stored, word_with};
+ghost use Rattle.isp_store.specs.Access.{gathered, lanes_on, lowest_out, scattered};
 
 use crate::gather::{gathered, leave, loaded, scattered};
 use crate::index::IndexTrap;
@@ -26,10 +27,10 @@ pub(crate) fn gather<const N: usize>(
     into: &mut Lanes<N>,
 ) -> Result<(), IndexTrap>
     requires { into.old.elem ≡ array.now.elem }
-    ensures inside { IfOk result (λ _. lowest_failing N (is_outside I64 (length array.now.bits)) (on (flag_of mask.now) (lane_of places.now)) ≡ None) }
-    ensures lanes { IfOk result (λ _. lane_of into.new.bits ≡ over (map1 (λ x. lane_of array.now.bits (element I64 x)) (on (flag_of mask.now) (lane_of places.now))) (lane_of into.old.bits)) }
+    ensures inside { IfOk result (λ _. lowest_out N (length array.now.bits) mask.now places.now ≡ None) }
+    ensures lanes { IfOk result (λ _. lane_of into.new.bits ≡ gathered (lane_of array.now.bits) mask.now places.now into.old.bits) }
     ensures elem { into.new.elem ≡ into.old.elem }
-    ensures lowest { IfErr result (λ trap. lowest_failing N (is_outside I64 (length array.now.bits)) (on (flag_of mask.now) (lane_of places.now)) ≡ Some trap.instance) }
+    ensures lowest { IfErr result (λ trap. lowest_out N (length array.now.bits) mask.now places.now ≡ Some trap.instance) }
     ensures same { IfErr result (λ trap. into.new ≡ into.old) }
 {
     mask.told();
@@ -54,11 +55,11 @@ pub(crate) fn write<const N: usize>(
 ) -> Result<(), IndexTrap>
     requires index { index.now.elem ≡ I64 }
     requires elem { value.now.elem ≡ array.old.elem }
-    ensures inside { IfOk result (λ _. lowest_failing N (is_outside I64 (length array.old.bits)) (on (flag_of mask.now) (lane_of index.now.bits)) ≡ None) }
-    ensures elements { IfOk result (λ _. lane_of array.new.bits ≡ scatter N (map1 (element I64) (on (flag_of mask.now) (lane_of index.now.bits))) (on (flag_of mask.now) (lane_of value.now.bits)) (lane_of array.old.bits)) }
+    ensures inside { IfOk result (λ _. lowest_out N (length array.old.bits) mask.now index.now.bits ≡ None) }
+    ensures elements { IfOk result (λ _. lane_of array.new.bits ≡ scattered N mask.now index.now.bits value.now.bits (lane_of array.old.bits)) }
     ensures elem { array.new.elem ≡ array.old.elem }
     ensures size { length array.new.bits ≡ length array.old.bits }
-    ensures lowest { IfErr result (λ trap. lowest_failing N (is_outside I64 (length array.old.bits)) (on (flag_of mask.now) (lane_of index.now.bits)) ≡ Some trap.instance) }
+    ensures lowest { IfErr result (λ trap. lowest_out N (length array.old.bits) mask.now index.now.bits ≡ Some trap.instance) }
     ensures same { IfErr result (λ trap. array.new ≡ array.old) }
 {
     index.told();
@@ -81,10 +82,10 @@ fn store<const N: usize>(
     requires index { index.now.elem ≡ I64 }
     requires wide { held_width cells.old ≡ cell_width value.now.elem }
     requires fits { (p : ℕ) → lane_of value.now.bits p < 2 ^ held_width cells.old }
-    ensures inside { IfOk result (λ _. lowest_failing N (is_outside I64 (length (held cells.old))) (on (flag_of mask.now) (lane_of index.now.bits)) ≡ None) }
+    ensures inside { IfOk result (λ _. lowest_out N (length (held cells.old)) mask.now index.now.bits ≡ None) }
     ensures held { IfOk result (λ _. held cells.new ≡ stored word_with N (flag_of mask.now) (lane_of index.now.bits) (lane_of value.now.bits) (held cells.old)) }
     ensures wide { held_width cells.new ≡ held_width cells.old }
-    ensures lowest { IfErr result (λ trap. lowest_failing N (is_outside I64 (length (held cells.old))) (on (flag_of mask.now) (lane_of index.now.bits)) ≡ Some trap.instance) }
+    ensures lowest { IfErr result (λ trap. lowest_out N (length (held cells.old)) mask.now index.now.bits ≡ Some trap.instance) }
     ensures same { IfErr result (λ trap. held cells.new ≡ held cells.old) }
 {
     match (cells, value.row()) {
@@ -119,7 +120,7 @@ pub(crate) fn load<const N: usize>(
     into: &mut Lanes<N>,
 )
     requires { into.old.elem ≡ array.now.elem }
-    ensures lanes { lane_of into.new.bits ≡ over (map1 (lane_of array.now.bits) (on (flag_of mask.now) (lane_of places.now))) (lane_of into.old.bits) }
+    ensures lanes { lane_of into.new.bits ≡ over (map1 (lane_of array.now.bits) (lanes_on mask.now places.now)) (lane_of into.old.bits) }
     ensures elem { into.new.elem ≡ into.old.elem }
 {
     mask.told();
@@ -142,7 +143,7 @@ pub(crate) fn put<const N: usize>(
 )
     requires elem { value.now.elem ≡ array.old.elem }
     requires there { (p : ℕ) → flag_of mask.now p ≡ true → lane_of places.now p < length array.old.bits }
-    ensures elements { lane_of array.new.bits ≡ scatter N (on (flag_of mask.now) (lane_of places.now)) (on (flag_of mask.now) (lane_of value.now.bits)) (lane_of array.old.bits) }
+    ensures elements { lane_of array.new.bits ≡ scatter N (lanes_on mask.now places.now) (lanes_on mask.now value.now.bits) (lane_of array.old.bits) }
     ensures elem { array.new.elem ≡ array.old.elem }
     ensures size { length array.new.bits ≡ length array.old.bits }
 {

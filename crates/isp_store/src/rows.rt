@@ -2,14 +2,15 @@
 ghost use Rattle.std.specs.Prelude.{◌≡◌, ℕ, ◌<◌, ◌≤◌, ◌+◌, ◌^◌, length, replicate, true, Some, None, IfOk, IfErr};
 ghost use Rattle.std.specs.Simd.Lanes.{chunk, put_chunk};
 ghost use Rattle.isp_base.specs.declared.types.Elem.TheVariants.{I64};
-ghost use Rattle.isp_base.specs.Access.{element, is_outside, scatter};
+ghost use Rattle.isp_base.specs.Access.{element, scatter};
 ghost use Rattle.isp_base.specs.Arguments.{row_bits};
 ghost use Rattle.isp_base.specs.Cells.{cell_width};
 ghost use Rattle.isp_base.specs.Held.{held, held_width};
-ghost use Rattle.isp_base.specs.Maps.{lane_of, map1, on, over, put, lowest_failing};
+ghost use Rattle.isp_base.specs.Maps.{lane_of, map1, on, over, put};
 ghost use Rattle.isp_base.specs.Sets.{flag_of};
 ghost use Rattle.isp_base.specs.Values.{width};
 ghost use Rattle.isp_store.specs.Held.{bits_of, shapes_of, type_of};
+ghost use Rattle.isp_store.specs.Access.{gathered, lanes_on, lowest_out, scattered};
 
 use crate::index::IndexTrap;
 use crate::moves::{self, write};
@@ -65,10 +66,10 @@ pub(crate) fn gather<const N: usize>(
 ) -> Result<(), IndexTrap>
     requires there { array < length rows.now }
     requires elem { into.old.elem ≡ type_of rows.now array }
-    ensures inside { IfOk result (λ _. lowest_failing N (is_outside I64 (length (row_bits rows.now array))) (on (flag_of mask.now) (lane_of places.now)) ≡ None) }
-    ensures lanes { IfOk result (λ _. lane_of into.new.bits ≡ over (map1 (λ x. bits_of rows.now array (element I64 x)) (on (flag_of mask.now) (lane_of places.now))) (lane_of into.old.bits)) }
+    ensures inside { IfOk result (λ _. lowest_out N (length (row_bits rows.now array)) mask.now places.now ≡ None) }
+    ensures lanes { IfOk result (λ _. lane_of into.new.bits ≡ gathered (bits_of rows.now array) mask.now places.now into.old.bits) }
     ensures elem { into.new.elem ≡ into.old.elem }
-    ensures lowest { IfErr result (λ trap. lowest_failing N (is_outside I64 (length (row_bits rows.now array))) (on (flag_of mask.now) (lane_of places.now)) ≡ Some trap.instance) }
+    ensures lowest { IfErr result (λ trap. lowest_out N (length (row_bits rows.now array)) mask.now places.now ≡ Some trap.instance) }
     ensures same { IfErr result (λ trap. into.new ≡ into.old) }
 {
     mask.told();
@@ -89,10 +90,10 @@ pub(crate) fn scatter<const N: usize>(
     requires there { array < length rows.old }
     requires index { index.now.elem ≡ I64 }
     requires elem { value.now.elem ≡ type_of rows.old array }
-    ensures inside { IfOk result (λ _. lowest_failing N (is_outside I64 (length (row_bits rows.old array))) (on (flag_of mask.now) (lane_of index.now.bits)) ≡ None) }
-    ensures elements { IfOk result (λ _. bits_of rows.new ≡ put (bits_of rows.old) array (scatter N (map1 (element I64) (on (flag_of mask.now) (lane_of index.now.bits))) (on (flag_of mask.now) (lane_of value.now.bits)) (bits_of rows.old array))) }
+    ensures inside { IfOk result (λ _. lowest_out N (length (row_bits rows.old array)) mask.now index.now.bits ≡ None) }
+    ensures elements { IfOk result (λ _. bits_of rows.new ≡ put (bits_of rows.old) array (scattered N mask.now index.now.bits value.now.bits (bits_of rows.old array))) }
     ensures shapes { shapes_of rows.new ≡ shapes_of rows.old }
-    ensures lowest { IfErr result (λ trap. lowest_failing N (is_outside I64 (length (row_bits rows.old array))) (on (flag_of mask.now) (lane_of index.now.bits)) ≡ Some trap.instance) }
+    ensures lowest { IfErr result (λ trap. lowest_out N (length (row_bits rows.old array)) mask.now index.now.bits ≡ Some trap.instance) }
     ensures same { IfErr result (λ trap. rows.new ≡ rows.old) }
 {
     mask.told();
@@ -109,7 +110,7 @@ pub(crate) fn load_lanes<const N: usize>(
 )
     requires there { array < length rows.now }
     requires elem { into.old.elem ≡ type_of rows.now array }
-    ensures lanes { lane_of into.new.bits ≡ over (map1 (bits_of rows.now array) (on (flag_of mask.now) (lane_of places.now))) (lane_of into.old.bits) }
+    ensures lanes { lane_of into.new.bits ≡ over (map1 (bits_of rows.now array) (lanes_on mask.now places.now)) (lane_of into.old.bits) }
     ensures elem { into.new.elem ≡ into.old.elem }
 {
     moves::load(&rows[array], places, mask, into);
@@ -127,7 +128,7 @@ pub(crate) fn put_lanes<const N: usize>(
     requires there { array < length rows.old }
     requires elem { value.now.elem ≡ type_of rows.old array }
     requires inside { (p : ℕ) → flag_of mask.now p ≡ true → lane_of places.now p < length (row_bits rows.old array) }
-    ensures elements { bits_of rows.new ≡ put (bits_of rows.old) array (scatter N (on (flag_of mask.now) (lane_of places.now)) (on (flag_of mask.now) (lane_of value.now.bits)) (bits_of rows.old array)) }
+    ensures elements { bits_of rows.new ≡ put (bits_of rows.old) array (scatter N (lanes_on mask.now places.now) (lanes_on mask.now value.now.bits) (bits_of rows.old array)) }
     ensures shapes { shapes_of rows.new ≡ shapes_of rows.old }
 {
     moves::put(&mut rows[array], alloc, places, mask, value);
