@@ -34,6 +34,10 @@ pub record Binds (code : Listing) (name json : List ℕ) (xs : List Argument) : 
   pub entry : IsEntry code name xs function routine
   pub bound : bound_of (parameters_of routine) json ≡ Ok xs
 
+-- the same, and these are the parameters of the function
+abbrev pub BindsFor : Listing → List ℕ → List ℕ → List Argument → List Parameter → Type 0
+BindsFor code name json xs params = (b : Binds code name json xs) × (params ≡ parameters_of b.routine)
+
 -- how the program ends behind a run that stopped so
 abbrev pub end_of_stop : Stop → Result ⊤ Failure
 end_of_stop Ended = Ok tt

@@ -1,12 +1,13 @@
 //! Runs that show what they do: `ispx count` and `ispx trace`.
 ghost use Rattle.std.specs.Prelude.{◌≡◌, ℕ, false, string_bytes, IfOk, IfErr};
-ghost use Rattle.isp_code.specs.Entries.{IsEntry, parameters_of};
+ghost use Rattle.isp_code.specs.Entries.{IsEntry};
 ghost use Rattle.isp_code.specs.Listing.{Routine};
 ghost use Rattle.isp_engine.specs.Commands.{Given, NotGiven, job_of_run};
 ghost use Rattle.isp_traces.specs.Counting.{CountedRun};
 ghost use Rattle.isp_traces.specs.Tracing.{TracedRun};
 ghost use Rattle.isp_workbench.specs.Requests.{ShownEnds};
-ghost use Rattle.isp_workbench.specs.Runs.{Binds, CountShows, EndsTrace, NotRun, ShowEnds, TraceShows, WritesPage, answer_line, end_of_stop, window_of};
+ghost use Rattle.isp_workbench.specs.Runs.{BindsFor, CountShows, NotRun, ShowEnds, answer_line};
+ghost use Rattle.isp_workbench.specs.Runs.{EndsTrace, TraceShows, WritesPage, end_of_stop, window_of};
 
 use crate::native::image_of;
 use crate::texts::read_both;
@@ -156,7 +157,7 @@ fn entry<'c>(
     name: &str,
     json: &str,
 ) -> Result<(&'c Signature, Bound), Failure<'static>>
-    ensures ok { IfOk result (λ r. (b : Binds code.now name.now json.now r.1.arguments.items) × (r.0.now.params.items ≡ parameters_of b.routine)) }
+    ensures ok { IfOk result (λ r. BindsFor code.now name.now json.now r.1.arguments.items r.0.now.params.items) }
     ensures err { IfErr result (NotRun code.now name.now json.now) }
 {
     let Some(signature) = code.signature(name) else {
