@@ -127,10 +127,14 @@ if_at on f e x spot =
     let part = part_at on (leaving_of x) f (type_of e).rate (found l e spot.slot.number) x spot in
     record { code = λ pc z. two pc (expr_code l e pc z.place spot.masks.on.number spot.slot.number) (λ pc1. part.code pc1 (past (expr_places l e) z)); places = expr_places l e ++ part.places; texts = part.texts }
 
+-- two parts, told whether all go on from both
+abbrev pub both_parts_at : Scope → Form → Rate → ℕ → TStmt → TStmt → Spot → Piece
+both_parts_at on f r c x y spot = parts_at on (both_go_on x y) f r c x y spot
+
 abbrev pub if_else_at : Scope → Form → TExpr → TStmt → TStmt → Spot → Piece
 if_else_at on f e x y spot =
     let l = layout on in
-    let parts = parts_at on (both_go_on x y) f (type_of e).rate (found l e spot.slot.number) x y spot in
+    let parts = both_parts_at on f (type_of e).rate (found l e spot.slot.number) x y spot in
     record { code = λ pc z. two pc (expr_code l e pc z.place spot.masks.on.number spot.slot.number) (λ pc1. parts.code pc1 (past (expr_places l e) z)); places = expr_places l e ++ parts.places; texts = parts.texts }
 
 -- ---- loops

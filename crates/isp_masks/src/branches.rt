@@ -9,8 +9,8 @@ ghost use Rattle.isp_typed.specs.Views.{expr_of, stmt_of};
 ghost use Rattle.isp_lower.specs.Asks.{expr_asks};
 ghost use Rattle.isp_lower.specs.Emitted.{Present};
 ghost use Rattle.isp_masks.specs.Asks.{part_asks, part_slot, parts_asks, parts_slot, stmt_asks};
-ghost use Rattle.isp_masks.specs.Exits.{both_go_on, leaving_of, only_jump};
-ghost use Rattle.isp_masks.specs.Written.{Writes, first_widely_at, guarded_at, if_at, if_else_at, others_at, part_at, parts_at};
+ghost use Rattle.isp_masks.specs.Exits.{leaving_of, only_jump};
+ghost use Rattle.isp_masks.specs.Written.{Writes, both_parts_at, first_widely_at, guarded_at, if_at, if_else_at, others_at, part_at, parts_at};
 
 use crate::exits::Leaving;
 use crate::looping::{join_where, join_widely};
@@ -288,7 +288,7 @@ fn parts_by(
     requires part { Present on.now (parts_asks by.rate spot.slot.number) }
     requires then { Present on.now (stmt_asks on.now.answer (stmt_of then.stmt.now) (parts_slot by.rate spot.slot.number)) }
     requires otherwise { Present on.now (stmt_asks on.now.answer (stmt_of otherwise.stmt.now) (parts_slot by.rate spot.slot.number)) }
-    ensures { OnOk result (Writes b.old b.new (parts_at on.now (both_go_on (stmt_of then.entry.stmt.now) (stmt_of otherwise.entry.stmt.now)) by.form by.rate by.register.number (stmt_of then.entry.stmt.now) (stmt_of otherwise.entry.stmt.now) spot)) }
+    ensures { OnOk result (Writes b.old b.new (both_parts_at on.now by.form by.rate by.register.number (stmt_of then.entry.stmt.now) (stmt_of otherwise.entry.stmt.now) spot)) }
 {
     match (by.rate, by.form) {
         (Rate::Uniform, _) => one_of(b, on, by.register, then, otherwise, spot),
@@ -339,7 +339,7 @@ fn parted(
     requires slots { spot.slot.number + 1 + 1 < 4294967296 }
     requires then { Present on.now (stmt_asks on.now.answer (stmt_of then.stmt.now) (spot.slot.number + 1 + 1)) }
     requires otherwise { Present on.now (stmt_asks on.now.answer (stmt_of otherwise.stmt.now) (spot.slot.number + 1 + 1)) }
-    ensures { OnOk result (Writes b.old b.new (parts_at on.now (both_go_on (stmt_of then.entry.stmt.now) (stmt_of otherwise.entry.stmt.now)) Plain Varying tested.number (stmt_of then.entry.stmt.now) (stmt_of otherwise.entry.stmt.now) spot)) }
+    ensures { OnOk result (Writes b.old b.new (both_parts_at on.now Plain Varying tested.number (stmt_of then.entry.stmt.now) (stmt_of otherwise.entry.stmt.now) spot)) }
 {
     if then.both_go_on(otherwise) {
         both_kept(b, on, tested, then, otherwise, spot)
