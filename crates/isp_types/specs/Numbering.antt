@@ -9,7 +9,7 @@ use Rattle.isp_lex.specs.declared.fault.Fault.{Fault}
 use Rattle.isp_tree.specs.declared.types.Word.{Word}
 use Rattle.isp_tree.specs.declared.stmt.Size.{Size}
 use Rattle.isp_tree.specs.declared.stmt.Size.TheVariants as size
-use Rattle.isp_tree.specs.Tree.{Expr, Item, plain, with_value, with_size, First, first_declare, first_simple, Range, Stmt, block, empty, declare, simple, if_then, if_else, loop_while, loop_do}
+use Rattle.isp_tree.specs.Tree.{Expr, Item, plain, with_value, with_size, Declaration, First, first_declare, first_simple, Range, Stmt, block, empty, declare, simple, if_then, if_else, loop_while, loop_do}
 use Rattle.isp_tree.specs.Tree.{loop_for, foreach, foreach_active, foreach_unique, unmasked, jump, returning, print, assert, Block, braces, Stmts, no_stmts, stmt_then}
 use Rattle.isp_typed.specs.declared.variable.Holds.TheVariants as holds
 use Rattle.isp_typed.specs.declared.variable.Variable.{Variable}
@@ -71,17 +71,24 @@ module _ (gang : Gang) (r : Result ValueWords Fault) where
   items_variables vars [] = vars
   items_variables vars (i ∷ is) = items_variables (item_variables vars i) is
 
+-- the names and variables after a declaration
+abbrev pub declaration_names : Gang → List Binding → List Variable → Declaration → List Binding
+declaration_names gang ns vars d = items_names gang (value_said d.ty) ns vars d.items
+
+abbrev pub declaration_variables : Gang → List Variable → Declaration → List Variable
+declaration_variables gang vars d = items_variables gang (value_said d.ty) vars d.items
+
 -- ---- the names and variables after a statement
 
 -- the first part of a `for`
 abbrev pub first_names : Gang → List Binding → List Variable → Option First → List Binding
 first_names gang ns vars None = ns
-first_names gang ns vars (Some (first_declare d)) = items_names gang (value_said d.ty) ns vars d.items
+first_names gang ns vars (Some (first_declare d)) = declaration_names gang ns vars d
 first_names gang ns vars (Some (first_simple s)) = ns
 
 abbrev pub first_variables : Gang → List Variable → Option First → List Variable
 first_variables gang vars None = vars
-first_variables gang vars (Some (first_declare d)) = items_variables gang (value_said d.ty) vars d.items
+first_variables gang vars (Some (first_declare d)) = declaration_variables gang vars d
 first_variables gang vars (Some (first_simple s)) = vars
 
 abbrev pub range_names : List Binding → List Variable → List Range → List Binding
@@ -103,7 +110,7 @@ or_active (Err f) = active_index
 
 -- a name counts behind its declaration, to the end of the scope
 abbrev pub names_after : Gang → List Binding → List Variable → Stmt → List Binding
-names_after gang ns vars (declare d s) = items_names gang (value_said d.ty) ns vars d.items
+names_after gang ns vars (declare d s) = declaration_names gang ns vars d
 names_after gang ns vars s = ns
 
 -- A variable is numbered where it stands in the text. Where a statement stands, the functions and the names in scope are known, as they
@@ -120,7 +127,7 @@ module _ (gang : Gang) (hs : List Heading) where
     pub variables_after : List Binding → List Variable → Stmt → List Variable
     variables_after ns vars (block b) = block_variables ns vars b
     variables_after ns vars (empty s) = vars
-    variables_after ns vars (declare d s) = items_variables gang (value_said d.ty) vars d.items
+    variables_after ns vars (declare d s) = declaration_variables gang vars d
     variables_after ns vars (simple p s) = vars
     variables_after ns vars (if_then f x a s) = variables_after ns vars a
     variables_after ns vars (if_else f x a b s) = variables_after ns (variables_after ns vars a) b

@@ -4,3 +4,4 @@ pub mod JudgeFunctions
 pub mod Lists
 pub mod Kinds
 pub mod Boxes
+pub mod Settings

@@ -1,14 +1,15 @@
 //! Declarations.
 ghost use Rattle.std.specs.Prelude.{◌≡◌, IfOk, map};
-ghost use Rattle.isp_tree.specs.Views.{declaration_of as read_declaration, item_of as read_item, type_of as read_type};
+ghost use Rattle.isp_tree.specs.Views.{declaration_of as read_declaration, item_of as read_item};
 ghost use Rattle.isp_typed.specs.Verdicts.{both, made};
-ghost use Rattle.isp_typed.specs.Views.{items_of};
 ghost use Rattle.isp_exprs.specs.reader.Parts.{boxed_of};
-ghost use Rattle.isp_types.specs.reader.Boxes.{boxed_item};
+ghost use Rattle.isp_types.specs.reader.Boxes.{boxed_item, listed_items};
+ghost use Rattle.isp_types.specs.reader.Settings.{within};
 ghost use Rattle.isp_exprs.specs.Rules.{second};
-ghost use Rattle.isp_types.specs.Numbering.{declared, item_names, item_variable, item_variables, item_word, items_names, items_variables, or_nothing, size_number, value_variable};
+ghost use Rattle.isp_types.specs.Numbering.{declaration_names, declaration_variables, declared, or_nothing, size_number};
+ghost use Rattle.isp_types.specs.Numbering.{item_names, item_variable, item_variables, item_word, items_names, items_variables};
+ghost use Rattle.isp_types.specs.Numbering.{value_variable};
 ghost use Rattle.isp_types.specs.Declarations.{array_sized, sized_item, with_initial};
-ghost use Rattle.isp_exprs.specs.Words.{value_said};
 ghost use Rattle.isp_types.specs.reader.JudgeStmts.{judge_declaration, judge_item, judge_items, twice};
 ghost use Rattle.isp_exprs.specs.reader.Lists.{and_one};
 ghost use Rattle.isp_types.specs.reader.Lists.{judge_item_with, known_next};
@@ -163,7 +164,7 @@ fn item(
     words: ValueWords,
     item: &Item,
 ) -> Result<Verdict<Box<TypedItem>>, AllocError>
-    ensures { IfOk result (λ v. made boxed_item v ≡ judge_item_with setting.now.gang setting.now.headers.now scope.now seen number words (read_item item.now)) }
+    ensures { IfOk result (λ v. made boxed_item v ≡ within setting.now judge_item_with scope.now seen number words (read_item item.now)) }
 {
     match item {
         Item::Plain(word) => {
@@ -201,9 +202,12 @@ fn declare(
     words: Verdict<ValueWords>,
     declared_item: &Item,
 ) -> Result<Verdict<Box<TypedItem>>, AllocError>
-    ensures value { IfOk result (λ v. made boxed_item v ≡ judge_item setting.now.gang setting.now.headers.now words start scope.old variables.old.items (read_item declared_item.now)) }
-    ensures names { IfOk result (λ v. scope.new ≡ item_names setting.now.gang words scope.old variables.old.items (read_item declared_item.now)) }
-    ensures variables { IfOk result (λ v. variables.new.items ≡ item_variables setting.now.gang words variables.old.items (read_item declared_item.now)) }
+    ensures value { IfOk result (λ v. made boxed_item v
+        ≡ within setting.now judge_item words start scope.old variables.old.items (read_item declared_item.now)) }
+    ensures names { IfOk result (λ v. scope.new
+        ≡ item_names setting.now.gang words scope.old variables.old.items (read_item declared_item.now)) }
+    ensures variables { IfOk result (λ v. variables.new.items
+        ≡ item_variables setting.now.gang words variables.old.items (read_item declared_item.now)) }
 {
     let word = item_word(declared_item);
     let seen = twice(scope, start, word);
@@ -227,7 +231,7 @@ fn push(
     so_far: Verdict<Vec<TypedItem>>,
     part: Verdict<Box<TypedItem>>,
 ) -> Result<Verdict<Vec<TypedItem>>, AllocError>
-    ensures { IfOk result (λ v. made (λ l. items_of l.items) v ≡ made and_one (both (made (λ l. items_of l.items) so_far) (made boxed_item part))) }
+    ensures { IfOk result (λ v. made listed_items v ≡ made and_one (both (made listed_items so_far) (made boxed_item part))) }
 {
     gathered::push_boxed(so_far, part)
 }
@@ -240,9 +244,12 @@ fn items(
     words: Verdict<ValueWords>,
     all: &[Item],
 ) -> Result<Verdict<Vec<TypedItem>>, AllocError>
-    ensures value { IfOk result (λ v. made (λ l. items_of l.items) v ≡ judge_items setting.now.gang setting.now.headers.now words start scope.old variables.old.items (map read_item all.now)) }
-    ensures names { IfOk result (λ v. scope.new ≡ items_names setting.now.gang words scope.old variables.old.items (map read_item all.now)) }
-    ensures variables { IfOk result (λ v. variables.new.items ≡ items_variables setting.now.gang words variables.old.items (map read_item all.now)) }
+    ensures value { IfOk result (λ v. made listed_items v
+        ≡ within setting.now judge_items words start scope.old variables.old.items (map read_item all.now)) }
+    ensures names { IfOk result (λ v. scope.new
+        ≡ items_names setting.now.gang words scope.old variables.old.items (map read_item all.now)) }
+    ensures variables { IfOk result (λ v. variables.new.items
+        ≡ items_variables setting.now.gang words variables.old.items (map read_item all.now)) }
 {
     let mut done = Ok(Vec::new(setting.alloc));
     for x in all {
@@ -256,7 +263,7 @@ fn behind_words(
     words: Verdict<ValueWords>,
     items: Verdict<Vec<TypedItem>>,
 ) -> Verdict<Vec<TypedItem>>
-    ensures { made (λ l. items_of l.items) result ≡ made second (both words (made (λ l. items_of l.items) items)) }
+    ensures { made listed_items result ≡ made second (both words (made listed_items items)) }
 {
     let (_, items) = both(words, items)?;
     Ok(items)
@@ -270,9 +277,12 @@ pub fn declaration(
     variables: &mut Vec<Variable>,
     d: &Declaration,
 ) -> Result<Verdict<Vec<TypedItem>>, AllocError>
-    ensures value { IfOk result (λ v. made (λ l. items_of l.items) v ≡ judge_declaration setting.now.gang setting.now.headers.now scope.old start variables.old.items (read_declaration d.now)) }
-    ensures names { IfOk result (λ v. scope.new ≡ items_names setting.now.gang (value_said (read_type d.now.ty)) scope.old variables.old.items (map read_item d.now.items.items)) }
-    ensures variables { IfOk result (λ v. variables.new.items ≡ items_variables setting.now.gang (value_said (read_type d.now.ty)) variables.old.items (map read_item d.now.items.items)) }
+    ensures value { IfOk result (λ v. made listed_items v
+        ≡ within setting.now judge_declaration scope.old start variables.old.items (read_declaration d.now)) }
+    ensures names { IfOk result (λ v. scope.new
+        ≡ declaration_names setting.now.gang scope.old variables.old.items (read_declaration d.now)) }
+    ensures variables { IfOk result (λ v. variables.new.items
+        ≡ declaration_variables setting.now.gang variables.old.items (read_declaration d.now)) }
 {
     let words = value_said(&d.ty);
     let items = items(setting, scope, start, variables, words, &d.items)?;

@@ -1,22 +1,18 @@
 //! Functions.
-ghost use Rattle.std.specs.Prelude.{◌≡◌, IfOk, List, Option, Result, bytes_eq, cond, is_some, map, not, option_map, true, ◌++◌, ◌∷◌, [], ◌||◌, ℕ};
+ghost use Rattle.std.specs.Prelude.{◌≡◌, IfOk, List, bytes_eq, cond, map, option_map, true, ◌++◌, ◌∷◌, [], ℕ};
 ghost use Rattle.std.specs.List.{list_any};
 ghost use Rattle.std.specs.BTreeSet.{contains_text};
-ghost use Rattle.isp_lex.specs.Faults.{fault};
-ghost use Rattle.isp_lex.specs.declared.fault.Fault.{Fault};
-ghost use Rattle.isp_base.specs.declared.types.Gang.{Gang};
-ghost use Rattle.isp_base.specs.declared.types.Ty.{Ty};
 ghost use Rattle.isp_tree.specs.Views.{function_of as read_function, param_of as read_param};
-ghost use Rattle.isp_tree.specs.Tree.{Block};
-ghost use Rattle.isp_typed.specs.Verdicts.{beside, both, fault_unless, made};
-ghost use Rattle.isp_typed.specs.Views.{block_of, function_of, functions_of};
-ghost use Rattle.isp_exprs.specs.Callees.{Heading, library_named};
-ghost use Rattle.isp_types.specs.Functions.{heading, is_export, param_fits, param_names, param_span, param_variable, param_want, parameter_of, params_names, variable_for};
+ghost use Rattle.isp_typed.specs.Verdicts.{both, made};
+ghost use Rattle.isp_typed.specs.Views.{block_of, function_of};
+ghost use Rattle.isp_types.specs.Functions.{heading, is_export, param_fits, param_names, param_span, param_variable, param_want};
+ghost use Rattle.isp_types.specs.Functions.{parameter_of, params_names, variable_for};
 ghost use Rattle.isp_exprs.specs.reader.Headings.{heading_of};
-ghost use Rattle.isp_types.specs.reader.JudgeFunctions.{judge_body, judge_function, judge_functions};
-ghost use Rattle.isp_types.specs.reader.JudgeStmts.{judge_block};
+ghost use Rattle.isp_types.specs.reader.Boxes.{listed_functions};
+ghost use Rattle.isp_types.specs.reader.JudgeFunctions.{judge_function, judge_functions};
+ghost use Rattle.isp_types.specs.reader.Settings.{within};
 ghost use Rattle.isp_exprs.specs.reader.Lists.{and_one};
-ghost use Rattle.isp_types.specs.reader.Lists.{fault_of, function_of_parts, param_fault};
+ghost use Rattle.isp_types.specs.reader.Lists.{IsParamsFault, fault_of, function_of_parts, name_fault, param_fault};
 
 use crate::declaration::{declared, or_nothing, twice, value_variable};
 use crate::gathered;
@@ -163,7 +159,7 @@ fn declare_all(
     variables: &mut Vec<Variable>,
     all: &[Param],
 ) -> Result<Option<Fault>, AllocError>
-    ensures fault { IfOk result (λ o. (gang : Gang) (hs : List Heading) (answer : Result (Option Ty) Fault) (b : Block) → beside o (judge_block gang hs answer scope.new 0 variables.new.items b) ≡ judge_body gang hs answer scope.old variables.old.items (map read_param all.now) b) }
+    ensures fault { IfOk result (IsParamsFault scope.old variables.old.items (map read_param all.now) scope.new variables.new.items) }
     ensures names { IfOk result (λ o. scope.new ≡ params_names scope.old variables.old.items (map read_param all.now)) }
     ensures variables { IfOk result (λ o. variables.new.items ≡ variables.old.items ++ map param_variable (map read_param all.now)) }
 {
@@ -224,7 +220,7 @@ fn function(
     taken: Option<Fault>,
     f: &Function,
 ) -> Result<Verdict<TypedFunction>, AllocError>
-    ensures { IfOk result (λ v. made function_of v ≡ judge_function setting.now.gang setting.now.headers.now taken (read_function f.now)) }
+    ensures { IfOk result (λ v. made function_of v ≡ within setting.now judge_function taken (read_function f.now)) }
 {
     let alloc = setting.alloc;
     let answer = answer_said(&f.result);
@@ -240,7 +236,7 @@ fn function(
 
 /// The fault of a function whose name the library has or an earlier function.
 fn name_fault(word: &Word, taken: &BTreeSet<String>) -> Option<Fault>
-    ensures { result ≡ fault_unless (not (is_some (library_named word.now.name) || contains_text taken.now word.now.name)) (fault Rule.NameTwice word.now.span) }
+    ensures { result ≡ name_fault word.now (contains_text taken.now word.now.name) }
 {
     let is_taken = taken.contains(word.name.as_str());
     unless(
@@ -254,7 +250,8 @@ fn name_fault(word: &Word, taken: &BTreeSet<String>) -> Option<Fault>
 
 /// One more name that is taken.
 fn take(alloc: Global, taken: &mut BTreeSet<String>, name: &Name) -> Result<(), AllocError>
-    ensures { IfOk result (λ _. (w : List ℕ) → contains_text taken.new w ≡ cond (bytes_eq name.now w) true (contains_text taken.old w)) }
+    ensures { IfOk result (λ _. (w : List ℕ)
+        → contains_text taken.new w ≡ cond (bytes_eq name.now w) true (contains_text taken.old w)) }
 {
     let key = String::from_str(alloc, name.as_str())?;
     taken.insert(key)?;
@@ -266,7 +263,7 @@ fn push(
     so_far: Verdict<Vec<TypedFunction>>,
     part: Verdict<TypedFunction>,
 ) -> Result<Verdict<Vec<TypedFunction>>, AllocError>
-    ensures { IfOk result (λ v. made (λ l. functions_of l.items) v ≡ made and_one (both (made (λ l. functions_of l.items) so_far) (made function_of part))) }
+    ensures { IfOk result (λ v. made listed_functions v ≡ made and_one (both (made listed_functions so_far) (made function_of part))) }
 {
     gathered::push(so_far, part)
 }
@@ -276,7 +273,7 @@ pub fn functions(
     setting: &Setting,
     all: &[Function],
 ) -> Result<Verdict<Vec<TypedFunction>>, AllocError>
-    ensures { IfOk result (λ v. made (λ l. functions_of l.items) v ≡ judge_functions setting.now.gang setting.now.headers.now [] (map read_function all.now)) }
+    ensures { IfOk result (λ v. made listed_functions v ≡ within setting.now judge_functions [] (map read_function all.now)) }
 {
     let mut taken = BTreeSet::new(setting.alloc);
     let mut done = Ok(Vec::new(setting.alloc));

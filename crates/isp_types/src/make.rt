@@ -2,10 +2,13 @@
 ghost use Rattle.std.specs.Prelude.{◌≡◌, IfOk, option_map};
 ghost use Rattle.isp_typed.specs.Typed.{call_span, t_block, t_braces, t_no_stmts, t_stmts};
 ghost use Rattle.isp_typed.specs.Verdicts.{both, made};
-ghost use Rattle.isp_typed.specs.Views.{block_of, expr_of, exprs_of, first_of, items_of, ranges_of, simple_of, stmt_of, stmts_of};
+ghost use Rattle.isp_typed.specs.Views.{block_of, expr_of, first_of, simple_of, stmt_of};
 ghost use Rattle.isp_exprs.specs.reader.Parts.{boxed_of};
-ghost use Rattle.isp_types.specs.reader.Boxes.{boxed_first, boxed_simple};
-ghost use Rattle.isp_types.specs.Nodes.{active_stmt, assert_stmt, braces_made, declared_stmt, do_stmt, for_stmt, foreach_stmt, if_else_stmt, if_stmt, print_stmt, return_stmt, simple_stmt, unique_stmt, unmasked_stmt, while_stmt};
+ghost use Rattle.isp_types.specs.reader.Boxes.{boxed_behind_first, boxed_bodies, boxed_first, boxed_simple, boxed_stmt};
+ghost use Rattle.isp_types.specs.reader.Boxes.{listed_exprs, listed_items, listed_ranges, listed_stmts};
+ghost use Rattle.isp_types.specs.Nodes.{active_stmt, assert_stmt, braces_made, declared_stmt, do_stmt, for_stmt, foreach_stmt};
+ghost use Rattle.isp_types.specs.Nodes.{if_else_stmt, if_stmt, print_stmt, return_stmt, simple_stmt, unique_stmt};
+ghost use Rattle.isp_types.specs.Nodes.{unmasked_stmt, while_stmt};
 ghost use Rattle.isp_exprs.specs.reader.Lists.{and_one};
 
 use crate::gathered;
@@ -19,7 +22,7 @@ use isp_typed::{
 use std::alloc::{AllocError, Global};
 
 pub fn declared_stmt(items: Verdict<Vec<TypedItem>>, span: Span) -> Verdict<TypedStmt>
-    ensures { made stmt_of result ≡ made (declared_stmt span) (made (λ l. items_of l.items) items) }
+    ensures { made stmt_of result ≡ made (declared_stmt span) (made listed_items items) }
 {
     let items = items?;
     Ok(TypedStmt::Declare { items, span })
@@ -53,7 +56,7 @@ pub fn boxed(
     alloc: Global,
     inner: Verdict<TypedStmt>,
 ) -> Result<Verdict<Box<TypedStmt>>, AllocError>
-    ensures { IfOk result (λ v. made (λ b. stmt_of b.value) v ≡ made stmt_of inner) }
+    ensures { IfOk result (λ v. made boxed_stmt v ≡ made stmt_of inner) }
 {
     gathered::boxed(alloc, inner)
 }
@@ -65,7 +68,7 @@ pub fn if_stmt(
     then: Verdict<Box<TypedStmt>>,
     span: Span,
 ) -> Verdict<TypedStmt>
-    ensures { made stmt_of result ≡ made (if_stmt form before span) (both (made boxed_of test) (made (λ b. stmt_of b.value) then)) }
+    ensures { made stmt_of result ≡ made (if_stmt form before span) (both (made boxed_of test) (made boxed_stmt then)) }
 {
     let (test, then) = both(test, then)?;
     Ok(TypedStmt::If {
@@ -84,7 +87,7 @@ pub fn if_else_stmt(
     branches: Verdict<(Box<TypedStmt>, Box<TypedStmt>)>,
     span: Span,
 ) -> Verdict<TypedStmt>
-    ensures { made stmt_of result ≡ made (if_else_stmt form before span) (both (made boxed_of test) (made (λ p. (stmt_of p.0.value, stmt_of p.1.value)) branches)) }
+    ensures { made stmt_of result ≡ made (if_else_stmt form before span) (both (made boxed_of test) (made boxed_bodies branches)) }
 {
     let (test, (then, otherwise)) = both(test, branches)?;
     Ok(TypedStmt::IfElse {
@@ -104,7 +107,7 @@ pub fn while_stmt(
     body: Verdict<Box<TypedStmt>>,
     span: Span,
 ) -> Verdict<TypedStmt>
-    ensures { made stmt_of result ≡ made (while_stmt form before span) (both (made boxed_of test) (made (λ b. stmt_of b.value) body)) }
+    ensures { made stmt_of result ≡ made (while_stmt form before span) (both (made boxed_of test) (made boxed_stmt body)) }
 {
     let (test, body) = both(test, body)?;
     Ok(TypedStmt::While {
@@ -123,7 +126,7 @@ pub fn do_stmt(
     test: Verdict<Box<TypedExpr>>,
     span: Span,
 ) -> Verdict<TypedStmt>
-    ensures { made stmt_of result ≡ made (do_stmt form before span) (both (made (λ b. stmt_of b.value) body) (made boxed_of test)) }
+    ensures { made stmt_of result ≡ made (do_stmt form before span) (both (made boxed_stmt body) (made boxed_of test)) }
 {
     let (body, test) = both(body, test)?;
     Ok(TypedStmt::Do {
@@ -178,7 +181,8 @@ pub fn for_stmt(
     >,
     span: Span,
 ) -> Verdict<TypedStmt>
-    ensures { made stmt_of result ≡ made (for_stmt form before inside span) (both (made (option_map boxed_first) first) (made (λ p. (option_map boxed_of p.0, (option_map boxed_simple p.1.0, stmt_of p.1.1.value))) rest)) }
+    ensures { made stmt_of result
+        ≡ made (for_stmt form before inside span) (both (made (option_map boxed_first) first) (made boxed_behind_first rest)) }
 {
     let (first, (test, (step, body))) = both(first, rest)?;
     Ok(TypedStmt::For {
@@ -200,7 +204,7 @@ pub fn foreach_stmt(
     body: Verdict<Box<TypedStmt>>,
     span: Span,
 ) -> Verdict<TypedStmt>
-    ensures { made stmt_of result ≡ made (foreach_stmt keyword before span) (both (made (λ l. ranges_of l.items) ranges) (made (λ b. stmt_of b.value) body)) }
+    ensures { made stmt_of result ≡ made (foreach_stmt keyword before span) (both (made listed_ranges ranges) (made boxed_stmt body)) }
 {
     let (ranges, body) = both(ranges, body)?;
     Ok(TypedStmt::Foreach {
@@ -218,7 +222,7 @@ pub fn active_stmt(
     body: Verdict<Box<TypedStmt>>,
     span: Span,
 ) -> Verdict<TypedStmt>
-    ensures { made stmt_of result ≡ made (active_stmt keyword before span) (made (λ b. stmt_of b.value) body) }
+    ensures { made stmt_of result ≡ made (active_stmt keyword before span) (made boxed_stmt body) }
 {
     let body = body?;
     Ok(TypedStmt::ForeachActive {
@@ -238,7 +242,8 @@ pub fn unique_stmt(
     body: Verdict<Box<TypedStmt>>,
     span: Span,
 ) -> Result<Verdict<TypedStmt>, AllocError>
-    ensures { IfOk result (λ v. made stmt_of v ≡ made (unique_stmt keyword before span) (both (made boxed_of value) (made (λ b. stmt_of b.value) body))) }
+    ensures { IfOk result (λ v. made stmt_of v
+        ≡ made (unique_stmt keyword before span) (both (made boxed_of value) (made boxed_stmt body))) }
 {
     match both(value, body) {
         Ok((value, body)) => {
@@ -290,7 +295,7 @@ pub fn print_stmt(
     values: Verdict<Vec<TypedExpr>>,
     span: Span,
 ) -> Result<Verdict<TypedStmt>, AllocError>
-    ensures { IfOk result (λ v. made stmt_of v ≡ made (print_stmt keyword text.now span) (made (λ l. exprs_of l.items) values)) }
+    ensures { IfOk result (λ v. made stmt_of v ≡ made (print_stmt keyword text.now span) (made listed_exprs values)) }
 {
     match values {
         Ok(values) => Ok(Ok(TypedStmt::Print {
@@ -315,7 +320,7 @@ pub fn assert_stmt(test: Verdict<Box<TypedExpr>>, call_span: Span, span: Span) -
 }
 
 pub fn braces(statements: Verdict<Vec<TypedStmt>>, span: Span) -> Verdict<TypedBlock>
-    ensures { made block_of result ≡ made (braces_made span) (made t_stmts (made (λ l. stmts_of l.items) statements)) }
+    ensures { made block_of result ≡ made (braces_made span) (made t_stmts (made listed_stmts statements)) }
 {
     let statements = statements?;
     Ok(TypedBlock { statements, span })
@@ -326,7 +331,7 @@ pub fn push(
     so_far: Verdict<Vec<TypedStmt>>,
     part: Verdict<TypedStmt>,
 ) -> Result<Verdict<Vec<TypedStmt>>, AllocError>
-    ensures { IfOk result (λ v. made (λ l. stmts_of l.items) v ≡ made and_one (both (made (λ l. stmts_of l.items) so_far) (made stmt_of part))) }
+    ensures { IfOk result (λ v. made listed_stmts v ≡ made and_one (both (made listed_stmts so_far) (made stmt_of part))) }
 {
     gathered::push(so_far, part)
 }

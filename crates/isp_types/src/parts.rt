@@ -1,19 +1,22 @@
 //! Parts of statements: tests, bounds, values that are printed or given back.
-ghost use Rattle.std.specs.Prelude.{◌≡◌, IfOk, length, map, option_map, ◌==◌};
-ghost use Rattle.isp_lex.specs.Faults.{fault};
-ghost use Rattle.isp_tree.specs.Views.{expr_of as read_expr, exprs_of as read_exprs, first_of as read_first, range_of as read_range, simple_of as read_simple};
-ghost use Rattle.isp_typed.specs.Verdicts.{beside, both, fault_unless, found, made, perhaps};
-ghost use Rattle.isp_typed.specs.Views.{exprs_of, ranges_of, stmt_of};
+ghost use Rattle.std.specs.Prelude.{◌≡◌, IfOk, length, map, option_map};
+ghost use Rattle.isp_tree.specs.Views.{expr_of as read_expr, exprs_of as read_exprs, first_of as read_first};
+ghost use Rattle.isp_tree.specs.Views.{range_of as read_range, simple_of as read_simple};
+ghost use Rattle.isp_typed.specs.Verdicts.{beside, both, made, perhaps};
 ghost use Rattle.isp_exprs.specs.reader.Parts.{boxed_of};
-ghost use Rattle.isp_types.specs.reader.Boxes.{boxed_first, boxed_pair, boxed_range, boxed_simple};
-ghost use Rattle.isp_types.specs.Numbering.{first_names, first_variables, index_of, or_active, range_names, range_variables, unique_names, unique_variables};
+ghost use Rattle.isp_types.specs.reader.Boxes.{boxed_behind_first, boxed_first, boxed_pair, boxed_range, boxed_simple};
+ghost use Rattle.isp_types.specs.reader.Boxes.{boxed_step_and_body, boxed_stmt, listed_exprs, listed_ranges};
+ghost use Rattle.isp_types.specs.reader.Settings.{within};
+ghost use Rattle.isp_types.specs.Numbering.{first_names, first_variables, index_of, or_active};
+ghost use Rattle.isp_types.specs.Numbering.{range_names, range_variables, unique_names, unique_variables};
 ghost use Rattle.isp_types.specs.Statements.{as_answer, places, range_made};
 ghost use Rattle.isp_typed.specs.Fine.{active_index, foreach_index as index, unique_index};
 ghost use Rattle.isp_exprs.specs.Values.{converted};
 ghost use Rattle.isp_exprs.specs.reader.Judge.{judge};
-ghost use Rattle.isp_types.specs.reader.JudgeStmts.{judge_first, judge_ranges, judge_returned, judge_simple, judge_test, judge_values};
+ghost use Rattle.isp_types.specs.reader.JudgeStmts.{judge_first, judge_ranges, judge_returned, judge_simple, judge_test};
+ghost use Rattle.isp_types.specs.reader.JudgeStmts.{judge_values, print_fault};
 ghost use Rattle.isp_exprs.specs.reader.Lists.{and_one};
-ghost use Rattle.isp_types.specs.reader.Lists.{agrees_with, judge_bounds, known_next};
+ghost use Rattle.isp_types.specs.reader.Lists.{agrees_with, judge_behind_first, judge_bounds, judge_step_and_body, known_next};
 
 use crate::declaration::twice;
 use crate::gathered;
@@ -47,7 +50,7 @@ pub fn test(
     scope: &Scope,
     x: &Expr,
 ) -> Result<Verdict<Box<TypedExpr>>, AllocError>
-    ensures { IfOk result (λ v. made boxed_of v ≡ judge_test setting.now.gang setting.now.headers.now scope.now (read_expr x.now)) }
+    ensures { IfOk result (λ v. made boxed_of v ≡ within setting.now judge_test scope.now (read_expr x.now)) }
 {
     let value = expr(setting, scope, x)?;
     converted_to(setting.alloc, Elem::Bool, value)
@@ -65,7 +68,8 @@ fn test_if(
     scope: &Scope,
     x: &Option<Expr>,
 ) -> Result<Verdict<Option<Box<TypedExpr>>>, AllocError>
-    ensures { IfOk result (λ v. made (option_map boxed_of) v ≡ perhaps (judge_test setting.now.gang setting.now.headers.now scope.now) (option_map read_expr x.now)) }
+    ensures { IfOk result (λ v. made (option_map boxed_of) v
+        ≡ perhaps (within setting.now judge_test scope.now) (option_map read_expr x.now)) }
 {
     match x {
         None => Ok(Ok(None)),
@@ -82,7 +86,8 @@ fn simple_if(
     scope: &Scope,
     x: &Option<Simple>,
 ) -> Result<Verdict<Option<Box<TypedSimple>>>, AllocError>
-    ensures { IfOk result (λ v. made (option_map boxed_simple) v ≡ perhaps (judge_simple setting.now.gang setting.now.headers.now scope.now) (option_map read_simple x.now)) }
+    ensures { IfOk result (λ v. made (option_map boxed_simple) v
+        ≡ perhaps (within setting.now judge_simple scope.now) (option_map read_simple x.now)) }
 {
     match x {
         None => Ok(Ok(None)),
@@ -101,9 +106,12 @@ pub fn first_if(
     variables: &mut Vec<Variable>,
     x: &Option<First>,
 ) -> Result<Verdict<Option<Box<TypedFirst>>>, AllocError>
-    ensures value { IfOk result (λ v. made (option_map boxed_first) v ≡ perhaps (judge_first setting.now.gang setting.now.headers.now scope.old start variables.old.items) (option_map read_first x.now)) }
-    ensures names { IfOk result (λ v. scope.new ≡ first_names setting.now.gang scope.old variables.old.items (option_map read_first x.now)) }
-    ensures variables { IfOk result (λ v. variables.new.items ≡ first_variables setting.now.gang variables.old.items (option_map read_first x.now)) }
+    ensures value { IfOk result (λ v. made (option_map boxed_first) v
+        ≡ perhaps (within setting.now judge_first scope.old start variables.old.items) (option_map read_first x.now)) }
+    ensures names { IfOk result (λ v. scope.new
+        ≡ first_names setting.now.gang scope.old variables.old.items (option_map read_first x.now)) }
+    ensures variables { IfOk result (λ v. variables.new.items
+        ≡ first_variables setting.now.gang variables.old.items (option_map read_first x.now)) }
 {
     match x {
         None => Ok(Ok(None)),
@@ -121,7 +129,8 @@ fn step_and_body(
     step: &Option<Simple>,
     body: Verdict<Box<TypedStmt>>,
 ) -> Result<Verdict<(Option<Box<TypedSimple>>, Box<TypedStmt>)>, AllocError>
-    ensures { IfOk result (λ v. made (λ p. (option_map boxed_simple p.0, stmt_of p.1.value)) v ≡ both (perhaps (judge_simple setting.now.gang setting.now.headers.now scope.now) (option_map read_simple step.now)) (made (λ b. stmt_of b.value) body)) }
+    ensures { IfOk result (λ v. made boxed_step_and_body v
+        ≡ within setting.now judge_step_and_body scope.now (option_map read_simple step.now) (made boxed_stmt body)) }
 {
     let next = simple_if(setting, scope, step)?;
     Ok(both(next, body))
@@ -143,7 +152,9 @@ pub fn behind_first(
     >,
     AllocError,
 >
-    ensures { IfOk result (λ v. made (λ p. (option_map boxed_of p.0, (option_map boxed_simple p.1.0, stmt_of p.1.1.value))) v ≡ both (perhaps (judge_test setting.now.gang setting.now.headers.now scope.now) (option_map read_expr x.now)) (both (perhaps (judge_simple setting.now.gang setting.now.headers.now scope.now) (option_map read_simple step.now)) (made (λ b. stmt_of b.value) body))) }
+    ensures { IfOk result (λ v. made boxed_behind_first v
+        ≡ within setting.now judge_behind_first scope.now
+        (option_map read_expr x.now) (option_map read_simple step.now) (made boxed_stmt body)) }
 {
     let rest = step_and_body(setting, scope, step, body)?;
     let found = test_if(setting, scope, x)?;
@@ -219,9 +230,11 @@ pub fn unique_value(
     word: &Word,
     value: &Expr,
 ) -> Result<Verdict<Box<TypedExpr>>, AllocError>
-    ensures value { IfOk result (λ v. made boxed_of v ≡ judge setting.now.gang setting.now.headers.now scope.old (read_expr value.now)) }
-    ensures names { IfOk result (λ v. scope.new ≡ unique_names setting.now.gang setting.now.headers.now scope.old variables.old.items word.now (read_expr value.now)) }
-    ensures variables { IfOk result (λ v. variables.new.items ≡ unique_variables setting.now.gang setting.now.headers.now scope.old variables.old.items (read_expr value.now)) }
+    ensures value { IfOk result (λ v. made boxed_of v ≡ within setting.now judge scope.old (read_expr value.now)) }
+    ensures names { IfOk result (λ v. scope.new
+        ≡ within setting.now unique_names scope.old variables.old.items word.now (read_expr value.now)) }
+    ensures variables { IfOk result (λ v. variables.new.items
+        ≡ within setting.now unique_variables scope.old variables.old.items (read_expr value.now)) }
 {
     let found = expr(setting, scope, value)?;
     let index = index_of(&found);
@@ -272,7 +285,7 @@ fn bounds(
     scope: &Scope,
     r: &Range,
 ) -> Result<Verdict<(Box<TypedExpr>, Box<TypedExpr>)>, AllocError>
-    ensures { IfOk result (λ v. made boxed_pair v ≡ both (judge setting.now.gang setting.now.headers.now scope.now (read_expr r.now.start)) (judge setting.now.gang setting.now.headers.now scope.now (read_expr r.now.end))) }
+    ensures { IfOk result (λ v. made boxed_pair v ≡ within setting.now judge_bounds scope.now (read_range r.now)) }
 {
     let start = expr(setting, scope, &r.start)?;
     let end = expr(setting, scope, &r.end)?;
@@ -285,7 +298,7 @@ fn all_bounds(
     scope: &Scope,
     all: &[Range],
 ) -> Result<Vec<Verdict<(Box<TypedExpr>, Box<TypedExpr>)>>, AllocError>
-    ensures { IfOk result (λ l. map (made boxed_pair) l.items ≡ map (judge_bounds setting.now.gang setting.now.headers.now scope.now) (map read_range all.now)) }
+    ensures { IfOk result (λ l. map (made boxed_pair) l.items ≡ map (within setting.now judge_bounds scope.now) (map read_range all.now)) }
 {
     let mut done = Vec::new(setting.alloc);
     for r in all {
@@ -299,7 +312,7 @@ fn push_range(
     so_far: Verdict<Vec<TypedRange>>,
     part: Verdict<Box<TypedRange>>,
 ) -> Result<Verdict<Vec<TypedRange>>, AllocError>
-    ensures { IfOk result (λ v. made (λ l. ranges_of l.items) v ≡ made and_one (both (made (λ l. ranges_of l.items) so_far) (made boxed_range part))) }
+    ensures { IfOk result (λ v. made listed_ranges v ≡ made and_one (both (made listed_ranges so_far) (made boxed_range part))) }
 {
     gathered::push_boxed(so_far, part)
 }
@@ -311,7 +324,8 @@ pub fn ranges(
     variables: &mut Vec<Variable>,
     all: &[Range],
 ) -> Result<Verdict<Vec<TypedRange>>, AllocError>
-    ensures value { IfOk result (λ v. made (λ l. ranges_of l.items) v ≡ judge_ranges setting.now.gang setting.now.headers.now scope.old (length scope.old) scope.old variables.old.items (map read_range all.now)) }
+    ensures value { IfOk result (λ v. made listed_ranges v
+        ≡ within setting.now judge_ranges scope.old (length scope.old) scope.old variables.old.items (map read_range all.now)) }
     ensures names { IfOk result (λ v. scope.new ≡ range_names scope.old variables.old.items (map read_range all.now)) }
     ensures variables { IfOk result (λ v. variables.new.items ≡ range_variables variables.old.items (map read_range all.now)) }
 {
@@ -334,7 +348,7 @@ fn push_value(
     so_far: Verdict<Vec<TypedExpr>>,
     part: Verdict<Box<TypedExpr>>,
 ) -> Result<Verdict<Vec<TypedExpr>>, AllocError>
-    ensures { IfOk result (λ v. made (λ l. exprs_of l.items) v ≡ made and_one (both (made (λ l. exprs_of l.items) so_far) (made boxed_of part))) }
+    ensures { IfOk result (λ v. made listed_exprs v ≡ made and_one (both (made listed_exprs so_far) (made boxed_of part))) }
 {
     gathered::push_boxed(so_far, part)
 }
@@ -345,7 +359,7 @@ fn values(
     scope: &Scope,
     all: &[Expr],
 ) -> Result<Verdict<Vec<TypedExpr>>, AllocError>
-    ensures { IfOk result (λ v. made (λ l. exprs_of l.items) v ≡ judge_values setting.now.gang setting.now.headers.now scope.now (read_exprs all.now)) }
+    ensures { IfOk result (λ v. made listed_exprs v ≡ within setting.now judge_values scope.now (read_exprs all.now)) }
 {
     let mut done = Ok(Vec::new(setting.alloc));
     for x in all {
@@ -370,7 +384,8 @@ pub fn printed(
     text_span: Span,
     all: &[Expr],
 ) -> Result<Verdict<Vec<TypedExpr>>, AllocError>
-    ensures { IfOk result (λ v. made (λ l. exprs_of l.items) v ≡ beside (fault_unless (places text.now == length all.now) (fault Rule.BadPrint text_span)) (judge_values setting.now.gang setting.now.headers.now scope.now (read_exprs all.now))) }
+    ensures { IfOk result (λ v. made listed_exprs v
+        ≡ beside (print_fault text.now text_span (length all.now)) (within setting.now judge_values scope.now (read_exprs all.now))) }
 {
     let seen = unless(
         places(text) == all.len(),
@@ -415,7 +430,8 @@ pub fn returned(
     keyword: Span,
     x: &Option<Expr>,
 ) -> Result<Verdict<Option<Box<TypedExpr>>>, AllocError>
-    ensures { IfOk result (λ v. made (option_map boxed_of) v ≡ judge_returned setting.now.gang setting.now.headers.now answer scope.now keyword (option_map read_expr x.now)) }
+    ensures { IfOk result (λ v. made (option_map boxed_of) v
+        ≡ within setting.now judge_returned answer scope.now keyword (option_map read_expr x.now)) }
 {
     let seen = unless(agrees(answer, x.is_some()), mismatch(keyword));
     match x {

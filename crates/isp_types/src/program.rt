@@ -44,8 +44,10 @@ fn headers(alloc: Global, all: &[Function]) -> Result<Headers, AllocError>
 /// 25 BadPrint, at the text of a `print` that has another number of `%` than there are values.
 /// 0: memory was refused, which may come in place of any of them.
 pub fn resolve(alloc: Global, tree: &Tree, gang: Gang) -> Result<Typed, SourceFault>
-    ensures accepted { IfOk result (λ t. Accepts (IsProgram gang (map read_function tree.now)) (Breach gang (map read_function tree.now)) (program_of t)) }
-    ensures refused { IfErr result (λ e. (f : Fault) → e ≡ SourceFault.Refused f → Refuses (IsProgram gang (map read_function tree.now)) (Breach gang (map read_function tree.now)) f) }
+    ensures accepted { IfOk result (λ t.
+        Accepts (IsProgram gang (map read_function tree.now)) (Breach gang (map read_function tree.now)) (program_of t)) }
+    ensures refused { IfErr result (λ e. (f : Fault) → e ≡ SourceFault.Refused f
+        → Refuses (IsProgram gang (map read_function tree.now)) (Breach gang (map read_function tree.now)) f) }
 {
     let headers = headers(alloc, tree.functions())?;
     let setting = Setting {

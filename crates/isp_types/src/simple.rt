@@ -4,13 +4,14 @@ ghost use Rattle.isp_tree.specs.Tree.{value as read_value};
 ghost use Rattle.isp_tree.specs.Views.{expr_of as read_expr, first_of as read_first, simple_of as read_simple};
 ghost use Rattle.isp_typed.specs.Typed.{t_first_simple, t_value};
 ghost use Rattle.isp_typed.specs.Verdicts.{both, found, made};
-ghost use Rattle.isp_typed.specs.Views.{items_of, place_of};
+ghost use Rattle.isp_typed.specs.Views.{place_of};
 ghost use Rattle.isp_types.specs.Numbering.{first_names, first_variables};
 ghost use Rattle.isp_types.specs.Simple.{assigned, assigned_by, assignment_operator, change_operator, no_place, stated, stepped};
 ghost use Rattle.isp_types.specs.Nodes.{declared_first};
 ghost use Rattle.isp_types.specs.reader.JudgeStmts.{judge_first, judge_simple, judge_target};
 ghost use Rattle.isp_exprs.specs.reader.Parts.{boxed_of, called_of};
-ghost use Rattle.isp_types.specs.reader.Boxes.{boxed_first, boxed_simple};
+ghost use Rattle.isp_types.specs.reader.Boxes.{boxed_first, boxed_simple, listed_items};
+ghost use Rattle.isp_types.specs.reader.Settings.{within};
 
 use crate::declaration::declaration;
 use isp_base::{BinOp, Elem, Span, common};
@@ -32,7 +33,7 @@ fn no_place(value: Verdict<Box<TypedExpr>>, span: Span) -> Verdict<TypedPlace>
 
 /// What is assigned.
 fn target(setting: &Setting, scope: &Scope, x: &Expr) -> Result<Verdict<TypedPlace>, AllocError>
-    ensures { IfOk result (λ v. made place_of v ≡ judge_target setting.now.gang setting.now.headers.now scope.now (read_expr x.now)) }
+    ensures { IfOk result (λ v. made place_of v ≡ within setting.now judge_target scope.now (read_expr x.now)) }
 {
     match x {
         Expr::Place(Place::Variable(word)) => Ok(variable_target(scope.named(word), word.span)),
@@ -195,7 +196,7 @@ fn expression(
     scope: &Scope,
     x: &Expr,
 ) -> Result<Verdict<Box<TypedSimple>>, AllocError>
-    ensures { IfOk result (λ v. made boxed_simple v ≡ judge_simple setting.now.gang setting.now.headers.now scope.now (read_value (read_expr x.now))) }
+    ensures { IfOk result (λ v. made boxed_simple v ≡ within setting.now judge_simple scope.now (read_value (read_expr x.now))) }
 {
     match x {
         Expr::Call {
@@ -228,7 +229,7 @@ pub fn simple(
     scope: &Scope,
     x: &Simple,
 ) -> Result<Verdict<Box<TypedSimple>>, AllocError>
-    ensures { IfOk result (λ v. made boxed_simple v ≡ judge_simple setting.now.gang setting.now.headers.now scope.now (read_simple x.now)) }
+    ensures { IfOk result (λ v. made boxed_simple v ≡ within setting.now judge_simple scope.now (read_simple x.now)) }
 {
     match x {
         Simple::Value(value) => expression(setting, scope, value),
@@ -258,7 +259,7 @@ fn declared_first(
     items: Verdict<Vec<TypedItem>>,
     span: Span,
 ) -> Result<Verdict<Box<TypedFirst>>, AllocError>
-    ensures { IfOk result (λ v. made boxed_first v ≡ made (declared_first span) (made (λ l. items_of l.items) items)) }
+    ensures { IfOk result (λ v. made boxed_first v ≡ made (declared_first span) (made listed_items items)) }
 {
     match items {
         Ok(items) => Ok(Ok(Box::new(alloc, TypedFirst::Declare { items, span })?)),
@@ -289,9 +290,11 @@ pub fn first_part(
     variables: &mut Vec<Variable>,
     x: &First,
 ) -> Result<Verdict<Box<TypedFirst>>, AllocError>
-    ensures value { IfOk result (λ v. made boxed_first v ≡ judge_first setting.now.gang setting.now.headers.now scope.old start variables.old.items (read_first x.now)) }
+    ensures value { IfOk result (λ v. made boxed_first v
+        ≡ within setting.now judge_first scope.old start variables.old.items (read_first x.now)) }
     ensures names { IfOk result (λ v. scope.new ≡ first_names setting.now.gang scope.old variables.old.items (Some (read_first x.now))) }
-    ensures variables { IfOk result (λ v. variables.new.items ≡ first_variables setting.now.gang variables.old.items (Some (read_first x.now))) }
+    ensures variables { IfOk result (λ v. variables.new.items
+        ≡ first_variables setting.now.gang variables.old.items (Some (read_first x.now))) }
 {
     match x {
         First::Declare(d) => {

@@ -4,8 +4,10 @@ ghost use Rattle.isp_tree.specs.Views.{block_of as read_block, stmt_of as read_s
 ghost use Rattle.isp_typed.specs.Verdicts.{both, made};
 ghost use Rattle.isp_typed.specs.Views.{block_of, stmt_of};
 ghost use Rattle.isp_types.specs.Numbering.{block_variables, names_after, variables_after};
+ghost use Rattle.isp_types.specs.reader.Boxes.{boxed_stmt};
 ghost use Rattle.isp_types.specs.reader.JudgeStmts.{judge_block, judge_stmt};
-ghost use Rattle.isp_types.specs.reader.Kinds.{is_active, is_branch, is_called, is_for, is_foreach, is_repeated, is_unique};
+ghost use Rattle.isp_types.specs.reader.Kinds.{is_active, is_basic, is_branch, is_called, is_for, is_foreach, is_repeated, is_unique};
+ghost use Rattle.isp_types.specs.reader.Settings.{within};
 
 use crate::declaration::declaration;
 use crate::make::{
@@ -32,9 +34,11 @@ fn body(
     variables: &mut Vec<Variable>,
     s: &Stmt,
 ) -> Result<Verdict<Box<TypedStmt>>, AllocError>
-    ensures value { IfOk result (λ v. made (λ b. stmt_of b.value) v ≡ judge_stmt setting.now.gang setting.now.headers.now answer scope.old (length scope.old) variables.old.items (read_stmt s.now)) }
+    ensures value { IfOk result (λ v. made boxed_stmt v
+        ≡ within setting.now judge_stmt answer scope.old (length scope.old) variables.old.items (read_stmt s.now)) }
     ensures names { IfOk result (λ v. scope.new ≡ scope.old) }
-    ensures variables { IfOk result (λ v. variables.new.items ≡ variables_after setting.now.gang setting.now.headers.now scope.old variables.old.items (read_stmt s.now)) }
+    ensures variables { IfOk result (λ v. variables.new.items
+        ≡ within setting.now variables_after scope.old variables.old.items (read_stmt s.now)) }
 {
     let start = scope.len();
     let found = stmt(setting, answer, scope, start, variables, s)?;
@@ -52,9 +56,11 @@ pub fn block(
     variables: &mut Vec<Variable>,
     b: &Block,
 ) -> Result<Verdict<TypedBlock>, AllocError>
-    ensures value { IfOk result (λ v. made block_of v ≡ judge_block setting.now.gang setting.now.headers.now answer scope.old start variables.old.items (read_block b.now)) }
+    ensures value { IfOk result (λ v. made block_of v
+        ≡ within setting.now judge_block answer scope.old start variables.old.items (read_block b.now)) }
     ensures names { IfOk result (λ v. take (length scope.old) scope.new ≡ scope.old) }
-    ensures variables { IfOk result (λ v. variables.new.items ≡ block_variables setting.now.gang setting.now.headers.now scope.old variables.old.items (read_block b.now)) }
+    ensures variables { IfOk result (λ v. variables.new.items
+        ≡ within setting.now block_variables scope.old variables.old.items (read_block b.now)) }
 {
     let mut done = Ok(Vec::new(setting.alloc));
     for s in &b.statements {
@@ -73,9 +79,11 @@ fn inner_block(
     variables: &mut Vec<Variable>,
     b: &Block,
 ) -> Result<Verdict<TypedBlock>, AllocError>
-    ensures value { IfOk result (λ v. made block_of v ≡ judge_block setting.now.gang setting.now.headers.now answer scope.old (length scope.old) variables.old.items (read_block b.now)) }
+    ensures value { IfOk result (λ v. made block_of v
+        ≡ within setting.now judge_block answer scope.old (length scope.old) variables.old.items (read_block b.now)) }
     ensures names { IfOk result (λ v. scope.new ≡ scope.old) }
-    ensures variables { IfOk result (λ v. variables.new.items ≡ block_variables setting.now.gang setting.now.headers.now scope.old variables.old.items (read_block b.now)) }
+    ensures variables { IfOk result (λ v. variables.new.items
+        ≡ within setting.now block_variables scope.old variables.old.items (read_block b.now)) }
 {
     let start = scope.len();
     let found = block(setting, answer, scope, start, variables, b)?;
@@ -94,9 +102,11 @@ fn branch(
     s: &Stmt,
 ) -> Result<Verdict<TypedStmt>, AllocError>
     requires { IsTrue (is_branch (read_stmt s.now)) }
-    ensures value { IfOk result (λ v. made stmt_of v ≡ judge_stmt setting.now.gang setting.now.headers.now answer scope.old start variables.old.items (read_stmt s.now)) }
+    ensures value { IfOk result (λ v. made stmt_of v
+        ≡ within setting.now judge_stmt answer scope.old start variables.old.items (read_stmt s.now)) }
     ensures names { IfOk result (λ v. scope.new ≡ names_after setting.now.gang scope.old variables.old.items (read_stmt s.now)) }
-    ensures variables { IfOk result (λ v. variables.new.items ≡ variables_after setting.now.gang setting.now.headers.now scope.old variables.old.items (read_stmt s.now)) }
+    ensures variables { IfOk result (λ v. variables.new.items
+        ≡ within setting.now variables_after scope.old variables.old.items (read_stmt s.now)) }
 {
     let before = variables.len();
     match s {
@@ -137,9 +147,11 @@ fn repeated(
     s: &Stmt,
 ) -> Result<Verdict<TypedStmt>, AllocError>
     requires { IsTrue (is_repeated (read_stmt s.now)) }
-    ensures value { IfOk result (λ v. made stmt_of v ≡ judge_stmt setting.now.gang setting.now.headers.now answer scope.old start variables.old.items (read_stmt s.now)) }
+    ensures value { IfOk result (λ v. made stmt_of v
+        ≡ within setting.now judge_stmt answer scope.old start variables.old.items (read_stmt s.now)) }
     ensures names { IfOk result (λ v. scope.new ≡ names_after setting.now.gang scope.old variables.old.items (read_stmt s.now)) }
-    ensures variables { IfOk result (λ v. variables.new.items ≡ variables_after setting.now.gang setting.now.headers.now scope.old variables.old.items (read_stmt s.now)) }
+    ensures variables { IfOk result (λ v. variables.new.items
+        ≡ within setting.now variables_after scope.old variables.old.items (read_stmt s.now)) }
 {
     let before = variables.len();
     match s {
@@ -178,9 +190,11 @@ fn for_loop(
     s: &Stmt,
 ) -> Result<Verdict<TypedStmt>, AllocError>
     requires { IsTrue (is_for (read_stmt s.now)) }
-    ensures value { IfOk result (λ v. made stmt_of v ≡ judge_stmt setting.now.gang setting.now.headers.now answer scope.old start variables.old.items (read_stmt s.now)) }
+    ensures value { IfOk result (λ v. made stmt_of v
+        ≡ within setting.now judge_stmt answer scope.old start variables.old.items (read_stmt s.now)) }
     ensures names { IfOk result (λ v. scope.new ≡ names_after setting.now.gang scope.old variables.old.items (read_stmt s.now)) }
-    ensures variables { IfOk result (λ v. variables.new.items ≡ variables_after setting.now.gang setting.now.headers.now scope.old variables.old.items (read_stmt s.now)) }
+    ensures variables { IfOk result (λ v. variables.new.items
+        ≡ within setting.now variables_after scope.old variables.old.items (read_stmt s.now)) }
 {
     let Stmt::For {
         form,
@@ -214,9 +228,11 @@ fn foreach(
     s: &Stmt,
 ) -> Result<Verdict<TypedStmt>, AllocError>
     requires { IsTrue (is_foreach (read_stmt s.now)) }
-    ensures value { IfOk result (λ v. made stmt_of v ≡ judge_stmt setting.now.gang setting.now.headers.now answer scope.old start variables.old.items (read_stmt s.now)) }
+    ensures value { IfOk result (λ v. made stmt_of v
+        ≡ within setting.now judge_stmt answer scope.old start variables.old.items (read_stmt s.now)) }
     ensures names { IfOk result (λ v. scope.new ≡ names_after setting.now.gang scope.old variables.old.items (read_stmt s.now)) }
-    ensures variables { IfOk result (λ v. variables.new.items ≡ variables_after setting.now.gang setting.now.headers.now scope.old variables.old.items (read_stmt s.now)) }
+    ensures variables { IfOk result (λ v. variables.new.items
+        ≡ within setting.now variables_after scope.old variables.old.items (read_stmt s.now)) }
 {
     let Stmt::Foreach {
         keyword,
@@ -247,9 +263,11 @@ fn foreach_active(
     s: &Stmt,
 ) -> Result<Verdict<TypedStmt>, AllocError>
     requires { IsTrue (is_active (read_stmt s.now)) }
-    ensures value { IfOk result (λ v. made stmt_of v ≡ judge_stmt setting.now.gang setting.now.headers.now answer scope.old start variables.old.items (read_stmt s.now)) }
+    ensures value { IfOk result (λ v. made stmt_of v
+        ≡ within setting.now judge_stmt answer scope.old start variables.old.items (read_stmt s.now)) }
     ensures names { IfOk result (λ v. scope.new ≡ names_after setting.now.gang scope.old variables.old.items (read_stmt s.now)) }
-    ensures variables { IfOk result (λ v. variables.new.items ≡ variables_after setting.now.gang setting.now.headers.now scope.old variables.old.items (read_stmt s.now)) }
+    ensures variables { IfOk result (λ v. variables.new.items
+        ≡ within setting.now variables_after scope.old variables.old.items (read_stmt s.now)) }
 {
     let Stmt::ForeachActive {
         keyword,
@@ -281,9 +299,11 @@ fn foreach_unique(
     s: &Stmt,
 ) -> Result<Verdict<TypedStmt>, AllocError>
     requires { IsTrue (is_unique (read_stmt s.now)) }
-    ensures value { IfOk result (λ v. made stmt_of v ≡ judge_stmt setting.now.gang setting.now.headers.now answer scope.old start variables.old.items (read_stmt s.now)) }
+    ensures value { IfOk result (λ v. made stmt_of v
+        ≡ within setting.now judge_stmt answer scope.old start variables.old.items (read_stmt s.now)) }
     ensures names { IfOk result (λ v. scope.new ≡ names_after setting.now.gang scope.old variables.old.items (read_stmt s.now)) }
-    ensures variables { IfOk result (λ v. variables.new.items ≡ variables_after setting.now.gang setting.now.headers.now scope.old variables.old.items (read_stmt s.now)) }
+    ensures variables { IfOk result (λ v. variables.new.items
+        ≡ within setting.now variables_after scope.old variables.old.items (read_stmt s.now)) }
 {
     let Stmt::ForeachUnique {
         keyword,
@@ -303,6 +323,48 @@ fn foreach_unique(
     unique_stmt(setting.alloc, *keyword, before, found, done, *span)
 }
 
+/// A declaration, an expression, an assignment, a jump, or nothing.
+fn basic(
+    setting: &Setting,
+    answer: Verdict<Option<Ty>>,
+    scope: &mut Scope,
+    start: usize,
+    variables: &mut Vec<Variable>,
+    s: &Stmt,
+) -> Result<Verdict<TypedStmt>, AllocError>
+    requires { IsTrue (is_basic (read_stmt s.now)) }
+    ensures value { IfOk result (λ v. made stmt_of v
+        ≡ within setting.now judge_stmt answer scope.old start variables.old.items (read_stmt s.now)) }
+    ensures names { IfOk result (λ v. scope.new ≡ names_after setting.now.gang scope.old variables.old.items (read_stmt s.now)) }
+    ensures variables { IfOk result (λ v. variables.new.items
+        ≡ within setting.now variables_after scope.old variables.old.items (read_stmt s.now)) }
+{
+    match s {
+        Stmt::Empty { span } => Ok(Ok(empty_stmt(setting.alloc, *span))),
+        Stmt::Declare {
+            declaration: d,
+            span,
+        } => {
+            let items = declaration(setting, scope, start, variables, d)?;
+            Ok(declared_stmt(items, *span))
+        }
+        Stmt::Simple { simple: x, span } => {
+            let found = simple(setting, scope, x)?;
+            Ok(simple_stmt(found, *span))
+        }
+        Stmt::Jump {
+            jump,
+            keyword,
+            span,
+        } => Ok(Ok(TypedStmt::Jump {
+            jump: *jump,
+            keyword: *keyword,
+            span: *span,
+        })),
+        _ => unreachable!(),
+    }
+}
+
 /// A `return`, a `print` or an `assert`.
 fn called(
     setting: &Setting,
@@ -313,9 +375,11 @@ fn called(
     s: &Stmt,
 ) -> Result<Verdict<TypedStmt>, AllocError>
     requires { IsTrue (is_called (read_stmt s.now)) }
-    ensures value { IfOk result (λ v. made stmt_of v ≡ judge_stmt setting.now.gang setting.now.headers.now answer scope.old start variables.old.items (read_stmt s.now)) }
+    ensures value { IfOk result (λ v. made stmt_of v
+        ≡ within setting.now judge_stmt answer scope.old start variables.old.items (read_stmt s.now)) }
     ensures names { IfOk result (λ v. scope.new ≡ names_after setting.now.gang scope.old variables.old.items (read_stmt s.now)) }
-    ensures variables { IfOk result (λ v. variables.new.items ≡ variables_after setting.now.gang setting.now.headers.now scope.old variables.old.items (read_stmt s.now)) }
+    ensures variables { IfOk result (λ v. variables.new.items
+        ≡ within setting.now variables_after scope.old variables.old.items (read_stmt s.now)) }
 {
     match s {
         Stmt::Return {
@@ -359,26 +423,19 @@ fn stmt(
     variables: &mut Vec<Variable>,
     s: &Stmt,
 ) -> Result<Verdict<TypedStmt>, AllocError>
-    ensures value { IfOk result (λ v. made stmt_of v ≡ judge_stmt setting.now.gang setting.now.headers.now answer scope.old start variables.old.items (read_stmt s.now)) }
+    ensures value { IfOk result (λ v. made stmt_of v
+        ≡ within setting.now judge_stmt answer scope.old start variables.old.items (read_stmt s.now)) }
     ensures names { IfOk result (λ v. scope.new ≡ names_after setting.now.gang scope.old variables.old.items (read_stmt s.now)) }
-    ensures variables { IfOk result (λ v. variables.new.items ≡ variables_after setting.now.gang setting.now.headers.now scope.old variables.old.items (read_stmt s.now)) }
+    ensures variables { IfOk result (λ v. variables.new.items
+        ≡ within setting.now variables_after scope.old variables.old.items (read_stmt s.now)) }
 {
     match s {
         Stmt::Block(b) => {
             let found = inner_block(setting, answer, scope, variables, b)?;
             Ok(block_stmt(found))
         }
-        Stmt::Empty { span } => Ok(Ok(empty_stmt(setting.alloc, *span))),
-        Stmt::Declare {
-            declaration: d,
-            span,
-        } => {
-            let items = declaration(setting, scope, start, variables, d)?;
-            Ok(declared_stmt(items, *span))
-        }
-        Stmt::Simple { simple: x, span } => {
-            let found = simple(setting, scope, x)?;
-            Ok(simple_stmt(found, *span))
+        Stmt::Empty { .. } | Stmt::Declare { .. } | Stmt::Simple { .. } | Stmt::Jump { .. } => {
+            basic(setting, answer, scope, start, variables, s)
         }
         Stmt::If { .. } | Stmt::IfElse { .. } => {
             branch(setting, answer, scope, start, variables, s)
@@ -398,15 +455,6 @@ fn stmt(
             let found = inner_block(setting, answer, scope, variables, b)?;
             Ok(unmasked_stmt(*keyword, found, *span))
         }
-        Stmt::Jump {
-            jump,
-            keyword,
-            span,
-        } => Ok(Ok(TypedStmt::Jump {
-            jump: *jump,
-            keyword: *keyword,
-            span: *span,
-        })),
         Stmt::Return { .. } | Stmt::Print { .. } | Stmt::Assert { .. } => {
             called(setting, answer, scope, start, variables, s)
         }

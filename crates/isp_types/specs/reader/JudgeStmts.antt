@@ -33,6 +33,10 @@ use Rattle.isp_exprs.specs.reader.Judge.{judge_call_of, judge}
 abbrev pub twice : Word → ℕ → List Binding → Option Fault
 twice w start ns = fault_unless (is_new w.name start ns) (fault NameTwice w.span)
 
+-- the fault of a text that has another number of places than there are values
+abbrev pub print_fault : List ℕ → Span → ℕ → Option Fault
+print_fault text span count = fault_unless (places text == count) (fault BadPrint span)
+
 module _ (gang : Gang) (hs : List Heading) where
   -- ---- declared variables
 
@@ -116,7 +120,7 @@ module _ (gang : Gang) (hs : List Heading) where
       judge_stmt ns start vars (unmasked k b s) = made (unmasked_stmt k s) (judge_block ns (length ns) vars b)
       judge_stmt ns start vars (jump j k s) = Ok (t_jump j k s)
       judge_stmt ns start vars (returning k x s) = made (return_stmt k s) (judge_returned ns k x)
-      judge_stmt ns start vars (print k t p xs s) = made (print_stmt k t s) (beside (fault_unless (places t == length xs) (fault BadPrint p)) (judge_values ns xs))
+      judge_stmt ns start vars (print k t p xs s) = made (print_stmt k t s) (beside (print_fault t p (length xs)) (judge_values ns xs))
       judge_stmt ns start vars (assert x c s) = made (assert_stmt c s) (judge_test ns x)
 
       pub judge_block : List Binding → ℕ → List Variable → Block → Result TBlock Fault

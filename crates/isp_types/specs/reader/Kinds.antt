@@ -1,6 +1,14 @@
 -- Groups of statements. No part of the promise.
 use Rattle.std.specs.Prelude.{Bool, true, false}
-use Rattle.isp_tree.specs.Tree.{Stmt, if_then, if_else, loop_while, loop_do, loop_for, foreach, foreach_active, foreach_unique, returning, print, assert}
+use Rattle.isp_tree.specs.Tree.{Stmt, empty, declare, simple, jump, if_then, if_else, loop_while, loop_do, loop_for, foreach, foreach_active, foreach_unique, returning, print, assert}
+
+-- a statement without others in it that declares, computes or jumps, or does nothing
+abbrev pub is_basic : Stmt → Bool
+is_basic (empty s) = true
+is_basic (declare d s) = true
+is_basic (simple p s) = true
+is_basic (jump j k s) = true
+is_basic s = false
 
 abbrev pub is_branch : Stmt → Bool
 is_branch (if_then f x a s) = true

@@ -1,24 +1,26 @@
 -- What further functions of the code give. No part of the promise.
-use Rattle.std.specs.Prelude.{ℕ, List, map, Bool, true, not, Option, Some, None, option_map, Result, Ok, Err}
+use Rattle.std.specs.Prelude.{◌≡◌, ℕ, List, map, Bool, true, not, ◌||◌, Option, Some, None, option_map, is_some, Result, Ok, Err}
 use Rattle.std.specs.List.{list_any}
 use Rattle.isp_base.specs.declared.types.Gang.{Gang}
 use Rattle.isp_base.specs.declared.types.Ty.{Ty}
 use Rattle.isp_lex.specs.declared.fault.Fault.{Fault}
-use Rattle.isp_lex.specs.declared.fault.Rule.TheVariants.{Mismatch}
+use Rattle.isp_lex.specs.declared.fault.Rule.TheVariants.{NameTwice, Mismatch}
 use Rattle.isp_lex.specs.Faults.{fault}
-use Rattle.isp_tree.specs.Tree.{Item, plain, with_value, with_size, Range, Param, Function}
+use Rattle.isp_tree.specs.declared.types.Word.{Word}
+use Rattle.isp_tree.specs.Tree.{Expr, Simple, Item, plain, with_value, with_size, Range, Param, Block, Function}
 use Rattle.isp_typed.specs.declared.variable.Variable.{Variable}
-use Rattle.isp_typed.specs.Verdicts.{both, made, beside, first_of, fault_unless}
-use Rattle.isp_typed.specs.Typed.{TExpr, TItem, t_plain, TBlock, TFunction}
+use Rattle.isp_typed.specs.Verdicts.{both, made, beside, first_of, fault_unless, perhaps}
+use Rattle.isp_typed.specs.Typed.{TExpr, TItem, t_plain, TSimple, TStmt, TBlock, TFunction}
 use Rattle.isp_exprs.specs.declared.scope.Binding.{Binding}
 use Rattle.isp_exprs.specs.declared.words.ValueWords.{ValueWords}
 use Rattle.isp_exprs.specs.Words.{value_said, type_declared}
 use Rattle.isp_exprs.specs.Scopes.{Meaning}
-use Rattle.isp_exprs.specs.Callees.{Heading}
+use Rattle.isp_exprs.specs.Callees.{Heading, library_named}
 use Rattle.isp_types.specs.Declarations.{array_sized, with_initial, sized_item}
 use Rattle.isp_types.specs.Functions.{param_fits, parameter_of, param_span, is_export}
 use Rattle.isp_exprs.specs.reader.Judge.{judge}
-use Rattle.isp_types.specs.reader.JudgeStmts.{twice}
+use Rattle.isp_types.specs.reader.JudgeStmts.{twice, judge_test, judge_simple, judge_block}
+use Rattle.isp_types.specs.reader.JudgeFunctions.{judge_body}
 
 -- a variable by its number, where its type is found
 abbrev pub known_next : ℕ → Result Variable Fault → Meaning
@@ -35,6 +37,14 @@ module _ (gang : Gang) (hs : List Heading) (ns : List Binding) where
   abbrev pub judge_bounds : Range → Result (TExpr × TExpr) Fault
   judge_bounds r = both (judge gang hs ns r.start) (judge gang hs ns r.end)
 
+  -- the step of a `for`, which may be left out, and the verdict on its body
+  abbrev pub judge_step_and_body : Option Simple → Result TStmt Fault → Result (Option TSimple × TStmt) Fault
+  judge_step_and_body p body = both (perhaps (judge_simple gang hs ns) p) body
+
+  -- what stands behind the first part of a `for`: its test, its step and the verdict on its body
+  abbrev pub judge_behind_first : Option Expr → Option Simple → Result TStmt Fault → Result (Option TExpr × (Option TSimple × TStmt)) Fault
+  judge_behind_first x p body = both (perhaps (judge_test gang hs ns) x) (judge_step_and_body p body)
+
   -- an item, of which the fault of its name and the words of its type are given
   abbrev pub judge_item_with : Option Fault → ℕ → ValueWords → Item → Result TItem Fault
   judge_item_with seen k v (plain w) = beside seen (Ok (t_plain k (type_declared v) w.span))
@@ -50,6 +60,15 @@ fault_of (Err f) = Some f
 -- the first fault of a parameter
 abbrev pub param_fault : List Binding → Param → Option Fault
 param_fault ns p = first_of (first_of (twice p.word 0 ns) (fault_unless (param_fits p) (fault Mismatch p.word.span))) (fault_of (value_said p.ty))
+
+-- The fault of parameters, whatever the body: beside the verdict on a body behind them it gives the verdict on the body with them.
+abbrev pub IsParamsFault : List Binding → List Variable → List Param → List Binding → List Variable → Option Fault → Type 0
+IsParamsFault ns vars ps after more o = (gang : Gang) (hs : List Heading) (answer : Result (Option Ty) Fault) (b : Block)
+    → beside o (judge_block gang hs answer after 0 more b) ≡ judge_body gang hs answer ns vars ps b
+
+-- the fault of a function's name that the library has or an earlier function
+abbrev pub name_fault : Word → Bool → Option Fault
+name_fault w is_taken = fault_unless (not (is_some (library_named w.name) || is_taken)) (fault NameTwice w.span)
 
 -- a function of its result, variables and body
 abbrev pub function_of_parts : Function → Option Ty → List Variable → TBlock → TFunction

@@ -1,5 +1,5 @@
 use Rattle.isp_typed.specs.Verdicts.{made}
-use Rattle.isp_typed.specs.Views.{items_of}
+use Rattle.isp_types.specs.reader.Boxes.{listed_items}
 use Rattle.isp_types.proofs.ItemSteps.{items_step, names_step, variables_step}
 use Rattle.isp_types.proofs.declaration.items.Goals as goal
 
@@ -10,7 +10,7 @@ loop-x-preserved c =
     let words = c.args.words in
     record {
       value = items_step gang words c.args.all.now c.loop-x.x-index c.x-item.result c.loop-x-test.true c.x-item.is c.loop-x.scope _ c.loop-x.variables.items _
-          c.in_ok-part.ensures.names c.in_ok-part.ensures.variables hs c.args.start (made (λ v. items_of v.items) c.loop-x.done) _ _ _
+          c.in_ok-part.ensures.names c.in_ok-part.ensures.variables hs c.args.start (made listed_items c.loop-x.done) _ _ _
           c.in_ok-part.ensures.value c.in_ok-done.ensures c.loop-x.invariant.value;
       names = names_step gang words c.args.all.now c.loop-x.x-index c.x-item.result c.loop-x-test.true c.x-item.is c.loop-x.scope _ c.loop-x.variables.items _
           c.in_ok-part.ensures.names c.in_ok-part.ensures.variables _ c.loop-x.invariant.names;

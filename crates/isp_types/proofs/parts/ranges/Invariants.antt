@@ -3,11 +3,10 @@ use Rattle.std.specs.Iterator.Adapters.{zip_first, zip_second}
 use Rattle.std.specs.Slice.Iter.{iter_rest}
 use Rattle.std.specs.Vec.Iter.{into_iter_items, into_iter_len}
 use Rattle.isp_tree.specs.Views.{range_of as read_range}
-use Rattle.isp_typed.specs.Views.{ranges_of}
 use Rattle.isp_typed.specs.Verdicts.{made}
 use Rattle.isp_types.specs.Numbering.{range_names, range_variables}
 use Rattle.isp_types.specs.reader.JudgeStmts.{judge_ranges}
-use Rattle.isp_types.specs.reader.Boxes.{boxed_pair}
+use Rattle.isp_types.specs.reader.Boxes.{boxed_pair, listed_ranges}
 use Rattle.isp_types.specs.reader.Lists.{judge_bounds}
 use Rattle.isp_types.proofs.Joined.{joined}
 use Rattle.isp_types.proofs.parts.ranges.Given as goal
@@ -17,7 +16,7 @@ invariant-loop-r l = record {
   long : into_iter_len (zip_second l.r-iterator) ≡ length (into_iter_items (zip_second l.r-iterator));
   bounds : map (made boxed_pair) (into_iter_items (zip_second l.r-iterator))
       ≡ map (judge_bounds l.setting.gang l.setting.headers.now l.initial.scope) (map read_range (iter_rest (zip_first l.r-iterator)));
-  value : joined (made (λ v. ranges_of v.items) l.done) (judge_ranges l.setting.gang l.setting.headers.now l.initial.scope (length l.initial.scope) l.scope l.variables.items (map read_range (iter_rest (zip_first l.r-iterator))))
+  value : joined (made listed_ranges l.done) (judge_ranges l.setting.gang l.setting.headers.now l.initial.scope (length l.initial.scope) l.scope l.variables.items (map read_range (iter_rest (zip_first l.r-iterator))))
       ≡ judge_ranges l.setting.gang l.setting.headers.now l.initial.scope (length l.initial.scope) l.initial.scope l.initial.variables.items (map read_range l.all);
   names : range_names l.scope l.variables.items (map read_range (iter_rest (zip_first l.r-iterator))) ≡ range_names l.initial.scope l.initial.variables.items (map read_range l.all);
   variables : range_variables l.variables.items (map read_range (iter_rest (zip_first l.r-iterator))) ≡ range_variables l.initial.variables.items (map read_range l.all);

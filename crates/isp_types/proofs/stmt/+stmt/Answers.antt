@@ -7,6 +7,7 @@ use Rattle.isp_typed.specs.Verdicts.{made, perhaps}
 use Rattle.isp_typed.specs.Views.{stmt_of as typed_stmt_of}
 use Rattle.isp_types.specs.Numbering.{block_variables, first_names, first_variables, range_names, names_after, variables_after}
 use Rattle.isp_types.specs.Nodes.{braces_made, if_stmt, if_else_stmt, while_stmt, do_stmt, for_stmt}
+use Rattle.isp_types.specs.reader.Boxes.{boxed_stmt}
 use Rattle.isp_types.specs.reader.JudgeStmts.{judge_block, judge_first, judge_stmt, judge_test}
 use Rattle.isp_types.proofs.NamesKept.{names_kept, first_kept, ranges_kept, kept_then}
 use Rattle.isp_types.proofs.StmtParts.{joined_parts, joined_for, both_are, left_again, test_judged, body_judged, rest_judged}
@@ -20,7 +21,7 @@ body-returns t c =
     let ns = c.args.scope.now in
     let judged : ℕ → Result TStmt Fault = λ n. judge_stmt c.args.setting.now.gang c.args.setting.now.headers.now c.args.answer ns n c.args.variables.now.items (read_stmt c.args.s.now) in
     record {
-      value = answer_is c.boxed.result (made (λ b. typed_stmt_of b.value)) (made typed_stmt_of c.in_ok-found.found) (judged (length ns)) c.boxed.ensures (v.value ∙ ap judged c.len-start.ensures);
+      value = answer_is c.boxed.result (made boxed_stmt) (made typed_stmt_of c.in_ok-found.found) (judged (length ns)) c.boxed.ensures (v.value ∙ ap judged c.len-start.ensures);
       names = any_ok c.boxed.result _ (c.leave.ensures ∙ (rw (v.names, c.len-start.ensures) (names_kept c.args.setting.now.gang ns c.args.variables.now.items (read_stmt c.args.s.now))));
       variables = any_ok c.boxed.result _ v.variables;
     }
