@@ -1,4 +1,4 @@
-use Rattle.std.proofs.Common.{refl, sym, ◌∙◌, rules}
+use Rattle.std.proofs.Common.{refl, sym, ◌∙◌}
 use Rattle.isp_base.specs.Cross.{insert}
 use Rattle.isp_base.specs.Maps.{on, over}
 use Rattle.isp_base.specs.Types.{gang_width}
