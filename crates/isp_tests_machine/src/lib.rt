@@ -31,3 +31,5 @@ mod sights;
 mod sprints;
 #[cfg(test)]
 mod texts;
+#[cfg(test)]
+mod turns;
