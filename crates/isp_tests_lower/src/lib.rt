@@ -2,4 +2,8 @@
 #![tactic(auto)]
 
 #[cfg(test)]
-mod emitted;
+mod refused;
+#[cfg(test)]
+mod trees;
+#[cfg(test)]
+mod written;

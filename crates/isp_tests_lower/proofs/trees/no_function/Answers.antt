@@ -6,7 +6,7 @@ use Rattle.isp_typed.specs.Fine.{FineFunction, IsFine}
 use Rattle.isp_typed.specs.Scoped.{IsScoped, ScopedFunction}
 use Rattle.isp_typed.specs.Typed.{Program}
 use Rattle.isp_typed.specs.Views.{functions_of}
-use Rattle.isp_tests_lower.proofs.emitted.no_function.Goals as goal
+use Rattle.isp_tests_lower.proofs.trees.no_function.Goals as goal
 
 abbrev empty : Program
 empty = record { gang = W8; functions = [] }

@@ -1,0 +1,224 @@
+-- The trees are fine, and what an emitter has when they are written can be a text.
+use Rattle.std.proofs.Common.{◌≡◌, ◌∙◌, ◌<◌, ◌≤◌, ℕ, suc, List, [], ◌∷◌, ◌++◌, length, Some, None, true, false, is_some, refl, ap, sym, subst, arith, append-nil, append_assoc}
+use Rattle.std.specs.List.{list_all}
+use Rattle.std.proofs.lemmas.Bool.{and_from}
+use Rattle.isp_base.specs.Values.{greatest, number_to}
+use Rattle.isp_base.specs.declared.types.Elem.TheVariants.{I32, I64}
+use Rattle.isp_base.specs.declared.types.Rate.TheVariants.{Uniform, Varying}
+use Rattle.isp_base.specs.declared.types.Span.{Span}
+use Rattle.isp_code.specs.Writable.{constant_in, has_byte, local_fits, parts_fit, place_fits}
+use Rattle.isp_code.specs.declared.instr.Instr.{Instr}
+use Rattle.isp_code.specs.declared.instr.Instr.TheVariants as instr
+use Rattle.isp_typed.specs.Fine.{AreOperands, FineExpr, FinePlace, FineSimple}
+use Rattle.isp_typed.specs.Typed.{TExpr, TFunction, TSimple, t_place, t_variable}
+use Rattle.isp_typed.specs.declared.variable.Variable.{Variable}
+use Rattle.isp_lex.specs.Lexing.{limit}
+use Rattle.isp_lower.specs.Asks.{expr_asks, simple_asks, target_asks}
+use Rattle.isp_lower.specs.Code.{expr_code}
+use Rattle.isp_lower.specs.Adding.{Adds, AddsCode, expr_in, layout_in, simple_in}
+use Rattle.isp_lower.specs.Drafts.{CanBeWritten, Draft, IsBegun, draft_of, routine_at_work, with_instr, with_target}
+use Rattle.isp_lower.specs.Emitted.{Begins, Grows, array_rows, first_rows}
+use Rattle.isp_lower.specs.Header.{AreSmall, HeadingFits, heading_of, locals_of, routine_with}
+use Rattle.isp_lower.specs.Layout.{Layout}
+use Rattle.isp_lower.specs.Patched.{IsJump, instr_at, patched}
+use Rattle.isp_lower.specs.Rated.{IsFineExpr, IsFineSimple, IsRated, SimpleRated}
+use Rattle.isp_lower.specs.Reserved.{HasOwn}
+use Rattle.isp_lower.specs.Rows.{Row, Rows, Variable as VariableName, elem_in, with_fresh_at}
+use Rattle.isp_lower.specs.Simple.{simple_code}
+use Rattle.isp_lower.specs.declared.types.Emitter.{Emitter}
+use Rattle.isp_lower.proofs.Lemmas.{all_both, expr_placed, simple_placed}
+use Rattle.isp_tests_lower.specs.Stages.{HasCode, HasJump, NoneKept}
+use Rattle.isp_tests_lower.specs.Trees.{IsFunction, assignment, doubled, element, int, number, one_more, read, site, sum, value, variables, written}
+
+-- ---- names, types and rates
+
+-- a place in a source
+abbrev pub InText : Span → Type 0
+InText s = (s.start < s.end) × (s.end ≤ limit)
+
+read_in : InText read
+read_in = (omega arith, omega arith)
+
+written_in : InText written
+written_in = (omega arith, omega arith)
+
+element_fine : (fs : List TFunction) (s : Span) → InText s → FinePlace fs variables (element s)
+element_fine fs s h = (record { variable = _; is = refl; ty = refl; constant = refl }, tt, refl, h)
+
+sum_is_fine : (fs : List TFunction) → FineExpr fs variables sum
+sum_is_fine fs =
+    let operands : AreOperands (t_place (t_variable 1 (int Uniform) read)) (number 1) I32 Uniform = record { left = refl; right = refl; rate = refl } in
+    let small : 1 ≤ greatest I32 = omega arith in
+    (record { constant = _; is = refl }, small, operands, refl, read_in)
+
+assignment_is_fine : (fs : List TFunction) → FineSimple fs variables assignment
+assignment_is_fine fs =
+    let one : 1 ≤ greatest I32 = omega arith in
+    let two : 2 ≤ greatest I32 = omega arith in
+    let factors : AreOperands (t_place (element read)) (number 2) I32 Varying = record { left = refl; right = refl; rate = refl } in
+    let product : FineExpr fs variables doubled = (element_fine fs read read_in, two, factors, refl, read_in) in
+    let summands : AreOperands doubled (number 1) I32 Varying = record { left = refl; right = refl; rate = refl } in
+    let whole : FineExpr fs variables (one_more doubled Varying) = (product, one, summands, refl, read_in) in
+    ((element_fine fs written written_in, refl), (whole, refl))
+
+pub sum_fine : (fs : List TFunction) (x : TExpr) → x ≡ sum → IsFineExpr fs x
+sum_fine fs x e = rw e (variables, sum_is_fine fs)
+
+pub assignment_fine : (fs : List TFunction) (s : TSimple) → s ≡ assignment → IsFineSimple fs s
+assignment_fine fs s e = rw e (variables, assignment_is_fine fs)
+
+pub sum_rated : (fs : List TFunction) (x : TExpr) → x ≡ sum → IsRated fs x
+sum_rated fs x e = rw e (tt, tt)
+
+pub assignment_rated : (fs : List TFunction) (s : TSimple) → s ≡ assignment → SimpleRated fs s
+assignment_rated fs s e = rw e (tt, (tt, ((tt, tt), tt)))
+
+-- ---- the functions at work
+
+pub heading_fits : (h : TFunction) (vs : List Variable) → IsFunction vs h → AreSmall vs → HeadingFits h
+heading_fits h vs is small =
+    record { params = subst (λ ps. length ps ≤ length h.variables) (sym is.params) (omega arith); small = subst AreSmall (sym is.variables) small }
+
+pub first_small : AreSmall (value ∷ [])
+first_small = (tt, tt)
+
+pub second_small : AreSmall variables
+second_small = (omega arith, (tt, (tt, (tt, (tt, tt)))))
+
+-- with its jump the second has its registers, its array and its masks
+module _ (f g : TFunction) (d : Draft) (is : IsFunction variables g) (j : HasJump f g d) where
+  pub jump_begun : IsBegun d
+  jump_begun = ap (λ (d : Draft). is_some d.heading) j.is
+
+  pub jump_mask : 0 < d.masks
+  jump_mask = omega (arith, ap (λ (d : Draft). d.masks) j.is)
+
+  pub sum_own : (x : TExpr) → x ≡ sum → HasOwn d.rows (expr_asks x 3)
+  sum_own x e = rw (j.is, is.variables, is.answer, e) (tt, (tt, ((tt, (refl, tt)), (tt, tt))))
+
+  pub jump_code : HasCode f g d
+  jump_code = record {
+    program = j.program;
+    heading = ap (λ (d : Draft). d.heading) j.is;
+    texts = ap (λ (d : Draft). d.texts) j.is;
+    routines = ap (λ (d : Draft). d.routines) j.is;
+    places = ap (λ (d : Draft). list_all place_fits d.places) j.is;
+    rest = [];
+    code = ap (λ (d : Draft). d.code) j.is;
+    constants = refl;
+    arrays = record { more = []; is = ap (λ (d : Draft). d.rows.arrays) j.is ∙ sym (append-nil (array_rows 0 g.variables)) };
+    kept = rw (j.is, is.variables, is.answer) (refl, refl, refl, refl);
+    masks = omega (arith, ap (λ (d : Draft). d.masks) j.is);
+  }
+
+-- and so with code behind it
+module _ (f g : TFunction) (d : Draft) (c : HasCode f g d) where
+  pub code_begun : IsBegun d
+  code_begun = ap is_some c.heading
+
+  pub code_mask : 0 < d.masks
+  code_mask = omega (arith, c.masks)
+
+  pub assignment_own : (s : TSimple) → IsFunction variables g → s ≡ assignment → HasOwn d.rows (simple_asks s 3)
+  assignment_own s is e =
+      let held : elem_in d.rows.arrays (VariableName 0) ≡ Some I32 = rw (c.arrays.is, is.variables) refl in
+      let at : HasOwn d.rows (target_asks (element read) 4) = (held, (tt, (tt, (tt, tt)))) in
+      let double : HasOwn d.rows (expr_asks doubled 4) = (tt, (tt, ((tt, (at, tt)), (tt, tt)))) in
+      rw e (at, (tt, (tt, (tt, (tt, ((tt, double), (tt, tt)))))))
+
+  pub jump_there : 0 < length d.code
+  jump_there = rw c.code (omega arith)
+
+  pub jump_is : IsJump (instr_at d.code 0)
+  jump_is = rw c.code tt
+
+-- ---- code is added
+
+joined : (j : Instr) (c1 c2 u v : List Instr) → c1 ≡ j ∷ u → c2 ≡ c1 ++ v → c2 ≡ j ∷ (u ++ v)
+joined j c1 c2 u v e1 e2 = rw (e2, e1) refl
+
+begins_then : (xs ys zs : List Row) → Begins xs ys → Begins ys zs → Begins xs zs
+begins_then xs ys zs a b = record { more = a.more ++ b.more; is = b.is ∙ ap (λ w. w ++ b.more) a.is ∙ append_assoc xs a.more b.more }
+
+pub instr_added : (f g : TFunction) (old new : Draft) (i : Instr) → HasCode f g old → constant_in i ≡ true → new ≡ with_instr i old → HasCode f g new
+instr_added f g old new i c k e = subst (HasCode f g) (sym e) (record {
+  program = c.program;
+  heading = c.heading;
+  texts = c.texts;
+  routines = c.routines;
+  places = c.places;
+  rest = c.rest ++ i ∷ [];
+  code = ap (λ z. z ++ i ∷ []) c.code;
+  constants = all_both constant_in c.rest (i ∷ []) c.constants (rw k refl);
+  arrays = c.arrays;
+  kept = c.kept;
+  masks = c.masks;
+})
+
+code_added : (f g : TFunction) (old new : Emitter) (u : ℕ → ℕ → List Instr) (ps : List Span) → HasCode f g (draft_of old) → AddsCode old new u ps → NoneKept (draft_of new).rows
+    → list_all constant_in (u (length (draft_of old).code) (length (draft_of old).places)) ≡ true → list_all place_fits ps ≡ true → HasCode f g (draft_of new)
+code_added f g old new u ps c a none constants places =
+    let more = u (length (draft_of old).code) (length (draft_of old).places) in
+    record {
+      program = c.program;
+      heading = ap (λ (d : Draft). d.heading) a.kept ∙ c.heading;
+      texts = ap (λ (d : Draft). d.texts) a.kept ∙ c.texts;
+      routines = ap (λ (d : Draft). d.routines) a.kept ∙ c.routines;
+      places = ap (list_all place_fits) a.appends.places ∙ all_both place_fits (draft_of old).places ps c.places places;
+      rest = c.rest ++ more;
+      code = joined (instr.Jump 0) (draft_of old).code (draft_of new).code c.rest more c.code a.appends.code;
+      constants = all_both constant_in c.rest more c.constants constants;
+      arrays = begins_then (array_rows 0 g.variables) (draft_of old).rows.arrays (draft_of new).rows.arrays c.arrays a.rows.arrays;
+      kept = none;
+      masks = omega (arith, c.masks, a.masks);
+    }
+
+-- of constants that are not kept the code has each
+module _ (l : Layout) (pc p : ℕ) where
+  sum_constants : l.kept Uniform I32 1 ≡ false → list_all constant_in (expr_code l sum pc p 0 3) ≡ true
+  unfolding number_to
+  sum_constants e = rw e refl
+
+  assignment_constants : l.kept Uniform I32 1 ≡ false → l.kept Uniform I32 2 ≡ false → l.kept Varying I32 1 ≡ false → l.kept Varying I32 2 ≡ false → list_all constant_in (simple_code l assignment pc p 0 3) ≡ true
+  unfolding number_to
+  assignment_constants u1 u2 v1 v2 = rw (v1, v2, u1, u2) refl
+
+module _ (f g : TFunction) (old new : Emitter) (c : HasCode f g (draft_of old)) where
+  still_none : Grows old.reserved.registers new.reserved.registers → NoneKept (draft_of new).rows
+  still_none r = (r.kept_scalars I32 1 ∙ c.kept.0, r.kept_scalars I32 2 ∙ c.kept.1, r.kept_vectors I32 1 ∙ c.kept.2, r.kept_vectors I32 2 ∙ c.kept.3)
+
+  pub sum_added : (x : TExpr) → x ≡ sum → Adds old new (expr_in new x site) → HasCode f g (draft_of new)
+  sum_added x e a =
+      let added : Adds old new (expr_in new sum site) = subst (λ z. Adds old new (expr_in new z site)) e a in
+      let none = still_none a.rows in
+      let constants = sum_constants (layout_in new) (length (draft_of old).code) (length (draft_of old).places) none.0 in
+      code_added f g old new _ _ c added none constants (expr_placed [] variables (layout_in new) sum (sum_is_fine []))
+
+  pub assignment_added : (s : TSimple) → s ≡ assignment → Adds old new (simple_in new s site) → HasCode f g (draft_of new)
+  assignment_added s e a =
+      let added : Adds old new (simple_in new assignment site) = subst (λ z. Adds old new (simple_in new z site)) e a in
+      let none = still_none a.rows in
+      let constants = assignment_constants (layout_in new) (length (draft_of old).code) (length (draft_of old).places) none.0 none.1 none.2 none.3 in
+      code_added f g old new _ _ c added none constants (simple_placed [] variables (layout_in new) assignment (assignment_is_fine []))
+
+-- ---- what is finished can be a text
+
+routine_fits : (h : TFunction) (vs : List Variable) (rows : Rows) (masks : ℕ) (code : List Instr) → IsFunction vs h → list_all local_fits (locals_of vs) ≡ true → list_all constant_in code ≡ true → parts_fit (routine_with (heading_of h) rows masks code) ≡ true
+routine_fits h vs rows masks code is locals constants = rw (is.named, is.params, is.variables, locals, constants) refl
+
+module _ (f g : TFunction) (d : Draft) (to : ℕ) (first : IsFunction (value ∷ []) f) (second : IsFunction variables g) (c : HasCode f g d) where
+  closed_fits : list_all parts_fit d.routines ≡ true
+  closed_fits = ap (list_all parts_fit) c.routines ∙ and_from _ true (routine_fits f (value ∷ []) (with_fresh_at Uniform I64 (first_rows f.variables f.answer)) 3 (instr.Return None ∷ []) first refl refl) refl
+
+  last_fits : list_all parts_fit (routine_at_work (Some (heading_of g)) d.rows d.masks (patched (instr.Jump 0 ∷ c.rest) 0 to)) ≡ true
+  last_fits = and_from _ true (routine_fits g variables d.rows d.masks (instr.Jump to ∷ c.rest) second refl c.constants) refl
+
+  patched_fits : CanBeWritten (with_target 0 to d)
+  patched_fits =
+      record {
+        tables = record { places = c.places; texts = ap (list_all has_byte) c.texts };
+        routines = all_both parts_fit d.routines (routine_at_work d.heading d.rows d.masks (patched d.code 0 to)) closed_fits (rw (c.heading, c.code) last_fits);
+      }
+
+  pub can_be_written : (new : Draft) → new ≡ with_target 0 to d → CanBeWritten new
+  can_be_written new e = subst CanBeWritten (sym e) patched_fits
