@@ -1,5 +1,5 @@
 -- The trees are fine, and what an emitter has when they are written can be a text.
-use Rattle.std.proofs.Common.{◌≡◌, ◌∙◌, ◌<◌, ◌≤◌, ℕ, suc, List, [], ◌∷◌, ◌++◌, length, Some, None, true, false, is_some, refl, ap, sym, subst, arith, append-nil, append_assoc}
+use Rattle.std.proofs.Common.{◌≡◌, ◌∙◌, ◌<◌, ◌≤◌, ℕ, List, [], ◌∷◌, ◌++◌, length, Some, None, true, false, is_some, refl, ap, sym, subst, arith, append-nil, append_assoc}
 use Rattle.std.specs.List.{list_all}
 use Rattle.std.proofs.lemmas.Bool.{and_from}
 use Rattle.isp_base.specs.Values.{greatest, number_to}
@@ -203,7 +203,8 @@ module _ (f g : TFunction) (old new : Emitter) (c : HasCode f g (draft_of old)) 
 
 -- ---- what is finished can be a text
 
-routine_fits : (h : TFunction) (vs : List Variable) (rows : Rows) (masks : ℕ) (code : List Instr) → IsFunction vs h → list_all local_fits (locals_of vs) ≡ true → list_all constant_in code ≡ true → parts_fit (routine_with (heading_of h) rows masks code) ≡ true
+routine_fits : (h : TFunction) (vs : List Variable) (rows : Rows) (masks : ℕ) (code : List Instr) → IsFunction vs h
+    → list_all local_fits (locals_of vs) ≡ true → list_all constant_in code ≡ true → parts_fit (routine_with (heading_of h) rows masks code) ≡ true
 routine_fits h vs rows masks code is locals constants = rw (is.named, is.params, is.variables, locals, constants) refl
 
 module _ (f g : TFunction) (d : Draft) (to : ℕ) (first : IsFunction (value ∷ []) f) (second : IsFunction variables g) (c : HasCode f g d) where
