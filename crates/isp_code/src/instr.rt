@@ -301,6 +301,13 @@ impl CallBox {
     {
         &self.call
     }
+
+    /// The call's trap names another place.
+    pub fn set_place(&mut self, place: u32)
+        ensures { self.new ≡ record self.old { place = place } }
+    {
+        self.call.place = place;
+    }
 }
 
 /// One instruction. A `place` is the one that its trap names, a `target` the number of the instruction to jump to.

@@ -18,6 +18,7 @@ use Rattle.isp_typed.specs.declared.variable.Variable.{Variable}
 use Rattle.isp_typed.specs.Nodes.{argument_nodes, arguments_nodes, call_nodes}
 use Rattle.isp_typed.specs.Typed.{TExpr, TPlace, TBase, TArgument, TArguments, TCall, t_called, t_arguments}
 use Rattle.isp_typed.specs.Views.{argument_step, base_step, call_step, expr_step, place_step, argument_of, arguments_of, call_of, function_of, functions_of}
+use Rattle.isp_lower.specs.Lines.{naming}
 use Rattle.isp_lower.specs.Asks.{Both, Nothing, Number, argument_asks, arguments_asks, call_asks, operand_asks}
 use Rattle.isp_lower.specs.Callees.{later, next_rate, rate_held, rates_held, rates_in, rates_of}
 use Rattle.isp_lower.specs.Code.{argument_code, argument_register, argument_registers, arguments_code, call_code, calling}
@@ -158,9 +159,9 @@ abbrev pub called_with : ℕ → Option Register → Register → ℕ → List R
 called_with f d m p ds = record { function = f; result = d; mask = m; place = p; arguments = ds }
 
 pub call_boxed : (l : Layout) (d : Option Register) (f p k n : ℕ) (xs : TArguments) (m : Register) (ds : List Register) (z : Call)
-    → z ≡ called_with f d m p ds → m ≡ mask_register k → ds ≡ argument_registers l (l.rates f) xs n → instr.Call z ≡ calling l d f xs p k n
+    → z ≡ called_with f d m 0 ds → m ≡ mask_register k → ds ≡ argument_registers l (l.rates f) xs n → naming p (instr.Call z) ≡ calling l d f xs p k n
 call_boxed l d f p k n xs m ds z is masked passed =
-    ap instr.Call is ∙ ap (λ y. instr.Call (called_with f d y p ds)) masked ∙ ap (λ ys. instr.Call (called_with f d (mask_register k) p ys)) passed
+    ap (λ y. naming p (instr.Call y)) is ∙ ap (λ y. instr.Call (called_with f d y p ds)) masked ∙ ap (λ ys. instr.Call (called_with f d (mask_register k) p ys)) passed
 
 pub call_done : (l : Layout) (a b c : Body) (d : Option Register) (x : rust_call.TypedCall) (k n : ℕ)
     → Appends a b (λ pc p. arguments_code l (l.rates x.function) (t_arguments (arguments_of x.arguments.items)) pc p k n) (arguments_places l (t_arguments (arguments_of x.arguments.items)))

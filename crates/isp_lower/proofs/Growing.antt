@@ -10,8 +10,8 @@ use Rattle.isp_typed.specs.declared.stmt.TypedItem as rust
 use Rattle.isp_typed.specs.declared.variable.ArrayVariable.{ArrayVariable}
 use Rattle.isp_lower.specs.Asks.{Ask, Nothing, Both, Register, ArrayOf, LocalOf, MaskOf, Number, Loads, All, item_asks, items_asks}
 use Rattle.isp_lower.specs.Emitted.{rows_of, row_of, Begins, Grows, HasArray, HasLoaded, HasRow, Keeps, KeepsIn, Longer}
-use Rattle.isp_lower.specs.Asks.{first_slot, second_slot}
-use Rattle.isp_lower.specs.Reserved.{Gives, Has, HasSpare, IsReserved}
+use Rattle.isp_lower.specs.Asks.{first_slot, second_slot, sides_ask}
+use Rattle.isp_lower.specs.Reserved.{Gives, Has, HasNumbers, HasSpare, IsReserved}
 use Rattle.isp_lower.specs.Rows.{Name, Variable, Result, Spare, Place, Fresh, Kept, Row, number_in, elem_in, keeps, rows_at}
 use Rattle.isp_lower.specs.Tables.{AnyArray}
 use Rattle.isp_lower.specs.declared.registers.Constant.{Constant}
@@ -145,6 +145,9 @@ scalar_kept a xs it rate k = record {
   rows = record { scalars = k.rows; vectors = begins_self (rows_of a).vectors; arrays = begins_self (rows_of a).arrays; loaded = begins_self (rows_of a).loaded };
   has = subst (λ r. keeps (rows_at (rows_of (record a { scalars = xs })) r) it.elem it.bits ≡ true) (sym rate) k.has;
   only = go;
+  few_scalars = k.few;
+  few_vectors = omega arith;
+  same_arrays = refl;
 }
   where
     go : (r : Rate) (t : Elem) (b : ℕ) → keeps (rows_at (rows_of (record a { scalars = xs })) r) t b ≡ true → (keeps (rows_at (rows_of a) r) t b ≡ true) ⊎ ((r ≡ it.rate) × ((t ≡ it.elem) × (b ≡ it.bits)))
@@ -156,6 +159,9 @@ vector_kept a xs it rate k = record {
   rows = record { scalars = begins_self (rows_of a).scalars; vectors = k.rows; arrays = begins_self (rows_of a).arrays; loaded = begins_self (rows_of a).loaded };
   has = subst (λ r. keeps (rows_at (rows_of (record a { vectors = xs })) r) it.elem it.bits ≡ true) (sym rate) k.has;
   only = go;
+  few_scalars = omega arith;
+  few_vectors = k.few;
+  same_arrays = refl;
 }
   where
     go : (r : Rate) (t : Elem) (b : ℕ) → keeps (rows_at (rows_of (record a { vectors = xs })) r) t b ≡ true → (keeps (rows_at (rows_of a) r) t b ≡ true) ⊎ ((r ≡ it.rate) × ((t ≡ it.elem) × (b ≡ it.bits)))
@@ -165,7 +171,7 @@ vector_kept a xs it rate k = record {
 -- ---- the walk: what one call gives and then another one is given
 
 pub gives_none : (a : Reserve) → Gives a a Nothing
-gives_none a = record { rows = grows_self a.registers; masks = omega arith; has = tt }
+gives_none a = record { rows = grows_self a.registers; masks = omega arith; has = tt; few_scalars = omega arith; few_vectors = omega arith; same_arrays = refl }
 
 pub both_given : (a b c : Reserve) (x y : Ask) → Gives a b x → Gives b c y → Gives a c (Both x y)
 both_given a b c x y g h =
@@ -173,24 +179,48 @@ both_given a b c x y g h =
       rows = grows_then a.registers b.registers c.registers g.rows h.rows;
       masks = omega (arith, g.masks, h.masks);
       has = (has_grows b c h.rows h.masks x g.has, h.has);
+      few_scalars = omega (arith, g.few_scalars, h.few_scalars);
+      few_vectors = omega (arith, g.few_vectors, h.few_vectors);
+      same_arrays = h.same_arrays ∙ g.same_arrays;
     }
 
 -- a variable has its register from the beginning
 pub variable_given : (a b : Reserve) (r : Rate) (v : ℕ) (t : Elem) (x : Ask) → Gives a b x → Gives a b (Both (Register r (Variable v) t) x)
-variable_given a b r v t x g = record { rows = g.rows; masks = g.masks; has = (tt, g.has) }
+variable_given a b r v t x g =
+    record {
+      rows = g.rows;
+      masks = g.masks;
+      has = (tt, g.has);
+      few_scalars = omega (arith, g.few_scalars);
+      few_vectors = omega (arith, g.few_vectors);
+      same_arrays = g.same_arrays;
+    }
 
-pub then_given : (a b c : Reserve) (x y : Ask) → Gives a b x → Gives b c y → Gives a c y
-then_given a b c x y g h =
+-- a number asks for no register
+pub then_given : (a b c : Reserve) (k : ℕ) (y : Ask) → Gives a b (Number k) → Gives b c y → Gives a c y
+then_given a b c k y g h =
     record {
       rows = grows_then a.registers b.registers c.registers g.rows h.rows;
       masks = omega (arith, g.masks, h.masks);
       has = h.has;
+      few_scalars = omega (arith, g.few_scalars, h.few_scalars);
+      few_vectors = omega (arith, g.few_vectors, h.few_vectors);
+      same_arrays = h.same_arrays ∙ g.same_arrays;
     }
 
 -- the second side's slot is the one behind the first's
 pub second_is : (r : Rate) (n : ℕ) → first_slot r (first_slot r n) ≡ second_slot r n
 second_is Uniform n = refl
 second_is Varying n = omega arith
+
+-- the numbers of its masks are small, and so are its slots
+pub first_small : (r : Rate) (n : ℕ) → HasNumbers (sides_ask r n) → r ≡ Varying → n + 1 < 4294967296
+first_small Uniform n h e = absurd (cc)
+first_small Varying n h e = omega (arith, h.0)
+
+pub second_small : (r : Rate) (n m : ℕ) → m ≡ first_slot r n → HasNumbers (sides_ask r n) → r ≡ Varying → m + 1 < 4294967296
+second_small Uniform n m is h e = absurd (cc)
+second_small Varying n m is h e = omega (arith, h.0, is)
 
 -- ---- lists of items
 
@@ -201,11 +231,23 @@ items_more n all i x lt is =
 pub items_end : (n : ℕ) (all : List rust.TypedItem) (i : ℕ) → length all ≤ i → items_asks n (items_of (drop i all)) ≡ Nothing
 items_end n all i le = ap (λ z. items_asks n (items_of z)) (drop_all i all le)
 
+-- a call's number fits
+pub number_given : (a b : Reserve) (k : ℕ) (y : Ask) → k < 4294967296 → Gives a b y → Gives a b (Both (Number k) y)
+number_given a b k y lt g =
+    record {
+      rows = g.rows;
+      masks = g.masks;
+      has = (lt, g.has);
+      few_scalars = omega (arith, g.few_scalars);
+      few_vectors = omega (arith, g.few_vectors);
+      same_arrays = g.same_arrays;
+    }
+
 -- a varying test: its two slots and its two masks
 pub sides_given : (a b c d e : Reserve) (n m k : ℕ) → m ≡ n + 1 → k ≡ m + 1 → Gives a b (Number m) → Gives b c (Number k) → Gives c d (MaskOf n) → Gives d e (MaskOf m) → Gives a e (Both (Number (n + 2)) (Both (MaskOf n) (MaskOf (n + 1))))
 sides_given a b c d e n m k first second x y z w =
     let two : k ≡ n + 2 = omega (arith, first, second) in
     subst (λ i. Gives a e (Both (Number i) (Both (MaskOf n) (MaskOf (n + 1))))) two
     (subst (λ j. Gives a e (Both (Number k) (Both (MaskOf n) (MaskOf j)))) first
-    (then_given a b e (Number m) (Both (Number k) (Both (MaskOf n) (MaskOf m))) x
+    (then_given a b e m (Both (Number k) (Both (MaskOf n) (MaskOf m))) x
     (both_given b c e (Number k) (Both (MaskOf n) (MaskOf m)) y (both_given c d e (MaskOf n) (MaskOf m) z w))))

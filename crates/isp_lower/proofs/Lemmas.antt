@@ -47,3 +47,11 @@ pub use Rattle.isp_lower.proofs.Consecutive.{none_holds, run_place, run_each, co
 
 pub use Rattle.isp_lower.proofs.Writable.{all_at, all_both}
 pub use Rattle.isp_lower.proofs.Spans.{Placed, placed_both, placed_one, expr_placed, shown_placed, simple_placed, items_placed}
+-- ---- how long code is, and how many places it names
+
+pub use Rattle.isp_lower.proofs.CodeLengths.{expr_long, operand_long, index_long, values_long, simple_long, items_long}
+pub use Rattle.isp_lower.proofs.PlaceCounts.{expr_places_few, values_places_few, simple_places_few, items_places_few}
+-- ---- no number that is asked for is too great, and there are few registers
+
+pub use Rattle.isp_lower.proofs.AskNumbers.{expr_some, test_numbers, expr_numbers, operand_numbers, index_numbers, values_numbers, shown_numbers, simple_numbers, item_numbers}
+pub use Rattle.isp_lower.proofs.AskNumbers.{test_none, expr_registers, operand_registers, index_registers, values_registers, simple_registers, item_registers}

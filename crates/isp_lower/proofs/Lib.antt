@@ -23,6 +23,7 @@ mod Targets
 mod GivenBack
 mod PackedRuns
 mod Nodes
+mod JumpLines
 mod Jumps
 mod Logic
 mod ChangedBy
@@ -71,3 +72,7 @@ mod NamedThere
 mod Writable
 mod Spans
 mod GoingOn
+mod PieceLengths
+mod CodeLengths
+mod PlaceCounts
+mod AskNumbers

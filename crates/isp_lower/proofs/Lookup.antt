@@ -1,5 +1,5 @@
 -- Rows of registers, and a map that tells where the first row of each name stands.
-use Rattle.std.proofs.Common.{◌≡◌, ◌<◌, ℕ, zero, suc, map, subst, ◌+◌, length, List, [], ◌∷◌, ◌++◌, Some, None, Bool, true, false, refl, sym, ap, ◌∙◌, ◌≢◌, arith, eqb-true, eq-eqb, ne_eqb, get_or, take, inl, append-nil}
+use Rattle.std.proofs.Common.{◌≡◌, ◌<◌, ◌≤◌, ℕ, zero, suc, map, subst, ◌+◌, length, List, [], ◌∷◌, ◌++◌, Some, None, Bool, true, false, refl, sym, ap, ◌∙◌, ◌≢◌, arith, eqb-true, eq-eqb, ne_eqb, get_or, take, inl, append-nil, length-append}
 use Rattle.std.specs.Prelude.{◌==◌, if◌then◌else◌, Option, IfSome, IfNone, is_some, slice_get, cond, nat_lt}
 use Rattle.std.specs.BTreeMap.{BTreeMap, get}
 use Rattle.std.specs.Ordering.{nat_cmp, is_eq}
@@ -303,6 +303,12 @@ elem_added (z ∷ rows) r e = go (name_number z.name == name_number r.name) (ele
 pub elem_pushed : (rows new : List RegisterRow) (r : RegisterRow) → new ≡ rows ++ r ∷ [] → elem_in (map row_of rows) (name_of r.name) ≡ None → elem_in (map row_of new) (name_of r.name) ≡ Some r.elem
 elem_pushed rows new r all e = ap (λ zs. elem_in zs (name_of r.name)) (ap (map row_of) all ∙ map-append row_of rows (r ∷ [])) ∙ elem_added (map row_of rows) (row_of r) e
 
+-- one row is added
+pub pushed_few : (rows new : List RegisterRow) (r : RegisterRow) → new ≡ rows ++ r ∷ [] → length (map row_of new) ≤ length (map row_of rows) + 1
+pushed_few rows new r all =
+    let more = ap length (ap (map row_of) all ∙ map-append row_of rows (r ∷ [])) ∙ length-append (map row_of rows) (row_of r ∷ []) in
+    omega (arith, more)
+
 -- a row of another name keeps no constant more
 pub pushed_keeps : (rows new : List RegisterRow) (r : RegisterRow) → new ≡ rows ++ r ∷ [] → (t : Elem) (b : ℕ) → IsPlain (name_of r.name) → keeps (map row_of new) t b ≡ keeps (map row_of rows) t b
 pushed_keeps rows new r all t b plain = ap (λ zs. keeps zs t b) (ap (map row_of) all ∙ map-append row_of rows (r ∷ [])) ∙ plain_keeps (map row_of rows) (row_of r) t b plain
@@ -316,6 +322,7 @@ pushed_kept rows new u c all none =
       rows = record { more = row_of r ∷ []; is = more };
       has = kept_of (map row_of new) u c (elem_pushed rows new r all none);
       only = λ t b h. kept_more (map row_of rows) u c t b (subst (λ zs. keeps zs t b ≡ true) more h);
+      few = pushed_few rows new r all;
     }
 
 -- and it is there already where it is found
@@ -324,6 +331,7 @@ found_kept rows u t c e own = record {
   rows = record { more = []; is = sym (append-nil (map row_of rows)) };
   has = kept_of (map row_of rows) u c (e ∙ ap (λ z. Some z) own);
   only = λ v b h. inl h;
+  few = omega arith;
 }
 
 -- what is found of a name that says its type has that type

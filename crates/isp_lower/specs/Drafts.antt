@@ -1,5 +1,5 @@
 -- A program's code while it is written: what an emitter has, as lists.
-use Rattle.std.specs.Prelude.{◌≡◌, ℕ, ◌+◌, List, [], ◌∷◌, ◌++◌, map, true, Option, Some, None, IsSome, option_map}
+use Rattle.std.specs.Prelude.{◌≡◌, ℕ, ◌+◌, ◌≤◌, List, [], ◌∷◌, ◌++◌, length, map, Bool, true, Option, Some, None, IsSome, option_map}
 use Rattle.std.specs.List.{list_all}
 use Rattle.isp_base.specs.declared.types.Elem.{Elem}
 use Rattle.isp_base.specs.declared.types.Gang.{Gang}
@@ -13,9 +13,11 @@ use Rattle.isp_typed.specs.Views.{functions_of}
 use Rattle.isp_lower.specs.Emitted.{first_rows, rows_of, texts_of}
 use Rattle.isp_lower.specs.Header.{Heading, heading_of, routine_with}
 pub use Rattle.isp_lower.specs.Headings.{heading_in}
+use Rattle.isp_lower.specs.Lines.{has_small_number}
 use Rattle.isp_lower.specs.Named.{InCode, InInstr, IsOf}
 use Rattle.isp_lower.specs.Patched.{patched}
 use Rattle.isp_lower.specs.Rows.{Rows, with_fresh_at}
+use Rattle.isp_lower.specs.declared.closing.Closed.{Closed}
 use Rattle.isp_lower.specs.declared.types.Emitter.{Emitter}
 
 -- The functions that code may call, the places and texts of all functions, the routines of those that are closed, and of the function at work its heading, if
@@ -31,6 +33,10 @@ pub record Draft : Type 0 where
   pub masks : ℕ
   pub code : List Instr
 
+-- of a function that is closed
+abbrev pub routine_in : Closed → Routine
+routine_in c = record (routine_of c.routine) { code = c.lines.items }
+
 abbrev pub draft_of : Emitter → Draft
 draft_of e =
     record {
@@ -38,8 +44,7 @@ draft_of e =
       callees = functions_of e.callees.now;
       places = e.body.places.items;
       texts = texts_of e.body;
-      routines = map routine_of
-          e.functions.items;
+      routines = map routine_in e.functions.items;
       heading = option_map heading_in e.heading;
       rows = rows_of e.reserved.registers;
       masks = e.reserved.masks;
@@ -101,15 +106,22 @@ with_target at to d = record d { code = patched d.code at to }
 
 -- ---- what is asked of a draft
 
--- the text of code can have its places and its texts
+-- the text of code can have its places and its texts, each by a number
 pub record TablesCanBeWritten (d : Draft) : Type 0 where
   pub places : list_all place_fits d.places ≡ true
+  pub few_places : length d.places ≤ 4294967295
   pub texts : list_all has_byte d.texts ≡ true
+  pub few_texts : length d.texts ≤ 4294967295
 
--- and of each function the names, the local arrays and the constants
+-- the numbers that its instructions name have 32 bits
+abbrev pub has_small_numbers : Routine → Bool
+has_small_numbers g = list_all has_small_number g.code
+
+-- and of each function the names, the local arrays, the constants and the numbers
 pub record CanBeWritten (d : Draft) : Type 0 where
   pub tables : TablesCanBeWritten d
   pub routines : list_all parts_fit (all_routines d) ≡ true
+  pub numbers : list_all has_small_numbers (all_routines d) ≡ true
 
 abbrev pub IsBegun : Draft → Type 0
 IsBegun d = IsSome d.heading

@@ -1,6 +1,6 @@
 -- Registers as rows (Rows), those with which a function begins, and what writers append to a body: of code the first
 -- instruction has number pc, of its places in the source the first has number p.
-use Rattle.std.specs.Prelude.{◌≡◌, ◌<◌, ◌⊎◌, ℕ, suc, List, [], ◌∷◌, ◌++◌, length, map, Option, Some, None, Bool, true, false}
+use Rattle.std.specs.Prelude.{◌≡◌, ◌<◌, ◌≤◌, ◌+◌, ◌⊎◌, ℕ, suc, List, [], ◌∷◌, ◌++◌, length, map, Option, Some, None, Bool, true, false}
 use Rattle.isp_base.specs.declared.types.Elem.{Elem}
 use Rattle.isp_base.specs.declared.types.Rate.{Rate}
 use Rattle.isp_base.specs.declared.types.Rate.TheVariants.{Uniform, Varying}
@@ -52,6 +52,7 @@ pub record KeepsIn (old new : List Row) (u : Elem) (c : ℕ) : Type 0 where
   pub rows : Begins old new
   pub has : keeps new u c ≡ true
   pub only : (t : Elem) (b : ℕ) → keeps new t b ≡ true → KeptOr old u c t b
+  pub few : length new ≤ length old + 1
 
 -- registers are added, and those that are there stay
 pub record Longer (old new : Registers) : Type 0 where
@@ -65,6 +66,9 @@ pub record Keeps (old new : Registers) (it : Constant) : Type 0 where
   pub rows : Longer old new
   pub has : keeps (rows_at (rows_of new) it.rate) it.elem it.bits ≡ true
   pub only : (r : Rate) (t : Elem) (b : ℕ) → keeps (rows_at (rows_of new) r) t b ≡ true → (keeps (rows_at (rows_of old) r) t b ≡ true) ⊎ ((r ≡ it.rate) × ((t ≡ it.elem) × (b ≡ it.bits)))
+  pub few_scalars : length (rows_of new).scalars ≤ length (rows_of old).scalars + 1
+  pub few_vectors : length (rows_of new).vectors ≤ length (rows_of old).vectors + 1
+  pub same_arrays : (rows_of new).arrays ≡ (rows_of old).arrays
 
 -- a register has this name and this type
 abbrev pub HasRow : Registers → Rate → Name → Elem → Type 0

@@ -30,6 +30,7 @@ pub mod Reserved
 pub mod Lookup
 pub mod Written
 pub mod Headings
+pub mod Lines
 pub mod Drafts
 pub mod Named
 pub mod Patched

@@ -1,6 +1,6 @@
 -- What a walk reserves: what was there stays, and what is asked for is there. The variables of a function and what it gives
 -- back have their registers from its beginning, so of these nothing is reserved.
-use Rattle.std.specs.Prelude.{◌≡◌, ◌<◌, ◌≤◌, ◌+◌, ℕ, List, Option, Some, slice_get}
+use Rattle.std.specs.Prelude.{◌≡◌, ◌<◌, ◌≤◌, ◌+◌, ℕ, List, Option, Some, length, slice_get}
 use Rattle.isp_base.specs.declared.types.Elem.{Elem}
 use Rattle.isp_base.specs.declared.types.Elem.TheVariants.{Bool as Truth, I32}
 use Rattle.isp_base.specs.declared.types.Rate.{Rate}
@@ -12,7 +12,7 @@ use Rattle.isp_typed.specs.declared.variable.ArrayVariable.{ArrayVariable}
 use Rattle.isp_typed.specs.declared.variable.Holds.TheVariants as holds
 use Rattle.isp_typed.specs.declared.variable.Variable as declared
 use Rattle.isp_lower.specs.Asks.{Ask, Nothing, Both, Register, ArrayOf, LocalOf, MaskOf, Number, Loads, All, base_asks, expr_asks, operand_asks, operands_asks, sides_ask, spare_ask, test_asks, first_slot, second_slot}
-use Rattle.isp_lower.specs.Emitted.{Grows, HasArray, HasLoaded, HasRow}
+use Rattle.isp_lower.specs.Emitted.{Grows, HasArray, HasLoaded, HasRow, rows_of}
 use Rattle.isp_lower.specs.Rows as row
 use Rattle.isp_lower.specs.Rows.{Name, Variable, Result, Spare, Place, Fresh, Kept, Rows, elem_in}
 use Rattle.isp_lower.specs.Tables.{AnyArray}
@@ -34,10 +34,44 @@ HasSpare r rate (Kept u b) t = HasRow r rate (Kept u b) t
 abbrev pub IsReserved : Reserve → Ask → Type 0
 IsReserved r a = All (HasSpare r.registers) AnyArray AnyArray (λ k. k < r.masks) (HasLoaded r.registers) a
 
+-- ---- how much is asked for
+
+-- each number and each mask that is asked for can be had: none is too great
+abbrev pub HasNumbers : Ask → Type 0
+HasNumbers a = All (λ r x t. Unit {0}) AnyArray AnyArray (λ k. k < 4294967295) (λ v. Unit {0}) a
+
+-- how many registers of a class are asked for at most
+abbrev pub registers_asked : Ask → ℕ
+registers_asked Nothing = 0
+registers_asked (Both x y) = registers_asked x + registers_asked y
+registers_asked (Register r x t) = 1
+registers_asked (ArrayOf b) = 0
+registers_asked (LocalOf b) = 0
+registers_asked (MaskOf k) = 0
+registers_asked (Number k) = 0
+registers_asked (Loads v) = 0
+
+-- the registers and arrays that are there leave room for what is asked for
+pub record HasRoom (rows : Rows) (a : Ask) : Type 0 where
+  pub scalars : length rows.scalars + registers_asked a ≤ 4294967295
+  pub vectors : length rows.vectors + registers_asked a ≤ 4294967295
+  pub arrays : length rows.arrays ≤ 4294967295
+
+-- no more registers are added than are asked for, and no arrays
+pub record FewMore (old new : Rows) (a : Ask) : Type 0 where
+  pub scalars : length new.scalars ≤ length old.scalars + registers_asked a
+  pub vectors : length new.vectors ≤ length old.vectors + registers_asked a
+  pub arrays : new.arrays ≡ old.arrays
+
+-- ---- what a walk gives: what was there stays, what is asked for is there, and no more registers are added than that; arrays are not added
+
 pub record Gives (old new : Reserve) (a : Ask) : Type 0 where
   pub rows : Grows old.registers new.registers
   pub masks : old.masks ≤ new.masks
   pub has : IsReserved new a
+  pub few_scalars : length (rows_of new.registers).scalars ≤ length (rows_of old.registers).scalars + registers_asked a
+  pub few_vectors : length (rows_of new.registers).vectors ≤ length (rows_of old.registers).vectors + registers_asked a
+  pub same_arrays : (rows_of new.registers).arrays ≡ (rows_of old.registers).arrays
 
 -- ---- what single walks ask for: of two bools, of a choice, and of packed calls
 

@@ -2,17 +2,18 @@
 ghost use Rattle.std.specs.Prelude.{◌≡◌, ◌≤◌, ◌++◌, drop, length, IfOk, OnErr, OnOk};
 ghost use Rattle.isp_lower.specs.Emitted.{Unchanged};
 
+use crate::line::Line;
 use crate::types::Body;
 use isp_code::Instr;
 use std::alloc::{AllocError, Global};
 
 /// So many instructions.
-fn fillers(alloc: Global, count: usize) -> Result<Vec<Instr>, AllocError>
+fn fillers(alloc: Global, count: usize) -> Result<Vec<Line>, AllocError>
     ensures { IfOk result (λ code. length code.items ≡ count) }
 {
     let mut code = Vec::new(alloc);
     for at in 0..count {
-        code.push(Instr::Return(None))?;
+        code.push(Line::new(Instr::Return(None)))?;
     }
     Ok(code)
 }

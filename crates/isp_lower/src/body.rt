@@ -4,7 +4,8 @@ ghost use Rattle.isp_code.specs.declared.instr.Instr.TheVariants as instr;
 ghost use Rattle.isp_lower.specs.Emitted.{Appends, AppendsText, Unchanged, texts_of};
 ghost use Rattle.isp_lower.specs.Patched.{IsJump, instr_at, patched};
 
-use crate::numbered::{PlaceNumber, TextNumber, next_number};
+use crate::line::Line;
+use crate::numbered::{PlaceNumber, TextNumber};
 use crate::types::Body;
 use isp_base::Span;
 use isp_code::{Instr, JumpTest, Register};
@@ -29,46 +30,42 @@ impl Body {
     pub fn push(&mut self, instr: Instr) -> Result<(), AllocError>
         ensures { OnOk result (Appends self.old self.new (λ pc p. instr ∷ []) []) }
     {
-        self.append(instr)?;
+        self.add(Line::new(instr))
+    }
+
+    /// Appends an instruction with the number that it names.
+    pub fn add(&mut self, line: Line) -> Result<(), AllocError>
+        ensures { OnOk result (Appends self.old self.new (λ pc p. line ∷ []) []) }
+    {
+        self.code.push(line)?;
         Ok(())
     }
 
-    /// Appends an instruction, and gives its number. Memory is refused too where that would be 4,294,967,295.
-    pub fn append(&mut self, instr: Instr) -> Result<u32, AllocError>
-        ensures number { IfOk result (λ n. n ≡ length self.old.code.items) }
-        ensures added { OnOk result (Appends self.old self.new (λ pc p. instr ∷ []) []) }
-        ensures refused { OnErr result (Unchanged self.old self.new) }
-    {
-        let at = next_number(self.code.len())?;
-        self.code.push(instr)?;
-        Ok(at)
-    }
-
-    /// Appends a place in the source, and gives its number. Memory is refused too where that would be 4,294,967,295.
+    /// Appends a place in the source, and gives its number.
     pub fn place(&mut self, span: Span) -> Result<PlaceNumber, AllocError>
         ensures number { IfOk result (λ n. n.number ≡ length self.old.places.items) }
         ensures added { OnOk result (Appends self.old self.new (λ pc p. []) (span ∷ [])) }
         ensures refused { OnErr result (Unchanged self.old self.new) }
     {
-        let number = next_number(self.places.len())?;
+        let number = self.places.len();
         self.places.push(span)?;
         Ok(PlaceNumber { number })
     }
 
-    /// Appends a text, its bytes, and gives its number. Memory is refused too where that would be 4,294,967,295.
+    /// Appends a text, its bytes, and gives its number.
     pub fn text(&mut self, bytes: &[u8]) -> Result<TextNumber, AllocError>
         ensures number { IfOk result (λ n. n.number ≡ length (texts_of self.old)) }
         ensures added { OnOk result (AppendsText self.old self.new bytes.now) }
         ensures refused { OnErr result (Unchanged self.old self.new) }
     {
-        let number = next_number(self.texts.len())?;
+        let number = self.texts.len();
         let alloc = *self.texts.allocator();
         self.texts.push(Vec::from_slice(alloc, bytes)?)?;
         Ok(TextNumber { number })
     }
 
     /// Hands out its code, and has none.
-    pub(crate) fn taken(&mut self, alloc: Global) -> Vec<Instr>
+    pub(crate) fn taken(&mut self, alloc: Global) -> Vec<Line>
         ensures code { result ≡ self.old.code }
         ensures left { self.new.code.items ≡ [] }
         ensures places { self.new.places ≡ self.old.places }
@@ -84,12 +81,12 @@ impl Body {
         ensures places { self.new.places ≡ self.old.places }
         ensures texts { self.new.texts ≡ self.old.texts }
     {
-        let next = self.code.len() as u32;
-        self.code[at] = Instr::JumpIf {
+        let jump = Instr::JumpIf {
             test,
             register,
-            target: next,
+            target: 0,
         };
+        self.code[at] = Line::naming(jump, self.code.len());
     }
 
     /// The same for a jump that is always taken.
@@ -99,26 +96,17 @@ impl Body {
         ensures places { self.new.places ≡ self.old.places }
         ensures texts { self.new.texts ≡ self.old.texts }
     {
-        let next = self.code.len() as u32;
-        self.code[at] = Instr::Jump { target: next };
+        self.code[at] = Line::naming(Instr::Jump { target: 0 }, self.code.len());
     }
 
     /// A jump leads to another instruction.
-    pub fn patch(&mut self, at: usize, target: u32)
+    pub fn patch(&mut self, at: usize, target: usize)
         requires there { at < length self.old.code.items }
         requires jump { IsJump (instr_at self.old.code.items at) }
         ensures code { self.new.code.items ≡ patched self.old.code.items at target }
         ensures places { self.new.places ≡ self.old.places }
         ensures texts { self.new.texts ≡ self.old.texts }
     {
-        self.code[at] = match &self.code[at] {
-            Instr::Jump { .. } => Instr::Jump { target },
-            Instr::JumpIf { test, register, .. } => Instr::JumpIf {
-                test: *test,
-                register: *register,
-                target,
-            },
-            _ => return,
-        };
+        self.code[at].retarget(target);
     }
 }

@@ -77,10 +77,10 @@ fn change_element(
     let array = on.array(element.array);
     let held = on.spare(ty.rate, ty.elem, site.slot);
     let number = b.place(element.span)?;
-    b.push(read_by(element, held, array, site.mask, number))?;
+    b.add(read_by(element, held, array, site.mask, number))?;
     let target = Target::new(held, ty, operation.span, site);
     update_to(b, on, operation, held, by, target)?;
-    b.push(write_by(element, array, held, site.mask, number))?;
+    b.add(write_by(element, array, held, site.mask, number))?;
     Ok(())
 }
 

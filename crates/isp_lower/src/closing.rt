@@ -5,9 +5,17 @@ ghost use Rattle.isp_lower.specs.Emitted.{rows_of};
 ghost use Rattle.isp_lower.specs.Header.{scalars_behind, vectors_behind};
 
 use crate::header::{Heading, Types, types_of};
+use crate::line::Line;
 use crate::types::Emitter;
 use isp_code::Function;
 use std::alloc::{AllocError, Global};
+
+/// A function that is closed: its routine, whose code stands beside it.
+#[derive(Drop)]
+pub struct Closed {
+    pub routine: Function,
+    pub lines: Vec<Line>,
+}
 
 impl Emitter<'_> {
     /// The routine of the function at work, if there is one, is the next one. Where memory is refused, all stays as it was.
@@ -45,13 +53,14 @@ impl Emitter<'_> {
             scalars: types.scalars,
             vectors: types.vectors,
             masks: self.reserved.masks,
-            code: self.body.taken(alloc),
+            code: Vec::new(alloc),
         };
-        match self.functions.push(routine) {
+        let lines = self.body.taken(alloc);
+        match self.functions.push(Closed { routine, lines }) {
             Ok(()) => Ok(()),
             Err(failed) => {
-                let routine = failed.value;
-                self.body.code = routine.code;
+                let Closed { routine, lines } = failed.value;
+                self.body.code = lines;
                 self.heading = Some(Heading {
                     name: routine.name,
                     exported: routine.exported,

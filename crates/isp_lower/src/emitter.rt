@@ -10,12 +10,13 @@ ghost use Rattle.isp_lower.specs.Rows.{fresh_at, rows_at};
 
 use crate::beginning::{begin, no_registers};
 use crate::header::heading_of;
+use crate::line::Line;
 use crate::listing::{add_functions, add_places, add_texts};
 use crate::numbered::{MaskNumber, PlaceNumber, RegisterNumber, TextNumber};
 use crate::reserve::Reserve;
 use crate::types::{Body, Emitter};
 use isp_base::{Elem, Rate, Span};
-use isp_code::{Code, Instr};
+use isp_code::Code;
 use isp_rates::Checked;
 use isp_typed::TypedFunction;
 use std::alloc::{AllocError, Global};
@@ -59,7 +60,7 @@ impl<'p> Emitter<'p> {
         Ok(())
     }
 
-    /// Adds a place in the source and gives its number. 0 where memory is refused, or there are 4,294,967,295 places.
+    /// Adds a place in the source and gives its number. 0 where memory is refused.
     pub fn place(&mut self, span: Span) -> Result<PlaceNumber, AllocError>
         ensures number { IfOk result (λ n. n.number ≡ length (draft_of self.old).places) }
         ensures added { OnOk result (draft_of self.new ≡ with_place span (draft_of self.old)) }
@@ -68,7 +69,7 @@ impl<'p> Emitter<'p> {
         self.body.place(span)
     }
 
-    /// Adds a text, its bytes, and gives its number. 0 where memory is refused, or there are 4,294,967,295 texts.
+    /// Adds a text, its bytes, and gives its number. 0 where memory is refused.
     pub fn text(&mut self, bytes: &[u8]) -> Result<TextNumber, AllocError>
         ensures number { IfOk result (λ n. n.number ≡ length (draft_of self.old).texts) }
         ensures added { OnOk result (draft_of self.new ≡ with_text bytes.now (draft_of self.old)) }
@@ -77,21 +78,24 @@ impl<'p> Emitter<'p> {
         self.body.text(bytes)
     }
 
-    /// Adds an instruction and gives its number. 0 where memory is refused, or there are 4,294,967,295 instructions.
-    pub fn emit(&mut self, instr: Instr) -> Result<u32, AllocError>
+    /// Adds an instruction, with the number that it names, and gives its own number. 0 where memory is refused.
+    pub fn emit(&mut self, line: Line) -> Result<usize, AllocError>
         requires { IsBegun (draft_of self.old) }
         ensures number { IfOk result (λ n. n ≡ length (draft_of self.old).code) }
-        ensures added { OnOk result (draft_of self.new ≡ with_instr instr (draft_of self.old)) }
-        ensures all_named { HasAllNamed (draft_of self.old) → HasNamed (draft_of self.old) instr → OnOk result (HasAllNamed (draft_of self.new)) }
+        ensures added { OnOk result (draft_of self.new ≡ with_instr line (draft_of self.old)) }
+        ensures all_named { HasAllNamed (draft_of self.old) → HasNamed (draft_of self.old) line → OnOk result (HasAllNamed (draft_of self.new)) }
         ensures refused { OnErr result (draft_of self.new ≡ draft_of self.old) }
     {
-        self.body.append(instr)
+        let number = self.body.code.len();
+        self.body.code.push(line)?;
+        Ok(number)
     }
 
     /// A register of the function at work for values of a type, and its number: no instruction names it, and no other call
-    /// gives it. 0 where memory is refused, or there are 4,294,967,295 registers of the rate.
+    /// gives it. There are fewer than 4,294,967,295 registers of the rate. 0 where memory is refused.
     pub fn fresh(&mut self, rate: Rate, elem: Elem) -> Result<RegisterNumber, AllocError>
-        requires { IsBegun (draft_of self.old) }
+        requires begun { IsBegun (draft_of self.old) }
+        requires few { length (rows_at (draft_of self.old).rows rate) < 4294967295 }
         ensures number { IfOk result (λ d. d.number ≡ length (rows_at (draft_of self.old).rows rate)) }
         ensures added { OnOk result (draft_of self.new ≡ with_register rate elem (draft_of self.old)) }
         ensures named { IfOk result (λ d. fresh_at (draft_of self.new).rows rate d.number ≡ d.number) }
@@ -103,30 +107,30 @@ impl<'p> Emitter<'p> {
     }
 
     /// One more mask register of the function at work, and its number: no instruction names it, and no earlier call gave
-    /// it. Code in the slots behind its number leaves it as it is. 0 where there are 4,294,967,295 masks.
-    pub fn fresh_mask(&mut self) -> Result<MaskNumber, AllocError>
-        requires { IsBegun (draft_of self.old) }
-        ensures number { IfOk result (λ m. m.number ≡ (draft_of self.old).masks) }
-        ensures added { OnOk result (draft_of self.new ≡ with_mask (draft_of self.old)) }
-        ensures all_named { HasAllNamed (draft_of self.old) → OnOk result (HasAllNamed (draft_of self.new)) }
-        ensures unnamed { HasAllNamed (draft_of self.old) → IfOk result (λ m. Unnamed (mask_register m.number) (draft_of self.old).code) }
-        ensures refused { OnErr result (draft_of self.new ≡ draft_of self.old) }
+    /// it. Code in the slots behind its number leaves it as it is. There are fewer than 4,294,967,295 masks.
+    pub fn fresh_mask(&mut self) -> MaskNumber
+        requires begun { IsBegun (draft_of self.old) }
+        requires few { (draft_of self.old).masks < 4294967295 }
+        ensures number { result.number ≡ (draft_of self.old).masks }
+        ensures added { draft_of self.new ≡ with_mask (draft_of self.old) }
+        ensures all_named { HasAllNamed (draft_of self.old) → HasAllNamed (draft_of self.new) }
+        ensures unnamed { HasAllNamed (draft_of self.old) → Unnamed (mask_register result.number) (draft_of self.old).code }
     {
         self.reserved.fresh_mask()
     }
 
     /// The jump of a number leads to another instruction; nothing else changes.
-    pub fn patch(&mut self, at: u32, target: u32)
+    pub fn patch(&mut self, at: usize, target: usize)
         requires there { at < length (draft_of self.old).code }
         requires jump { IsJump (instr_at (draft_of self.old).code at) }
         ensures patched { draft_of self.new ≡ with_target at target (draft_of self.old) }
         ensures all_named { HasAllNamed (draft_of self.old) → HasAllNamed (draft_of self.new) }
     {
-        self.body.patch(at as usize, target)
+        self.body.patch(at, target)
     }
 
     /// Closes the function at work, if there is one, and gives the code, on the condition that the text of code can have
-    /// its places, its texts and its functions. 0 where memory is refused.
+    /// its places, its texts and its functions, with the numbers that they name. 0 where memory is refused.
     pub fn finish(mut self) -> Result<Code, AllocError>
         requires { CanBeWritten (draft_of self) }
         ensures { IfOk result (λ code. code ≡ finished (draft_of self.entry)) }
@@ -136,7 +140,7 @@ impl<'p> Emitter<'p> {
         let mut code = Code::new(alloc, self.gang);
         add_places(&mut code, self.body.places.as_slice())?;
         add_texts(&mut code, self.body.texts.as_slice())?;
-        add_functions(&mut code, self.functions)?;
+        add_functions(alloc, &mut code, self.functions)?;
         Ok(code)
     }
 }

@@ -5,7 +5,7 @@ ghost use Rattle.isp_lower.specs.Found.{found};
 ghost use Rattle.isp_lower.specs.Drafts.{HasAllNamed, IsBegun, draft_of};
 ghost use Rattle.isp_lower.specs.Asks.{expr_asks, simple_asks};
 ghost use Rattle.isp_lower.specs.Rated.{IsFineExpr, IsFineSimple, IsRated, SimpleRated};
-ghost use Rattle.isp_lower.specs.Reserved.{Has, HasOwn};
+ghost use Rattle.isp_lower.specs.Reserved.{Has, HasNumbers, HasOwn, HasRoom, FewMore};
 ghost use Rattle.isp_lower.specs.Adding.{Adds, expr_in, layout_in, simple_in};
 
 use crate::expression::expr;
@@ -19,17 +19,19 @@ use std::alloc::AllocError;
 impl Emitter<'_> {
     /// The code of an expression for the lanes of a mask register, in the slots from one on; it gives the register of the
     /// value, scalar where the expression is uniform. The function at work has the variables that it names, and afterwards
-    /// each register and mask that the code asks for. 0 where memory is refused, or a table of code is full
-    /// (docs/LOWERING.md).
+    /// each register and mask that the code asks for. There is room for these. 0 where memory is refused.
     pub fn expr(&mut self, x: &TypedExpr, site: Site) -> Result<RegisterNumber, AllocError>
         requires begun { IsBegun (draft_of self.old) }
         requires fine { IsFineExpr (draft_of self.old).callees (expr_of x.now) }
         requires rated { IsRated (draft_of self.old).callees (expr_of x.now) }
         requires own { HasOwn (draft_of self.old).rows (expr_asks (expr_of x.now) site.slot.number) }
         requires mask { site.mask.number < (draft_of self.old).masks }
+        requires numbers { HasNumbers (expr_asks (expr_of x.now) site.slot.number) }
+        requires room { HasRoom (draft_of self.old).rows (expr_asks (expr_of x.now) site.slot.number) }
         ensures register { IfOk result (λ d. d.number ≡ found (layout_in self.new) (expr_of x.now) site.slot.number) }
         ensures code { OnOk result (Adds self.old self.new (expr_in self.new (expr_of x.now) site)) }
         ensures has { OnOk result (Has self.new.reserved (expr_asks (expr_of x.now) site.slot.number)) }
+        ensures few { OnOk result (FewMore (draft_of self.old).rows (draft_of self.new).rows (expr_asks (expr_of x.now) site.slot.number)) }
         ensures all_named { HasAllNamed (draft_of self.old) → OnOk result (HasAllNamed (draft_of self.new)) }
         ensures refused { OnErr result (draft_of self.new ≡ draft_of self.old) }
     {
@@ -59,8 +61,11 @@ impl Emitter<'_> {
         requires rated { SimpleRated (draft_of self.old).callees (simple_of x.now) }
         requires own { HasOwn (draft_of self.old).rows (simple_asks (simple_of x.now) site.slot.number) }
         requires mask { site.mask.number < (draft_of self.old).masks }
+        requires numbers { HasNumbers (simple_asks (simple_of x.now) site.slot.number) }
+        requires room { HasRoom (draft_of self.old).rows (simple_asks (simple_of x.now) site.slot.number) }
         ensures code { OnOk result (Adds self.old self.new (simple_in self.new (simple_of x.now) site)) }
         ensures has { OnOk result (Has self.new.reserved (simple_asks (simple_of x.now) site.slot.number)) }
+        ensures few { OnOk result (FewMore (draft_of self.old).rows (draft_of self.new).rows (simple_asks (simple_of x.now) site.slot.number)) }
         ensures all_named { HasAllNamed (draft_of self.old) → OnOk result (HasAllNamed (draft_of self.new)) }
         ensures refused { OnErr result (draft_of self.new ≡ draft_of self.old) }
     {

@@ -19,6 +19,7 @@ use crate::leaves::{
     splat, the_others, unary, where_so,
 };
 use crate::library::{Operands, put_library, value_rate};
+use crate::line::Line;
 use crate::located::{constant_to, found, in_vector, lift, moved, read_variable, stayed};
 use crate::numbered::{RegisterNumber, Slot};
 use crate::packed::{packed_load_to, packed_store_to};
@@ -776,10 +777,10 @@ pub(crate) fn call_to(
         function: x.function as u32,
         result: to,
         mask: mask(site.mask),
-        place: place.number,
+        place: 0,
         arguments: given,
     };
     let boxed = CallBox::new(*b.code.allocator(), call)?;
-    b.push(Instr::Call(boxed))?;
+    b.add(Line::naming(Instr::Call(boxed), place.number))?;
     Ok(())
 }

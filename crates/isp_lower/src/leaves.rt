@@ -8,6 +8,7 @@ ghost use Rattle.isp_lower.specs.Layout.{array_register, mask_register, register
 ghost use Rattle.isp_lower.specs.Instructions.{compare, compute, constant, convert, copy, operate, packed_load, packed_store, read, read_by, select, the_others, unary, where_so, write, write_by};
 ghost use Rattle.isp_lower.specs.Written.{division_at};
 
+use crate::line::Line;
 use crate::numbered::{MaskNumber, PlaceNumber, RegisterNumber};
 use crate::sites::{Element, Target};
 use isp_base::{BinOp, Compare, Elem, Rate, UnaryOp, number};
@@ -182,7 +183,7 @@ pub(crate) fn operate(
     right: RegisterNumber,
     target: Target,
     place: PlaceNumber,
-) -> Instr
+) -> Line
     ensures { result ≡ operate target.ty.rate operator target.to.number left.number right.number target.site.mask.number place.number }
 {
     let plain = match operator {
@@ -203,14 +204,14 @@ pub(crate) fn operate(
             return divide(Division::Rem, left, right, target, place);
         }
     };
-    compute(
+    Line::new(compute(
         target.ty.rate,
         plain,
         target.to,
         left,
         right,
         target.site.mask,
-    )
+    ))
 }
 
 /// A division, which names the place of its trap.
@@ -220,18 +221,19 @@ fn divide(
     right: RegisterNumber,
     target: Target,
     place: PlaceNumber,
-) -> Instr
+) -> Line
     ensures { result ≡ division_at division left right target place.number }
 {
     let rate = target.ty.rate;
-    Instr::Divide {
+    let instr = Instr::Divide {
         op: division,
         result: of_rate(rate, target.to),
         dividend: of_rate(rate, left),
         divisor: of_rate(rate, right),
         mask: mask(target.site.mask),
-        place: place.number,
-    }
+        place: 0,
+    };
+    Line::naming(instr, place.number)
 }
 
 /// A number of an element type.
@@ -282,17 +284,17 @@ pub fn read(
     index: RegisterNumber,
     k: MaskNumber,
     place: PlaceNumber,
-) -> Instr
+) -> Line
     ensures { result ≡ read rate to.number from.number index.number k.number place.number }
 {
-    match rate {
+    let instr = match rate {
         Rate::Uniform => Instr::Scalar {
             result: scalar(to),
             instr: ScalarInstr::Load {
                 array: array(from),
                 index: scalar(index),
                 mask: mask(k),
-                place: place.number,
+                place: 0,
             },
         },
         Rate::Varying => Instr::Vector {
@@ -301,10 +303,11 @@ pub fn read(
                 array: array(from),
                 indices: vector(index),
                 mask: mask(k),
-                place: place.number,
+                place: 0,
             },
         },
-    }
+    };
+    Line::naming(instr, place.number)
 }
 
 /// An element of an array gets a value, or one for each lane.
@@ -315,25 +318,26 @@ pub fn write(
     from: RegisterNumber,
     k: MaskNumber,
     place: PlaceNumber,
-) -> Instr
+) -> Line
     ensures { result ≡ write rate to.number index.number from.number k.number place.number }
 {
-    match rate {
+    let instr = match rate {
         Rate::Uniform => Instr::Store {
             array: array(to),
             index: scalar(index),
             value: scalar(from),
             mask: mask(k),
-            place: place.number,
+            place: 0,
         },
         Rate::Varying => Instr::Scatter {
             array: array(to),
             indices: vector(index),
             value: vector(from),
             mask: mask(k),
-            place: place.number,
+            place: 0,
         },
-    }
+    };
+    Line::naming(instr, place.number)
 }
 
 /// An element of an array, or one for each lane, by an index for each or as a run.
@@ -343,19 +347,20 @@ pub(crate) fn read_by(
     from: RegisterNumber,
     k: MaskNumber,
     place: PlaceNumber,
-) -> Instr
+) -> Line
     ensures { result ≡ read_by element.is_run element.ty.rate to.number from.number element.index.number k.number place.number }
 {
     if element.is_run {
-        Instr::Vector {
+        let instr = Instr::Vector {
             result: vector(to),
             instr: VectorInstr::LoadRun {
                 array: array(from),
                 index: scalar(element.index),
                 mask: mask(k),
-                place: place.number,
+                place: 0,
             },
-        }
+        };
+        Line::naming(instr, place.number)
     } else {
         read(element.ty.rate, to, from, element.index, k, place)
     }
@@ -368,17 +373,18 @@ pub(crate) fn write_by(
     from: RegisterNumber,
     k: MaskNumber,
     place: PlaceNumber,
-) -> Instr
+) -> Line
     ensures { result ≡ write_by element.is_run element.ty.rate to.number element.index.number from.number k.number place.number }
 {
     if element.is_run {
-        Instr::StoreRun {
+        let instr = Instr::StoreRun {
             array: array(to),
             index: scalar(element.index),
             value: vector(from),
             mask: mask(k),
-            place: place.number,
-        }
+            place: 0,
+        };
+        Line::naming(instr, place.number)
     } else {
         write(element.ty.rate, to, element.index, from, k, place)
     }
@@ -402,17 +408,18 @@ pub(crate) fn packed_store(
     from: RegisterNumber,
     k: MaskNumber,
     place: PlaceNumber,
-) -> Instr
+) -> Line
     ensures { result ≡ packed_store to.number into.number first.number from.number k.number place.number }
 {
-    Instr::PackedStore {
+    let instr = Instr::PackedStore {
         count: scalar(to),
         array: array(into),
         index: scalar(first),
         value: vector(from),
         mask: mask(k),
-        place: place.number,
-    }
+        place: 0,
+    };
+    Line::naming(instr, place.number)
 }
 
 /// Members load consecutive elements from one on into a register, and another one gets their count.
@@ -423,17 +430,18 @@ pub(crate) fn packed_load(
     into: RegisterNumber,
     k: MaskNumber,
     place: PlaceNumber,
-) -> Instr
+) -> Line
     ensures { result ≡ packed_load to.number from.number first.number into.number k.number place.number }
 {
-    Instr::PackedLoad {
+    let instr = Instr::PackedLoad {
         count: scalar(to),
         array: array(from),
         index: scalar(first),
         result: vector(into),
         mask: mask(k),
-        place: place.number,
-    }
+        place: 0,
+    };
+    Line::naming(instr, place.number)
 }
 
 /// The second register where the first is true, else the third.

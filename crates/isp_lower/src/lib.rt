@@ -16,6 +16,7 @@ mod header;
 mod laws;
 mod leaves;
 mod library;
+mod line;
 mod listing;
 mod located;
 mod numbered;
@@ -37,6 +38,7 @@ pub use laws::{
     expressions_go_on, expressions_run, expressions_sound, layouts_are_apart,
 };
 pub use leaves::{constant, copy, mask, scalar, splat, the_others, vector, where_so};
+pub use line::Line;
 pub use numbered::{MaskNumber, PlaceNumber, RegisterNumber, Slot, TextNumber};
 pub use register_rows::RegisterRows;
 pub use registers::{Constant, RegisterName, RegisterRow, Registers};

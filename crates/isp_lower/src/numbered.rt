@@ -1,7 +1,5 @@
 //! Numbers of what code names: each kind has a type of its own, so that none is taken for another.
-ghost use Rattle.std.specs.Prelude.{◌≡◌, ◌<◌, ◌+◌, IfOk};
-
-use std::alloc::AllocError;
+ghost use Rattle.std.specs.Prelude.{◌≡◌, ◌<◌, ◌+◌};
 
 /// The number of a scalar or a vector register, or of an array, among those of its class.
 #[derive(Clone, Copy, Default)]
@@ -24,13 +22,13 @@ pub struct Slot {
 /// The number of a place in the source.
 #[derive(Clone, Copy)]
 pub struct PlaceNumber {
-    pub number: u32,
+    pub number: usize,
 }
 
 /// The number of a text.
 #[derive(Clone, Copy)]
 pub struct TextNumber {
-    pub number: u32,
+    pub number: usize,
 }
 
 impl Slot {
@@ -60,24 +58,4 @@ impl Slot {
     {
         self.plus(1)
     }
-
-    /// The same; memory is refused where there is none.
-    pub fn after(self) -> Result<Slot, AllocError>
-        ensures { IfOk result (λ s. s.number ≡ self.number + 1) }
-    {
-        match self.number.checked_add(1) {
-            Some(number) => Ok(Slot { number }),
-            None => Err(AllocError),
-        }
-    }
-}
-
-/// The number of a table's next entry, where it has so many. Memory is refused where that would be 4,294,967,295.
-pub(crate) fn next_number(count: usize) -> Result<u32, AllocError>
-    ensures { IfOk result (λ n. (n ≡ count) × (n < 4294967295)) }
-{
-    if count >= 4_294_967_295 {
-        return Err(AllocError);
-    }
-    Ok(count as u32)
 }

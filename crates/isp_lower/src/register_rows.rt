@@ -1,11 +1,11 @@
 //! The registers of one class.
-ghost use Rattle.std.specs.Prelude.{◌≡◌, ◌≤◌, ◌++◌, ◌∷◌, [], length, map, slice_get, Some, None, IfOk, IfSome, IfNone, OnOk, OnErr};
+ghost use Rattle.std.specs.Prelude.{◌≡◌, ◌<◌, ◌++◌, ◌∷◌, [], length, map, slice_get, Some, None, IfOk, IfSome, IfNone, OnOk, OnErr};
 ghost use Rattle.isp_base.specs.Ranks.{rank};
 ghost use Rattle.isp_lower.specs.Lookup.{HasOwnType, IsNamedAt, name_of, row_of};
 ghost use Rattle.isp_lower.specs.Rows.{Fresh, elem_in, name_number, number_in, with_fresh};
 
 use crate::copies::push_all;
-use crate::numbered::{RegisterNumber, next_number};
+use crate::numbered::RegisterNumber;
 use crate::registers::{RegisterName, RegisterRow};
 use isp_base::Elem;
 use std::alloc::{AllocError, Global};
@@ -22,7 +22,7 @@ pub struct RegisterRows {
 }
 
 impl Model for RegisterRows {
-    ghost use Rattle.std.specs.Prelude.{◌≤◌, List, length, map};
+    ghost use Rattle.std.specs.Prelude.{List, map};
     ghost use Rattle.isp_lower.specs.Lookup.{AreNamedFrom, Tells, row_of};
     ghost use Rattle.isp_lower.specs.declared.registers.RegisterRow.{RegisterRow};
 
@@ -30,7 +30,7 @@ impl Model for RegisterRows {
 
     ghost view = { λ r. r.rows.items };
 
-    ghost invariant = { λ r. Tells r.places (map row_of r.rows.items) × (length r.rows.items ≤ 4294967295) × AreNamedFrom 0 (map row_of r.rows.items) };
+    ghost invariant = { λ r. Tells r.places (map row_of r.rows.items) × AreNamedFrom 0 (map row_of r.rows.items) };
 }
 
 /// The place of a type in the order of the types.
@@ -74,10 +74,8 @@ fn row_at(rows: &[RegisterRow], place: usize) -> Option<RegisterRow>
 /// One more register behind the others.
 fn append(rows: &mut Vec<RegisterRow>, row: RegisterRow) -> Result<(), AllocError>
     ensures ok { OnOk result (rows.new.items ≡ rows.old.items ++ row ∷ []) }
-    ensures few { OnOk result (length rows.new.items ≤ 4294967295) }
     ensures err { OnErr result (rows.new.items ≡ rows.old.items) }
 {
-    next_number(rows.len())?;
     rows.push(row)?;
     Ok(())
 }
@@ -115,7 +113,6 @@ impl RegisterRows {
         ensures elem { IfSome result (λ x. elem_in (map row_of self.now) (name_of name) ≡ Some x.1) }
         ensures none { IfNone result (elem_in (map row_of self.now) (name_of name) ≡ None) }
         ensures own { IfSome result (λ x. HasOwnType (name_of name) x.1) }
-        ensures few { length self.now ≤ 4294967295 }
     {
         let number = name_number(name);
         let place = *self.places.get(&number)?;
@@ -125,8 +122,7 @@ impl RegisterRows {
         }
     }
 
-    /// One more register. Where memory is refused, they stay as they were. It is refused too where the register's number would
-    /// be 4,294,967,295.
+    /// One more register. Where memory is refused, they stay as they were.
     pub fn push(&mut self, row: RegisterRow) -> Result<(), AllocError>
         requires named { IsNamedAt (length self.old) (name_of row.name) }
         requires own { HasOwnType (name_of row.name) row.elem }
@@ -142,6 +138,7 @@ impl RegisterRows {
 
     /// One more register, which no tree asks for, and its number. Where memory is refused, they stay as they were.
     pub fn fresh(&mut self, elem: Elem) -> Result<RegisterNumber, AllocError>
+        requires { length self.old < 4294967295 }
         ensures number { IfOk result (λ d. d.number ≡ length self.old) }
         ensures added { OnOk result (map row_of self.new ≡ with_fresh elem (map row_of self.old)) }
         ensures named { IfOk result (λ d. number_in (map row_of self.new) (Fresh d.number) ≡ d.number) }

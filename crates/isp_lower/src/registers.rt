@@ -1,5 +1,5 @@
 //! The registers of the function in hand.
-ghost use Rattle.std.specs.Prelude.{◌≡◌, ℕ, length, map, Some, IfOk, OnErr, OnOk};
+ghost use Rattle.std.specs.Prelude.{◌≡◌, ◌<◌, ◌≤◌, ◌+◌, ℕ, length, map, Some, IfOk, OnErr, OnOk};
 ghost use Rattle.isp_lower.specs.Emitted.{Begins, Grows, HasLoaded, HasRow, Keeps, KeepsIn, name_of, row_of, rows_of};
 ghost use Rattle.isp_lower.specs.Lookup.{IsAsked, IsPlain, own_type};
 ghost use Rattle.isp_base.specs.declared.types.Elem.{Elem};
@@ -58,6 +58,7 @@ fn given_or_new(rows: &mut RegisterRows, name: RegisterName, elem: Elem) -> Resu
     ensures rows { OnOk result (Begins (map row_of rows.old) (map row_of rows.new)) }
     ensures elem { OnOk result (elem_in (map row_of rows.new) (name_of name) ≡ Some elem) }
     ensures kept { OnOk result ((t : Elem) (b : ℕ) → keeps (map row_of rows.new) t b ≡ keeps (map row_of rows.old) t b) }
+    ensures few { OnOk result (length (map row_of rows.new) ≤ length (map row_of rows.old) + 1) }
 {
     match rows.find(name) {
         Some(_) => Ok(()),
@@ -81,6 +82,9 @@ impl Registers {
     pub fn spare(&mut self, rate: Rate, elem: Elem, slot: Slot) -> Result<(), AllocError>
         ensures rows { OnOk result (Grows self.old self.new) }
         ensures given { OnOk result (HasRow self.new rate (Spare elem slot.number) elem) }
+        ensures few_scalars { OnOk result (length (rows_of self.new).scalars ≤ length (rows_of self.old).scalars + 1) }
+        ensures few_vectors { OnOk result (length (rows_of self.new).vectors ≤ length (rows_of self.old).vectors + 1) }
+        ensures same_arrays { OnOk result ((rows_of self.new).arrays ≡ (rows_of self.old).arrays) }
     {
         let name = RegisterName::Spare(elem, slot);
         match rate {
@@ -93,6 +97,9 @@ impl Registers {
     pub fn place(&mut self) -> Result<(), AllocError>
         ensures rows { OnOk result (Grows self.old self.new) }
         ensures given { OnOk result (HasRow self.new Uniform Place I64) }
+        ensures few_scalars { OnOk result (length (rows_of self.new).scalars ≤ length (rows_of self.old).scalars + 1) }
+        ensures same_vectors { OnOk result ((rows_of self.new).vectors ≡ (rows_of self.old).vectors) }
+        ensures same_arrays { OnOk result ((rows_of self.new).arrays ≡ (rows_of self.old).arrays) }
     {
         given_or_new(&mut self.scalars, RegisterName::Place, Elem::I64)
     }
@@ -111,6 +118,9 @@ impl Registers {
     pub fn load(&mut self, number: usize) -> Result<(), AllocError>
         ensures rows { OnOk result (Grows self.old self.new) }
         ensures given { OnOk result (HasLoaded self.new number) }
+        ensures same_scalars { OnOk result ((rows_of self.new).scalars ≡ (rows_of self.old).scalars) }
+        ensures same_vectors { OnOk result ((rows_of self.new).vectors ≡ (rows_of self.old).vectors) }
+        ensures same_arrays { OnOk result ((rows_of self.new).arrays ≡ (rows_of self.old).arrays) }
     {
         let name = RegisterName::Variable(number);
         match self.loaded.find(name) {
@@ -124,6 +134,7 @@ impl Registers {
 
     /// One more register of a rate, which no tree asks for, and its number. Where memory is refused, they stay as they were.
     pub fn fresh(&mut self, rate: Rate, elem: Elem) -> Result<RegisterNumber, AllocError>
+        requires { length (rows_at (rows_of self.old) rate) < 4294967295 }
         ensures number { IfOk result (λ d. d.number ≡ length (rows_at (rows_of self.old) rate)) }
         ensures added { OnOk result (rows_of self.new ≡ with_fresh_at rate elem (rows_of self.old)) }
         ensures named { IfOk result (λ d. fresh_at (rows_of self.new) rate d.number ≡ d.number) }

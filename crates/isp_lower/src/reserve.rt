@@ -1,5 +1,5 @@
 //! The registers that code asks for, before it is written.
-ghost use Rattle.std.specs.Prelude.{◌≡◌, ◌+◌, IfOk, OnErr, OnOk};
+ghost use Rattle.std.specs.Prelude.{◌≡◌, ◌<◌, ◌+◌, OnOk};
 ghost use Rattle.isp_base.specs.Ranks.{same_elem};
 ghost use Rattle.isp_base.specs.declared.types.Elem.TheVariants.{I64};
 ghost use Rattle.isp_base.specs.declared.types.Rate.TheVariants.{Uniform, Varying};
@@ -8,7 +8,7 @@ ghost use Rattle.isp_typed.specs.Views.{argument_of, arguments_of, base_of, call
 ghost use Rattle.isp_lower.specs.Asks.{Both, Loads, MaskOf, Number, Register, argument_asks, arguments_asks, assign_asks, base_asks, call_asks, change_asks, copy_asks, element_asks, expr_asks, index_asks, item_asks, items_asks, lift_asks, one_asks, operand_asks, operands_asks, place_asks, read_asks, run_asks, sides_ask, spare_ask, start_asks, step_asks, target_asks, test_asks, update_asks, value_asks, values_asks, work_asks, zero_asks, beyond, first_slot, simple_asks};
 ghost use Rattle.isp_lower.specs.Library.{library_rates};
 ghost use Rattle.isp_lower.specs.Rows.{Place};
-ghost use Rattle.isp_lower.specs.Reserved.{Gives, choice_asks, logic_asks, packed_load_asks, packed_store_asks};
+ghost use Rattle.isp_lower.specs.Reserved.{Gives, HasNumbers, choice_asks, logic_asks, packed_load_asks, packed_store_asks};
 
 use crate::library::value_rate;
 use crate::numbered::{MaskNumber, Slot};
@@ -55,42 +55,33 @@ impl Reserve {
     }
 
     /// The mask register of a slot.
-    pub fn mask(&mut self, slot: Slot) -> Result<(), AllocError>
-        ensures { OnOk result (Gives self.old self.new (MaskOf slot.number)) }
+    pub fn mask(&mut self, slot: Slot)
+        requires { HasNumbers (MaskOf slot.number) }
+        ensures { Gives self.old self.new (MaskOf slot.number) }
     {
         if self.masks <= slot.number {
-            self.masks = slot.after()?.number;
+            self.masks = slot.next().number;
         }
-        Ok(())
     }
 
-    /// One more mask, and its number. Memory is refused where there are 4,294,967,295.
-    pub fn fresh_mask(&mut self) -> Result<MaskNumber, AllocError>
-        ensures number { IfOk result (λ m. m.number ≡ self.old.masks) }
-        ensures added { OnOk result (self.new ≡ record self.old { masks = self.old.masks + 1 }) }
-        ensures refused { OnErr result (self.new ≡ self.old) }
+    /// One more mask, and its number.
+    pub fn fresh_mask(&mut self) -> MaskNumber
+        requires { self.old.masks < 4294967295 }
+        ensures number { result.number ≡ self.old.masks }
+        ensures added { self.new ≡ record self.old { masks = self.old.masks + 1 } }
     {
         let slot = Slot { number: self.masks };
-        self.masks = slot.after()?.number;
-        Ok(slot.mask())
+        self.masks = slot.next().number;
+        slot.mask()
     }
 
     /// The number of the next slot.
-    pub fn next(&mut self, slot: Slot) -> Result<Slot, AllocError>
-        ensures number { IfOk result (λ n. n.number ≡ slot.number + 1) }
-        ensures gives { IfOk result (λ n. Gives self.old self.new (Number n.number)) }
+    pub fn next(&mut self, slot: Slot) -> Slot
+        requires { HasNumbers (Number (slot.number + 1)) }
+        ensures number { result.number ≡ slot.number + 1 }
+        ensures gives { Gives self.old self.new (Number result.number) }
     {
-        slot.after()
-    }
-
-    /// The number of a function that is called, which an instruction names by 32 bits.
-    fn number(&mut self, function: usize) -> Result<(), AllocError>
-        ensures { OnOk result (Gives self.old self.new (Number function)) }
-    {
-        if function >= 4_294_967_296 {
-            return Err(AllocError);
-        }
-        Ok(())
+        slot.next()
     }
 
     /// A register for a uniform value that a varying one is made of.
@@ -104,31 +95,33 @@ impl Reserve {
     }
 
     /// A mask for those that pass a varying test.
-    pub fn test(&mut self, rate: Rate, slot: Slot) -> Result<(), AllocError>
-        ensures { OnOk result (Gives self.old self.new (test_asks rate slot.number)) }
+    pub fn test(&mut self, rate: Rate, slot: Slot)
+        requires { HasNumbers (test_asks rate slot.number) }
+        ensures { Gives self.old self.new (test_asks rate slot.number) }
     {
         match rate {
-            Rate::Uniform => Ok(()),
+            Rate::Uniform => (),
             Rate::Varying => self.mask(slot),
         }
     }
 
     /// Masks for those that pass a varying test, and for the others.
-    fn both_sides(&mut self, slot: Slot) -> Result<(), AllocError>
-        ensures { OnOk result (Gives self.old self.new (sides_ask Varying slot.number)) }
+    fn both_sides(&mut self, slot: Slot)
+        requires { HasNumbers (sides_ask Varying slot.number) }
+        ensures { Gives self.old self.new (sides_ask Varying slot.number) }
     {
-        let next = self.next(slot)?;
-        self.next(next)?;
-        self.mask(slot)?;
-        self.mask(next)?;
-        Ok(())
+        let next = self.next(slot);
+        self.next(next);
+        self.mask(slot);
+        self.mask(next);
     }
 
-    fn sides(&mut self, rate: Rate, slot: Slot) -> Result<(), AllocError>
-        ensures { OnOk result (Gives self.old self.new (sides_ask rate slot.number)) }
+    fn sides(&mut self, rate: Rate, slot: Slot)
+        requires { HasNumbers (sides_ask rate slot.number) }
+        ensures { Gives self.old self.new (sides_ask rate slot.number) }
     {
         match rate {
-            Rate::Uniform => Ok(()),
+            Rate::Uniform => (),
             Rate::Varying => self.both_sides(slot),
         }
     }
@@ -136,6 +129,7 @@ impl Reserve {
     /// What the code of an expression asks for, in the slots from one on.
     #[cycle(expr)]
     pub fn expr(&mut self, x: &TypedExpr, slot: Slot) -> Result<(), AllocError>
+        requires { HasNumbers (expr_asks (expr_of x.now) slot.number) }
         ensures { OnOk result (Gives self.old self.new (expr_asks (expr_of x.now) slot.number)) }
     {
         match x {
@@ -183,6 +177,7 @@ impl Reserve {
 
     #[cycle(expr)]
     fn converted(&mut self, elem: Elem, x: &TypedExpr, slot: Slot) -> Result<(), AllocError>
+        requires { HasNumbers (Both (spare_ask (type_of (expr_of x.now)).rate elem slot.number) (expr_asks (expr_of x.now) slot.number)) }
         ensures { OnOk result (Gives self.old self.new (Both (spare_ask (type_of (expr_of x.now)).rate elem slot.number) (expr_asks (expr_of x.now) slot.number))) }
     {
         self.spare(x.ty().rate, elem, slot)?;
@@ -193,6 +188,7 @@ impl Reserve {
     /// A value that is taken at a rate.
     #[cycle(expr)]
     pub fn operand(&mut self, rate: Rate, x: &TypedExpr, slot: Slot) -> Result<(), AllocError>
+        requires { HasNumbers (operand_asks rate (expr_of x.now) slot.number) }
         ensures { OnOk result (Gives self.old self.new (operand_asks rate (expr_of x.now) slot.number)) }
     {
         let ty = x.ty();
@@ -203,6 +199,7 @@ impl Reserve {
 
     #[cycle(expr)]
     fn unary(&mut self, ty: Ty, x: &TypedExpr, slot: Slot) -> Result<(), AllocError>
+        requires { HasNumbers (Both (spare_ask ty.rate ty.elem slot.number) (operand_asks ty.rate (expr_of x.now) slot.number)) }
         ensures { OnOk result (Gives self.old self.new (Both (spare_ask ty.rate ty.elem slot.number) (operand_asks ty.rate (expr_of x.now) slot.number))) }
     {
         self.spare(ty.rate, ty.elem, slot)?;
@@ -219,9 +216,10 @@ impl Reserve {
         right: &TypedExpr,
         slot: Slot,
     ) -> Result<(), AllocError>
+        requires { HasNumbers (operands_asks rate (expr_of left.now) (expr_of right.now) slot.number) }
         ensures { OnOk result (Gives self.old self.new (operands_asks rate (expr_of left.now) (expr_of right.now) slot.number)) }
     {
-        let next = self.next(slot)?;
+        let next = self.next(slot);
         self.operand(rate, left, slot)?;
         self.operand(rate, right, next)?;
         Ok(())
@@ -237,6 +235,7 @@ impl Reserve {
         right: &TypedExpr,
         slot: Slot,
     ) -> Result<(), AllocError>
+        requires { HasNumbers (Both (spare_ask rate made slot.number) (operands_asks rate (expr_of left.now) (expr_of right.now) slot.number)) }
         ensures { OnOk result (Gives self.old self.new (Both (spare_ask rate made slot.number) (operands_asks rate (expr_of left.now) (expr_of right.now) slot.number))) }
     {
         self.spare(rate, made, slot)?;
@@ -253,10 +252,11 @@ impl Reserve {
         right: &TypedExpr,
         slot: Slot,
     ) -> Result<(), AllocError>
+        requires { HasNumbers (logic_asks rate (expr_of left.now) (expr_of right.now) slot.number) }
         ensures { OnOk result (Gives self.old self.new (logic_asks rate (expr_of left.now) (expr_of right.now) slot.number)) }
     {
         self.spare(rate, Elem::Bool, slot)?;
-        self.test(rate, slot)?;
+        self.test(rate, slot);
         self.pair(rate, left, right, slot)?;
         Ok(())
     }
@@ -271,16 +271,17 @@ impl Reserve {
         otherwise: &TypedExpr,
         slot: Slot,
     ) -> Result<(), AllocError>
+        requires { HasNumbers (choice_asks ty (expr_of test.now) (expr_of then.now) (expr_of otherwise.now) slot.number) }
         ensures { OnOk result (Gives self.old self.new (choice_asks ty (expr_of test.now) (expr_of then.now) (expr_of otherwise.now) slot.number)) }
     {
         let rate = test.ty().rate;
-        let first = side(rate, slot)?;
-        let second = side(rate, first)?;
+        let first = side(rate, slot);
+        let second = side(rate, first);
         self.spare(ty.rate, ty.elem, slot)?;
         self.expr(test, slot)?;
         self.operand(ty.rate, then, first)?;
         self.operand(ty.rate, otherwise, second)?;
-        self.sides(rate, slot)?;
+        self.sides(rate, slot);
         Ok(())
     }
 
@@ -293,6 +294,7 @@ impl Reserve {
         all: &[TypedExpr],
         slot: Slot,
     ) -> Result<(), AllocError>
+        requires { HasNumbers (Both (spare_ask ty.rate ty.elem slot.number) (values_asks (library_rates function ty.rate) (t_exprs (exprs_of all.now)) slot.number)) }
         ensures { OnOk result (Gives self.old self.new (Both (spare_ask ty.rate ty.elem slot.number) (values_asks (library_rates function ty.rate) (t_exprs (exprs_of all.now)) slot.number))) }
     {
         self.spare(ty.rate, ty.elem, slot)?;
@@ -309,11 +311,12 @@ impl Reserve {
         all: &[TypedExpr],
         slot: Slot,
     ) -> Result<(), AllocError>
+        requires { HasNumbers (values_asks (library_rates function rate) (t_exprs (exprs_of all.now)) slot.number) }
         ensures { OnOk result (Gives self.old self.new (values_asks (library_rates function rate) (t_exprs (exprs_of all.now)) slot.number)) }
     {
         let mut at = slot;
         for (place, x) in all.iter().enumerate() {
-            let next = self.next(at)?;
+            let next = self.next(at);
             let taken = value_rate(function, rate, place);
             self.operand(taken, x, at)?;
             at = next;
@@ -324,6 +327,7 @@ impl Reserve {
     /// The array of a packed call, from its first element or from an index on.
     #[cycle(expr)]
     fn base(&mut self, base: &TypedBase, slot: Slot) -> Result<(), AllocError>
+        requires { HasNumbers (base_asks (base_of base.now) slot.number) }
         ensures { OnOk result (Gives self.old self.new (base_asks (base_of base.now) slot.number)) }
     {
         match base {
@@ -340,11 +344,12 @@ impl Reserve {
         value: &TypedExpr,
         slot: Slot,
     ) -> Result<(), AllocError>
+        requires { HasNumbers (packed_store_asks (base_of base.now) (expr_of value.now) slot.number) }
         ensures { OnOk result (Gives self.old self.new (packed_store_asks (base_of base.now) (expr_of value.now) slot.number)) }
     {
         self.spare(Rate::Uniform, Elem::I32, slot)?;
         self.base(base, slot)?;
-        let next = self.next(slot)?;
+        let next = self.next(slot);
         self.operand(Rate::Varying, value, next)?;
         Ok(())
     }
@@ -357,6 +362,7 @@ impl Reserve {
         variable: usize,
         slot: Slot,
     ) -> Result<(), AllocError>
+        requires { HasNumbers (packed_load_asks (base_of base.now) variable slot.number) }
         ensures { OnOk result (Gives self.old self.new (packed_load_asks (base_of base.now) variable slot.number)) }
     {
         self.spare(Rate::Uniform, Elem::I32, slot)?;
@@ -368,6 +374,7 @@ impl Reserve {
     /// A call, and the register that its result goes to.
     #[cycle(expr)]
     fn called(&mut self, ty: Ty, call: &TypedCall, slot: Slot) -> Result<(), AllocError>
+        requires { HasNumbers (Both (spare_ask ty.rate ty.elem slot.number) (call_asks (call_of call.now) slot.number)) }
         ensures { OnOk result (Gives self.old self.new (Both (spare_ask ty.rate ty.elem slot.number) (call_asks (call_of call.now) slot.number))) }
     {
         self.spare(ty.rate, ty.elem, slot)?;
@@ -378,9 +385,9 @@ impl Reserve {
     /// A call, which names its function by a number, and its arguments.
     #[cycle(expr)]
     fn call(&mut self, x: &TypedCall, slot: Slot) -> Result<(), AllocError>
+        requires { HasNumbers (call_asks (call_of x.now) slot.number) }
         ensures { OnOk result (Gives self.old self.new (call_asks (call_of x.now) slot.number)) }
     {
-        self.number(x.function)?;
         self.arguments(&x.arguments, slot)?;
         Ok(())
     }
@@ -388,11 +395,12 @@ impl Reserve {
     /// Arguments of a call, each in a slot of its own.
     #[cycle(expr)]
     fn arguments(&mut self, all: &[TypedArgument], slot: Slot) -> Result<(), AllocError>
+        requires { HasNumbers (arguments_asks (t_arguments (arguments_of all.now)) slot.number) }
         ensures { OnOk result (Gives self.old self.new (arguments_asks (t_arguments (arguments_of all.now)) slot.number)) }
     {
         let mut at = slot;
         for x in all {
-            let next = self.next(at)?;
+            let next = self.next(at);
             self.argument(x, at)?;
             at = next;
         }
@@ -402,6 +410,7 @@ impl Reserve {
     /// An argument, whatever the rate of its parameter.
     #[cycle(expr)]
     fn argument(&mut self, x: &TypedArgument, slot: Slot) -> Result<(), AllocError>
+        requires { HasNumbers (argument_asks (argument_of x.now) slot.number) }
         ensures { OnOk result (Gives self.old self.new (argument_asks (argument_of x.now) slot.number)) }
     {
         match x {
@@ -413,6 +422,7 @@ impl Reserve {
     /// A place, and the register that its value is read into.
     #[cycle(expr)]
     fn read(&mut self, place: &TypedPlace, slot: Slot) -> Result<(), AllocError>
+        requires { HasNumbers (Both (target_asks (place_of place.now) slot.number) (value_asks (place_of place.now) slot.number)) }
         ensures { OnOk result (Gives self.old self.new (Both (target_asks (place_of place.now) slot.number) (value_asks (place_of place.now) slot.number))) }
     {
         self.target(place, slot)?;
@@ -443,6 +453,7 @@ impl Reserve {
     /// A place whose index is taken at a slot.
     #[cycle(expr)]
     fn target(&mut self, place: &TypedPlace, slot: Slot) -> Result<(), AllocError>
+        requires { HasNumbers (target_asks (place_of place.now) slot.number) }
         ensures { OnOk result (Gives self.old self.new (target_asks (place_of place.now) slot.number)) }
     {
         match place {
@@ -504,6 +515,7 @@ impl Reserve {
         index: &TypedExpr,
         slot: Slot,
     ) -> Result<(), AllocError>
+        requires { HasNumbers (element_asks array rate (expr_of index.now) slot.number (expr_asks (expr_of index.now) slot.number)) }
         ensures { OnOk result (Gives self.old self.new (element_asks array rate (expr_of index.now) slot.number (expr_asks (expr_of index.now) slot.number))) }
     {
         self.run(array, index, slot)?;
@@ -514,6 +526,7 @@ impl Reserve {
     /// An index, as int64, at the rate of the element.
     #[cycle(expr)]
     fn index(&mut self, rate: Rate, index: &TypedExpr, slot: Slot) -> Result<(), AllocError>
+        requires { HasNumbers (index_asks rate (expr_of index.now) slot.number (expr_asks (expr_of index.now) slot.number)) }
         ensures { OnOk result (Gives self.old self.new (index_asks rate (expr_of index.now) slot.number (expr_asks (expr_of index.now) slot.number))) }
     {
         self.lift(rate, index.ty().rate, Elem::I64, slot)?;
@@ -552,6 +565,7 @@ impl Reserve {
 
     /// What the code of an assignment asks for, and of what else stands before a semicolon.
     pub fn simple(&mut self, x: &TypedSimple, slot: Slot) -> Result<(), AllocError>
+        requires { HasNumbers (simple_asks (simple_of x.now) slot.number) }
         ensures { OnOk result (Gives self.old self.new (simple_asks (simple_of x.now) slot.number)) }
     {
         match x {
@@ -569,12 +583,13 @@ impl Reserve {
     }
 
     /// The slot behind that of a place's index.
-    fn beyond(&mut self, place: &TypedPlace, slot: Slot) -> Result<Slot, AllocError>
-        ensures number { IfOk result (λ n. n.number ≡ beyond (place_of place.now) slot.number) }
-        ensures gives { IfOk result (λ n. Gives self.old self.new (Number n.number)) }
+    fn beyond(&mut self, place: &TypedPlace, slot: Slot) -> Slot
+        requires { HasNumbers (Number (beyond (place_of place.now) slot.number)) }
+        ensures number { result.number ≡ beyond (place_of place.now) slot.number }
+        ensures gives { Gives self.old self.new (Number result.number) }
     {
         match place {
-            TypedPlace::Variable { .. } => Ok(slot),
+            TypedPlace::Variable { .. } => slot,
             TypedPlace::Element { .. } => self.next(slot),
         }
     }
@@ -585,10 +600,11 @@ impl Reserve {
         value: &TypedExpr,
         slot: Slot,
     ) -> Result<(), AllocError>
+        requires { HasNumbers (assign_asks (place_of target.now) (expr_of value.now) slot.number) }
         ensures { OnOk result (Gives self.old self.new (assign_asks (place_of target.now) (expr_of value.now) slot.number)) }
     {
         self.target(target, slot)?;
-        let next = self.beyond(target, slot)?;
+        let next = self.beyond(target, slot);
         self.operand(target.ty().rate, value, next)?;
         Ok(())
     }
@@ -600,22 +616,24 @@ impl Reserve {
         value: &TypedExpr,
         slot: Slot,
     ) -> Result<(), AllocError>
+        requires { HasNumbers (update_asks elem (place_of target.now) (expr_of value.now) slot.number) }
         ensures { OnOk result (Gives self.old self.new (update_asks elem (place_of target.now) (expr_of value.now) slot.number)) }
     {
-        let next = self.beyond(target, slot)?;
+        let next = self.beyond(target, slot);
         self.target(target, slot)?;
-        let work = self.next(next)?;
+        let work = self.next(next);
         self.operand(target.ty().rate, value, next)?;
         self.change(elem, target, work)?;
         Ok(())
     }
 
     fn step(&mut self, elem: Elem, target: &TypedPlace, slot: Slot) -> Result<(), AllocError>
+        requires { HasNumbers (step_asks elem (place_of target.now) slot.number) }
         ensures { OnOk result (Gives self.old self.new (step_asks elem (place_of target.now) slot.number)) }
     {
-        let next = self.beyond(target, slot)?;
+        let next = self.beyond(target, slot);
         self.target(target, slot)?;
-        let work = self.next(next)?;
+        let work = self.next(next);
         self.one(target.ty().rate, elem, next)?;
         self.change(elem, target, work)?;
         Ok(())
@@ -632,6 +650,7 @@ impl Reserve {
     }
 
     fn item(&mut self, x: &TypedItem, slot: Slot) -> Result<(), AllocError>
+        requires { HasNumbers (item_asks slot.number (item_of x.now)) }
         ensures { OnOk result (Gives self.old self.new (item_asks slot.number (item_of x.now))) }
     {
         match x {
@@ -643,6 +662,7 @@ impl Reserve {
 
     /// What the code of declared variables and arrays asks for.
     pub fn items(&mut self, all: &[TypedItem], slot: Slot) -> Result<(), AllocError>
+        requires { HasNumbers (items_asks slot.number (items_of all.now)) }
         ensures { OnOk result (Gives self.old self.new (items_asks slot.number (items_of all.now))) }
     {
         for x in all {
@@ -653,11 +673,12 @@ impl Reserve {
 }
 
 /// The slot behind that of a varying test.
-fn side(rate: Rate, slot: Slot) -> Result<Slot, AllocError>
-    ensures { IfOk result (λ n. n.number ≡ first_slot rate slot.number) }
+fn side(rate: Rate, slot: Slot) -> Slot
+    requires { rate ≡ Varying → slot.number + 1 < 4294967296 }
+    ensures { result.number ≡ first_slot rate slot.number }
 {
     match rate {
-        Rate::Uniform => Ok(slot),
-        Rate::Varying => slot.after(),
+        Rate::Uniform => slot,
+        Rate::Varying => slot.next(),
     }
 }

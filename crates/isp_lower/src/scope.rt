@@ -1,5 +1,5 @@
 //! Registers are looked up; each that is asked for is there.
-ghost use Rattle.std.specs.Prelude.{◌≡◌, drop, is_some, map, take, IfSome, Some};
+ghost use Rattle.std.specs.Prelude.{◌≡◌, ◌≤◌, drop, is_some, length, map, take, IfSome, Some};
 ghost use Rattle.isp_lower.specs.Asks.{Ask as Asks, ArrayOf, Register as Ask};
 ghost use Rattle.isp_lower.specs.Layout.{outside, within};
 ghost use Rattle.isp_lower.specs.Callees.{next_rate, rate_held, rates_held};
@@ -18,7 +18,8 @@ use isp_typed::{ArrayVariable, Holds};
 
 /// The register of a name that has one.
 fn given(rows: &RegisterRows, name: RegisterName, elem: Elem) -> RegisterNumber
-    requires { elem_in (map row_of rows.now) (name_of name) ≡ Some elem }
+    requires there { elem_in (map row_of rows.now) (name_of name) ≡ Some elem }
+    requires few { length rows.now ≤ 4294967295 }
     ensures { result.number ≡ number_in (map row_of rows.now) (name_of name) }
 {
     match rows.find(name) {
@@ -31,6 +32,7 @@ fn given(rows: &RegisterRows, name: RegisterName, elem: Elem) -> RegisterNumber
 
 /// The register of a constant, if it is kept.
 fn kept_in(rows: &RegisterRows, elem: Elem, bits: u64) -> Option<RegisterNumber>
+    requires { length rows.now ≤ 4294967295 }
     ensures number { IfSome result (λ d. d.number ≡ number_in (map row_of rows.now) (Kept elem bits)) }
     ensures kept { is_some result ≡ keeps (map row_of rows.now) elem bits }
 {
@@ -85,8 +87,12 @@ impl Scope<'_> {
         ensures answer { result.answer ≡ self.now.answer }
     {
         Scope {
+            callees: self.callees,
+            registers: self.registers,
+            masks: self.masks,
+            answer: self.answer,
+            run: self.run,
             in_run: false,
-            ..*self
         }
     }
 
@@ -98,9 +104,12 @@ impl Scope<'_> {
     {
         if self.run.is_none() && !self.copies(Rate::Varying, index) {
             Scope {
+                callees: self.callees,
+                registers: self.registers,
+                masks: self.masks,
+                answer: self.answer,
                 run: Some(index),
                 in_run: true,
-                ..*self
             }
         } else {
             self.outside()

@@ -1,11 +1,12 @@
 //! What writers of code read, what they append to, and the owner of it all.
 ghost use Rattle.std.specs.Prelude.{◌≤◌, length};
 
+use crate::closing::Closed;
 use crate::header::Heading;
+use crate::line::Line;
 use crate::registers::Registers;
 use crate::reserve::Reserve;
 use isp_base::{Gang, Span, Ty};
-use isp_code::{Function, Instr};
 use isp_typed::TypedFunction;
 
 /// What does not change while the code of a function is written: the functions that it may call, by number, its registers,
@@ -19,6 +20,9 @@ pub struct Scope<'a> {
     pub answer: Option<Ty>,
     pub run: Option<usize>,
     pub in_run: bool,
+    pub ghost few_scalars: { length registers.now.scalars ≤ 4294967295 },
+    pub ghost few_vectors: { length registers.now.vectors ≤ 4294967295 },
+    pub ghost few_arrays: { length registers.now.arrays ≤ 4294967295 },
 }
 
 /// Code while it is written, and the places in the source and the texts that it names, by number.
@@ -26,10 +30,7 @@ pub struct Scope<'a> {
 pub struct Body {
     pub places: Vec<Span>,
     pub texts: Vec<Vec<u8>>,
-    pub code: Vec<Instr>,
-    pub ghost few_places: { length places.items ≤ 4294967295 },
-    pub ghost few_texts: { length texts.items ≤ 4294967295 },
-    pub ghost few: { length code.items ≤ 4294967295 },
+    pub code: Vec<Line>,
 }
 
 /// The code of a program while it is written: the functions that are closed, and one at work. Where memory is refused,
@@ -40,7 +41,7 @@ pub struct Emitter<'p> {
     /// The functions of the program, by number.
     pub callees: &'p [TypedFunction],
     /// Those that are closed, by number.
-    pub functions: Vec<Function>,
+    pub functions: Vec<Closed>,
     /// That of the function at work, if there is one.
     pub heading: Option<Heading>,
     /// Its registers, and how many masks it has.

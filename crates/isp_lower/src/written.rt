@@ -59,7 +59,7 @@ pub(crate) fn operate_to(
     ensures { OnOk result (Writes b.old b.new (operate_at operator left right target)) }
 {
     let place = place_of(b, operator, target.span)?;
-    b.push(operate(operator, left, right, target, place))?;
+    b.add(operate(operator, left, right, target, place))?;
     Ok(())
 }
 
@@ -76,7 +76,7 @@ pub(crate) fn read_to(
 {
     let from = on.array(element.array);
     let place = b.place(element.span)?;
-    b.push(read_by(element, to, from, k, place))?;
+    b.add(read_by(element, to, from, k, place))?;
     Ok(())
 }
 
@@ -94,7 +94,7 @@ pub(crate) fn put_packed_store(
 {
     let to = on.array(into);
     let place = b.place(target.span)?;
-    b.push(packed_store(target.to, to, first, from, target.site.mask, place))?;
+    b.add(packed_store(target.to, to, first, from, target.site.mask, place))?;
     Ok(())
 }
 
@@ -112,7 +112,7 @@ pub(crate) fn put_packed_load(
 {
     let array = on.array(from);
     let place = b.place(target.span)?;
-    b.push(packed_load(target.to, array, first, into, target.site.mask, place))?;
+    b.add(packed_load(target.to, array, first, into, target.site.mask, place))?;
     Ok(())
 }
 
@@ -129,6 +129,6 @@ pub(crate) fn write_from(
 {
     let to = on.array(element.array);
     let place = b.place(element.span)?;
-    b.push(write_by(element, to, from, k, place))?;
+    b.add(write_by(element, to, from, k, place))?;
     Ok(())
 }

@@ -44,9 +44,9 @@ all_steps l n (x ∷ xs) =
     let a = keep_at l n x.rate x.elem x.bits in
     length-append a (keep_code l n xs) ∙ ap (λ m. m + length (keep_code l n xs)) (at_steps l n x.rate x.elem x.bits) ∙ ap (λ m. steps_at x.rate + m) (all_steps l n xs)
 
-code_short : (l : Layout) (n : ℕ) (ks : List Constant) → keep_steps ks ≤ 24 → length (constants_code l n ks) ≤ 30
-code_short l n [] le = omega arith
-code_short l n (x ∷ xs) le = let e = all_steps l n (x ∷ xs) in omega (arith, le, e)
+pub constants_short : (l : Layout) (n : ℕ) (ks : List Constant) → keep_steps ks ≤ 24 → length (constants_code l n ks) ≤ 30
+constants_short l n [] le = omega arith
+constants_short l n (x ∷ xs) le = let e = all_steps l n (x ∷ xs) in omega (arith, le, e)
 
 -- ---- the body
 
@@ -63,7 +63,7 @@ module _ (w : Setting) (ready : IsSettled w) where
       → AreAt w.routine.code pc (two pc (kept ks) (λ pc1. block_code w.layout w.frame.answer x pc1 z first_spot)) → BlockNamed w z x → At w c pc → c.masks 0 ≡ a → any (gang_of w) a ≡ true → Inside w a → Bare w s c → NoneOutside w c → q ≤ 32 * s.work
       → StmtRuns w w.turns c (pc + length (two pc (kept ks) (λ pc1. block_code w.layout w.frame.answer x pc1 z first_spot))) first_spot (1 + q) (block (gang_of w) w.frame (calls_of w) w.turns x a s)
   kept_body_runs (t_braces xs sp) ks pc z q a s c fit keep typed has names at mask some inside st none used =
-      let few = code_short w.layout 3 ks keep.short in
+      let few = constants_short w.layout 3 ks keep.short in
       let m = length (kept ks) in
       let code = stmts_code w.layout w.frame.answer xs (pc + m) z first_spot in
       let end = pc + length (kept ks ++ code) in

@@ -33,7 +33,7 @@ apart_at o n k e b i h same = let lt = b i h in omega (arith, lt, e, same)
 
 -- ---- numbers only grow
 
-count_more : {A : Type 0} (n : ℕ) (xs : List A) → number_after n xs ≡ n + length xs
+pub count_more : {A : Type 0} (n : ℕ) (xs : List A) → number_after n xs ≡ n + length xs
 count_more n [] = omega arith
 count_more n (x ∷ xs) = let more = count_more (suc n) xs in omega (arith, more)
 

@@ -73,7 +73,15 @@ mod Routines
 mod Listings
 mod FirstRows
 mod Standing
+mod PieceLengths
+mod CodeLengths
 mod Heads
 mod Lowers
 mod Free
 mod Bodies
+mod AskNumbers
+mod Reserving
+mod FewVariables
+mod SmallNumbers
+mod SmallFunctions
+mod FewRows

@@ -1,5 +1,5 @@
 -- Routines beside the functions whose code they are.
-use Rattle.std.proofs.Common.{◌≡◌, ℕ, zero, suc, ◌+◌, ◌<◌, List, [], ◌∷◌, ◌++◌, length, refl, sym, ap, subst, ◌∙◌, arith, take, get_or, add-one, Some, slice_get}
+use Rattle.std.proofs.Common.{◌≡◌, ℕ, zero, suc, ◌+◌, ◌*◌, ◌<◌, ◌≤◌, true, List, [], ◌∷◌, ◌++◌, length, refl, sym, ap, subst, ◌∙◌, arith, take, get_or, add-one, Some, slice_get}
 use Rattle.std.proofs.Math.Seq.{take-suc}
 use Rattle.std.proofs.lemmas.List.{length-append, map-append}
 use Rattle.std.proofs.lemmas.Option.{slice_get_within}
@@ -10,6 +10,8 @@ use Rattle.isp_code.specs.Writable.{has_byte, place_fits}
 use Rattle.isp_lower.specs.Drafts.{Draft, TablesCanBeWritten, all_routines, finished}
 use Rattle.isp_lower.specs.Setting.{AreAt}
 use Rattle.isp_lower.proofs.Lemmas.{all_both}
+use Rattle.isp_tree.specs.Nodes.{nodes_of_all}
+use Rattle.isp_typed.specs.Nodes.{function_nodes}
 use Rattle.isp_typed.specs.Typed.{Program, TFunction}
 use Rattle.isp_typed.specs.Views.{function_of, functions_of}
 use Rattle.isp_typed.specs.declared.function.TypedFunction.{TypedFunction}
@@ -67,25 +69,71 @@ all_last fs [] (k ∷ gs) h g places texts a x = absurd a
 all_last fs (k ∷ hs) [] h g places texts a x = absurd a
 all_last fs (k ∷ hs) (m ∷ gs) h g places texts a x = (a.0, all_last fs hs gs h g places texts a.1 x)
 
+taken_more : (fs : List TypedFunction) (at : ℕ) (f : TypedFunction) → at < length fs → f ≡ get_or fs at f → functions_of (take (at + 1) fs) ≡ functions_of (take at fs) ++ function_of f ∷ []
+taken_more fs at f low is =
+    ap (λ n. functions_of (take n fs)) (add-one at) ∙ ap functions_of (take-suc fs at f low ∙ ap (λ z. take at fs ++ z ∷ []) (sym is)) ∙ map-append function_of (take at fs) (f ∷ [])
+
 -- one function more
 pub routine_more : (callees : List TFunction) (fs : List TypedFunction) (at : ℕ) (f : TypedFunction) (old new : Draft) → at < length fs → f ≡ get_or fs at f
     → old.callees ≡ callees → AreLowered callees (functions_of (take at fs)) (all_routines old) old.places old.texts → AddsLowered (function_of f) old new
     → AreLowered callees (functions_of (take (at + 1) fs)) (all_routines new) new.places new.texts
 routine_more callees fs at f old new low is same a x =
-    let taken : functions_of (take (at + 1) fs) ≡ functions_of (take at fs) ++ function_of f ∷ [] =
-    ap (λ n. functions_of (take n fs)) (add-one at) ∙ ap functions_of (take-suc fs at f low ∙ ap (λ z. take at fs ++ z ∷ []) (sym is)) ∙ map-append function_of (take at fs) (f ∷ []) in
-    subst (λ z. AreLowered callees z (all_routines new) new.places new.texts) (sym taken)
+    subst (λ z. AreLowered callees z (all_routines new) new.places new.texts) (sym (taken_more fs at f low is))
     (subst (λ z. AreLowered callees (functions_of (take at fs) ++ function_of f ∷ []) z new.places new.texts) (sym x.added)
     (all_last callees (functions_of (take at fs)) (all_routines old) (function_of f) x.routine new.places new.texts
     (all_more callees (functions_of (take at fs)) (all_routines old) old.places new.places old.texts new.texts x.places x.texts a)
     (subst (λ z. IsLowered z (function_of f) x.routine new.places new.texts) same x.lowered)))
 
--- its places and its texts are more that the text of code can have
-pub tables_more : (h : TFunction) (old new : Draft) → TablesCanBeWritten old → AddsLowered h old new → TablesCanBeWritten new
-tables_more h old new can x = record {
-  places = ap (list_all place_fits) x.places.is ∙ all_both place_fits old.places x.places.more can.places x.places_fit;
-  texts = ap (list_all has_byte) x.texts.is ∙ all_both has_byte old.texts x.texts.more can.texts x.texts_fit;
+-- ---- places and texts
+
+-- The text of code can have the places and the texts, and they are few by the nodes of some functions.
+pub record AreFew (hs : List TFunction) (d : Draft) : Type 0 where
+  pub places : list_all place_fits d.places ≡ true
+  pub few_places : length d.places ≤ 4 * nodes_of_all function_nodes hs
+  pub texts : list_all has_byte d.texts ≡ true
+  pub few_texts : length d.texts ≤ nodes_of_all function_nodes hs
+
+-- there are none
+pub none_few : (d : Draft) → d.places ≡ [] → d.texts ≡ [] → AreFew [] d
+none_few d places texts = record {
+  places = ap (list_all place_fits) places;
+  few_places = let n = ap length places in omega (arith, n);
+  texts = ap (list_all has_byte) texts;
+  few_texts = let n = ap length texts in omega (arith, n);
 }
+
+last_nodes : (hs : List TFunction) (h : TFunction) → nodes_of_all function_nodes (hs ++ h ∷ []) ≡ nodes_of_all function_nodes hs + function_nodes h
+last_nodes [] h = omega arith
+last_nodes (k ∷ hs) h = omega (arith, last_nodes hs h)
+
+-- one function more
+pub tables_more : (fs : List TypedFunction) (at : ℕ) (f : TypedFunction) (old new : Draft) → at < length fs → f ≡ get_or fs at f
+    → AreFew (functions_of (take at fs)) old → AddsLowered (function_of f) old new → AreFew (functions_of (take (at + 1) fs)) new
+tables_more fs at f old new low is can x =
+    let hs = functions_of (take at fs) in
+    let more : AreFew (hs ++ function_of f ∷ []) new = record {
+      places = ap (list_all place_fits) x.places.is ∙ all_both place_fits old.places x.places.more can.places x.places_fit;
+      few_places = let n = ap length x.places.is in omega (arith, n, length-append old.places x.places.more, can.few_places, x.few_places, last_nodes hs (function_of f));
+      texts = ap (list_all has_byte) x.texts.is ∙ all_both has_byte old.texts x.texts.more can.texts x.texts_fit;
+      few_texts = let n = ap length x.texts.is in omega (arith, n, length-append old.texts x.texts.more, can.few_texts, x.few_texts, last_nodes hs (function_of f));
+    } in
+    subst (λ z. AreFew z new) (sym (taken_more fs at f low is)) more
+
+nodes_taken : (n : ℕ) (fs : List TypedFunction) → nodes_of_all function_nodes (functions_of (take n fs)) ≤ nodes_of_all function_nodes (functions_of fs)
+nodes_taken zero fs = omega arith
+nodes_taken (suc n) [] = omega arith
+nodes_taken (suc n) (f ∷ fs) = omega (arith, nodes_taken n fs)
+
+-- each has a number
+pub tables_named : (n : ℕ) (fs : List TypedFunction) (d : Draft) → AreFew (functions_of (take n fs)) d → nodes_of_all function_nodes (functions_of fs) < 16777216 → TablesCanBeWritten d
+tables_named n fs d can few = record {
+  places = can.places;
+  few_places = omega (arith, nodes_taken n fs, can.few_places, few);
+  texts = can.texts;
+  few_texts = omega (arith, nodes_taken n fs, can.few_texts, few);
+}
+
+-- ---- programs
 
 same_count : (fs hs : List TFunction) (gs : List Routine) (places : List Span) (texts : List (List ℕ)) → AreLowered fs hs gs places texts → length gs ≡ length hs
 same_count fs [] [] places texts a = refl

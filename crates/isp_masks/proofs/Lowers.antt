@@ -1,5 +1,5 @@
 -- The code of a program is what is asked of code, so it agrees with the program and the verifier accepts it.
-use Rattle.std.proofs.Common.{◌≡◌, ℕ, zero, suc, ◌<◌, List, [], ◌∷◌, length, map, take, Option, Some, None, Bool, true, refl, sym, ap, ◌∙◌, subst, arith}
+use Rattle.std.proofs.Common.{◌≡◌, ℕ, zero, suc, ◌<◌, ◌≤◌, List, [], ◌∷◌, length, map, take, Option, Some, None, Bool, true, refl, sym, ap, ◌∙◌, subst, arith}
 use Rattle.std.specs.Prelude.{slice_get, option_map}
 use Rattle.std.specs.List.{All, list_all}
 use Rattle.std.proofs.lemmas.Bool.{and_from}
@@ -20,6 +20,7 @@ use Rattle.isp_verify.specs.Faults.{header_fits, code_fault}
 use Rattle.isp_base.specs.declared.signature.Parameter.{Parameter}
 use Rattle.isp_typed.specs.declared.variable.Variable.{Variable}
 use Rattle.isp_lower.specs.Callees.{rates_in}
+use Rattle.isp_lower.specs.Drafts.{has_small_numbers}
 use Rattle.isp_lower.specs.Header as header
 use Rattle.isp_lower.specs.Sound.{AreHeld, HasHeader}
 use Rattle.isp_lower.specs.Layout.{class_at}
@@ -32,11 +33,14 @@ use Rattle.isp_masks.specs.Lowered.{IsLowered, HasCode}
 use Rattle.isp_masks.specs.Made.{IsMade, GivesUniform}
 use Rattle.isp_masks.proofs.Accepted.{body_sound, code_accepted}
 use Rattle.isp_masks.proofs.Checked.{FunctionFits, function_fits}
+use Rattle.isp_masks.proofs.CodeLengths.{function_long}
+use Rattle.isp_masks.proofs.FewVariables.{nodes_of_one}
 use Rattle.isp_masks.proofs.Constants.{routine_parts_fit}
 use Rattle.isp_masks.proofs.FirstRows.{parameters_same, result_row}
 use Rattle.isp_masks.proofs.Heads.{names_apart, names_same, new_name, exports, head_fits}
 use Rattle.isp_masks.proofs.Made.{made_accepted, made_compiled, made_entry}
 use Rattle.isp_masks.proofs.Programs.{program_agrees}
+use Rattle.isp_masks.proofs.SmallNumbers.{numbers_small}
 use Rattle.isp_masks.proofs.Standing.{arrays_stand}
 use Rattle.isp_masks.specs.Rated.{BlockRated}
 
@@ -189,6 +193,19 @@ routines_fit program code accepted has =
     routine_parts_fit code g program.functions h.0 (fine_at program code accepted has f h.0 h.1)
     (fine_of ScopedFunction program.functions f h.0 accepted.scoped.each h.1) (body_sound code g (bodies program code accepted has f g eg))
     low.name low.params low.locals)
+
+-- each number that an instruction names has 32 bits, where there are few places and texts: routines are short
+pub numbers_fit : (program : Program) (code : Listing) → IsAccepted program → HasCode program code → length code.places ≤ 4294967295 → length code.texts ≤ 4294967295 → list_all has_small_numbers code.routines ≡ true
+numbers_fit program code accepted has places texts =
+    all_of has_small_numbers code.routines
+    (λ f g eg.
+    let h = source program code accepted has f g eg in
+    let low = has.each f h.0 g h.1 eg in
+    let fine = fine_at program code accepted has f h.0 h.1 in
+    let same = ap length low.code_is in
+    let most = function_long program.functions h.0.variables h.0.answer (layout_of (rates_in program.functions) low.rows) low.constants h.0.body low.keeps.short fine.body 0 low.numbers in
+    let short : length g.code ≤ 4294967295 = omega (arith, same, most, nodes_of_one program f h.0 h.1, accepted.fine.few) in
+    numbers_small code g places texts short g.code (body_sound code g (bodies program code accepted has f g eg)))
 
 pub lowered_agrees : LoweredAgrees
 lowered_agrees = record {

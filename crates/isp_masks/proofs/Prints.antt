@@ -111,6 +111,14 @@ exprs_count : (xs : List TExpr) → count_of (t_exprs xs) ≡ length xs
 exprs_count [] = refl
 exprs_count (x ∷ xs) = ap suc (exprs_count xs)
 
+-- at most one word more than values, and so at most one part more than twice the values
+pub words_counted : (text : List ℕ) (xs : List TExpr) → count_by (λ c. c == percent) text ≡ length xs → length (print_texts text) ≤ length xs + 1
+words_counted text xs count = omega (arith, words_few text, begins_few (parts text), values_counted text, count)
+
+pub parts_counted : (text : List ℕ) (xs : List TExpr) (rs : List Rate) (regs : List ℕ) (t k : ℕ) → count_by (λ c. c == percent) text ≡ length xs
+    → length (parts_code (parts text) rs regs t k) ≤ 2 * length xs + 1
+parts_counted text xs rs regs t k count = omega (arith, code_short (parts text) rs regs t k, words_counted text xs count, values_counted text, count)
+
 -- ---- what the machine writes
 
 -- values are held where registers are the same
@@ -208,7 +216,7 @@ module _ (w : Setting) (ready : IsSettled w) where
 
       -- at most one part more than twice the values
       short : length cb ≤ 3 * count_of (t_exprs xs) + 32
-      short = omega (arith, code_short (parts text) rs regs z.text spot.on, words_few text, begins_few (parts text), values_counted text, count, exprs_count xs)
+      short = omega (arith, parts_counted text xs rs regs z.text spot.on count, exprs_count xs)
 
       go : (v : Val (List Payload)) → RunsLeaving w ready c (pc + length ca) n (3 * count_of (t_exprs xs)) (32 + q) (λ ms c'. AllHold rs a regs ms c')
           v → StmtRuns w w.turns c (pc + length (ca ++ cb)) spot q

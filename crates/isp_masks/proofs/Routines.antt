@@ -38,6 +38,7 @@ use Rattle.isp_masks.specs.Keeping.{KeepsThem, constants_asks}
 use Rattle.isp_masks.specs.Spots.{next_of}
 use Rattle.isp_masks.specs.Statements.{block_places, block_texts, function_code}
 use Rattle.isp_masks.specs.Written.{Piece, Writes}
+use Rattle.isp_masks.proofs.CodeLengths.{block_places_few, block_texts_few}
 use Rattle.isp_masks.proofs.Spans.{block_placed, block_told}
 
 -- ---- registers: those of the parameters come first
@@ -157,6 +158,8 @@ adds h ks old d z r a b is code places texts rows masks grows more keeps has y f
       callees = ap (λ (x : Draft). x.callees) is;
       places_fit = block_placed fs h.variables h.answer l h.body fine.body;
       texts_fit = block_told h.body;
+      few_places = block_places_few l h.body;
+      few_texts = block_texts_few fs h.variables h.answer h.body fine.body;
       lowered = subst (λ fs. IsLowered fs h (routine_with (heading_of h) (rows_of r.registers) r.masks b.code.items) b.places.items (texts_of b))
           (ap (λ (x : Draft). x.callees) is) (lowered d.callees h (routine_with (heading_of h) (rows_of r.registers) r.masks b.code.items) ks
           z.registers r.registers a b (code ∙ ap (λ (x : Draft). x.code) is)

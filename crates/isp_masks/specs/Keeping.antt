@@ -1,6 +1,6 @@
 -- A function begins with the constants that its layout keeps: a scalar gets one by `const`, a vector by a `splat` of a spare scalar of slot n under
 -- mask n, which has every lane of the gang.
-use Rattle.std.specs.Prelude.{◌≡◌, ◌≤◌, ◌⊎◌, ℕ, ◌+◌, List, [], ◌∷◌, ◌++◌, true}
+use Rattle.std.specs.Prelude.{◌≡◌, ◌≤◌, ◌⊎◌, ℕ, ◌+◌, List, [], ◌∷◌, ◌++◌, length, true}
 use Rattle.isp_base.specs.declared.types.Elem.{Elem}
 use Rattle.isp_base.specs.declared.types.Rate.{Rate}
 use Rattle.isp_base.specs.declared.types.Rate.TheVariants.{Uniform, Varying}
@@ -64,4 +64,7 @@ pub record KeepsThem (l : Layout) (ks : List Constant) : Type 0 where
 pub record KeepsAll (old new : Registers) (ks : List Constant) : Type 0 where
   pub rows : Longer old new
   pub all : Each (λ x. keeps (rows_at (rows_of new) x.rate) x.elem x.bits ≡ true) ks
+  pub few_scalars : length (rows_of new).scalars ≤ length (rows_of old).scalars + length ks
+  pub few_vectors : length (rows_of new).vectors ≤ length (rows_of old).vectors + length ks
+  pub same_arrays : (rows_of new).arrays ≡ (rows_of old).arrays
   pub only : (r : Rate) (t : Elem) (b : ℕ) → keeps (rows_at (rows_of new) r) t b ≡ true → (keeps (rows_at (rows_of old) r) t b ≡ true) ⊎ IsIn ks (record { rate = r; elem = t; bits = b })

@@ -1,23 +1,25 @@
 -- A routine that is the code of a function: its header and its registers are those of the function, by rows.
-use Rattle.std.specs.Prelude.{◌≡◌, ◌≤◌, ℕ, List, [], ◌∷◌, ◌++◌, length, Some, slice_get, true}
+use Rattle.std.specs.Prelude.{◌≡◌, ◌≤◌, ℕ, ◌+◌, ◌*◌, List, [], ◌∷◌, ◌++◌, length, Some, slice_get, true}
 use Rattle.std.specs.List.{list_all}
 use Rattle.isp_base.specs.declared.types.Span.{Span}
 use Rattle.isp_code.specs.Listing.{Listing, Routine}
 use Rattle.isp_code.specs.Registers.{scalars_of, vectors_of}
 use Rattle.isp_code.specs.Writable.{has_byte, place_fits}
 use Rattle.isp_typed.specs.Fine.{FineFunction}
+use Rattle.isp_typed.specs.Nodes.{block_nodes}
 use Rattle.isp_typed.specs.Typed.{Program, TFunction}
 use Rattle.isp_lower.specs.Asks.{All}
 use Rattle.isp_lower.specs.Callees.{rates_in}
 use Rattle.isp_lower.specs.Drafts.{Draft, all_routines}
-use Rattle.isp_lower.specs.Emitted.{Begins, first_rows}
+use Rattle.isp_lower.specs.Emitted.{Begins, first_rows, rows_of}
 use Rattle.isp_lower.specs.Header.{locals_of, params_of, returns_of, types_of}
-use Rattle.isp_lower.specs.Reserved.{IsOwn}
+use Rattle.isp_lower.specs.Reserved.{HasNumbers, IsOwn, registers_asked}
 use Rattle.isp_lower.specs.Rows.{Rows, HasRow, IsLoaded, layout_of}
 use Rattle.isp_lower.specs.Setting.{AreAt}
 use Rattle.isp_lower.specs.Sound.{HasMask}
 use Rattle.isp_lower.specs.Tables.{AnyArray}
 use Rattle.isp_lower.specs.declared.registers.Constant.{Constant}
+use Rattle.isp_lower.specs.declared.registers.Registers.{Registers}
 use Rattle.isp_masks.specs.Asks.{block_asks}
 use Rattle.isp_masks.specs.Keeping.{KeepsThem, constants_asks}
 use Rattle.isp_masks.specs.Spots.{Numbers}
@@ -29,9 +31,20 @@ use Rattle.isp_masks.specs.Statements.{block_places, block_texts, function_code}
 abbrev pub IsFineFunction : TFunction → Type 0
 IsFineFunction h = (fs : List TFunction) × FineFunction fs h
 
+-- a function is small: each number that its body asks for can be had, and its registers can be named
+pub record IsSmall (h : TFunction) : Type 0 where
+  pub numbers : HasNumbers (block_asks h.answer h.body 3)
+  pub registers : length h.variables + registers_asked (block_asks h.answer h.body 3) + 64 ≤ 4294967295
+
 -- what the body asks for is the function's own
 abbrev pub BodyIsOwn : TFunction → Type 0
 BodyIsOwn h = IsOwn h.variables h.answer (block_asks h.answer h.body 3)
+
+-- of each rate there are at most so many registers more, and no array more
+pub record GrowsBy (n : ℕ) (old new : Registers) : Type 0 where
+  pub scalars : length (rows_of new).scalars ≤ length (rows_of old).scalars + n
+  pub vectors : length (rows_of new).vectors ≤ length (rows_of old).vectors + n
+  pub arrays : (rows_of new).arrays ≡ (rows_of old).arrays
 
 -- in a program of some functions
 pub record IsLowered (fs : List TFunction) (h : TFunction) (g : Routine) (places : List Span) (texts : List (List ℕ)) : Type 0 where
@@ -67,7 +80,8 @@ pub record GrowsTo {A : Type 0} (old new : List A) : Type 0 where
   pub more : List A
   pub is : new ≡ old ++ more
 
--- A function's routine is added, as the last one. The text of code can have the places and the texts that are added.
+-- A function's routine is added, as the last one. The text of code can have the places and the texts that are added, and they are few by
+-- the function's nodes.
 pub record AddsLowered (h : TFunction) (old new : Draft) : Type 0 where
   pub routine : Routine
   pub added : all_routines new ≡ all_routines old ++ routine ∷ []
@@ -77,6 +91,8 @@ pub record AddsLowered (h : TFunction) (old new : Draft) : Type 0 where
   pub callees : new.callees ≡ old.callees
   pub places_fit : list_all place_fits places.more ≡ true
   pub texts_fit : list_all has_byte texts.more ≡ true
+  pub few_places : length places.more ≤ 4 * block_nodes h.body
+  pub few_texts : length texts.more ≤ block_nodes h.body
   pub lowered : IsLowered old.callees h routine new.places new.texts
 
 -- ---- a program

@@ -12,20 +12,21 @@ use crate::looping::Test;
 use isp_base::{Rate, Span};
 use isp_code::{Instr, JumpTest};
 use isp_lower::{
-    Body, MaskNumber, PlaceNumber, RegisterNumber, Scope, Site, expr, mask, scalar, the_others,
-    where_so,
+    Body, Line, MaskNumber, PlaceNumber, RegisterNumber, Scope, Site, expr, mask, scalar,
+    the_others, where_so,
 };
 use isp_typed::TypedExpr;
 use std::alloc::AllocError;
 
 /// A trap where a mask has a lane, at a place in the source.
-fn fail(k: MaskNumber, place: PlaceNumber) -> Instr
+fn fail(k: MaskNumber, place: PlaceNumber) -> Line
     ensures { result ≡ fail k.number place.number }
 {
-    Instr::Fail {
+    let trap = Instr::Fail {
         mask: mask(k),
-        place: place.number,
-    }
+        place: 0,
+    };
+    Line::naming(trap, place.number)
 }
 
 /// The trap of all lanes, jumped over where the test is true.
@@ -43,7 +44,7 @@ fn fails_for_all(
         register: scalar(tested),
         target: 0,
     })?;
-    b.push(fail(site.mask, place))?;
+    b.add(fail(site.mask, place))?;
     b.land(at, JumpTest::True, scalar(tested));
     Ok(())
 }
@@ -60,7 +61,7 @@ fn fails_for_some(
     let failing = site.slot.mask();
     b.push(where_so(failing, tested, site.mask))?;
     b.push(the_others(failing, site.mask, failing))?;
-    b.push(fail(failing, place))?;
+    b.add(fail(failing, place))?;
     Ok(())
 }
 

@@ -3,7 +3,7 @@ ghost use Rattle.std.specs.Prelude.{◌≡◌, [], true, OnOk};
 ghost use Rattle.isp_base.specs.declared.types.Rate.TheVariants.{Uniform};
 ghost use Rattle.isp_lower.specs.Asks.{spare_ask};
 ghost use Rattle.isp_lower.specs.Emitted.{Appends, Present, layout};
-ghost use Rattle.isp_lower.specs.Reserved.{Gives};
+ghost use Rattle.isp_lower.specs.Reserved.{Gives, HasNumbers};
 ghost use Rattle.isp_masks.specs.Keeping.{Each, KeepsAll, constants_asks, constants_code, keep_at, keep_code};
 
 use crate::rounds::fill_mask;
@@ -15,10 +15,11 @@ use std::alloc::AllocError;
 
 /// What the code asks for that keeps some constants: a mask, and for each a spare scalar of its type.
 pub(crate) fn reserved(r: &mut Reserve, all: &[Constant], slot: Slot) -> Result<(), AllocError>
+    requires { HasNumbers (constants_asks slot.number all.now) }
     ensures { OnOk result (Gives r.old r.new (constants_asks slot.number all.now)) }
 {
     for x in all {
-        r.mask(slot)?;
+        r.mask(slot);
         r.spare(Rate::Uniform, x.elem, slot)?;
     }
     Ok(())

@@ -1,10 +1,12 @@
 //! The code of programs.
-ghost use Rattle.std.specs.Prelude.{◌≡◌, [], IfOk, OnOk};
+ghost use Rattle.std.specs.Prelude.{◌≡◌, ◌<◌, [], IfOk, OnOk};
 ghost use Rattle.std.specs.List.{All};
 ghost use Rattle.isp_lower.specs.Drafts.{TablesCanBeWritten, all_routines, draft_of};
 ghost use Rattle.isp_rates.specs.Program.{IsAccepted};
+ghost use Rattle.isp_tree.specs.Nodes.{nodes_of_all};
+ghost use Rattle.isp_typed.specs.Nodes.{function_nodes};
 ghost use Rattle.isp_typed.specs.Views.{functions_of, program_of};
-ghost use Rattle.isp_masks.specs.Lowered.{AreLowered, HasCode, IsFineFunction};
+ghost use Rattle.isp_masks.specs.Lowered.{AreLowered, HasCode, IsFineFunction, IsSmall};
 
 use crate::routine::function;
 use isp_code::Code;
@@ -13,11 +15,14 @@ use isp_rates::Checked;
 use isp_typed::TypedFunction;
 use std::alloc::{AllocError, Global};
 
-/// Writes the routines of functions, in their order, and the places in the source and the texts that they name.
+/// Writes the routines of functions, in their order, and the places in the source and the texts that they name, of which there are none yet.
 fn routines(e: &mut Emitter, functions: &[TypedFunction]) -> Result<(), AllocError>
     requires none { all_routines (draft_of e.old) ≡ [] }
-    requires tables { TablesCanBeWritten (draft_of e.old) }
+    requires empty { (draft_of e.old).places ≡ [] }
+    requires empty_texts { (draft_of e.old).texts ≡ [] }
     requires fine { All IsFineFunction (functions_of functions.now) }
+    requires small { All IsSmall (functions_of functions.now) }
+    requires few { nodes_of_all function_nodes (functions_of functions.now) < 16777216 }
     ensures gang { OnOk result ((draft_of e.new).gang ≡ (draft_of e.old).gang) }
     ensures tables { OnOk result (TablesCanBeWritten (draft_of e.new)) }
     ensures lowered { OnOk result (AreLowered (draft_of e.old).callees (functions_of functions.now) (all_routines (draft_of e.new)) (draft_of e.new).places (draft_of e.new).texts) }

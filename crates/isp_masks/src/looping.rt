@@ -1,9 +1,12 @@
 //! What the code of each loop has besides its parts. The loop's first mask has the lanes that run it, the next those that
 //! continued in a turn, the third those that returned.
 ghost use Rattle.std.specs.Prelude.{◌≡◌, ◌<◌, ◌+◌, ◌∷◌, [], length, option_map, slice_set, OnOk};
+ghost use Rattle.isp_code.specs.declared.instr.Instr.TheVariants as instr;
+ghost use Rattle.isp_code.specs.declared.instr.JumpTest.TheVariants as jump;
 ghost use Rattle.isp_typed.specs.Views.{expr_of};
 ghost use Rattle.isp_lower.specs.Pieces.{guard};
 ghost use Rattle.isp_lower.specs.Emitted.{Appends};
+ghost use Rattle.isp_lower.specs.Layout.{mask_register};
 ghost use Rattle.isp_masks.specs.Loops.{again_code, copy_mask, enter_code, if_needed, is_wide, is_wide_by, jump_all, loop_end_code, rejoin_code, sift_begin, sift_jump};
 ghost use Rattle.isp_masks.specs.Sets.{clear_mask, unite};
 
@@ -12,7 +15,9 @@ use crate::masks::Masks;
 use crate::sets::{clear_mask, unite};
 use isp_base::Rate;
 use isp_code::{Instr, JumpTest, MaskInstr};
-use isp_lower::{Body, MaskNumber, RegisterNumber, Site, Slot, mask, scalar, the_others, where_so};
+use isp_lower::{
+    Body, Line, MaskNumber, RegisterNumber, Site, Slot, mask, scalar, the_others, where_so,
+};
 use isp_tree::Form;
 use isp_typed::{TypedExpr, TypedSimple};
 use std::alloc::AllocError;
@@ -68,10 +73,10 @@ pub(crate) fn inside(slot: Slot) -> Site
 }
 
 /// The number of the next instruction.
-pub(crate) fn next(b: &Body) -> u32
+pub(crate) fn next(b: &Body) -> usize
     ensures { result ≡ length b.now.code.items }
 {
-    b.code.len() as u32
+    b.code.len()
 }
 
 /// A mask gets the lanes of another.
@@ -167,25 +172,34 @@ pub(crate) fn leave_loop(b: &mut Body, it: Loop, masks: Masks) -> Result<(), All
     Ok(())
 }
 
+/// Where a mask has somebody, on to another instruction.
+pub(crate) fn where_some(k: MaskNumber, target: usize) -> Line
+    ensures { result ≡ instr.JumpIf jump.On (mask_register k.number) target }
+{
+    let jump = Instr::JumpIf {
+        test: JumpTest::On,
+        register: mask(k),
+        target: 0,
+    };
+    Line::naming(jump, target)
+}
+
 /// Back to the body, for those that pass a test.
-pub(crate) fn again(b: &mut Body, test: Test, slot: Slot, top: u32) -> Result<(), AllocError>
+pub(crate) fn again(b: &mut Body, test: Test, slot: Slot, top: usize) -> Result<(), AllocError>
     ensures { OnOk result (Appends b.old b.new (λ pc p. again_code test.rate test.register.number slot.number top) []) }
 {
     match test.rate {
         Rate::Uniform => {
-            b.push(Instr::JumpIf {
+            let jump = Instr::JumpIf {
                 test: JumpTest::True,
                 register: scalar(test.register),
-                target: top,
-            })?;
+                target: 0,
+            };
+            b.add(Line::naming(jump, top))?;
         }
         Rate::Varying => {
             b.push(where_so(slot.mask(), test.register, slot.mask()))?;
-            b.push(Instr::JumpIf {
-                test: JumpTest::On,
-                register: mask(slot.mask()),
-                target: top,
-            })?;
+            b.add(where_some(slot.mask(), top))?;
         }
     }
     Ok(())

@@ -9,8 +9,8 @@ use isp_code::Code;
 use isp_rates::Checked;
 use std::alloc::{AllocError, Global};
 
-/// The code of a checked program. It agrees with the program, and the verifier accepts it. It answers Memory too
-/// where a table of code is full (docs/LOWERING.md).
+/// The code of a checked program. It agrees with the program, and the verifier accepts it. It answers Memory only
+/// where a growth was refused.
 pub fn lower(alloc: Global, checked: &Checked) -> Result<Code, AllocError>
     ensures agrees { IfOk result (λ code. Agrees (program_of checked.now) code) }
     ensures accepted { IfOk result (λ code. code_fault code ≡ None) }

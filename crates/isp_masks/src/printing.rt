@@ -13,7 +13,9 @@ ghost use Rattle.isp_masks.specs.Written.{Writes};
 
 use isp_base::Rate;
 use isp_code::Instr;
-use isp_lower::{Body, MaskNumber, RegisterNumber, Scope, Site, mask, operand, scalar, vector};
+use isp_lower::{
+    Body, Line, MaskNumber, RegisterNumber, Scope, Site, mask, operand, scalar, vector,
+};
 use isp_typed::TypedExpr;
 use std::alloc::AllocError;
 
@@ -32,7 +34,7 @@ fn say(b: &mut Body, words: &[u8]) -> Result<(), AllocError>
         [] => Ok(()),
         _ => {
             let named = b.text(words)?;
-            b.push(Instr::Say { text: named.number })?;
+            b.add(Line::naming(Instr::Say { text: 0 }, named.number))?;
             Ok(())
         }
     }

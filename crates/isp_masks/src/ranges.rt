@@ -4,7 +4,6 @@ ghost use Rattle.isp_base.specs.declared.operators.Compare.TheVariants.{Less};
 ghost use Rattle.isp_base.specs.declared.types.Elem.TheVariants.{Bool as Truth, I32, I64};
 ghost use Rattle.isp_base.specs.declared.types.Rate.TheVariants.{Uniform, Varying};
 ghost use Rattle.isp_code.specs.declared.instr.Instr.TheVariants as instr;
-ghost use Rattle.isp_code.specs.declared.instr.JumpTest.TheVariants as jump;
 ghost use Rattle.isp_code.specs.declared.instr.Plain.TheVariants as plain;
 ghost use Rattle.isp_typed.specs.Views.{expr_of, ranges_of};
 ghost use Rattle.isp_lower.specs.Asks.{Register as Ask, spare_ask};
@@ -17,11 +16,13 @@ ghost use Rattle.isp_masks.specs.Asks.{bound_asks, bounds_asks, measures_asks};
 ghost use Rattle.isp_masks.specs.Ranges.{bound_code, bounds_code, goes_on, lane, lane_numbers, last_index, measures_code, narrow, range_mask, ranges_places, run_back, run_place, run_step, runs_slot, sum_lanes, test, wide};
 ghost use Rattle.isp_masks.specs.Written.{first_sweep, index_codes, inner_sweep, last_asks, place_test, range_begin, range_step, runs_begin, runs_next, sweep_asks};
 
+use crate::looping::where_some;
 use crate::rounds::fill_mask;
 use isp_base::{Compare, Elem, Rate, Ty, number};
-use isp_code::{Instr, JumpTest, MaskInstr, Plain, Reduction, ScalarInstr, VectorInstr};
+use isp_code::{Instr, MaskInstr, Plain, Reduction, ScalarInstr, VectorInstr};
 use isp_lower::{
-    Body, MaskNumber, RegisterNumber, Scope, Site, Slot, index as as_index, mask, scalar, vector,
+    Body, Line, MaskNumber, RegisterNumber, Scope, Site, Slot, index as as_index, mask, scalar,
+    vector,
 };
 use isp_typed::{TypedExpr, TypedRange};
 use std::alloc::AllocError;
@@ -340,7 +341,7 @@ pub(crate) fn go_on(
     on: &Scope,
     it: Sweep,
     by: Slot,
-    top: u32,
+    top: usize,
 ) -> Result<(), AllocError>
     requires place { Present on.now (sweep_asks it) }
     requires by { Present on.now (spare_ask Uniform I64 by.number) }
@@ -349,7 +350,7 @@ pub(crate) fn go_on(
     let place = wide(on, it.place);
     let step = wide(on, by);
     b.push(added(place, place, step))?;
-    b.push(Instr::Jump { target: top })?;
+    b.add(Line::naming(Instr::Jump { target: 0 }, top))?;
     Ok(())
 }
 
@@ -385,8 +386,8 @@ pub(crate) fn outer_value(b: &mut Body, on: &Scope, it: Sweep) -> Result<Registe
 /// Where the code of a run begins: its indices, and behind them its body.
 #[derive(Clone, Copy)]
 pub(crate) struct RunStart {
-    pub first: u32,
-    pub top: u32,
+    pub first: usize,
+    pub top: usize,
 }
 
 /// The register of its place: that of a run, if its body counts the lanes of one.
@@ -452,17 +453,6 @@ fn step_run(b: &mut Body, on: &Scope, it: Sweep, place: RegisterNumber) -> Resul
     Ok(())
 }
 
-/// Where a mask has somebody, on to another instruction.
-fn where_some(k: MaskNumber, target: u32) -> Instr
-    ensures { result ≡ instr.JumpIf jump.On (mask_register k.number) target }
-{
-    Instr::JumpIf {
-        test: JumpTest::On,
-        register: mask(k),
-        target,
-    }
-}
-
 /// Whether its index goes on from run to run: no other is set with it, and no packed load writes it.
 #[tactic(auto, using(crate::proofs::RangesWritten::goes_on_is))]
 pub(crate) fn goes_on(on: &Scope, variable: usize, set: &[OuterIndex]) -> bool
@@ -488,9 +478,9 @@ fn back_to_run(
     if alone {
         let own = index(on, variable);
         b.push(added_lanes(own, own, lane(on, it.measures.next()), k))?;
-        b.push(where_some(k, start.top))?;
+        b.add(where_some(k, start.top))?;
     } else {
-        b.push(where_some(k, start.first))?;
+        b.add(where_some(k, start.first))?;
     }
     Ok(())
 }

@@ -3,7 +3,7 @@ ghost use Rattle.std.specs.Prelude.{◌≡◌, ◌+◌, option_map, OnOk, IfOk};
 ghost use Rattle.isp_typed.specs.Typed.{t_exprs};
 ghost use Rattle.isp_typed.specs.Views.{block_of, expr_of, exprs_of, first_of, simple_of, stmt_of, ranges_of};
 ghost use Rattle.isp_lower.specs.Asks.{Both, expr_asks, values_asks};
-ghost use Rattle.isp_lower.specs.Reserved.{Gives};
+ghost use Rattle.isp_lower.specs.Reserved.{Gives, HasNumbers};
 ghost use Rattle.isp_masks.specs.Asks.{answer_asks, assert_asks, block_asks, first_asks, if_asks, if_else_asks, loop_asks, mask_asks, part_asks, part_slot, step_asks, stmt_asks, test_part_asks, turn_asks, turns_asks, ranges_asks, unique_asks};
 ghost use Rattle.isp_masks.specs.Prints.{own_rates};
 ghost use Rattle.isp_masks.specs.Ranges.{runs_slot};
@@ -20,6 +20,7 @@ use std::alloc::AllocError;
 /// What the code of a statement asks for, in the slots from one on.
 #[cycle(stmt)]
 fn stmt(r: &mut Reserve, x: &TypedStmt, answer: Option<Ty>, slot: Slot) -> Result<(), AllocError>
+    requires { HasNumbers (stmt_asks answer (stmt_of x.now) slot.number) }
     ensures { OnOk result (Gives r.old r.new (stmt_asks answer (stmt_of x.now) slot.number)) }
 {
     match x {
@@ -85,6 +86,7 @@ pub(crate) fn block(
     answer: Option<Ty>,
     slot: Slot,
 ) -> Result<(), AllocError>
+    requires { HasNumbers (block_asks answer (block_of body.now) slot.number) }
     ensures { OnOk result (Gives r.old r.new (block_asks answer (block_of body.now) slot.number)) }
 {
     for x in &body.statements {
@@ -100,6 +102,7 @@ fn returned(
     answer: Option<Ty>,
     slot: Slot,
 ) -> Result<(), AllocError>
+    requires { HasNumbers (answer_asks answer (expr_of x.now) slot.number) }
     ensures { OnOk result (Gives r.old r.new (answer_asks answer (expr_of x.now) slot.number)) }
 {
     match answer {
@@ -110,20 +113,22 @@ fn returned(
 
 /// The test of an `assert`, and a mask for those for which it is false.
 fn asserted(r: &mut Reserve, test: &TypedExpr, slot: Slot) -> Result<(), AllocError>
+    requires { HasNumbers (assert_asks (expr_of test.now) slot.number) }
     ensures { OnOk result (Gives r.old r.new (assert_asks (expr_of test.now) slot.number)) }
 {
     r.expr(test, slot)?;
-    r.test(test.ty().rate, slot)?;
+    r.test(test.ty().rate, slot);
     Ok(())
 }
 
 /// The values of a `print`, each in a slot of its own.
 fn printed(r: &mut Reserve, all: &[TypedExpr], slot: Slot) -> Result<(), AllocError>
+    requires { HasNumbers (values_asks (own_rates (exprs_of all.now)) (t_exprs (exprs_of all.now)) slot.number) }
     ensures { OnOk result (Gives r.old r.new (values_asks (own_rates (exprs_of all.now)) (t_exprs (exprs_of all.now)) slot.number)) }
 {
     let mut at = slot;
     for x in all {
-        let next = r.next(at)?;
+        let next = r.next(at);
         r.operand(x.ty().rate, x, at)?;
         at = next;
     }
@@ -131,32 +136,35 @@ fn printed(r: &mut Reserve, all: &[TypedExpr], slot: Slot) -> Result<(), AllocEr
 }
 
 /// A mask, and the slot behind it.
-fn behind(r: &mut Reserve, slot: Slot) -> Result<Slot, AllocError>
-    ensures number { IfOk result (λ n. n.number ≡ slot.number + 1) }
-    ensures gives { OnOk result (Gives r.old r.new (mask_asks slot.number)) }
+fn behind(r: &mut Reserve, slot: Slot) -> Slot
+    requires { HasNumbers (mask_asks slot.number) }
+    ensures number { result.number ≡ slot.number + 1 }
+    ensures gives { Gives r.old r.new (mask_asks slot.number) }
 {
-    let next = r.next(slot)?;
-    r.mask(slot)?;
-    Ok(next)
+    let next = r.next(slot);
+    r.mask(slot);
+    next
 }
 
 /// Two masks, and the slot behind them.
-fn behind_two(r: &mut Reserve, slot: Slot) -> Result<Slot, AllocError>
-    ensures number { IfOk result (λ n. n.number ≡ slot.number + 1 + 1) }
-    ensures gives { OnOk result (Gives r.old r.new (Both (mask_asks slot.number) (mask_asks (slot.number + 1)))) }
+fn behind_two(r: &mut Reserve, slot: Slot) -> Slot
+    requires { HasNumbers (Both (mask_asks slot.number) (mask_asks (slot.number + 1))) }
+    ensures number { result.number ≡ slot.number + 1 + 1 }
+    ensures gives { Gives r.old r.new (Both (mask_asks slot.number) (mask_asks (slot.number + 1))) }
 {
-    let next = behind(r, slot)?;
-    let last = behind(r, next)?;
-    Ok(last)
+    let next = behind(r, slot);
+    let last = behind(r, next);
+    last
 }
 
 /// The slot of the parts behind a test.
-fn part(r: &mut Reserve, form: Form, rate: Rate, slot: Slot) -> Result<Slot, AllocError>
-    ensures number { IfOk result (λ n. n.number ≡ part_slot form rate slot.number) }
-    ensures gives { OnOk result (Gives r.old r.new (part_asks form rate slot.number)) }
+fn part(r: &mut Reserve, form: Form, rate: Rate, slot: Slot) -> Slot
+    requires { HasNumbers (part_asks form rate slot.number) }
+    ensures number { result.number ≡ part_slot form rate slot.number }
+    ensures gives { Gives r.old r.new (part_asks form rate slot.number) }
 {
     match (rate, form) {
-        (Rate::Uniform, _) => Ok(slot),
+        (Rate::Uniform, _) => slot,
         (Rate::Varying, Form::Plain) => behind(r, slot),
         (Rate::Varying, Form::Coherent) => behind_two(r, slot),
     }
@@ -170,11 +178,12 @@ fn one_side(
     answer: Option<Ty>,
     slot: Slot,
 ) -> Result<(), AllocError>
+    requires { HasNumbers (if_asks by.form (expr_of by.test.now) slot.number (λ i. stmt_asks answer (stmt_of then.now) i)) }
     ensures { OnOk result (Gives r.old r.new (if_asks by.entry.form (expr_of by.entry.test.now) slot.number (λ i. stmt_asks answer (stmt_of then.now) i))) }
 {
     let rate = by.test.ty().rate;
     r.expr(by.test, slot)?;
-    let next = part(r, by.form, rate, slot)?;
+    let next = part(r, by.form, rate, slot);
     stmt(r, then, answer, next)?;
     Ok(())
 }
@@ -189,28 +198,27 @@ fn two_sides(
     answer: Option<Ty>,
     slot: Slot,
 ) -> Result<(), AllocError>
+    requires { HasNumbers (if_else_asks (expr_of test.now) slot.number (λ i. Both (stmt_asks answer (stmt_of then.now) i) (stmt_asks answer (stmt_of otherwise.now) i))) }
     ensures { OnOk result (Gives r.old r.new (if_else_asks (expr_of test.now) slot.number (λ i. Both (stmt_asks answer (stmt_of then.now) i) (stmt_asks answer (stmt_of otherwise.now) i)))) }
 {
     let rate = test.ty().rate;
     r.expr(test, slot)?;
-    let next = part(r, Form::Coherent, rate, slot)?;
+    let next = part(r, Form::Coherent, rate, slot);
     stmt(r, then, answer, next)?;
     stmt(r, otherwise, answer, next)?;
     Ok(())
 }
 
 /// The masks of a loop, and the slot of its parts.
-fn own(r: &mut Reserve, slot: Slot) -> Result<Slot, AllocError>
-    ensures number { IfOk result (λ n. n.number ≡ slot.number + 3) }
-    ensures gives { OnOk result (Gives r.old r.new (loop_asks slot.number)) }
+fn own(r: &mut Reserve, slot: Slot) -> Slot
+    requires { HasNumbers (loop_asks slot.number) }
+    ensures number { result.number ≡ slot.number + 3 }
+    ensures gives { Gives r.old r.new (loop_asks slot.number) }
 {
-    let second = r.next(slot)?;
-    let third = r.next(second)?;
-    let parts = r.next(third)?;
-    r.mask(slot)?;
-    r.mask(second)?;
-    r.mask(third)?;
-    Ok(parts)
+    r.mask(slot);
+    r.mask(slot.plus(1));
+    r.mask(slot.plus(2));
+    slot.plus(3)
 }
 
 #[cycle(stmt)]
@@ -221,9 +229,10 @@ fn while_loop(
     answer: Option<Ty>,
     slot: Slot,
 ) -> Result<(), AllocError>
+    requires { HasNumbers (Both (loop_asks slot.number) (Both (expr_asks (expr_of test.now) (slot.number + 3)) (stmt_asks answer (stmt_of body.now) (slot.number + 3)))) }
     ensures { OnOk result (Gives r.old r.new (Both (loop_asks slot.number) (Both (expr_asks (expr_of test.now) (slot.number + 3)) (stmt_asks answer (stmt_of body.now) (slot.number + 3))))) }
 {
-    let parts = own(r, slot)?;
+    let parts = own(r, slot);
     r.expr(test, parts)?;
     stmt(r, body, answer, parts)?;
     Ok(())
@@ -237,9 +246,10 @@ fn do_loop(
     answer: Option<Ty>,
     slot: Slot,
 ) -> Result<(), AllocError>
+    requires { HasNumbers (Both (loop_asks slot.number) (Both (stmt_asks answer (stmt_of body.now) (slot.number + 3)) (expr_asks (expr_of test.now) (slot.number + 3)))) }
     ensures { OnOk result (Gives r.old r.new (Both (loop_asks slot.number) (Both (stmt_asks answer (stmt_of body.now) (slot.number + 3)) (expr_asks (expr_of test.now) (slot.number + 3))))) }
 {
-    let parts = own(r, slot)?;
+    let parts = own(r, slot);
     stmt(r, body, answer, parts)?;
     r.expr(test, parts)?;
     Ok(())
@@ -253,9 +263,10 @@ fn unmasked(
     answer: Option<Ty>,
     slot: Slot,
 ) -> Result<(), AllocError>
+    requires { HasNumbers (Both (loop_asks slot.number) (block_asks answer (block_of body.now) (slot.number + 3))) }
     ensures { OnOk result (Gives r.old r.new (Both (loop_asks slot.number) (block_asks answer (block_of body.now) (slot.number + 3)))) }
 {
-    let parts = own(r, slot)?;
+    let parts = own(r, slot);
     block(r, body, answer, parts)?;
     Ok(())
 }
@@ -269,30 +280,32 @@ fn active_loop(
     answer: Option<Ty>,
     slot: Slot,
 ) -> Result<(), AllocError>
+    requires { HasNumbers (Both (turn_asks index slot.number) (stmt_asks answer (stmt_of body.now) (slot.number + 1 + 3))) }
     ensures { OnOk result (Gives r.old r.new (Both (turn_asks index slot.number) (stmt_asks answer (stmt_of body.now) (slot.number + 1 + 3)))) }
 {
-    let one = r.next(slot)?;
-    r.mask(slot)?;
-    let parts = own(r, one)?;
+    let one = r.next(slot);
+    r.mask(slot);
+    let parts = own(r, one);
     stmt(r, body, answer, parts)?;
     Ok(())
 }
 
 /// What a `foreach_unique` asks for besides its body, and the slot of the body. Its index has a register from the beginning.
 fn unique(r: &mut Reserve, it: Unique<'_>, slot: Slot) -> Result<Slot, AllocError>
+    requires { HasNumbers (unique_asks it.index it.elem (expr_of it.value.now) slot.number) }
     ensures number { IfOk result (λ n. n.number ≡ slot.number + 1 + 3) }
     ensures gives { OnOk result (Gives r.old r.new (unique_asks it.entry.index it.entry.elem (expr_of it.entry.value.now) slot.number)) }
 {
     let elem = it.value.ty().elem;
     r.operand(Rate::Varying, it.value, slot)?;
     r.spare(Rate::Varying, elem, slot)?;
-    let one = r.next(slot)?;
+    let one = r.next(slot);
     r.spare(Rate::Uniform, elem, one)?;
     r.spare(Rate::Varying, elem, one)?;
-    let second = r.next(one)?;
+    let second = r.next(one);
     r.spare(Rate::Varying, Elem::Bool, second)?;
-    r.mask(slot)?;
-    let parts = own(r, one)?;
+    r.mask(slot);
+    let parts = own(r, one);
     Ok(parts)
 }
 
@@ -305,6 +318,7 @@ fn unique_loop(
     answer: Option<Ty>,
     slot: Slot,
 ) -> Result<(), AllocError>
+    requires { HasNumbers (Both (unique_asks it.index it.elem (expr_of it.value.now) slot.number) (stmt_asks answer (stmt_of body.now) (slot.number + 1 + 3))) }
     ensures { OnOk result (Gives r.old r.new (Both (unique_asks it.entry.index it.entry.elem (expr_of it.entry.value.now) slot.number) (stmt_asks answer (stmt_of body.now) (slot.number + 1 + 3)))) }
 {
     let parts = unique(r, it, slot)?;
@@ -314,13 +328,14 @@ fn unique_loop(
 
 /// What a `foreach` asks for besides its body, and the slot of the body.
 fn ranges(r: &mut Reserve, all: &[TypedRange], slot: Slot) -> Result<Slot, AllocError>
+    requires { HasNumbers (ranges_asks (ranges_of all.now) slot.number) }
     ensures number { IfOk result (λ n. n.number ≡ runs_slot slot.number (ranges_of all.now) + 3) }
     ensures gives { OnOk result (Gives r.old r.new (ranges_asks (ranges_of all.now) slot.number)) }
 {
     let first = measures(r, slot)?;
     let behind = bounds(r, all, first)?;
     let masks = places(r, all, behind)?;
-    let parts = own(r, masks)?;
+    let parts = own(r, masks);
     Ok(parts)
 }
 
@@ -333,6 +348,7 @@ fn range_loop(
     answer: Option<Ty>,
     slot: Slot,
 ) -> Result<(), AllocError>
+    requires { HasNumbers (Both (ranges_asks (ranges_of all.now) slot.number) (stmt_asks answer (stmt_of body.now) (runs_slot slot.number (ranges_of all.now) + 3))) }
     ensures { OnOk result (Gives r.old r.new (Both (ranges_asks (ranges_of all.now) slot.number) (stmt_asks answer (stmt_of body.now) (runs_slot slot.number (ranges_of all.now) + 3)))) }
 {
     let parts = ranges(r, all, slot)?;
@@ -350,9 +366,10 @@ fn turns(
     answer: Option<Ty>,
     slot: Slot,
 ) -> Result<(), AllocError>
+    requires { HasNumbers (turns_asks (option_map expr_of test.now) (option_map simple_of step.now) slot.number (λ i. stmt_asks answer (stmt_of body.now) i)) }
     ensures { OnOk result (Gives r.old r.new (turns_asks (option_map expr_of test.now) (option_map simple_of step.now) slot.number (λ i. stmt_asks answer (stmt_of body.now) i))) }
 {
-    let parts = own(r, slot)?;
+    let parts = own(r, slot);
     test_part(r, test, parts)?;
     step_part(r, step, parts)?;
     stmt(r, body, answer, parts)?;
@@ -361,6 +378,7 @@ fn turns(
 
 /// The first part of a `for`.
 fn first_part(r: &mut Reserve, first: &Option<TypedFirst>, slot: Slot) -> Result<(), AllocError>
+    requires { HasNumbers (first_asks (option_map first_of first.now) slot.number) }
     ensures { OnOk result (Gives r.old r.new (first_asks (option_map first_of first.now) slot.number)) }
 {
     match first {
@@ -372,6 +390,7 @@ fn first_part(r: &mut Reserve, first: &Option<TypedFirst>, slot: Slot) -> Result
 
 /// The test of a `for`.
 fn test_part(r: &mut Reserve, test: &Option<TypedExpr>, slot: Slot) -> Result<(), AllocError>
+    requires { HasNumbers (test_part_asks (option_map expr_of test.now) slot.number) }
     ensures { OnOk result (Gives r.old r.new (test_part_asks (option_map expr_of test.now) slot.number)) }
 {
     match test {
@@ -382,6 +401,7 @@ fn test_part(r: &mut Reserve, test: &Option<TypedExpr>, slot: Slot) -> Result<()
 
 /// The step of a `for`.
 fn step_part(r: &mut Reserve, step: &Option<TypedSimple>, slot: Slot) -> Result<(), AllocError>
+    requires { HasNumbers (step_asks (option_map simple_of step.now) slot.number) }
     ensures { OnOk result (Gives r.old r.new (step_asks (option_map simple_of step.now) slot.number)) }
 {
     match step {

@@ -3,11 +3,11 @@ ghost use Rattle.std.specs.Prelude.{◌≡◌, ◌≤◌, true, OnOk};
 ghost use Rattle.isp_lower.specs.Asks.{Both};
 ghost use Rattle.isp_lower.specs.Drafts.{draft_of};
 ghost use Rattle.isp_lower.specs.Emitted.{Grows, Present, first_rows, layout, rows_of};
-ghost use Rattle.isp_lower.specs.Reserved.{Has};
+ghost use Rattle.isp_lower.specs.Reserved.{Has, HasNumbers, registers_asked};
 ghost use Rattle.isp_typed.specs.Views.{block_of, function_of};
 ghost use Rattle.isp_masks.specs.Asks.{block_asks, result_asks};
 ghost use Rattle.isp_masks.specs.Keeping.{Each, constants_asks};
-ghost use Rattle.isp_masks.specs.Lowered.{AddsLowered, BodyIsOwn, IsFineFunction};
+ghost use Rattle.isp_masks.specs.Lowered.{AddsLowered, BodyIsOwn, GrowsBy, IsFineFunction, IsSmall};
 ghost use Rattle.isp_masks.specs.Statements.{returned};
 ghost use Rattle.isp_masks.specs.Written.{Writes, function_at};
 
@@ -67,10 +67,12 @@ fn body(b: &mut Body, on: &Scope, kept: &[Constant], x: &TypedBlock) -> Result<(
 fn reserve(asked: &mut Reserve, kept: &[Constant], f: &TypedFunction) -> Result<(), AllocError>
     requires first { rows_of asked.old.registers ≡ first_rows (function_of f.now).variables (function_of f.now).answer }
     requires own { BodyIsOwn (function_of f.now) }
+    requires numbers { HasNumbers (block_asks (function_of f.now).answer (function_of f.now).body 3) }
     ensures rows { OnOk result (Grows asked.old.registers asked.new.registers) }
     ensures masks { OnOk result (asked.old.masks ≤ asked.new.masks) }
     ensures body { OnOk result (Has asked.new (Both (constants_asks 3 kept.now) (block_asks (function_of f.now).answer (function_of f.now).body 3))) }
     ensures result { OnOk result (Has asked.new (result_asks (function_of f.now).answer)) }
+    ensures few { OnOk result (GrowsBy (registers_asked (Both (constants_asks 3 kept.now) (block_asks (function_of f.now).answer (function_of f.now).body 3))) asked.old.registers asked.new.registers) }
 {
     let slot = Slot { number: 3 };
     keeping::reserved(asked, kept, slot)?;
@@ -81,6 +83,7 @@ fn reserve(asked: &mut Reserve, kept: &[Constant], f: &TypedFunction) -> Result<
 /// names.
 pub(crate) fn function(e: &mut Emitter, f: &TypedFunction) -> Result<(), AllocError>
     requires fine { IsFineFunction (function_of f.now) }
+    requires small { IsSmall (function_of f.now) }
     ensures { OnOk result (AddsLowered (function_of f.now) (draft_of e.old) (draft_of e.new)) }
 {
     let found = constants(*e.body.code.allocator(), &f.body)?;

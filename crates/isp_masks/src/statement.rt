@@ -17,7 +17,7 @@ use crate::awaited::{land_all, leave_room};
 use crate::branches::{Condition, if_alone, if_else};
 use crate::looping::{
     Loop, Test, Turning, clear_where, copy_mask, enter, inside, is_wide, is_wide_by, land_sift,
-    leave_loop, next, rejoin, sift,
+    leave_loop, next, rejoin, sift, where_some,
 };
 use crate::masks::{Masks, Spot};
 use crate::part::{Part, split};
@@ -289,11 +289,7 @@ fn active_loop(
     };
     take_lane(b, on.variable(index, ty), spot.slot)?;
     stmt(b, on, body, Spot::own(spot.slot.next()))?;
-    b.push(Instr::JumpIf {
-        test: JumpTest::On,
-        register: mask(spot.slot.mask()),
-        target: top,
-    })?;
+    b.add(where_some(spot.slot.mask(), top))?;
     Ok(())
 }
 
@@ -315,11 +311,7 @@ fn unique_loop(
     let top = next(b);
     take_value(b, on, it, spot.slot)?;
     stmt(b, on, body, Spot::own(spot.slot.next()))?;
-    b.push(Instr::JumpIf {
-        test: JumpTest::On,
-        register: mask(spot.slot.mask()),
-        target: top,
-    })?;
+    b.add(where_some(spot.slot.mask(), top))?;
     Ok(())
 }
 

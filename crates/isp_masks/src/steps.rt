@@ -10,7 +10,7 @@ ghost use Rattle.isp_masks.specs.Written.{back_at, first_at, next_at, step_at, s
 
 use crate::looping::{Loop, Test, Turning, again, inside};
 use isp_code::{Instr, JumpTest};
-use isp_lower::{Body, Scope, Site, Slot, declared, expr, mask, simple};
+use isp_lower::{Body, Line, Scope, Site, Slot, declared, expr, mask, simple};
 use isp_typed::{TypedExpr, TypedFirst, TypedSimple};
 use std::alloc::AllocError;
 
@@ -37,7 +37,7 @@ pub(crate) fn next_turn(
     on: &Scope,
     by: Turning<'_>,
     it: Loop,
-    top: u32,
+    top: usize,
 ) -> Result<(), AllocError>
     requires slots { it.slot.number + 3 < 4294967296 }
     requires step { Present on.now (step_asks (step_in by) (it.slot.number + 3)) }
@@ -57,7 +57,7 @@ fn some_stepped(
     on: &Scope,
     by: Turning<'_>,
     slot: Slot,
-    top: u32,
+    top: usize,
 ) -> Result<(), AllocError>
     requires slots { slot.number + 3 < 4294967296 }
     requires step { Present on.now (step_asks (step_in by) (slot.number + 3)) }
@@ -80,7 +80,7 @@ fn stepped(
     on: &Scope,
     by: Turning<'_>,
     slot: Slot,
-    top: u32,
+    top: usize,
 ) -> Result<(), AllocError>
     requires slots { slot.number + 3 < 4294967296 }
     requires step { Present on.now (step_asks (step_in by) (slot.number + 3)) }
@@ -115,7 +115,7 @@ fn back(
     on: &Scope,
     test: Option<&TypedExpr>,
     slot: Slot,
-    top: u32,
+    top: usize,
 ) -> Result<(), AllocError>
     requires slots { slot.number + 3 < 4294967296 }
     requires test { Present on.now (test_part_asks (option_map (λ x. expr_of x.now) test) (slot.number + 3)) }
@@ -123,7 +123,7 @@ fn back(
 {
     match test {
         None => {
-            b.push(Instr::Jump { target: top })?;
+            b.add(Line::naming(Instr::Jump { target: 0 }, top))?;
             Ok(())
         }
         Some(test) => tested_again(b, on, test, slot, top),
@@ -135,7 +135,7 @@ fn tested_again(
     on: &Scope,
     test: &TypedExpr,
     slot: Slot,
-    top: u32,
+    top: usize,
 ) -> Result<(), AllocError>
     requires slots { slot.number + 3 < 4294967296 }
     requires test { Present on.now (expr_asks (expr_of test.now) (slot.number + 3)) }

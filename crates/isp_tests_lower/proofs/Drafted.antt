@@ -1,5 +1,6 @@
 -- The trees are fine, and what an emitter has when they are written can be a text.
-use Rattle.std.proofs.Common.{◌≡◌, ◌∙◌, ◌<◌, ◌≤◌, ℕ, List, [], ◌∷◌, ◌++◌, length, Some, None, true, false, is_some, refl, ap, sym, subst, arith, append-nil, append_assoc}
+use Rattle.std.proofs.Common.{◌≡◌, ◌∙◌, ◌<◌, ◌≤◌, ◌+◌, ◌^◌, ◌&&◌, ℕ, List, [], ◌∷◌, ◌++◌, length, Some, None, true, false, is_some, nat_lt, refl, ap, sym, subst, arith}
+use Rattle.std.proofs.Common.{append-nil, append_assoc, length-append, lt-ltb}
 use Rattle.std.specs.List.{list_all}
 use Rattle.std.proofs.lemmas.Bool.{and_from}
 use Rattle.isp_base.specs.Values.{greatest, number_to}
@@ -13,21 +14,23 @@ use Rattle.isp_typed.specs.Fine.{AreOperands, FineExpr, FinePlace, FineSimple}
 use Rattle.isp_typed.specs.Typed.{TExpr, TFunction, TSimple, t_place, t_variable}
 use Rattle.isp_typed.specs.declared.variable.Variable.{Variable}
 use Rattle.isp_lex.specs.Lexing.{limit}
-use Rattle.isp_lower.specs.Asks.{expr_asks, simple_asks, target_asks}
+use Rattle.isp_lower.specs.Asks.{Ask, expr_asks, simple_asks, target_asks}
 use Rattle.isp_lower.specs.Code.{expr_code}
 use Rattle.isp_lower.specs.Adding.{Adds, AddsCode, expr_in, layout_in, simple_in}
-use Rattle.isp_lower.specs.Drafts.{CanBeWritten, Draft, IsBegun, draft_of, routine_at_work, with_instr, with_target}
+use Rattle.isp_lower.specs.Drafts.{CanBeWritten, Draft, IsBegun, draft_of, has_small_numbers, routine_at_work, with_instr, with_target}
 use Rattle.isp_lower.specs.Emitted.{Begins, Grows, array_rows, first_rows}
 use Rattle.isp_lower.specs.Header.{AreSmall, HeadingFits, heading_of, locals_of, routine_with}
 use Rattle.isp_lower.specs.Layout.{Layout}
+use Rattle.isp_lower.specs.Lines.{has_small_number}
 use Rattle.isp_lower.specs.Patched.{IsJump, instr_at, patched}
 use Rattle.isp_lower.specs.Rated.{IsFineExpr, IsFineSimple, IsRated, SimpleRated}
-use Rattle.isp_lower.specs.Reserved.{HasOwn}
-use Rattle.isp_lower.specs.Rows.{Row, Rows, Variable as VariableName, elem_in, with_fresh_at}
-use Rattle.isp_lower.specs.Simple.{simple_code}
+use Rattle.isp_lower.specs.Reserved.{FewMore, HasNumbers, HasOwn, HasRoom, registers_asked}
+use Rattle.isp_lower.specs.Rows.{Row, Rows, Variable as VariableName, elem_in, rows_at, with_fresh_at}
+use Rattle.isp_lower.specs.Simple.{simple_code, simple_places}
+use Rattle.isp_lower.specs.Spans.{expr_places}
 use Rattle.isp_lower.specs.declared.types.Emitter.{Emitter}
 use Rattle.isp_lower.proofs.Lemmas.{all_both, expr_placed, simple_placed}
-use Rattle.isp_tests_lower.specs.Stages.{HasCode, HasJump, NoneKept}
+use Rattle.isp_tests_lower.specs.Stages.{HasCode, HasFew, HasJump, NoneKept}
 use Rattle.isp_tests_lower.specs.Trees.{IsFunction, assignment, doubled, element, int, number, one_more, read, site, sum, value, variables, written}
 
 -- ---- names, types and rates
@@ -85,6 +88,23 @@ first_small = (tt, tt)
 pub second_small : AreSmall variables
 second_small = (omega arith, (tt, (tt, (tt, (tt, tt)))))
 
+-- a function that begins has room for a register
+pub begins_with_room : (h : TFunction) (vs : List Variable) → IsFunction vs h → length (first_rows vs None).scalars ≤ 10 → length (rows_at (first_rows h.variables h.answer) Uniform) < 4294967295
+begins_with_room h vs is few = rw (is.variables, is.answer) (omega (arith, few))
+
+-- few registers leave room for few more
+room : (d : Draft) (n : ℕ) (a : Ask) → HasFew n d → n + registers_asked a ≤ 100 → HasRoom d.rows a
+room d n a few less =
+    record { scalars = omega (arith, few.scalars, less); vectors = omega (arith, few.vectors, less); arrays = omega (arith, few.arrays, less) }
+
+pub sum_numbers : (x : TExpr) → x ≡ sum → HasNumbers (expr_asks x 3)
+sum_numbers x e = rw e (tt, (omega arith, ((tt, (tt, tt)), (tt, tt))))
+
+pub assignment_numbers : (s : TSimple) → s ≡ assignment → HasNumbers (simple_asks s 3)
+assignment_numbers s e =
+    let double : HasNumbers (expr_asks doubled 4) = (tt, (omega arith, ((tt, ((tt, (tt, (tt, (tt, tt)))), tt)), (tt, tt)))) in
+    rw e ((tt, (tt, (tt, (tt, tt)))), (omega arith, (tt, (tt, (omega arith, ((tt, double), (tt, tt)))))))
+
 -- with its jump the second has its registers, its array and its masks
 module _ (f g : TFunction) (d : Draft) (is : IsFunction variables g) (j : HasJump f g d) where
   pub jump_begun : IsBegun d
@@ -96,7 +116,13 @@ module _ (f g : TFunction) (d : Draft) (is : IsFunction variables g) (j : HasJum
   pub sum_own : (x : TExpr) → x ≡ sum → HasOwn d.rows (expr_asks x 3)
   sum_own x e = rw (j.is, is.variables, is.answer, e) (tt, (tt, ((tt, (refl, tt)), (tt, tt))))
 
-  pub jump_code : HasCode f g d
+  jump_few : HasFew 10 d
+  jump_few = rw (j.is, is.variables, is.answer) (record { code = omega arith; places = omega arith; scalars = omega arith; vectors = omega arith; arrays = omega arith })
+
+  pub sum_room : (x : TExpr) → x ≡ sum → HasRoom d.rows (expr_asks x 3)
+  sum_room x e = room d 10 (expr_asks x 3) jump_few (rw e (omega arith))
+
+  pub jump_code : HasCode f g 10 d
   jump_code = record {
     program = j.program;
     heading = ap (λ (d : Draft). d.heading) j.is;
@@ -106,13 +132,15 @@ module _ (f g : TFunction) (d : Draft) (is : IsFunction variables g) (j : HasJum
     rest = [];
     code = ap (λ (d : Draft). d.code) j.is;
     constants = refl;
+    numbers = refl;
     arrays = record { more = []; is = ap (λ (d : Draft). d.rows.arrays) j.is ∙ sym (append-nil (array_rows 0 g.variables)) };
     kept = rw (j.is, is.variables, is.answer) (refl, refl, refl, refl);
     masks = omega (arith, ap (λ (d : Draft). d.masks) j.is);
+    few = jump_few;
   }
 
 -- and so with code behind it
-module _ (f g : TFunction) (d : Draft) (c : HasCode f g d) where
+module _ (f g : TFunction) (n : ℕ) (d : Draft) (c : HasCode f g n d) where
   pub code_begun : IsBegun d
   code_begun = ap is_some c.heading
 
@@ -125,6 +153,9 @@ module _ (f g : TFunction) (d : Draft) (c : HasCode f g d) where
       let at : HasOwn d.rows (target_asks (element read) 4) = (held, (tt, (tt, (tt, tt)))) in
       let double : HasOwn d.rows (expr_asks doubled 4) = (tt, (tt, ((tt, (at, tt)), (tt, tt)))) in
       rw e (at, (tt, (tt, (tt, (tt, ((tt, double), (tt, tt)))))))
+
+  pub assignment_room : (s : TSimple) → n ≤ 20 → s ≡ assignment → HasRoom d.rows (simple_asks s 3)
+  assignment_room s less e = room d n (simple_asks s 3) c.few (rw e (omega (arith, less)))
 
   pub jump_there : 0 < length d.code
   jump_there = rw c.code (omega arith)
@@ -140,8 +171,8 @@ joined j c1 c2 u v e1 e2 = rw (e2, e1) refl
 begins_then : (xs ys zs : List Row) → Begins xs ys → Begins ys zs → Begins xs zs
 begins_then xs ys zs a b = record { more = a.more ++ b.more; is = b.is ∙ ap (λ w. w ++ b.more) a.is ∙ append_assoc xs a.more b.more }
 
-pub instr_added : (f g : TFunction) (old new : Draft) (i : Instr) → HasCode f g old → constant_in i ≡ true → new ≡ with_instr i old → HasCode f g new
-instr_added f g old new i c k e = subst (HasCode f g) (sym e) (record {
+pub return_added : (f g : TFunction) (n : ℕ) (old new : Draft) (i : Instr) → HasCode f g n old → i ≡ instr.Return None → new ≡ with_instr i old → HasCode f g (n + 1) new
+return_added f g n old new i c is e = subst (HasCode f g (n + 1)) (sym e) (record {
   program = c.program;
   heading = c.heading;
   texts = c.texts;
@@ -149,57 +180,105 @@ instr_added f g old new i c k e = subst (HasCode f g) (sym e) (record {
   places = c.places;
   rest = c.rest ++ i ∷ [];
   code = ap (λ z. z ++ i ∷ []) c.code;
-  constants = all_both constant_in c.rest (i ∷ []) c.constants (rw k refl);
+  constants = all_both constant_in c.rest (i ∷ []) c.constants (rw is refl);
+  numbers = all_both has_small_number c.rest (i ∷ []) c.numbers (rw is refl);
   arrays = c.arrays;
   kept = c.kept;
   masks = c.masks;
+  few =
+      record {
+        code = omega (arith, c.few.code, length-append old.code (i ∷ []));
+        places = omega (arith, c.few.places);
+        scalars = omega (arith, c.few.scalars);
+        vectors = omega (arith, c.few.vectors);
+        arrays = omega (arith, c.few.arrays);
+      };
 })
 
-code_added : (f g : TFunction) (old new : Emitter) (u : ℕ → ℕ → List Instr) (ps : List Span) → HasCode f g (draft_of old) → AddsCode old new u ps → NoneKept (draft_of new).rows
-    → list_all constant_in (u (length (draft_of old).code) (length (draft_of old).places)) ≡ true → list_all place_fits ps ≡ true → HasCode f g (draft_of new)
-code_added f g old new u ps c a none constants places =
+-- few instructions and places, which a text can have
+record CanBeAdded (k : ℕ) (is : List Instr) (ps : List Span) : Type 0 where
+  pub constants : list_all constant_in is ≡ true
+  pub numbers : list_all has_small_number is ≡ true
+  pub places : list_all place_fits ps ≡ true
+  pub few_code : length is ≤ k
+  pub few_places : length ps ≤ k
+
+code_added : (f g : TFunction) (n k : ℕ) (a : Ask) (old new : Emitter) (u : ℕ → ℕ → List Instr) (ps : List Span) → HasCode f g n (draft_of old) → AddsCode old new u ps
+    → FewMore (draft_of old).rows (draft_of new).rows a → registers_asked a ≤ k → NoneKept (draft_of new).rows → CanBeAdded k (u (length (draft_of old).code) (length (draft_of old).places)) ps
+    → HasCode f g (n + k) (draft_of new)
+code_added f g n k asked old new u ps c a rows less none can =
     let more = u (length (draft_of old).code) (length (draft_of old).places) in
     record {
       program = c.program;
       heading = ap (λ (d : Draft). d.heading) a.kept ∙ c.heading;
       texts = ap (λ (d : Draft). d.texts) a.kept ∙ c.texts;
       routines = ap (λ (d : Draft). d.routines) a.kept ∙ c.routines;
-      places = ap (list_all place_fits) a.appends.places ∙ all_both place_fits (draft_of old).places ps c.places places;
+      places = ap (list_all place_fits) a.appends.places ∙ all_both place_fits (draft_of old).places ps c.places can.places;
       rest = c.rest ++ more;
       code = joined (instr.Jump 0) (draft_of old).code (draft_of new).code c.rest more c.code a.appends.code;
-      constants = all_both constant_in c.rest more c.constants constants;
+      constants = all_both constant_in c.rest more c.constants can.constants;
+      numbers = all_both has_small_number c.rest more c.numbers can.numbers;
       arrays = begins_then (array_rows 0 g.variables) (draft_of old).rows.arrays (draft_of new).rows.arrays c.arrays a.rows.arrays;
       kept = none;
       masks = omega (arith, c.masks, a.masks);
+      few =
+          record {
+            code = omega (arith, ap length a.appends.code, length-append (draft_of old).code more, c.few.code, can.few_code);
+            places = omega (arith, ap length a.appends.places, length-append (draft_of old).places ps, c.few.places, can.few_places);
+            scalars = omega (arith, rows.scalars, c.few.scalars, less);
+            vectors = omega (arith, rows.vectors, c.few.vectors, less);
+            arrays = omega (arith, ap length rows.arrays, c.few.arrays);
+          };
     }
 
--- of constants that are not kept the code has each
+-- of constants that are not kept the code has each, and it names the places that it adds
 module _ (l : Layout) (pc p : ℕ) where
   sum_constants : l.kept Uniform I32 1 ≡ false → list_all constant_in (expr_code l sum pc p 0 3) ≡ true
   unfolding number_to
   sum_constants e = rw e refl
 
-  assignment_constants : l.kept Uniform I32 1 ≡ false → l.kept Uniform I32 2 ≡ false → l.kept Varying I32 1 ≡ false → l.kept Varying I32 2 ≡ false → list_all constant_in (simple_code l assignment pc p 0 3) ≡ true
-  unfolding number_to
-  assignment_constants u1 u2 v1 v2 = rw (v1, v2, u1, u2) refl
+  sum_can_be : l.kept Uniform I32 1 ≡ false → CanBeAdded 10 (expr_code l sum pc p 0 3) (expr_places l sum)
+  sum_can_be e = record {
+    constants = sum_constants e;
+    numbers = rw e refl;
+    places = expr_placed [] variables l sum (sum_is_fine []);
+    few_code = rw e (omega arith);
+    few_places = omega arith;
+  }
 
-module _ (f g : TFunction) (old new : Emitter) (c : HasCode f g (draft_of old)) where
+  module _ (u1 : l.kept Uniform I32 1 ≡ false) (u2 : l.kept Uniform I32 2 ≡ false) (v1 : l.kept Varying I32 1 ≡ false) (v2 : l.kept Varying I32 2 ≡ false) where
+    assignment_constants : list_all constant_in (simple_code l assignment pc p 0 3) ≡ true
+    unfolding number_to
+    assignment_constants = rw (v1, v2, u1, u2) refl
+
+    assignment_names : list_all has_small_number (simple_code l assignment pc p 0 3) ≡ (nat_lt (p + 0 + 0) (2 ^ 32) && (nat_lt (p + 0 + 1) (2 ^ 32) && true))
+    assignment_names = rw (v1, v2, u1, u2) refl
+
+    assignment_can_be : p ≤ 20 → CanBeAdded 20 (simple_code l assignment pc p 0 3) (simple_places l assignment)
+    assignment_can_be less = record {
+      constants = assignment_constants;
+      numbers = assignment_names ∙ and_from _ _ (lt-ltb (p + 0 + 0) (2 ^ 32) (omega (arith, less))) (and_from _ true (lt-ltb (p + 0 + 1) (2 ^ 32) (omega (arith, less))) refl);
+      places = simple_placed [] variables l assignment (assignment_is_fine []);
+      few_code = rw (v1, v2, u1, u2) (omega arith);
+      few_places = omega arith;
+    }
+
+module _ (f g : TFunction) (n : ℕ) (old new : Emitter) (c : HasCode f g n (draft_of old)) where
   still_none : Grows old.reserved.registers new.reserved.registers → NoneKept (draft_of new).rows
   still_none r = (r.kept_scalars I32 1 ∙ c.kept.0, r.kept_scalars I32 2 ∙ c.kept.1, r.kept_vectors I32 1 ∙ c.kept.2, r.kept_vectors I32 2 ∙ c.kept.3)
 
-  pub sum_added : (x : TExpr) → x ≡ sum → Adds old new (expr_in new x site) → HasCode f g (draft_of new)
-  sum_added x e a =
+  pub sum_added : (x : TExpr) → x ≡ sum → Adds old new (expr_in new x site) → FewMore (draft_of old).rows (draft_of new).rows (expr_asks x 3) → HasCode f g (n + 10) (draft_of new)
+  sum_added x e a more =
       let added : Adds old new (expr_in new sum site) = subst (λ z. Adds old new (expr_in new z site)) e a in
       let none = still_none a.rows in
-      let constants = sum_constants (layout_in new) (length (draft_of old).code) (length (draft_of old).places) none.0 in
-      code_added f g old new _ _ c added none constants (expr_placed [] variables (layout_in new) sum (sum_is_fine []))
+      code_added f g n 10 (expr_asks x 3) old new _ _ c added more (rw e (omega arith)) none (sum_can_be (layout_in new) (length (draft_of old).code) (length (draft_of old).places) none.0)
 
-  pub assignment_added : (s : TSimple) → s ≡ assignment → Adds old new (simple_in new s site) → HasCode f g (draft_of new)
-  assignment_added s e a =
+  pub assignment_added : n ≤ 20 → (s : TSimple) → s ≡ assignment → Adds old new (simple_in new s site) → FewMore (draft_of old).rows (draft_of new).rows (simple_asks s 3) → HasCode f g (n + 20) (draft_of new)
+  assignment_added less s e a more =
       let added : Adds old new (simple_in new assignment site) = subst (λ z. Adds old new (simple_in new z site)) e a in
       let none = still_none a.rows in
-      let constants = assignment_constants (layout_in new) (length (draft_of old).code) (length (draft_of old).places) none.0 none.1 none.2 none.3 in
-      code_added f g old new _ _ c added none constants (simple_placed [] variables (layout_in new) assignment (assignment_is_fine []))
+      let can = assignment_can_be (layout_in new) (length (draft_of old).code) (length (draft_of old).places) none.0 none.1 none.2 none.3 (omega (arith, c.few.places, less)) in
+      code_added f g n 20 (simple_asks s 3) old new _ _ c added more (rw e (omega arith)) none can
 
 -- ---- what is finished can be a text
 
@@ -207,18 +286,26 @@ routine_fits : (h : TFunction) (vs : List Variable) (rows : Rows) (masks : ℕ) 
     → list_all local_fits (locals_of vs) ≡ true → list_all constant_in code ≡ true → parts_fit (routine_with (heading_of h) rows masks code) ≡ true
 routine_fits h vs rows masks code is locals constants = rw (is.named, is.params, is.variables, locals, constants) refl
 
-module _ (f g : TFunction) (d : Draft) (to : ℕ) (first : IsFunction (value ∷ []) f) (second : IsFunction variables g) (c : HasCode f g d) where
+module _ (f g : TFunction) (n : ℕ) (d : Draft) (to : ℕ) (first : IsFunction (value ∷ []) f) (second : IsFunction variables g) (c : HasCode f g n d) (less : n ≤ 100) (near : to ≤ 100) where
   closed_fits : list_all parts_fit d.routines ≡ true
   closed_fits = ap (list_all parts_fit) c.routines ∙ and_from _ true (routine_fits f (value ∷ []) (with_fresh_at Uniform I64 (first_rows f.variables f.answer)) 3 (instr.Return None ∷ []) first refl refl) refl
 
   last_fits : list_all parts_fit (routine_at_work (Some (heading_of g)) d.rows d.masks (patched (instr.Jump 0 ∷ c.rest) 0 to)) ≡ true
   last_fits = and_from _ true (routine_fits g variables d.rows d.masks (instr.Jump to ∷ c.rest) second refl c.constants) refl
 
+  closed_small : list_all has_small_numbers d.routines ≡ true
+  closed_small = ap (list_all has_small_numbers) c.routines
+
+  last_small : list_all has_small_numbers (routine_at_work (Some (heading_of g)) d.rows d.masks (patched (instr.Jump 0 ∷ c.rest) 0 to)) ≡ true
+  last_small = and_from _ true (and_from _ _ (lt-ltb to (2 ^ 32) (omega (arith, near))) c.numbers) refl
+
   patched_fits : CanBeWritten (with_target 0 to d)
   patched_fits =
+      let last = routine_at_work d.heading d.rows d.masks (patched d.code 0 to) in
       record {
-        tables = record { places = c.places; texts = ap (list_all has_byte) c.texts };
-        routines = all_both parts_fit d.routines (routine_at_work d.heading d.rows d.masks (patched d.code 0 to)) closed_fits (rw (c.heading, c.code) last_fits);
+        tables = record { places = c.places; few_places = omega (arith, c.few.places, less); texts = ap (list_all has_byte) c.texts; few_texts = omega (arith, ap length c.texts) };
+        routines = all_both parts_fit d.routines last closed_fits (rw (c.heading, c.code) last_fits);
+        numbers = all_both has_small_numbers d.routines last closed_small (rw (c.heading, c.code) last_small);
       }
 
   pub can_be_written : (new : Draft) → new ≡ with_target 0 to d → CanBeWritten new

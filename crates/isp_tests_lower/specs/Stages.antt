@@ -1,5 +1,5 @@
 -- What an emitter has while the two functions of Trees are written.
-use Rattle.std.specs.Prelude.{◌≡◌, ◌≤◌, ℕ, List, [], ◌∷◌, Some, None, true, false}
+use Rattle.std.specs.Prelude.{◌≡◌, ◌≤◌, ℕ, List, [], ◌∷◌, length, Some, None, true, false}
 use Rattle.std.specs.List.{list_all}
 use Rattle.isp_base.specs.declared.types.Elem.TheVariants.{I32, I64}
 use Rattle.isp_base.specs.declared.types.Rate.TheVariants.{Uniform}
@@ -11,6 +11,7 @@ use Rattle.isp_typed.specs.Typed.{Program, TFunction}
 use Rattle.isp_lower.specs.Drafts.{Draft, begun, first_draft, with_instr, with_place, with_register, with_text}
 use Rattle.isp_lower.specs.Emitted.{Begins, array_rows}
 use Rattle.isp_lower.specs.Header.{heading_of}
+use Rattle.isp_lower.specs.Lines.{has_small_number}
 use Rattle.isp_lower.specs.Rows.{Rows, keeps}
 
 abbrev pub place : Span
@@ -49,8 +50,16 @@ abbrev pub NoneKept : Rows → Type 0
 NoneKept rows =
     (keeps rows.scalars I32 1 ≡ false) × (keeps rows.scalars I32 2 ≡ false) × (keeps rows.vectors I32 1 ≡ false) × (keeps rows.vectors I32 2 ≡ false)
 
--- the second function has its jump, then code that a text can have; the first is closed
-pub record HasCode (f g : TFunction) (d : Draft) : Type 0 where
+-- at most so many instructions, places, registers of each class, and arrays
+pub record HasFew (n : ℕ) (d : Draft) : Type 0 where
+  pub code : length d.code ≤ n
+  pub places : length d.places ≤ n
+  pub scalars : length d.rows.scalars ≤ n
+  pub vectors : length d.rows.vectors ≤ n
+  pub arrays : length d.rows.arrays ≤ n
+
+-- the second function has its jump, then code that a text can have, and not more than so much of anything; the first is closed
+pub record HasCode (f g : TFunction) (n : ℕ) (d : Draft) : Type 0 where
   pub program : Program
   pub heading : d.heading ≡ Some (heading_of g)
   pub texts : d.texts ≡ hi ∷ []
@@ -59,6 +68,8 @@ pub record HasCode (f g : TFunction) (d : Draft) : Type 0 where
   pub rest : List Instr
   pub code : d.code ≡ instr.Jump 0 ∷ rest
   pub constants : list_all constant_in rest ≡ true
+  pub numbers : list_all has_small_number rest ≡ true
   pub arrays : Begins (array_rows 0 g.variables) d.rows.arrays
   pub kept : NoneKept d.rows
   pub masks : 3 ≤ d.masks
+  pub few : HasFew n d

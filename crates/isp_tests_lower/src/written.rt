@@ -1,11 +1,12 @@
 //! Two functions are written call by call. Each number is as worked out beforehand, and so is the text of the code, by hand
 //! from the tables of docs/LOWERING.md. A call that is refused memory is made once more.
-ghost use Rattle.std.specs.Prelude.{◌≡◌, None, OnErr, OnOk};
+ghost use Rattle.std.specs.Prelude.{◌≡◌, ◌<◌, length, None, OnErr, OnOk};
 ghost use Rattle.isp_base.specs.declared.types.Elem.TheVariants.{I64};
 ghost use Rattle.isp_base.specs.declared.types.Rate.TheVariants.{Uniform};
 ghost use Rattle.isp_code.specs.declared.instr.Instr.TheVariants as instr;
 ghost use Rattle.isp_lower.specs.Drafts.{IsBegun, begun, draft_of, with_instr, with_place, with_register, with_text};
 ghost use Rattle.isp_lower.specs.Header.{HeadingFits};
+ghost use Rattle.isp_lower.specs.Rows.{rows_at};
 ghost use Rattle.isp_typed.specs.Views.{expr_of, function_of, simple_of};
 ghost use Rattle.isp_tests_lower.specs.Stages.{HasCode, HasFirst, HasJump, IsNew, hi, place};
 ghost use Rattle.isp_tests_lower.specs.Trees.{AreTrees};
@@ -14,7 +15,7 @@ use crate::trees::{Trees, all_trees, no_function};
 use isp_asm::write;
 use isp_base::{Elem, Rate, Span};
 use isp_code::{Code, Instr};
-use isp_lower::{Emitter, MaskNumber, Site, Slot};
+use isp_lower::{Emitter, Line, MaskNumber, Site, Slot};
 use isp_rates::Checked;
 use isp_tests_support::Hoard;
 use isp_typed::TypedFunction;
@@ -80,7 +81,7 @@ impl Trial {
     }
 
     // Calls gave these numbers.
-    fn sees(&mut self, given: &[u32], wanted: &[u32]) {
+    fn sees(&mut self, given: &[usize], wanted: &[usize]) {
         self.wrong = self.wrong || given != wanted;
     }
 }
@@ -104,7 +105,7 @@ fn begin(
     }
 }
 
-fn add_place(e: &mut Emitter, trial: &mut Trial, hoard: &mut Hoard) -> Result<u32, AllocError>
+fn add_place(e: &mut Emitter, trial: &mut Trial, hoard: &mut Hoard) -> Result<usize, AllocError>
     ensures { OnOk result (draft_of e.new ≡ with_place place (draft_of e.old)) }
 {
     trial.opens(Call::Place, hoard)?;
@@ -116,7 +117,7 @@ fn add_place(e: &mut Emitter, trial: &mut Trial, hoard: &mut Hoard) -> Result<u3
     }
 }
 
-fn add_text(e: &mut Emitter, trial: &mut Trial, hoard: &mut Hoard) -> Result<u32, AllocError>
+fn add_text(e: &mut Emitter, trial: &mut Trial, hoard: &mut Hoard) -> Result<usize, AllocError>
     ensures { OnOk result (draft_of e.new ≡ with_text hi (draft_of e.old)) }
 {
     trial.opens(Call::Text, hoard)?;
@@ -128,30 +129,31 @@ fn add_text(e: &mut Emitter, trial: &mut Trial, hoard: &mut Hoard) -> Result<u32
     }
 }
 
-fn add_return(e: &mut Emitter, trial: &mut Trial, hoard: &mut Hoard) -> Result<u32, AllocError>
+fn add_return(e: &mut Emitter, trial: &mut Trial, hoard: &mut Hoard) -> Result<usize, AllocError>
     requires { IsBegun (draft_of e.old) }
     ensures { OnOk result (draft_of e.new ≡ with_instr (instr.Return None) (draft_of e.old)) }
 {
     trial.opens(Call::Emit, hoard)?;
-    let first = e.emit(Instr::Return(None));
+    let first = e.emit(Line::new(Instr::Return(None)));
     trial.closes(first.is_err(), hoard);
     match first {
         Ok(at) => Ok(at),
-        Err(_) => e.emit(Instr::Return(None)),
+        Err(_) => e.emit(Line::new(Instr::Return(None))),
     }
 }
 
 // The function has four scalar registers, so a fifth asks for memory.
-fn add_register(e: &mut Emitter, trial: &mut Trial, hoard: &mut Hoard) -> Result<u32, AllocError>
-    requires { IsBegun (draft_of e.old) }
+fn add_register(e: &mut Emitter, trial: &mut Trial, hoard: &mut Hoard) -> Result<usize, AllocError>
+    requires begun { IsBegun (draft_of e.old) }
+    requires few { length (rows_at (draft_of e.old).rows Uniform) < 4294967295 }
     ensures { OnOk result (draft_of e.new ≡ with_register Uniform I64 (draft_of e.old)) }
 {
     trial.opens(Call::Fresh, hoard)?;
     let first = e.fresh(Rate::Uniform, Elem::I64);
     trial.closes(first.is_err(), hoard);
     match first {
-        Ok(given) => Ok(given.number),
-        Err(_) => Ok(e.fresh(Rate::Uniform, Elem::I64)?.number),
+        Ok(given) => Ok(given.number as usize),
+        Err(_) => Ok(e.fresh(Rate::Uniform, Elem::I64)?.number as usize),
     }
 }
 
@@ -171,7 +173,7 @@ fn write_first(
     let text = add_text(e, trial, hoard)?;
     let register = e.fresh(Rate::Uniform, Elem::I64)?;
     let at = add_return(e, trial, hoard)?;
-    trial.sees(&[place, text, register.number, at], &[0, 0, 1, 0]);
+    trial.sees(&[place, text, register.number as usize, at], &[0, 0, 1, 0]);
     Ok(())
 }
 
@@ -188,24 +190,24 @@ fn write_jump(
 {
     begin(e, &trees.second, Call::BeginAgain, trial, hoard)?;
     let register = add_register(e, trial, hoard)?;
-    let at = e.emit(Instr::Jump { target: 0 })?;
+    let at = e.emit(Line::new(Instr::Jump { target: 0 }))?;
     trial.sees(&[register, at], &[4, 0]);
     Ok(())
 }
 
-fn put_sum(e: &mut Emitter, trees: &Trees) -> Result<u32, AllocError>
+fn put_sum(e: &mut Emitter, trees: &Trees) -> Result<usize, AllocError>
     requires jump { HasJump (function_of trees.now.first) (function_of trees.now.second) (draft_of e.old) }
     requires trees { AreTrees (function_of trees.now.first) (function_of trees.now.second) (expr_of trees.now.sum) (simple_of trees.now.assignment) }
-    ensures code { OnOk result (HasCode (function_of trees.now.first) (function_of trees.now.second) (draft_of e.new)) }
+    ensures code { OnOk result (HasCode (function_of trees.now.first) (function_of trees.now.second) 20 (draft_of e.new)) }
     ensures refused { OnErr result (draft_of e.new ≡ draft_of e.old) }
 {
-    Ok(e.expr(&trees.sum, SITE)?.number)
+    Ok(e.expr(&trees.sum, SITE)?.number as usize)
 }
 
 fn put_assignment(e: &mut Emitter, trees: &Trees) -> Result<(), AllocError>
-    requires code { HasCode (function_of trees.now.first) (function_of trees.now.second) (draft_of e.old) }
+    requires code { HasCode (function_of trees.now.first) (function_of trees.now.second) 20 (draft_of e.old) }
     requires trees { AreTrees (function_of trees.now.first) (function_of trees.now.second) (expr_of trees.now.sum) (simple_of trees.now.assignment) }
-    ensures code { OnOk result (HasCode (function_of trees.now.first) (function_of trees.now.second) (draft_of e.new)) }
+    ensures code { OnOk result (HasCode (function_of trees.now.first) (function_of trees.now.second) 40 (draft_of e.new)) }
     ensures refused { OnErr result (draft_of e.new ≡ draft_of e.old) }
 {
     e.store(&trees.assignment, SITE)?;
@@ -217,10 +219,10 @@ fn add_sum(
     trees: &Trees,
     trial: &mut Trial,
     hoard: &mut Hoard,
-) -> Result<u32, AllocError>
+) -> Result<usize, AllocError>
     requires jump { HasJump (function_of trees.now.first) (function_of trees.now.second) (draft_of e.old) }
     requires trees { AreTrees (function_of trees.now.first) (function_of trees.now.second) (expr_of trees.now.sum) (simple_of trees.now.assignment) }
-    ensures { OnOk result (HasCode (function_of trees.now.first) (function_of trees.now.second) (draft_of e.new)) }
+    ensures { OnOk result (HasCode (function_of trees.now.first) (function_of trees.now.second) 20 (draft_of e.new)) }
 {
     trial.opens(Call::Expr, hoard)?;
     let first = put_sum(e, trees);
@@ -237,9 +239,9 @@ fn add_assignment(
     trial: &mut Trial,
     hoard: &mut Hoard,
 ) -> Result<(), AllocError>
-    requires code { HasCode (function_of trees.now.first) (function_of trees.now.second) (draft_of e.old) }
+    requires code { HasCode (function_of trees.now.first) (function_of trees.now.second) 20 (draft_of e.old) }
     requires trees { AreTrees (function_of trees.now.first) (function_of trees.now.second) (expr_of trees.now.sum) (simple_of trees.now.assignment) }
-    ensures { OnOk result (HasCode (function_of trees.now.first) (function_of trees.now.second) (draft_of e.new)) }
+    ensures { OnOk result (HasCode (function_of trees.now.first) (function_of trees.now.second) 40 (draft_of e.new)) }
 {
     trial.opens(Call::Store, hoard)?;
     let first = put_assignment(e, trees);
@@ -259,7 +261,7 @@ fn write_both(
 ) -> Result<(), AllocError>
     requires new { IsNew (draft_of e.old) }
     requires trees { AreTrees (function_of trees.now.first) (function_of trees.now.second) (expr_of trees.now.sum) (simple_of trees.now.assignment) }
-    ensures { OnOk result (HasCode (function_of trees.now.first) (function_of trees.now.second) (draft_of e.new)) }
+    ensures { OnOk result (HasCode (function_of trees.now.first) (function_of trees.now.second) 40 (draft_of e.new)) }
 {
     write_first(e, trees, trial, hoard)?;
     write_jump(e, trees, trial, hoard)?;
@@ -275,10 +277,10 @@ fn finish(
     trial: &mut Trial,
     hoard: &mut Hoard,
 ) -> Result<Option<Code>, AllocError>
-    requires code { HasCode (function_of trees.now.first) (function_of trees.now.second) (draft_of e) }
+    requires code { HasCode (function_of trees.now.first) (function_of trees.now.second) 40 (draft_of e) }
     requires trees { AreTrees (function_of trees.now.first) (function_of trees.now.second) (expr_of trees.now.sum) (simple_of trees.now.assignment) }
 {
-    let to = e.emit(Instr::Return(None))?;
+    let to = e.emit(Line::new(Instr::Return(None)))?;
     trial.sees(&[to], &[13]);
     e.patch(0, to);
     trial.opens(Call::Finish, hoard)?;

@@ -157,10 +157,11 @@ expression::call_to-returns t c =
     let xs = t_arguments (arguments_of a.x.now.arguments.items) in
     let m = c.in_ok-place.place.number in
     let passed = c.in_ok-given.ensures.registers ∙ ap (λ zs. argument_registers l (l.rates f) (t_arguments (arguments_of zs)) n) c.deref.ensures.value in
-    let pushed = subst (λ z. Appends c.place.new.self c.push.new.self (λ pc p. z ∷ []) []) (call_boxed l a.to f m k n xs _ _ _ c.in_ok-boxed.ensures.ok c.mask.ensures passed) c.in_ok-push.ensures in
-    call_done l a.b.now c.arguments.new.b c.push.new.self a.to a.x.now k n
+    let named = c.naming.ensures ∙ call_boxed l a.to f m k n xs _ _ _ c.in_ok-boxed.ensures.ok c.mask.ensures passed in
+    let added = subst (λ z. Appends c.place.new.self c.add.new.self (λ pc p. z ∷ []) []) named c.in_ok-add.ensures in
+    call_done l a.b.now c.arguments.new.b c.add.new.self a.to a.x.now k n
     (subst (λ zs. Appends a.b.now c.arguments.new.b (λ pc p. arguments_code l (l.rates f) (t_arguments (arguments_of zs)) pc p k n) (arguments_places l (t_arguments (arguments_of zs)))) c.deref.ensures.value c.in_ok-given.ensures.code)
-    (called_behind c.arguments.new.b c.place.new.self c.push.new.self (λ p. calling l a.to f xs p k n) a.x.now.span m c.in_ok-place.ensures.number c.in_ok-place.ensures.added pushed)
+    (called_behind c.arguments.new.b c.place.new.self c.add.new.self (λ p. calling l a.to f xs p k n) a.x.now.span m c.in_ok-place.ensures.number c.in_ok-place.ensures.added added)
 
 -- ---- values of a call of the library
 

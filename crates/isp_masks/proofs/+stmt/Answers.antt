@@ -359,9 +359,9 @@ statement::unique_loop-returns t c =
     let begin = value_code (values_of (layout a.on.now) (elem_of e) a.it.index n) n in
     let spot = c.own.ensures ∙ ap (λ (s : Slot). own_spot s.number) c.next.ensures in
     let inside = subst (λ s. Writes c.take_value.new.b c.stmt.new.b (stmt_at a.on.now x s)) spot c.in_ok-stmt.ensures in
-    let left = c.mask-2.ensures ∙ ap (λ (k : MaskNumber). mask_register k.number) c.mask.ensures in
-    let jumped = subst (λ r. Appends c.stmt.new.b c.push.new.self (λ pc p. instr.JumpIf jump.On r c.next-top.result ∷ []) []) left c.in_ok-push.ensures in
-    rounds_written a.b.now c.keep_values.new.b c.take_value.new.b c.stmt.new.b c.push.new.self kept.code kept.places begin n c.next-top.result (stmt_at a.on.now x (own_spot (n + 1)))
+    let back = c.where_some.ensures ∙ ap (λ (k : MaskNumber). instr.JumpIf jump.On (mask_register k.number) c.next-top.result) c.mask.ensures in
+    let jumped = subst (λ i. Appends c.stmt.new.b c.add.new.self (λ pc p. i ∷ []) []) back c.in_ok-add.ensures in
+    rounds_written a.b.now c.keep_values.new.b c.take_value.new.b c.stmt.new.b c.add.new.self kept.code kept.places begin n c.next-top.result (stmt_at a.on.now x (own_spot (n + 1)))
     c.in_ok-keep_values.ensures c.next-top.ensures c.in_ok-take_value.ensures inside jumped
 
 pub statement::ranges-returns-in-len1 : goal.statement::ranges-returns-in-len1

@@ -1,13 +1,15 @@
-use Rattle.std.proofs.Common.{◌≡◌, ap, ◌∙◌, subst, sym}
-use Rattle.std.specs.List.{All, list_all}
+use Rattle.std.proofs.Common.{◌≡◌, ◌<◌, ap, ◌∙◌, subst, sym}
+use Rattle.std.specs.List.{All}
 use Rattle.std.proofs.lemmas.Result.{IfOk-weaker}
-use Rattle.isp_code.specs.Writable.{has_byte, place_fits}
 use Rattle.isp_lower.specs.Drafts.{Draft, all_routines, draft_of, finished}
+use Rattle.isp_tree.specs.Nodes.{nodes_of_all}
+use Rattle.isp_typed.specs.Nodes.{function_nodes}
 use Rattle.isp_typed.specs.Views.{functions_of, program_of}
 use Rattle.isp_typed.specs.declared.function.Program.{Program}
-use Rattle.isp_masks.specs.Lowered.{AreLowered, HasCode, IsFineFunction}
+use Rattle.isp_masks.specs.Lowered.{AreLowered, HasCode, IsFineFunction, IsSmall}
 use Rattle.isp_masks.proofs.Listings.{has_finished}
-use Rattle.isp_masks.proofs.Lowers.{routines_fit}
+use Rattle.isp_masks.proofs.Lowers.{numbers_fit, routines_fit}
+use Rattle.isp_masks.proofs.SmallFunctions.{functions_small}
 use Rattle.isp_masks.proofs.listing.program.Goals as goal
 
 pub routines-requires : goal.routines-requires
@@ -15,8 +17,11 @@ routines-requires c =
     let are = c.deref.ensures.value ∙ ap (λ (p : Program). p.functions.items) c.program.ensures.same in
     record {
       none = ap all_routines c.new-e.ensures;
-      tables = record { places = ap (λ (d : Draft). list_all place_fits d.places) c.new-e.ensures; texts = ap (λ (d : Draft). list_all has_byte d.texts) c.new-e.ensures };
+      empty = ap (λ (d : Draft). d.places) c.new-e.ensures;
+      empty_texts = ap (λ (d : Draft). d.texts) c.new-e.ensures;
       fine = subst (λ fs. All IsFineFunction (functions_of fs)) (sym are) (λ k d lt. (functions_of c.args.checked.now.functions.items, c.program.ensures.accepted.fine.each k d lt));
+      small = subst (λ fs. All IsSmall (functions_of fs)) (sym are) (functions_small (program_of c.args.checked.now) c.program.ensures.accepted.fine c.program.ensures.accepted.scoped);
+      few = subst (λ fs. nodes_of_all function_nodes (functions_of fs) < 16777216) (sym are) c.program.ensures.accepted.fine.few;
     }
 
 pub finish-requires : goal.finish-requires
@@ -29,9 +34,11 @@ finish-requires c =
     (subst (λ fs. AreLowered (draft_of c.new-e.result).callees (functions_of fs) (all_routines d) d.places d.texts) are
     c.in_ok-routines.ensures.lowered) in
     let gang = c.in_ok-routines.ensures.gang ∙ ap (λ (z : Draft). z.gang) c.new-e.ensures in
+    let tables = c.in_ok-routines.ensures.tables in
     record {
-      tables = c.in_ok-routines.ensures.tables;
+      tables = tables;
       routines = routines_fit p (finished d) c.program.ensures.accepted (has_finished p d lowered gang);
+      numbers = numbers_fit p (finished d) c.program.ensures.accepted (has_finished p d lowered gang) tables.few_places tables.few_texts;
     }
 
 pub returns-clause-code : goal.returns-clause-code

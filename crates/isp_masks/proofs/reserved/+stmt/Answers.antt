@@ -7,10 +7,9 @@ use Rattle.isp_typed.proofs.StmtViews.{for_view}
 use Rattle.isp_typed.specs.Views.{block_of, expr_of, first_of, simple_of, stmt_of, stmts_of}
 use Rattle.isp_base.specs.declared.types.Elem.TheVariants.{I64}
 use Rattle.isp_base.specs.declared.types.Rate.TheVariants.{Uniform}
-use Rattle.isp_lower.specs.Asks.{Register}
-use Rattle.isp_lower.specs.Reserved.{Gives}
-use Rattle.isp_lower.specs.Rows.{Variable}
+use Rattle.isp_lower.specs.Reserved.{Gives, HasNumbers}
 use Rattle.isp_lower.proofs.Lemmas.{both_given, gives_none}
+use Rattle.isp_masks.proofs.Reserving.{variable_reserved}
 use Rattle.isp_masks.specs.Asks.{block_asks, stmt_asks, stmts_asks}
 use Rattle.isp_masks.proofs.Forms.{nodes_low, stmts_more, stmts_end}
 use Rattle.isp_masks.proofs.Views.{block_view}
@@ -18,51 +17,58 @@ use Rattle.isp_masks.proofs.reserved.+stmt.Goals as goal
 
 pub one_side-returns : goal.one_side-returns
 one_side-returns t c =
-    rw (← c.ty-rate.ensures, ← c.in_ok-next.ensures.number) (both_given _ _ _ _ _ c.in_ok-expr.ensures (both_given _ _ _ _ _ c.in_ok-next.ensures.gives c.in_ok-stmt.ensures))
+    rw (← c.ty-rate.ensures, ← c.part-next.ensures.number) (both_given _ _ _ _ _ c.in_ok-expr.ensures (both_given _ _ _ _ _ c.part-next.ensures.gives c.in_ok-stmt.ensures))
 
 pub two_sides-returns : goal.two_sides-returns
 two_sides-returns t c =
-    rw (← c.ty-rate.ensures, ← c.in_ok-next.ensures.number)
-    (both_given _ _ _ _ _ c.in_ok-expr.ensures (both_given _ _ _ _ _ c.in_ok-next.ensures.gives (both_given _ _ _ _ _ c.in_ok-stmt.ensures c.in_ok-stmt-2.ensures)))
+    rw (← c.ty-rate.ensures, ← c.part-next.ensures.number)
+    (both_given _ _ _ _ _ c.in_ok-expr.ensures (both_given _ _ _ _ _ c.part-next.ensures.gives (both_given _ _ _ _ _ c.in_ok-stmt.ensures c.in_ok-stmt-2.ensures)))
 
 pub block-stmt-requires : goal.block-stmt-requires
 block-stmt-requires t c =
     let low = nodes_low c.deref-x-items.result.now c.loop-x.x-index c.x-item.result c.loop-x-test.true c.x-item.is in
     let all : block_nodes (block_of c.args.body.now) ≡ suc (stmts_nodes (t_stmts (stmts_of c.deref-x-items.result.now))) =
     ap block_nodes (block_view c.args.body.now) ∙ ap (λ zs. suc (stmts_nodes (t_stmts (stmts_of zs)))) (sym c.deref-x-items.ensures.value) in
-    (omega (arith, low, all, c.decreases), tt)
+    let more = stmts_more c.args.answer c.args.slot.number c.deref-x-items.result.now c.loop-x.x-index c.x-item.result c.loop-x-test.true c.x-item.is in
+    (omega (arith, low, all, c.decreases), (subst HasNumbers more c.loop-x.invariant.1).0)
 
 pub block-loop-x-preserved : goal.block-loop-x-preserved
-block-loop-x-preserved t c = λ k g.
-    c.loop-x.invariant k
-    (subst (λ a. Gives c.loop-x.r k a) (sym (stmts_more c.args.answer c.args.slot.number c.deref-x-items.result.now c.loop-x.x-index c.x-item.result c.loop-x-test.true c.x-item.is))
-    (both_given c.loop-x.r c.stmt.new.r k _ _ c.in_ok-stmt.ensures g))
+block-loop-x-preserved t c =
+    let more = stmts_more c.args.answer c.args.slot.number c.deref-x-items.result.now c.loop-x.x-index c.x-item.result c.loop-x-test.true c.x-item.is in (
+      λ k g. c.loop-x.invariant.0 k (subst (λ a. Gives c.loop-x.r k a) (sym more) (both_given c.loop-x.r c.stmt.new.r k _ _ c.in_ok-stmt.ensures g)),
+      (subst HasNumbers more c.loop-x.invariant.1).1,
+    )
+
+pub block-loop-x-init : goal.block-loop-x-init
+block-loop-x-init t c =
+    let n = c.args.slot.number in
+    let whole = subst (λ z. HasNumbers (block_asks c.args.answer z n)) (block_view c.args.body.now) c.requires in
+    (λ k g. g, subst (λ zs. HasNumbers (stmts_asks c.args.answer (t_stmts (stmts_of zs)) n)) (sym c.deref-x-items.ensures.value) whole)
 
 pub block-returns : goal.block-returns
 block-returns t c =
     let items = c.deref-x-items.result.now in
-    let has = c.loop-x.invariant c.loop-x.r (subst (λ a. Gives c.loop-x.r c.loop-x.r a) (sym (stmts_end c.args.answer c.args.slot.number items c.loop-x.x-index c.loop-x-test.false)) (gives_none c.loop-x.r)) in
+    let has = c.loop-x.invariant.0 c.loop-x.r (subst (λ a. Gives c.loop-x.r c.loop-x.r a) (sym (stmts_end c.args.answer c.args.slot.number items c.loop-x.x-index c.loop-x-test.false)) (gives_none c.loop-x.r)) in
     subst (λ z. Gives c.args.r.now c.loop-x.r (block_asks c.args.answer z c.args.slot.number)) (sym (block_view c.args.body.now))
     (subst (λ zs. Gives c.args.r.now c.loop-x.r (stmts_asks c.args.answer (t_stmts (stmts_of zs)) c.args.slot.number)) c.deref-x-items.ensures.value has)
 
 pub while_loop-returns : goal.while_loop-returns
 while_loop-returns t c =
-    both_given _ _ _ _ _ c.in_ok-parts.ensures.gives (both_given _ _ _ _ _ (rw c.in_ok-parts.ensures.number at c.in_ok-expr.ensures) (rw c.in_ok-parts.ensures.number at c.in_ok-stmt.ensures))
+    both_given _ _ _ _ _ c.own-parts.ensures.gives (both_given _ _ _ _ _ (rw c.own-parts.ensures.number at c.in_ok-expr.ensures) (rw c.own-parts.ensures.number at c.in_ok-stmt.ensures))
 
 pub do_loop-returns : goal.do_loop-returns
 do_loop-returns t c =
-    both_given _ _ _ _ _ c.in_ok-parts.ensures.gives (both_given _ _ _ _ _ (rw c.in_ok-parts.ensures.number at c.in_ok-stmt.ensures) (rw c.in_ok-parts.ensures.number at c.in_ok-expr.ensures))
+    both_given _ _ _ _ _ c.own-parts.ensures.gives (both_given _ _ _ _ _ (rw c.own-parts.ensures.number at c.in_ok-stmt.ensures) (rw c.own-parts.ensures.number at c.in_ok-expr.ensures))
 
 pub unmasked-returns : goal.unmasked-returns
-unmasked-returns t c = both_given _ _ _ _ _ c.in_ok-parts.ensures.gives (rw c.in_ok-parts.ensures.number at c.in_ok-block.ensures)
+unmasked-returns t c = both_given _ _ _ _ _ c.own-parts.ensures.gives (rw c.own-parts.ensures.number at c.in_ok-block.ensures)
 
 pub active_loop-returns : goal.active_loop-returns
 active_loop-returns t c =
-    let none = gives_none c.args.r.now in
-    let index : Gives c.args.r.now c.args.r.now (Register Uniform (Variable c.args.index) I64) = record { rows = none.rows; masks = none.masks; has = tt } in
+    let index = variable_reserved c.args.r.now Uniform c.args.index I64 in
     both_given _ _ _ _ _
-    (both_given _ _ _ _ _ index (both_given _ _ _ _ _ (rw c.in_ok-one.ensures.number at c.in_ok-one.ensures.gives) (both_given _ _ _ _ _ c.in_ok-mask.ensures (rw c.in_ok-one.ensures.number at c.in_ok-parts.ensures.gives))))
-    (rw (c.in_ok-parts.ensures.number, c.in_ok-one.ensures.number) at c.in_ok-stmt.ensures)
+    (both_given _ _ _ _ _ index (both_given _ _ _ _ _ (rw c.next-one.ensures.number at c.next-one.ensures.gives) (both_given _ _ _ _ _ c.mask.ensures (rw c.next-one.ensures.number at c.own-parts.ensures.gives))))
+    (rw (c.own-parts.ensures.number, c.next-one.ensures.number) at c.in_ok-stmt.ensures)
 
 pub unique_loop-returns : goal.unique_loop-returns
 unique_loop-returns t c = both_given _ _ _ _ _ c.in_ok-parts.ensures.gives (rw c.in_ok-parts.ensures.number at c.in_ok-stmt.ensures)
@@ -72,8 +78,8 @@ range_loop-returns t c = both_given _ _ _ _ _ c.in_ok-parts.ensures.gives (rw c.
 
 pub turns-returns : goal.turns-returns
 turns-returns t c =
-    both_given _ _ _ _ _ c.in_ok-parts.ensures.gives
-    (both_given _ _ _ _ _ (rw c.in_ok-parts.ensures.number at c.in_ok-test_part.ensures) (both_given _ _ _ _ _ (rw c.in_ok-parts.ensures.number at c.in_ok-step_part.ensures) (rw c.in_ok-parts.ensures.number at c.in_ok-stmt.ensures)))
+    both_given _ _ _ _ _ c.own-parts.ensures.gives
+    (both_given _ _ _ _ _ (rw c.own-parts.ensures.number at c.in_ok-test_part.ensures) (both_given _ _ _ _ _ (rw c.own-parts.ensures.number at c.in_ok-step_part.ensures) (rw c.own-parts.ensures.number at c.in_ok-stmt.ensures)))
 
 pub stmt-returns-in_ok-first_part-in-For : goal.stmt-returns-in_ok-first_part-in-For
 stmt-returns-in_ok-first_part-in-For t c =

@@ -1,10 +1,10 @@
 -- The recursion goes down the tree. In the loop: who is given what the statements that are left ask for, is given what all ask
--- for.
+-- for; and their numbers can be had.
 use Rattle.std.proofs.Common.{◌+◌, ◌-◌, ◌*◌, drop}
 use Rattle.isp_typed.specs.Nodes.{stmt_nodes, block_nodes}
 use Rattle.isp_typed.specs.Typed.{t_stmts}
 use Rattle.isp_typed.specs.Views.{block_of, stmt_of, stmts_of}
-use Rattle.isp_lower.specs.Reserved.{Gives}
+use Rattle.isp_lower.specs.Reserved.{Gives, HasNumbers}
 use Rattle.isp_lower.specs.declared.reserve.Reserve.{Reserve}
 use Rattle.isp_masks.specs.Asks.{stmts_asks}
 use Rattle.isp_masks.proofs.reserved.+stmt.Given as goal
@@ -44,4 +44,5 @@ decreases-turns l = 4 * stmt_nodes (stmt_of l.body.now) + 1
 
 abbrev pub invariant-block-loop-x : goal.invariant-block-loop-x
 invariant-block-loop-x l =
-    (c : Reserve) → Gives l.r c (stmts_asks l.answer (t_stmts (stmts_of (drop l.x-index l.x-items))) l.slot.number) → Gives l.initial.r c (stmts_asks l.answer (t_stmts (stmts_of l.x-items)) l.slot.number)
+    ((c : Reserve) → Gives l.r c (stmts_asks l.answer (t_stmts (stmts_of (drop l.x-index l.x-items))) l.slot.number) → Gives l.initial.r c (stmts_asks l.answer (t_stmts (stmts_of l.x-items)) l.slot.number))
+    × HasNumbers (stmts_asks l.answer (t_stmts (stmts_of (drop l.x-index l.x-items))) l.slot.number)

@@ -1,9 +1,10 @@
--- Who is given what the values that are left ask for, is given what all ask for.
+-- Who is given what the values that are left ask for, is given what all ask for; and their numbers can be had.
 use Rattle.std.proofs.Common.{drop}
-use Rattle.isp_lower.specs.Reserved.{Gives}
+use Rattle.isp_lower.specs.Reserved.{Gives, HasNumbers}
 use Rattle.isp_lower.specs.declared.reserve.Reserve.{Reserve}
 use Rattle.isp_masks.proofs.Telling.{asked}
 use Rattle.isp_masks.proofs.reserved.printed.Given as goal
 
 abbrev pub invariant-loop-x : goal.invariant-loop-x
-invariant-loop-x l = (c : Reserve) → Gives l.r c (asked (drop l.x-index l.all) l.at.number) → Gives l.initial.r c (asked l.all l.initial.at.number)
+invariant-loop-x l =
+    ((c : Reserve) → Gives l.r c (asked (drop l.x-index l.all) l.at.number) → Gives l.initial.r c (asked l.all l.initial.at.number)) × HasNumbers (asked (drop l.x-index l.all) l.at.number)

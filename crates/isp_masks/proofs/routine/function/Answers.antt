@@ -6,6 +6,7 @@ use Rattle.isp_lower.proofs.Lemmas.{longer_has, longer_then}
 use Rattle.isp_masks.specs.Asks.{block_asks, result_asks}
 use Rattle.isp_masks.specs.Keeping.{constants_asks, keep_steps}
 use Rattle.isp_masks.proofs.ConstantRows.{keeps_them, longer_grown}
+use Rattle.isp_masks.proofs.FewRows.{few_registers}
 use Rattle.isp_masks.proofs.Own.{body_own, heading_fits}
 use Rattle.isp_masks.proofs.Routines.{adds}
 use Rattle.isp_masks.proofs.routine.function.Goals as goal
@@ -52,3 +53,16 @@ body-requires-clause-result c =
     let h = function_of c.args.f.now in
     let m = c.reserve.new.asked in
     longer_has m (record m { registers = c.keep.new.registers }) c.in_ok-keep.ensures.rows (omega arith) (result_asks h.answer) c.in_ok-reserve.ensures.result
+
+pub reserve-requires-clause-numbers : goal.reserve-requires-clause-numbers
+reserve-requires-clause-numbers c = c.requires.small.numbers
+
+pub invariant_of-on : goal.invariant_of-on
+invariant_of-on c =
+    let ks = c.as_slice-kept.result.now in
+    let keep = c.in_ok-keep.ensures in
+    let few = few_registers (function_of c.args.f.now) ks c.begin.new.self.reserved.registers c.reserve.new.asked.registers c.keep.new.registers c.requires.small
+    (subst (λ zs. keep_steps zs ≤ 24) (sym c.as_slice-kept.ensures.value) c.in_ok-found.ensures)
+    (ap (λ (d : Draft). d.rows) c.in_ok-begin.ensures.begun) c.in_ok-reserve.ensures.few
+    (record { scalars = keep.few_scalars; vectors = keep.few_vectors; arrays = keep.same_arrays }) in
+    record { few_scalars = few.scalars; few_vectors = few.vectors; few_arrays = few.arrays }

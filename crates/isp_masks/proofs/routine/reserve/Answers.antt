@@ -1,9 +1,11 @@
+use Rattle.std.proofs.Common.{arith}
 use Rattle.std.proofs.lemmas.Result.{on_ok_weaker}
 use Rattle.isp_typed.specs.Views.{function_of}
 use Rattle.isp_lower.specs.Asks.{Both}
 use Rattle.isp_lower.proofs.Lemmas.{all_there, both_given}
 use Rattle.isp_masks.specs.Asks.{block_asks, result_asks}
 use Rattle.isp_masks.specs.Keeping.{constants_asks}
+use Rattle.isp_masks.proofs.AskNumbers.{constants_numbers}
 use Rattle.isp_masks.proofs.ConstantRows.{constants_own}
 use Rattle.isp_masks.proofs.Own.{result_own, result_reserved}
 use Rattle.isp_masks.proofs.routine.reserve.Goals as goal
@@ -33,3 +35,14 @@ returns-clause-result c =
     let both = both_given c.args.asked.now c.reserved.new.r c.block.new.r _ _ c.in_ok-reserved.ensures g in
     all_there h.variables h.answer c.args.asked.now.registers c.requires.first c.block.new.r both.rows (result_asks h.answer) (result_reserved c.block.new.r h.answer) (result_own h.variables h.answer))
     c.block.ensures
+
+pub returns-clause-few : goal.returns-clause-few
+returns-clause-few c =
+    on_ok_weaker c.block.result
+    (λ g.
+    let both = both_given c.args.asked.now c.reserved.new.r c.block.new.r _ _ c.in_ok-reserved.ensures g in
+    record { scalars = both.few_scalars; vectors = both.few_vectors; arrays = both.same_arrays })
+    c.block.ensures
+
+pub reserved-requires : goal.reserved-requires
+reserved-requires c = constants_numbers 3 c.args.kept.now (omega arith)

@@ -56,4 +56,4 @@ returns-in-Some-clause-own c =
     let place = c.in_ok-place.field-0.now in
     let row = c.in-Some.row in
     let at = ap (λ z. slice_get z place) (sym c.as_slice.ensures.value) ∙ (sym c.row_at.ensures ∙ c.in-Some.is) in
-    own_found rows place row (name_of c.args.name) at (sym c.name_number.ensures ∙ (c.if-name_number-number.true ∙ c.name_number-number.ensures)) c.self.invariant.2
+    own_found rows place row (name_of c.args.name) at (sym c.name_number.ensures ∙ (c.if-name_number-number.true ∙ c.name_number-number.ensures)) c.self.invariant.1

@@ -14,4 +14,4 @@ returns-clause-named c =
     let all : c.push.new.self ≡ rows ++ row ∷ [] = c.in_ok-push.ensures.ok ∙ ap (λ (z : List RegisterRow). z ++ row ∷ []) (sym c.self.view_is) in
     let is : row_of row ≡ record { name = Fresh (length rows); elem = c.args.elem } = ap (λ k. record { name = Fresh k; elem = c.args.elem }) n in
     subst (λ k. number_in (map row_of c.push.new.self) (Fresh k) ≡ k) (sym n)
-    (fresh_number rows c.push.new.self row c.args.elem all is c.self.invariant.2)
+    (fresh_number rows c.push.new.self row c.args.elem all is c.self.invariant.1)

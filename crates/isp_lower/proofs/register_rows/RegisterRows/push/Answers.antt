@@ -1,4 +1,4 @@
-use Rattle.std.proofs.Common.{◌≤◌, ◌∙◌, sym, ap, subst, length, map, ◌++◌, ◌∷◌, []}
+use Rattle.std.proofs.Common.{◌∙◌, sym, ap, subst, map, ◌++◌, ◌∷◌, []}
 use Rattle.isp_lower.specs.Lookup.{AreNamedFrom, Tells, row_of}
 use Rattle.isp_lower.proofs.Lookup.{pushed_known, pushed_named, pushed_new, refused_new}
 use Rattle.isp_lower.proofs.register_rows.RegisterRows.push.Goals as goal
@@ -17,12 +17,8 @@ invariant_of-self-in_err-append c =
             (subst (λ zs. Tells s.places (map row_of zs)) (sym (c.in_err-append.ensures.err ∙ ap (λ z. z.rows.items) w.self-inside-is)) c.self.invariant.0)
       ],
       elim c.if-is_none.branch [
-        | then-is_none+in_ok-insert w ↦ subst (λ zs. length zs ≤ 4294967295) (sym (c.in_err-append.ensures.err ∙ ap (λ z. z.rows.items) w.self-inside-is)) c.self.invariant.1
-        | else-is_none w ↦ subst (λ zs. length zs ≤ 4294967295) (sym (c.in_err-append.ensures.err ∙ ap (λ z. z.rows.items) w.self-inside-is)) c.self.invariant.1
-      ],
-      elim c.if-is_none.branch [
-        | then-is_none+in_ok-insert w ↦ subst (λ zs. AreNamedFrom 0 (map row_of zs)) (sym (c.in_err-append.ensures.err ∙ ap (λ z. z.rows.items) w.self-inside-is)) c.self.invariant.2
-        | else-is_none w ↦ subst (λ zs. AreNamedFrom 0 (map row_of zs)) (sym (c.in_err-append.ensures.err ∙ ap (λ z. z.rows.items) w.self-inside-is)) c.self.invariant.2
+        | then-is_none+in_ok-insert w ↦ subst (λ zs. AreNamedFrom 0 (map row_of zs)) (sym (c.in_err-append.ensures.err ∙ ap (λ z. z.rows.items) w.self-inside-is)) c.self.invariant.1
+        | else-is_none w ↦ subst (λ zs. AreNamedFrom 0 (map row_of zs)) (sym (c.in_err-append.ensures.err ∙ ap (λ z. z.rows.items) w.self-inside-is)) c.self.invariant.1
       ],
     )
 
@@ -39,9 +35,8 @@ invariant_of-self-2 c =
             (pushed_known s.rows.items new c.args.row c.find.result (c.in_ok-append.ensures.ok ∙ ap (λ z. z.rows.items ++ c.args.row ∷ []) w.self-inside-is)
             s.places c.self.invariant.0 w.if-is_none.ensures (rw (sym c.self.view_is) at c.find.ensures.elem))
       ],
-      c.in_ok-append.ensures.few,
       elim c.if-is_none.branch [
-        | then-is_none+in_ok-insert w ↦ pushed_named s.rows.items new c.args.row (c.in_ok-append.ensures.ok ∙ ap (λ z. z.rows.items ++ c.args.row ∷ []) w.self-inside-is) c.self.invariant.2 at c.requires.own
-        | else-is_none w ↦ pushed_named s.rows.items new c.args.row (c.in_ok-append.ensures.ok ∙ ap (λ z. z.rows.items ++ c.args.row ∷ []) w.self-inside-is) c.self.invariant.2 at c.requires.own
+        | then-is_none+in_ok-insert w ↦ pushed_named s.rows.items new c.args.row (c.in_ok-append.ensures.ok ∙ ap (λ z. z.rows.items ++ c.args.row ∷ []) w.self-inside-is) c.self.invariant.1 at c.requires.own
+        | else-is_none w ↦ pushed_named s.rows.items new c.args.row (c.in_ok-append.ensures.ok ∙ ap (λ z. z.rows.items ++ c.args.row ∷ []) w.self-inside-is) c.self.invariant.1 at c.requires.own
       ],
     )

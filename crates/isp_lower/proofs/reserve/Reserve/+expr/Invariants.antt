@@ -5,7 +5,7 @@ use Rattle.isp_typed.specs.Typed.{t_arguments, t_exprs}
 use Rattle.isp_typed.specs.Views.{argument_of, arguments_of, base_of, call_of, expr_of, exprs_of, place_of}
 use Rattle.isp_lower.specs.Asks.{arguments_asks, values_asks}
 use Rattle.isp_lower.specs.Library.{library_rates}
-use Rattle.isp_lower.specs.Reserved.{Gives}
+use Rattle.isp_lower.specs.Reserved.{Gives, HasNumbers}
 use Rattle.isp_lower.specs.declared.reserve.Reserve.{Reserve}
 use Rattle.isp_lower.proofs.reserve.Reserve.+expr.Given as goal
 
@@ -57,10 +57,11 @@ decreases-arguments l = 8 * arguments_nodes (t_arguments (arguments_of l.all.now
 abbrev pub decreases-argument : goal.decreases-argument
 decreases-argument l = 8 * argument_nodes (argument_of l.x.now) + 4
 
--- who is given what the arguments that are left ask for, is given what all ask for
+-- who is given what the arguments that are left ask for, is given what all ask for; and their numbers are small
 abbrev pub invariant-arguments-loop-x : goal.invariant-arguments-loop-x
 invariant-arguments-loop-x l =
-    (c : Reserve) → Gives l.self c (arguments_asks (t_arguments (arguments_of (drop l.x-index l.all))) l.at.number) → Gives l.initial.self c (arguments_asks (t_arguments (arguments_of l.all)) l.initial.at.number)
+    ((c : Reserve) → Gives l.self c (arguments_asks (t_arguments (arguments_of (drop l.x-index l.all))) l.at.number) → Gives l.initial.self c (arguments_asks (t_arguments (arguments_of l.all)) l.initial.at.number))
+    × HasNumbers (arguments_asks (t_arguments (arguments_of (drop l.x-index l.all))) l.at.number)
 
 abbrev pub decreases-library : goal.decreases-library
 decreases-library l = 8 * exprs_nodes (t_exprs (exprs_of l.all.now)) + 6
@@ -70,8 +71,9 @@ decreases-values l = 8 * exprs_nodes (t_exprs (exprs_of l.all.now)) + 5
 
 abbrev pub invariant-values-loop-place : goal.invariant-values-loop-place
 invariant-values-loop-place l =
-    (c : Reserve) → Gives l.self c (values_asks (drop l.place (library_rates l.function l.rate)) (t_exprs (exprs_of (drop l.place l.all)))
-    l.at.number) → Gives l.initial.self c (values_asks (library_rates l.function l.rate) (t_exprs (exprs_of l.all)) l.initial.at.number)
+    ((c : Reserve) → Gives l.self c (values_asks (drop l.place (library_rates l.function l.rate)) (t_exprs (exprs_of (drop l.place l.all)))
+    l.at.number) → Gives l.initial.self c (values_asks (library_rates l.function l.rate) (t_exprs (exprs_of l.all)) l.initial.at.number))
+    × HasNumbers (values_asks (drop l.place (library_rates l.function l.rate)) (t_exprs (exprs_of (drop l.place l.all))) l.at.number)
 
 abbrev pub decreases-base : goal.decreases-base
 decreases-base l = 8 * base_nodes (base_of l.base.now) - 1

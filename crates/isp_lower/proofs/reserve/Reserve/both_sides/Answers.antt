@@ -3,5 +3,5 @@ use Rattle.isp_lower.proofs.reserve.Reserve.both_sides.Goals as goal
 
 pub returns : goal.returns
 returns c =
-    sides_given _ _ _ _ _ c.args.slot.number c.in_ok-next.next.number _ c.in_ok-next.ensures.number c.in_ok-next-2.ensures.number
-    c.in_ok-next.ensures.gives c.in_ok-next-2.ensures.gives c.in_ok-mask.ensures c.in_ok-mask-2.ensures
+    sides_given _ _ _ _ _ c.args.slot.number c.next-next.result.number _ c.next-next.ensures.number c.next.ensures.number
+    c.next-next.ensures.gives c.next.ensures.gives c.mask.ensures c.mask-2.ensures

@@ -3,8 +3,8 @@ use Rattle.isp_lower.proofs.reserve.Reserve.step.Goals as goal
 
 pub returns : goal.returns
 returns c =
-    rw (← c.in_ok-next.ensures.number) (rw (← c.in_ok-work.ensures.number) (
-    then_given _ _ _ _ _ c.in_ok-next.ensures.gives
+    rw (← c.beyond-next.ensures.number) (rw (← c.next-work.ensures.number) (
+    then_given _ _ _ _ _ c.beyond-next.ensures.gives
     (both_given _ _ _ _ _ c.in_ok-target.ensures
-    (both_given _ _ _ _ _ c.in_ok-work.ensures.gives (both_given _ _ _ _ _ (rw c.ty.ensures at c.in_ok-one.ensures) c.in_ok-change.ensures)))
+    (both_given _ _ _ _ _ c.next-work.ensures.gives (both_given _ _ _ _ _ (rw c.ty.ensures at c.in_ok-one.ensures) c.in_ok-change.ensures)))
     ))

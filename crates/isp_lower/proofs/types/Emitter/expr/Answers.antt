@@ -3,6 +3,7 @@ use Rattle.isp_typed.specs.Views.{expr_of}
 use Rattle.isp_lower.specs.Asks.{expr_asks}
 use Rattle.isp_lower.specs.Drafts.{draft_of}
 use Rattle.isp_lower.specs.Emitted.{Grows, rows_of}
+use Rattle.isp_lower.specs.Reserved.{FewMore}
 use Rattle.isp_lower.specs.declared.reserve.Reserve.{Reserve}
 use Rattle.isp_lower.proofs.Aparts.{all_named, apart_appends, apart_long}
 use Rattle.isp_lower.proofs.FirstRows.{all_joined}
@@ -61,3 +62,10 @@ returns-clause-all_named c =
     (expr_named (draft_of c.args.self.now).callees asked _ _ c.args.site.mask.number c.args.site.slot.number low (expr_of c.args.x.now)
     (expr_tree (draft_of c.args.self.now).callees c.requires.fine.0 (expr_of c.args.x.now) c.requires.fine.1 c.requires.rated)
     (all_joined c.args.self.now.reserved asked grown (expr_asks (expr_of c.args.x.now) c.args.site.slot.number) gives.has c.requires.own)) h
+
+pub returns-clause-few : goal.returns-clause-few
+returns-clause-few c =
+    let asked = c.expr.new.self in
+    let gives = c.in_ok-expr.ensures in
+    subst (λ (r : Reserve). FewMore (rows_of r.registers) (rows_of asked.registers) (expr_asks (expr_of c.args.x.now) c.args.site.slot.number)) c.in_ok-asked.ensures
+    (record { scalars = gives.few_scalars; vectors = gives.few_vectors; arrays = gives.same_arrays })
