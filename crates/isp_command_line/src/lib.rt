@@ -4,5 +4,5 @@
 mod words;
 
 pub use words::{
-    AsmRequest, CheckRequest, ExecRequest, Request, RunRequest, SoloRequest, read_words,
+    AsmRequest, CheckRequest, ExecRequest, Request, RunRequest, SoloRequest, VERSION, read_words,
 };

@@ -116,8 +116,9 @@ fn gang_of(inner: &ArgMatches<'_>) -> Option<Gang> {
     Gang::of_width(inner.get_str("gang")?.parse::<usize>().ok()?)
 }
 
-// What `isp --version` says behind the name.
-const VERSION: &str = "0.1.0";
+/// What `isp --version` and `ispx --version` say behind the name: the version, and the commit that these sources stand in but for
+/// this line. `tools/release --stamp` writes it.
+pub const VERSION: &str = "0.2.0 (d65add21)";
 
 fn isp<'a>(alloc: Global) -> Result<Command<'a>, Error> {
     let named = Command::new(alloc, "isp")

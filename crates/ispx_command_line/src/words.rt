@@ -2,7 +2,7 @@
 use clap::error::ErrorKind;
 use clap::{Arg, ArgAction, ArgMatches, Command, Error, value_parser};
 use isp_base::Gang;
-use isp_command_line::RunRequest;
+use isp_command_line::{RunRequest, VERSION};
 use std::alloc::{AllocError, Global};
 
 /// An entry that is run, and the name of the file with its arguments.
@@ -113,9 +113,6 @@ fn call_of<'a>(inner: &ArgMatches<'a>) -> Option<Call<'a>> {
 fn gang_of(inner: &ArgMatches<'_>) -> Option<Gang> {
     Gang::of_width(inner.get_str("gang")?.parse::<usize>().ok()?)
 }
-
-// What `ispx --version` says behind the name.
-const VERSION: &str = "0.1.0";
 
 fn ispx<'a>(alloc: Global) -> Result<Command<'a>, Error> {
     let named = Command::new(alloc, "ispx")
