@@ -18,10 +18,10 @@ head_written n o p e = rw (e) (three o (codes "#define ISP_GANG ") (decimal n) (
 five : (o a b c d e : List ℕ) → ((((o ++ a) ++ b) ++ c) ++ d) ++ e ≡ o ++ ((a ++ b) ++ (c ++ (d ++ e)))
 five o a b c d e = simp (append_assoc)
 
-pub prototype_written : (h : Routine) (o p q r s : List ℕ) → p ≡ o ++ codes "enum isp_end isp_" → q ≡ p ++ h.name → r ≡ q ++ codes "(struct isp_run *run" → s ≡ r ++ flat_map entry_param h.params → s ++ entry_result h.returns ≡ o ++ prototype h
+pub prototype_written : (h : Routine) (o p q r s : List ℕ) → p ≡ o ++ codes "enum isp_end kernel_" → q ≡ p ++ h.name → r ≡ q ++ codes "(struct isp_run *run" → s ≡ r ++ flat_map entry_param h.params → s ++ entry_result h.returns ≡ o ++ prototype h
 unfolding prototype
 prototype_written h o p q r s e f g i =
-    rw (i, g, f, e) (five o (codes "enum isp_end isp_") h.name (codes "(struct isp_run *run") (flat_map entry_param h.params) (entry_result h.returns))
+    rw (i, g, f, e) (five o (codes "enum isp_end kernel_") h.name (codes "(struct isp_run *run") (flat_map entry_param h.params) (entry_result h.returns))
 
 pub entry_written : (f : ℕ) (h : Routine) (o p q r s : List ℕ) → p ≡ o ++ prototype h → q ≡ p ++ (codes "\n{\n    return f" ++ decimal f) → r ≡ q ++ result_word h.returns → s ≡ r ++ flat_map given h.params → s ++ codes ");\n}\n" ≡ o ++ entry_text f h
 unfolding entry_text

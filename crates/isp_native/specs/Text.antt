@@ -117,7 +117,7 @@ begun f h =
 abbrev pub defined : ℕ → Routine → List ℕ
 defined f h = begun f h ++ (codes "START\n" ++ (numbered code_line 0 h.code ++ codes "END\n"))
 
--- ---- exported functions: `isp_` before the name, `p_` and `n_` before that of a parameter
+-- ---- exported functions: `kernel_` before the name, `p_` and `n_` before that of a parameter
 
 abbrev pub taken : ParamKind → List ℕ → Elem → List ℕ
 taken kind.Array w t = (codes ", " ++ (c_type t ++ (codes " *p_" ++ w))) ++ (codes ", uint64_t n_" ++ w)
@@ -132,7 +132,7 @@ entry_result (returns.Scalar t) = codes ", " ++ (c_type t ++ codes " *result)")
 entry_result (returns.Vector t) = codes ", " ++ (c_type t ++ codes " *result)")
 
 unfoldable pub prototype : Routine → List ℕ
-prototype h = (codes "enum isp_end isp_" ++ h.name) ++ (codes "(struct isp_run *run" ++ (flat_map entry_param h.params ++ entry_result h.returns))
+prototype h = (codes "enum isp_end kernel_" ++ h.name) ++ (codes "(struct isp_run *run" ++ (flat_map entry_param h.params ++ entry_result h.returns))
 
 abbrev pub given_by : ParamKind → List ℕ → List ℕ
 given_by kind.Array w = codes ", p_" ++ (w ++ (codes ", n_" ++ w))

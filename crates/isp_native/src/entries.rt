@@ -45,7 +45,7 @@ impl Page {
     fn prototype(&mut self, function: &Function) -> Result<(), AllocError>
         ensures { OnOk result (self.new ≡ self.old ++ says.prototype (routine_of function.now)) }
     {
-        self.text("enum isp_end isp_")?;
+        self.text("enum isp_end kernel_")?;
         self.text(function.name.as_str())?;
         self.text("(struct isp_run *run")?;
         self.all_taken(&function.params)?;
