@@ -37,7 +37,7 @@ int main(void)
 {{
     int32_t a[] = {{10, 20, 30, 40, 50}}, result = 0;
     struct isp_run run = {{0}};
-    enum isp_end end = isp_{entry}(&run, a, 5, 5, &result);
+    enum isp_end end = kernel_{entry}(&run, a, 5, 5, &result);
     printf("%d %d %d %d %d %d %d\\n", end, result, a[0], a[1], a[2], a[3], a[4]);
     return 0;
 }}
@@ -76,7 +76,7 @@ int main(int count, char **words)
     static const char *const kinds[] = {"divide", "index", "assert", "depth"};
     int32_t a[] = {1, 2, 30, 41};
     struct isp_run run = {.write = keep, .most_steps = strtoull(words[1], NULL, 10)};
-    enum isp_end end = isp_f(&run, a, 4);
+    enum isp_end end = kernel_f(&run, a, 4);
     if (end == ISP_NO_STEPS)
         fprintf(stderr, "isp: budget used\\n");
     if (end == ISP_TRAPPED)
@@ -115,7 +115,7 @@ int main(int count, char **words)
     refused_write = strtoul(words[2], NULL, 10);
     int32_t a[] = {1, 2, 30, 41};
     struct isp_run run = {.write = keep};
-    enum isp_end end = isp_f(&run, a, 4);
+    enum isp_end end = kernel_f(&run, a, 4);
     fprintf(stderr, "%lu %lu\\n", grown, written);
     return end == ISP_ENDED ? 0 : end == ISP_TRAPPED ? 3 : end == ISP_NO_MEMORY ? 7 : 9;
 }
@@ -202,7 +202,7 @@ class Edges:
         """A kernel of 400 lines, by a gang of 16."""
         lines = "\n".join(f"    x = x * {3 + k % 50} + (y ^ {k});\n    y = y + (x >> {1 + k % 7});" for k in range(200))
         source = f"export void f(uniform int a[]) {{\n    int x = a[programIndex], y = 1;\n{lines}\n    a[programIndex] = x + y;\n}}\n"
-        main = "int main(void)\n{\n    int32_t a[16] = {0};\n    struct isp_run run = {0};\n    return isp_f(&run, a, 16);\n}\n"
+        main = "int main(void)\n{\n    int32_t a[16] = {0};\n    struct isp_run run = {0};\n    return kernel_f(&run, a, 16);\n}\n"
         begun = time.monotonic()
         program = self.built(folder, compiler, self.of_source(16, source) + main, ["-O1"])
         self.check(f"{compiler}: 400 lines within a minute", time.monotonic() - begun < 60, True)

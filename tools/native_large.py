@@ -60,7 +60,7 @@ int main(int count, char **words)
     int32_t a[] = {{{a}}}, result = 0;
     int64_t b[] = {{{b}}};
     struct isp_run run = {{0}};
-    enum isp_end end = isp_f(&run, a, {count}, b, {count}, (int32_t)strtol(words[1], NULL, 10), &result);
+    enum isp_end end = kernel_f(&run, a, {count}, b, {count}, (int32_t)strtol(words[1], NULL, 10), &result);
     for (int i = 0; i < {count}; i++)
         printf("%d %lld\\n", a[i], (long long)b[i]);
     if (end == ISP_TRAPPED)
