@@ -159,7 +159,7 @@ static void translating(void)
     size_t wanted = report.used;
     WANT(wanted > 100 && untouched(file + wanted, sizeof file - wanted));
     file[wanted] = 0;
-    WANT(strstr(file, "#include \"isp_machine.h\"\n") && strstr(file, "enum isp_end isp_f("));
+    WANT(strstr(file, "#include \"isp_machine.h\"\n") && strstr(file, "enum isp_end kernel_f("));
     memset(file, '#', sizeof file);
     WANT(isp_native(code, size, file, wanted, &report) == ISP_OK && untouched(file + wanted, 100));
     memset(file, '#', sizeof file);
