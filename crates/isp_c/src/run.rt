@@ -43,7 +43,7 @@ pub struct Job<'a> {
 /// - 3: it trapped: kind, place and instance. The arrays are as they were then.
 /// - 4: the budget is used up. The arguments stay, so the call can be made again with a greater one.
 /// - 5: 50 no function is exported under this name; 72 the bytes end before this parameter does; 73 there are bytes behind
-///   the last one; 75 this element of this parameter is no value of its type; 76 this array has more than 16,777,216
+///   the last one; 75 this element of this parameter is no value of its type; 76 this array has more than 2^63 - 1
 ///   elements.
 /// - 6: the code text is no UTF-8.
 /// - 7: memory was refused.

@@ -97,3 +97,8 @@ counted (Some x) v n is same = is.1 ∙ same
 pub array_over : (a : Row) (n : ℕ) → n ≡ size a.elem * length a.bits → (n < 2 ^ 64 → ⊥) → 2 ^ 64 ≤ length (packed_array a)
 array_over a n same over =
     elim (cases_lt n (2 ^ 64)) [ inl few ↦ absurd (over few) | inr many ↦ (let whole = length_array a in omega (arith, whole, same, many)) ]
+
+-- what can be counted is less than what cannot
+pub fewer : (m n : ℕ) → m < 2 ^ 64 → (n < 2 ^ 64 → ⊥) → m < n
+fewer m n few over =
+    elim (cases_lt n (2 ^ 64)) [ inl less ↦ absurd (over less) | inr many ↦ omega (arith, few, many) ]

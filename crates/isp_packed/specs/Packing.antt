@@ -1,7 +1,7 @@
 -- Arguments and answers as bytes.
 --     packed_of xs          the bytes of a list of arguments
 --     packed_answer rs r    the bytes of an answer: its arrays, then its result
-use Rattle.std.specs.Prelude.{◌≡◌, ℕ, ◌/◌, ◌%◌, ◌^◌, ◌<◌, ◌≤◌, List, [], ◌++◌, length, true, Option, Some, None}
+use Rattle.std.specs.Prelude.{◌≡◌, ℕ, ◌-◌, ◌/◌, ◌%◌, ◌^◌, ◌<◌, ◌≤◌, List, [], ◌++◌, length, true, Option, Some, None}
 use Rattle.std.specs.List.{AllByRecursion, flat_map}
 use Rattle.byteorder.specs.Endian.{little_bytes}
 use Rattle.isp_base.specs.Binding.{has_signature}
@@ -48,9 +48,9 @@ packed_answer arrays result = flat_map packed_array arrays ++ packed_result resu
 
 -- ---- which arguments can be packed for a signature
 
--- the elements that an array may have
+-- the elements that an array may have: as many as one of the machine can
 abbrev pub longest : ℕ
-longest = 16777216
+longest = 2 ^ 63 - 1
 
 -- its bits are those of values of its type, and an array is not too long
 abbrev pub IsPackable : Argument → Type 0

@@ -11,8 +11,8 @@ use byteorder::{ByteOrder, LittleEndian};
 use isp_base::{Argument, Array, Bound, Cells, Elem, Parameter, Signature, Value, low_mask};
 use std::alloc::{AllocError, Global};
 
-/// The elements that an array may have.
-const LONGEST: u64 = 16_777_216;
+/// The elements that an array may have: as many as one of the machine can.
+const LONGEST: u64 = (1 << 63) - 1;
 
 /// The bytes of a value, and of the number of elements that begins an array.
 pub(crate) const WORD: usize = 8;
@@ -25,7 +25,7 @@ pub(crate) const WORD: usize = 8;
 ///
 /// The first fault in the order of the bytes is answered: `Short` where they end before a parameter
 /// does, `OutOfRange` for a number that the type does not have, `TooLong` for an array of more than
-/// 16,777,216 elements, `Long` for bytes behind the last parameter. `Memory` takes the place of what
+/// 2^63 - 1 elements, `Long` for bytes behind the last parameter. `Memory` takes the place of what
 /// would follow.
 pub fn unpack(alloc: Global, signature: &Signature, bytes: &[u8]) -> Result<Bound, PackedFault>
     ensures ok { IfOk result (λ b. unpacked_of signature.now.params.items bytes.now
@@ -173,7 +173,11 @@ fn elements(
             element,
         });
     }
-    let end = size(elem) * count;
+    // A usize counts them, and more elements than it counts are not there.
+    let _room = bytes.len();
+    let Some(end) = size(elem).checked_mul(count) else {
+        return Err(PackedFault::Short { parameter: number });
+    };
     if bytes.len() < end {
         return Err(PackedFault::Short { parameter: number });
     }

@@ -21,8 +21,8 @@ pub enum PackedFault {
     /// width. Where the parameter is no array, the element is 0.
     #[error("element {element} of parameter {parameter} is no value of its type")]
     OutOfRange { parameter: usize, element: usize },
-    /// An array of more than 16,777,216 elements.
-    #[error("parameter {parameter} has more than 16777216 elements")]
+    /// An array of more than 2^63 - 1 elements: no array of the machine has so many.
+    #[error("parameter {parameter} has more than 9223372036854775807 elements")]
     TooLong { parameter: usize },
 }
 

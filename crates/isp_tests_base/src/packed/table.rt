@@ -38,8 +38,14 @@ bool[];3 0 0 0 0 0 0 0 1 0;the bytes end before parameter 0 does
 bool[];2 0 0 0 0 0 0 0 1 0 2;there are bytes behind the last parameter
 uint16[];3 0 0 0 0 0 0 0 1 0 2 0 3;the bytes end before parameter 0 does
 uint8[];0 0 0 1 0 0 0 0;the bytes end before parameter 0 does
-uint8[];1 0 0 1 0 0 0 0;parameter 0 has more than 16777216 elements
-uint64[];255 255 255 255 255 255 255 255;parameter 0 has more than 16777216 elements
+uint8[];1 0 0 1 0 0 0 0;the bytes end before parameter 0 does
+uint8[];255 255 255 255 255 255 255 127;the bytes end before parameter 0 does
+uint64[];255 255 255 255 255 255 255 31;the bytes end before parameter 0 does
+uint64[];0 0 0 0 0 0 0 32;the bytes end before parameter 0 does
+uint64[];1 0 0 0 0 0 0 32 9 9 9 9 9 9 9 9;the bytes end before parameter 0 does
+bool[];255 255 255 255 255 255 255 127 1 2;element 1 of parameter 0 is no value of its type
+uint8[];0 0 0 0 0 0 0 128;parameter 0 has more than 9223372036854775807 elements
+uint64[];255 255 255 255 255 255 255 255;parameter 0 has more than 9223372036854775807 elements
 ;;{\"arrays\":{},\"result\":null}
 ;0;there are bytes behind the last parameter
 int8;1 0 0 0 0 0 0;the bytes end before parameter 0 does
