@@ -85,7 +85,7 @@ fn of_the_table(rt: HostRuntime) -> Result<(), Fail> {
         check_line(&rt, rt.alloc(), line)?;
         lines = lines.saturating_add(1);
     }
-    assert_eq!(rt; lines, 46);
+    assert_eq!(rt; lines, 52);
     Ok(())
 }
 
