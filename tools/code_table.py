@@ -3,13 +3,16 @@
 
 Each line of the table of instructions in docs/MACHINE.md stands here once with what it asks of each
 operand. A wrong instruction differs from a right one in one operand: it is not there (40), has
-another class, or has another type, kind or value (41). Nothing is taken from the crates. Run it at
-the top of the repository:
+another class, or has another type, kind or value (41). Nothing is taken from the crates.
 
-    python3 tools/code_table.py
+    python3 tools/code_table.py             writes them, and prints how many are wrong; `rt fmt` lays them out
+    python3 tools/code_table.py --check     ends with status 1 where one is stale
 """
+import sys
 
-import instr_fields
+sys.dont_write_bytecode = True
+import instr_fields  # noqa: E402
+import written  # noqa: E402
 
 # The registers of the function that the tests use: class, number, type.
 #   s0 i32 (a parameter), s1 i32, s2 bool, s3 i64, s4 u8;  v0 i32, v1 i32, v2 bool, v3 i64, v4 u8;  m0, m1
@@ -239,12 +242,8 @@ pub enum Six {
         form = f"({group.capitalize()}" + ", Register" * (4 if group == "five" else 5)
         rest += static(name, form + ", u32)", fine, doc)
         rest += static(f"WRONG_{name}", form + ", u32, Rule)", wrong, "What is wrong of them.")
-    with open("crates/isp_tests_code/src/codes/table.rt", "w") as file:
-        file.write(out.rstrip() + "\n")
-    with open("crates/isp_tests_code/src/codes/vectors.rt", "w") as file:
-        file.write(lanes.rstrip() + "\n")
-    with open("crates/isp_tests_code/src/codes/others.rt", "w") as file:
-        file.write(rest.rstrip() + "\n")
+    files = {"table": out, "vectors": lanes, "others": rest}
+    written.put({f"crates/isp_tests_code/src/codes/{name}.rt": text.rstrip() + "\n" for name, text in files.items()})
     print(total, "wrong instructions")
 
 

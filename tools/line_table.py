@@ -2,12 +2,16 @@
 """Writes crates/isp_tests_machine/src/lines/table.rt: each line of the machine that computes, moves or stores, and what is seen of it.
 
 Each line stands here once, with what it gives by docs/MACHINE.md on lists of whole numbers, at each gang: the scalar that it
-writes; the lanes of m1 of the vector; v1 in the lanes of the mask; or all elements of a0 where it stores. Nothing is taken from the crates. Run it at the top of the repository:
+writes; the lanes of m1 of the vector; v1 in the lanes of the mask; or all elements of a0 where it stores. Nothing is taken from the crates.
 
-    python3 tools/line_table.py
+    python3 tools/line_table.py             writes it; `rt fmt` lays it out
+    python3 tools/line_table.py --check     ends with status 1 where it is stale
 """
+import sys
 
-import instr_fields
+sys.dont_write_bytecode = True
+import instr_fields  # noqa: E402
+import written  # noqa: E402
 
 # Of each four lanes: x in a0 and v1, y in a1, v2 and, as int64, v5; the lanes of m1, true in v0; those of m2, true in v4.
 X, Y, ON, OTHER = [3, -3, 7, 200], [3, 1, 2, 1], [1, 1, 0, 1], [0, 1, 1, 1]
@@ -216,21 +220,21 @@ use isp_code::{
 """
 
 
-def write():
-    with open("crates/isp_tests_machine/src/lines/table.rt", "w") as out:
-        out.write(HEAD)
-        for name, what, rows in (
-            ("VECTORS", "of lanes", vectors()),
-            ("SCALARS", "of scalars", scalars()),
-            ("MASKS", "of masks", masks()),
-            ("ACROSS", "across lanes", across()),
-            ("MEMORY", "of arrays", memory()),
-        ):
-            rows = list(rows)
-            out.write(f"/// Lines {what}.\npub(super) static {name}: [Line<'static>; {len(rows)}] = [\n")
-            out.write("".join(f"    {line},\n" for line, _ in rows))
-            texts = "\n".join(" ".join(f(Gang(lanes)) for lanes in (4, 8, 16, 32)) for _, f in rows)
-            out.write(f'];\n\n/// What is seen of them.\npub(super) const {name}_SEEN: &str = "{texts}";\n\n')
+def table():
+    """Gives the parts of the table."""
+    yield HEAD
+    for name, what, rows in (
+        ("VECTORS", "of lanes", vectors()),
+        ("SCALARS", "of scalars", scalars()),
+        ("MASKS", "of masks", masks()),
+        ("ACROSS", "across lanes", across()),
+        ("MEMORY", "of arrays", memory()),
+    ):
+        rows = list(rows)
+        yield f"/// Lines {what}.\npub(super) static {name}: [Line<'static>; {len(rows)}] = [\n"
+        yield "".join(f"    {line},\n" for line, _ in rows)
+        texts = "\n".join(" ".join(f(Gang(lanes)) for lanes in (4, 8, 16, 32)) for _, f in rows)
+        yield f'];\n\n/// What is seen of them.\npub(super) const {name}_SEEN: &str = "{texts}";\n\n'
 
 
-write()
+written.put({"crates/isp_tests_machine/src/lines/table.rt": "".join(table())})

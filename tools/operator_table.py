@@ -2,10 +2,15 @@
 """Writes crates/isp_tests_base/src/operators/table.rt: what each operator gives at the ends of each type.
 
 The numbers come from Python's whole numbers, of any size, and from the rules of the language;
-nothing here is taken from the crates. Run it at the top of the repository:
+nothing here is taken from the crates.
 
-    python3 tools/operator_table.py
+    python3 tools/operator_table.py             writes it
+    python3 tools/operator_table.py --check     ends with status 1 where it is stale
 """
+import sys
+
+sys.dont_write_bytecode = True
+import written  # noqa: E402
 
 TYPES = [
     ("bool", 1, False),
@@ -20,6 +25,11 @@ TYPES = [
 ]
 BINARY = ["Add", "Sub", "Mul", "Div", "Rem", "And", "Or", "Xor", "Shl", "Shr"]
 UNARY = ["Negate", "Invert", "Absolute", "Not"]
+HEAD = """//! The operators at the ends of each type. Written by `tools/operator_table.py`.
+
+/// For each type the values that are tried, in the order of their numbers; for each operator on two values its result at
+/// each pair, a dash where it divides by zero; for each on one value its result at each; and each value in each type.
+"""
 
 
 def ends(width, signed):
@@ -82,12 +92,8 @@ def lines(type_name, width, signed):
 
 
 def main():
-    with open("crates/isp_tests_base/src/operators/table.rt", "w", encoding="utf-8") as file:
-        print("//! The operators at the ends of each type. Written by `tools/operator_table.py`.\n", file=file)
-        print("/// For each type the values that are tried, in the order of their numbers; for each operator on two values its result at", file=file)
-        print("/// each pair, a dash where it divides by zero; for each on one value its result at each; and each value in each type.", file=file)
-        text = "\n".join(text for type_ in TYPES for text in lines(*type_))
-        print(f'pub(super) const TABLE: &str = "{text}";', file=file)
+    text = "\n".join(text for type_ in TYPES for text in lines(*type_))
+    written.put({"crates/isp_tests_base/src/operators/table.rt": f'{HEAD}pub(super) const TABLE: &str = "{text}";\n'})
 
 
 main()

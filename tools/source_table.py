@@ -3,11 +3,15 @@
 
 Each call of the library stands here once with what it takes and gives, as docs/LANGUAGE.md has it,
 and each fault of names, types and rates once; the rows hold each call with each kind of wrong
-argument, each packed call with a wrong number of arguments, and each two faults in either order. Nothing is taken from the crates. Run it at the top
-of the repository:
+argument, each packed call with a wrong number of arguments, and each two faults in either order. Nothing is taken from the crates.
 
-    python3 tools/source_table.py
+    python3 tools/source_table.py             writes them
+    python3 tools/source_table.py --check     ends with status 1 where one is stale
 """
+import sys
+
+sys.dont_write_bytecode = True
+import written  # noqa: E402
 
 # What each argument is: x a value, i a uniform value. What comes out: uniform, varying, or as the arguments are.
 CALLS = {
@@ -71,11 +75,10 @@ FRAME = (
 )
 
 
-def file(name, says, rows):
-    with open(f"crates/isp_tests_cases/data/{name}.rows", "w") as out:
-        out.write(f". {says}.\n. Written by tools/source_table.py from the rules of the language.\n=== {says.lower()}\nframe {FRAME}\n")
-        for row in rows:
-            out.write(f"{row}\n")
+def file(says, rows):
+    """Returns the text of a file of rows."""
+    head = f". {says}.\n. Written by tools/source_table.py from the rules of the language.\n=== {says.lower()}\nframe {FRAME}\n"
+    return head + "".join(f"{row}\n" for row in rows)
 
 
 def call(name, arguments):
@@ -138,6 +141,9 @@ def pairs():
                 yield f"refuses {first}|{one} {other.translate(bare)}"
 
 
-file("library", "Each call of the library, with each kind of wrong argument", library())
-file("packed", "Each packed call with a wrong number of arguments", packed())
-file("pairs", "Each two faults, in either order", pairs())
+FILES = {
+    "library": file("Each call of the library, with each kind of wrong argument", library()),
+    "packed": file("Each packed call with a wrong number of arguments", packed()),
+    "pairs": file("Each two faults, in either order", pairs()),
+}
+written.put({f"crates/isp_tests_cases/data/{name}.rows": text for name, text in FILES.items()})

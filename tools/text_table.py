@@ -1,13 +1,16 @@
 #!/usr/bin/env python3
 """Writes crates/isp_tests_texts/data/faults.rows: texts that are those of no code, and some that are, with the fault of each.
 
-A reader of its own, written from docs/MACHINE.md (Code text), judges each text. Nothing is taken from the crates. Run it at the top of
-the repository:
+A reader of its own, written from docs/MACHINE.md (Code text), judges each text. Nothing is taken from the crates.
 
-    python3 tools/text_table.py
+    python3 tools/text_table.py             writes it, and the count of its texts in crates/isp_tests_texts/stdout
+    python3 tools/text_table.py --check     ends with status 1 where one is stale
 """
-
 import re
+import sys
+
+sys.dont_write_bytecode = True
+import written  # noqa: E402
 
 TYPES = "b i8 u8 i16 u16 i32 u32 i64 u64".split()
 
@@ -289,10 +292,8 @@ def main():
             seen.add(text)
             found = fault(text)
             out.append(text.replace("\n", "␤") + "|" + (f"{found[0]} {NAMES[found[0]]} at line {found[1]}" if found else "read"))
-    with open("crates/isp_tests_texts/data/faults.rows", "w") as file:
-        file.write("\n".join(out) + "\n")
-    with open("crates/isp_tests_texts/stdout", "w") as file:
-        file.write(f"faults.rows: {len(out)} texts\n")
+    rows_of = {"data/faults.rows": "\n".join(out) + "\n", "stdout": f"faults.rows: {len(out)} texts\n"}
+    written.put({f"crates/isp_tests_texts/{name}": text for name, text in rows_of.items()})
     print(len(out), "texts,", sum(row.endswith("|read") for row in out), "without a fault")
 
 
