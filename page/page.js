@@ -376,8 +376,14 @@ function edited() {
 
 // ---- pictures
 
+// The answer behind what the run wrote, which may end within a line: `arrays` and a brace stand nowhere else in it, as a parameter of
+// that name is a list.
+function answerOf(text) {
+    return JSON.parse(text.slice(text.lastIndexOf('{"arrays":{')));
+}
+
 function showPicture(text) {
-    const { arrays } = JSON.parse(text.trimEnd().split("\n").at(-1));
+    const { arrays } = answerOf(text);
     const names = Object.keys(arrays).filter((it) => arrays[it].length > 1);
     if (!names.length) {
         return;
