@@ -21,7 +21,9 @@ class Kept(unittest.TestCase):
     """Each test has a folder of its own for what is kept."""
 
     def setUp(self):
-        self.folder = pathlib.Path(self.enterContext(tempfile.TemporaryDirectory())) if hasattr(self, "enterContext") else self.temporary()
+        folder = tempfile.TemporaryDirectory()
+        self.addCleanup(folder.cleanup)
+        self.folder = pathlib.Path(folder.name)
         self.folder.chmod(0o700)
         self.cache, compiler = self.folder / "cache", self.folder / "compiler"
         compiler.write_text(COUNTED)
@@ -30,11 +32,6 @@ class Kept(unittest.TestCase):
         patched = unittest.mock.patch.dict(os.environ, told)
         patched.start()
         self.addCleanup(patched.stop)
-
-    def temporary(self):
-        folder = tempfile.TemporaryDirectory()
-        self.addCleanup(folder.cleanup)
-        return folder.name
 
     def compiled(self):
         """Returns how often the compiler has compiled."""

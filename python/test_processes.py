@@ -154,7 +154,6 @@ for _ in range(2):
         print("seen" if late < SECONDS else late, list(values))
     thread.join()
 print(isp.compile({PLUS!r}).f(a=array.array("i", range(4))))
-os._exit(0)
 """
 
 

@@ -121,7 +121,7 @@ def _check_apart(entry, found):
             last_written = array
 
 
-def packed(signature, given, found):
+def packed(entry, signature, given, found):
     """Returns the arguments as bytes, in the form of include/isp.h."""
     parts = []
     for it in signature.parameters:
@@ -129,7 +129,7 @@ def packed(signature, given, found):
             array = found[it.name]
             parts += [struct.pack("<Q", array.count), array.view if array.size else b""]
         else:
-            parts.append(struct.pack("<Q", number(it, given[it.name]) & (1 << it.bits) - 1))
+            parts.append(struct.pack("<Q", number(entry, it, given[it.name]) & (1 << it.bits) - 1))
     return bytearray().join(parts)
 
 
@@ -143,16 +143,17 @@ def unpack(answer, found):
         at += it.size
 
 
-def number(parameter, given):
+def number(entry, parameter, given):
     """Returns a value as a number that its type has."""
     if parameter.code == "b" and type(given).__module__ == "numpy" and type(given).__name__ in ("bool_", "bool"):
         given = bool(given)
+    asked = f"{entry}: {parameter.name} is {parameter.type}: wanted"
     try:
         found = operator.index(given)
     except TypeError:
-        raise TypeError(f"{parameter.name} is {parameter.type}: wanted an int or a bool, given {type(given).__name__}, not one") from None
+        raise TypeError(f"{asked} an int or a bool, given {type(given).__name__}") from None
     bits = parameter.bits
     low, high = (-(1 << bits - 1), 1 << bits - 1) if parameter.code.startswith("i") else (0, 1 << bits)
     if not low <= found < high:
-        raise OverflowError(f"{parameter.name} is {parameter.type}: wanted {low} to {high - 1}, given {found}, which has no {parameter.type}")
+        raise OverflowError(f"{asked} {low} to {high - 1}, given {found}")
     return found

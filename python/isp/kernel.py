@@ -56,6 +56,10 @@ class Function:
         self.kernel, self.name, self.budget = kernel, name, budget
 
     @property
+    def __name__(self) -> str:
+        return self.name
+
+    @property
     def signature(self) -> Signature:
         return self.kernel.signatures[self.name]
 
@@ -154,7 +158,7 @@ class Kernel:
     def _run(self, entry, budget, given):
         signature = self.signatures[entry]
         found = arguments.arrays(entry, signature, given)
-        packed = arguments.packed(signature, given, found)
+        packed = arguments.packed(entry, signature, given, found)
         status, report, output = self._made(entry, packed, self.budget if budget is None else budget)
         self._last.output = output
         self._room = max(library.ROOM, 2 * len(output))

@@ -58,7 +58,7 @@ class Native(Kernel):
                 _check_elements(entry, number, found[it.name])
                 words += [ctypes.c_void_p(found[it.name].at or ctypes.addressof(_NOTHING)), ctypes.c_uint64(found[it.name].count)]
             else:
-                words.append(_IN_C[it.code](arguments.number(it, given[it.name])))
+                words.append(_IN_C[it.code](arguments.number(entry, it, given[it.name])))
         result = _IN_C[code_of(signature.result)]() if signature.result else None
         words += [] if result is None else [ctypes.byref(result)]
         end, run, output = _called(getattr(self._calls, self._prefix + entry), words)
