@@ -141,6 +141,9 @@ class Calls(unittest.TestCase):
                 kernel.f(n=n)
                 self.assertEqual((n, counted.return_value.runs), (n, runs))
             self.assertEqual(kernel.output, b"".join(b"%d\n" % i for i in range(n)))
+        native = isp.load(kernel.code, native=True)
+        for n in (0, 1, 20000):
+            self.assertEqual(native.f.run(n=n).output, b"".join(b"%d\n" % i for i in range(n)))
 
     def test_signatures(self):
         kernel = isp.compile("export uniform int f(uniform uint8 a[], uniform int64 n) { return 1; } export void g() { } void h() { }")
@@ -298,7 +301,7 @@ class Refusals(unittest.TestCase):
             with self.assertRaises(isp.ArgumentsError) as found:
                 kernel.f(a=array.array("b"), b=given)
             fault = found.exception
-            self.assertEqual((fault.status, fault.number, fault.parameter, fault.element), (5, 75, 1, 2))
+            self.assertEqual((fault.status, fault.number, fault.parameter, fault.element, str(fault)), (5, 75, 1, 2, "75 OutOfRange"))
 
     def test_code(self):
         with self.assertRaises(isp.CodeError) as found:
@@ -329,9 +332,10 @@ class Refusals(unittest.TestCase):
 
 
 class Memory(unittest.TestCase):
-    def test_many_calls(self):
-        kernel, values = isp.compile(PLUS), array.array("i", range(4))
-        calls = int(os.environ.get("ISP_CALLS", "20000"))
+    """Many calls take no more memory than a few."""
+
+    def tried(self, kernel, calls):
+        values = array.array("i", range(4))
         for _ in range(2000):
             kernel.f(a=values)
         gc.collect()
@@ -340,6 +344,12 @@ class Memory(unittest.TestCase):
             kernel.f(a=values)
         gc.collect()
         self.assertLess(resident() - before, 1024)
+
+    def test_many_calls(self):
+        self.tried(isp.compile(PLUS), int(os.environ.get("ISP_CALLS", "20000")))
+
+    def test_many_native_calls(self):
+        self.tried(isp.compile('export void f(uniform int a[]) { a[0]++; print("% and a hundred more bytes than nothing at all\n", a[0]); }', native=True), 40000)
 
 
 def main():

@@ -17,6 +17,7 @@ THREADS = 16
 CALLS = int(os.environ.get("ISP_THREAD_CALLS", "100000"))
 SPEAKING = 'export uniform int f(uniform int a[], uniform int n) { a[0] += n; print("% %\\n", n, a[0]); return n * n; }'
 DIVIDING = "export void f(uniform int a[]) {\n    a[1] = 1 / a[1];\n}"
+LONG = "export void f(uniform int a[]) { uniform int x = a[0]; for (uniform int i = 0; i < 1000000000; i++) x = x * 1664525 + i; a[0] = x; a[1] = 7; }"
 ENDLESS = "export void f(uniform int a[]) { a[0] = 7; while (true) a[1]++; }"
 
 
@@ -134,14 +135,16 @@ class Threads(unittest.TestCase):
         self.tried(isp.compile(SPEAKING, native=True), CALLS)
 
 
-INTERRUPTED = f"""
+INTERRUPT = """
 import array, os, signal, threading, time, isp
-kernel, values = isp.compile({ENDLESS!r}), array.array("i", [1, 2])
-kernel.budget = 2**63
 def interrupt():
-    time.sleep(0.5)
+    time.sleep(0.2)
     sent.append(time.monotonic())
     os.kill(os.getpid(), signal.SIGINT)
+"""
+INTERRUPTED = f"""
+kernel, values = isp.compile({ENDLESS!r}), array.array("i", [1, 2])
+kernel.budget = 2**63
 for _ in range(2):
     sent = []
     thread = threading.Thread(target=interrupt)
@@ -155,16 +158,32 @@ for _ in range(2):
     thread.join()
 print(isp.compile({PLUS!r}).f(a=array.array("i", range(4))))
 """
+INTERRUPTED_NATIVE = f"""
+kernel, values, sent = isp.compile({LONG!r}, native=True), array.array("i", [1, 2]), []
+thread = threading.Thread(target=interrupt)
+try:
+    thread.start()
+    kernel.f(a=values)
+    print("ended", values[1])
+except KeyboardInterrupt:
+    print("seen", values[1])
+"""
 
 
 class CtrlC(unittest.TestCase):
-    """A run without end is left: the arrays are as they were, and the module can be used."""
+    def tried(self, text, wanted):
+        told = {**os.environ, "PYTHONPATH": str(ROOT / "python")}
+        ran = subprocess.run([sys.executable, "-c", INTERRUPT + text], capture_output=True, text=True, timeout=60, env=told)
+        self.assertEqual((ran.stdout, ran.stderr, ran.returncode), (wanted, "", 0))
 
     def test_library(self):
+        """A run without end is left: the arrays are as they were, the module can be used, and the program can end."""
         # (a tenth of a second where nothing else is at work)
-        ran = subprocess.run([sys.executable, "-c", INTERRUPTED.replace("SECONDS", "3")], capture_output=True, text=True, timeout=60,
-                             env={**os.environ, "PYTHONPATH": str(ROOT / "python")})
-        self.assertEqual((ran.stdout, ran.stderr), ("seen [1, 2]\nseen [1, 2]\nNone\n", ""))
+        self.tried(INTERRUPTED.replace("SECONDS", "3"), "seen [1, 2]\nseen [1, 2]\nNone\n")
+
+    def test_native(self):
+        """Native code is waited for."""
+        self.tried(INTERRUPTED_NATIVE, "seen 7\n")
 
 
 if __name__ == "__main__":

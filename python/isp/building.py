@@ -16,6 +16,8 @@ from . import library
 from .errors import NativeError
 
 _HEADERS = ("isp_machine.h", "isp_calls.h")
+# what takes the output, built with each kernel
+_OUTPUT = os.path.join(os.path.dirname(os.path.realpath(__file__)), "output.c")
 _FLAGS = "-O3 -march=native"
 
 
@@ -49,7 +51,7 @@ def _made(text, words, headers, to):
         source, made = os.path.join(folder, "kernel.c"), os.path.join(folder, "kernel.so")
         with open(source, "w", encoding="ascii") as file:
             file.write(text)
-        done = _ran([*words, "-shared", "-fPIC", "-I", headers, source, "-o", made])
+        done = _ran([*words, "-shared", "-fPIC", "-I", headers, source, _OUTPUT, "-o", made])
         if done.returncode:
             raise NativeError(f"the C compiler ended with status {done.returncode}: {done.stderr[:1000]}")
         os.chmod(made, 0o700)
@@ -104,8 +106,8 @@ def _processor():
 def _key(text, words, headers):
     """Returns a name for what these words make of a C file, on this processor."""
     parts = [*words, _version(*_compiler()), platform.machine(), _processor(), text]
-    for name in _HEADERS:
-        with open(os.path.join(headers, name), encoding="utf-8") as file:
+    for path in (_OUTPUT, *(os.path.join(headers, name) for name in _HEADERS)):
+        with open(path, encoding="utf-8") as file:
             parts.append(file.read())
     whole = hashlib.sha256()
     for part in parts:

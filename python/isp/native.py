@@ -12,7 +12,6 @@ from .signatures import code_of
 _ENDED, _TRAPPED = 0, 1
 # what stands before the name of an exported function in the C file; before, in those that older libraries write
 PREFIX, OLDER_PREFIX = "kernel_", "isp_"
-_WRITE = ctypes.CFUNCTYPE(ctypes.c_bool, ctypes.c_void_p, ctypes.c_void_p, ctypes.c_size_t)
 _IN_C = {
     "b": ctypes.c_bool, "i8": ctypes.c_int8, "u8": ctypes.c_uint8, "i16": ctypes.c_int16, "u16": ctypes.c_uint16, "i32": ctypes.c_int32,
     "u32": ctypes.c_uint32, "i64": ctypes.c_int64, "u64": ctypes.c_uint64,
@@ -24,9 +23,15 @@ _NOTHING = ctypes.c_uint64()
 class _Run(ctypes.Structure):
     """`struct isp_run` of include/isp_machine.h."""
 
-    _fields_ = [("write", _WRITE), ("to", ctypes.c_void_p), ("kind", ctypes.c_int)]
+    _fields_ = [("write", ctypes.c_void_p), ("to", ctypes.c_void_p), ("kind", ctypes.c_int)]
     _fields_ += [(name, ctypes.c_uint32) for name in ("start", "end", "instance")]
     _fields_ += [("steps", ctypes.c_uint64), ("most_steps", ctypes.c_uint64)]
+
+
+class _Output(ctypes.Structure):
+    """`struct isp_output` of output.c."""
+
+    _fields_ = [("bytes", ctypes.c_void_p), ("used", ctypes.c_size_t), ("room", ctypes.c_size_t)]
 
 
 class Native(Kernel):
@@ -34,7 +39,7 @@ class Native(Kernel):
 
     - The arrays are not copied. Each must lie at a multiple of its items' size (TypeError).
     - There is no budget: a loop without an end does not end, and Ctrl-C is seen when the call has ended.
-    - The code is the proved one; of the C compiler and of include/isp_machine.h nothing is proved (docs/EMBEDDING.md).
+    - The code is the proved one; of the C compiler, of include/isp_machine.h and of output.c nothing is proved (docs/EMBEDDING.md).
 
     The compiler is `clang`, else `gcc` or `cc`, or what the environment's CC says, with `-O3 -march=native` or what CFLAGS says. What it
     made is kept in the user's cache folder. isp_machine.h is looked for in the folder `include`, or where ISP_INCLUDE says.
@@ -45,6 +50,7 @@ class Native(Kernel):
         status, self.c_text, report = library.c_file(self._text)
         library.raise_else(status, report)
         self._calls = built(self.c_text)
+        self._write = ctypes.cast(self._calls.isp_output_write, ctypes.c_void_p)
         self._prefix = PREFIX if f"\nenum isp_end {PREFIX}" in self.c_text else OLDER_PREFIX
 
     def _run(self, entry, budget, given):
@@ -61,7 +67,7 @@ class Native(Kernel):
                 words.append(_IN_C[it.code](arguments.number(entry, it, given[it.name])))
         result = _IN_C[code_of(signature.result)]() if signature.result else None
         words += [] if result is None else [ctypes.byref(result)]
-        end, run, output = _called(getattr(self._calls, self._prefix + entry), words)
+        end, run, output = self._called(getattr(self._calls, self._prefix + entry), words)
         self._last.output = output
         if end == _TRAPPED:
             raise self._trap(run, output)
@@ -69,20 +75,21 @@ class Native(Kernel):
             raise MemoryError("isp: memory")
         return Result(None if result is None else result.value, output)
 
+    def _called(self, call, words):
+        """Calls an exported function; returns how it ended, its run, and what it wrote."""
+        held = _Output()
+        run = _Run(write=self._write, to=ctypes.addressof(held))
+        try:
+            end = call(ctypes.byref(run), *words)
+            return end, run, ctypes.string_at(held.bytes, held.used) if held.used else b""
+        finally:
+            self._calls.isp_output_free(ctypes.byref(held))
+
     def _trap(self, run, output):
         """Returns the trap that a run ended with."""
         why = Why(trap=run.kind + 1, begin=run.start, end=run.end, instance=run.instance)
         text = f"trap {errors.KINDS[why.trap]} at {run.start}..{run.end}, instance {run.instance}"
         return errors.Trap(text, why, self.source, output)
-
-
-def _called(call, words):
-    """Calls an exported function; returns how it ended, its run, and what it wrote."""
-    pieces = []
-    write = _WRITE(lambda to, at, count: pieces.append(ctypes.string_at(at, count)) is None)
-    run = _Run(write=write)
-    end = call(ctypes.byref(run), *words)
-    return end, run, b"".join(pieces)
 
 
 def _check_elements(entry, number, array):
