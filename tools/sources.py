@@ -3,7 +3,7 @@
 
     tools/sources.py                 prints the hash of each crate's sources
     tools/sources.py ARTEFACT        says whether isp, ispx, libisp.so or libisp.a was released from the sources that are here
-    tools/sources.py --state NAME    prints in one word which program is of these sources: `released`, `built` (in the crate's out/), or `none`
+    tools/sources.py --state NAME    prints which program is of these sources: `released`, `built` (in the crate's out/), or the hash of the sources
 
 A crate's hash covers its line of crates.txt and every file of its folders src, specs and proofs, by its name and its bytes. No date, no
 path above the crate and nothing that was built changes it. What an artefact stands on is its crate with all crates below it, and for the
@@ -133,10 +133,9 @@ def manifest(file=MANIFEST):
     return about, artefacts
 
 
-def is_released(name, root=ROOT):
-    """Returns whether the sources here are those that the artefact of release/ was built of."""
-    said = manifest(f"{root}/release/MANIFEST")[1].get(name)
-    return bool(said) and said["sources"] == sources_of(ARTEFACTS[name], root)
+def is_released(name, total):
+    """Returns whether the artefact of release/ was built of the sources with this hash."""
+    return manifest()[1].get(name, {}).get("sources") == total
 
 
 def newest(crates, root=ROOT):
@@ -157,7 +156,8 @@ def is_built(name, root=ROOT):
 
 def main(words):
     if words[:1] == ["--state"] and words[1:] in (["isp"], ["ispx"]):
-        print("released" if is_released(words[1]) else "built" if is_built(words[1]) else "none")
+        total = sources_of(ARTEFACTS[words[1]])
+        print("released" if is_released(words[1], total) else "built" if is_built(words[1]) else total)
         return 0
     if not words:
         for crate, found in hashes(listed()).items():
@@ -166,7 +166,7 @@ def main(words):
     if len(words) != 1 or words[0] not in ARTEFACTS:
         print(f"usage: tools/sources.py [{' | '.join(ARTEFACTS)} | --state NAME]", file=sys.stderr)
         return 2
-    same = is_released(words[0])
+    same = is_released(words[0], sources_of(ARTEFACTS[words[0]]))
     print(f"{words[0]}: the sources are {'' if same else 'not '}those of the release")
     return 0 if same else 1
 

@@ -1,7 +1,8 @@
 #!/usr/bin/env python3
 """What bin/isp and bin/ispx do where the sources are neither those of the release nor those of the built program.
 
-    tools/unproved.py NAME RELEASED WORD..     answers as the program NAME would; RELEASED is the released program, or empty
+    tools/unproved.py NAME SOURCES RELEASED WORD..     answers as the program NAME would; SOURCES is the hash of its sources (tools/sources.py),
+                                                       RELEASED the released program, or empty
 
 The toolchain's run without proof, `rt try`, builds a program that checks itself while it runs. That takes a minute or two. The program is
 kept below a folder of the user, by the hash of the sources, so that it is built once for each change of them. A line on standard error says
@@ -123,13 +124,13 @@ def build(name, folder, program):
             os.replace(f"{work}/kept", program)
 
 
-def answer(name, released, words):
-    known = at_once(released, words)
-    if known is not None:
-        return known
-    folder = f"{folder_for_programs()}/{sources.sources_of(sources.ARTEFACTS[name])}"
+def answer(name, total, released, words):
+    folder = f"{folder_for_programs()}/{total}"
     program = f"{folder}/{name}-not-proved"
     if not os.path.exists(program):
+        known = at_once(released, words)
+        if known is not None:
+            return known
         if not shutil.which("rt"):
             stop(NO_RT)
         build(name, folder, program)
@@ -140,9 +141,9 @@ def answer(name, released, words):
 def main(words):
     for number in (signal.SIGTERM, signal.SIGHUP):
         signal.signal(number, lambda it, _: sys.exit(128 + it))
-    if len(words) < 2 or words[0] not in TRIAL:
-        stop("usage: tools/unproved.py NAME RELEASED WORD..")
-    return answer(words[0], words[1], words[2:])
+    if len(words) < 3 or words[0] not in TRIAL:
+        stop("usage: tools/unproved.py NAME SOURCES RELEASED WORD..")
+    return answer(words[0], words[1], words[2], words[3:])
 
 
 if __name__ == "__main__":
