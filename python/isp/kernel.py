@@ -1,6 +1,7 @@
 """Kernels, run by the library."""
 from __future__ import annotations
 
+import functools
 import operator
 import re
 import threading
@@ -172,14 +173,18 @@ class Kernel:
         return Result(value_of(signature.result, report.result), output)
 
     def _made(self, entry, packed, budget):
-        """Makes a run: a long one by a thread of its own where this one is to see Ctrl-C. Which are long is found by a short budget, that
-        leaves the arguments as they were."""
-        words = self._text, entry, packed
-        if budget <= SHORT or not library.is_interruptible():
-            return library.run(*words, budget, self._room)
-        if entry not in self._long:
-            short = library.run(*words, SHORT, self._room)
-            if short[0] != errors.BUDGET:
-                return short
-            self._long.add(entry)
-        return library.interruptible(library.run, *words, budget, self._room)
+        """Makes a run, once more where the output had no room: a long one by a thread of its own where this one is to see Ctrl-C. Which are
+        long is found by a short budget, that leaves the arguments as they were."""
+        call, words, room = library.run, (self._text, entry, packed), self._room
+        if budget > SHORT and library.is_interruptible():
+            if entry not in self._long:
+                done = call(*words, SHORT, room)
+                if done[0] not in (errors.BUDGET, errors.ROOM):
+                    return done
+                self._long.add(entry)
+                room = max(room, done[1].used)
+            call = functools.partial(library.interruptible, call)
+        done = call(*words, budget, room)
+        while done[0] == errors.ROOM:
+            done = call(*words, budget, done[1].used)
+        return done

@@ -113,15 +113,13 @@ def _written(call):
 
 def run(code, entry, packed, budget, room):
     """Runs an entry over its arguments as bytes, a bytearray, with so much room for the output; returns the status, the report and the
-    output. Where the output has more bytes than the room, the run is made once more."""
-    job, report, size = Job(Text.of(entry), budget), Report(used=room), len(packed)
+    output. With the status ROOM nothing was changed, and report.used is the room that is wanted."""
+    job, report, size = Job(Text.of(entry), budget), Report(), len(packed)
     held = (ctypes.c_char * max(1, size)).from_buffer(packed if size else bytearray(1))
-    while True:
-        output = ctypes.create_string_buffer(max(1, report.used))
-        status = library().isp_run(code, len(code), ctypes.byref(job), held, size, output, len(output), ctypes.byref(report))
-        if status != errors.ROOM:
-            given = status in (errors.OK, errors.TRAP, errors.BUDGET)
-            return status, report, ctypes.string_at(output, report.used) if given else b""
+    output = ctypes.create_string_buffer(room)
+    status = library().isp_run(code, len(code), ctypes.byref(job), held, size, output, room, ctypes.byref(report))
+    given = status in (errors.OK, errors.TRAP, errors.BUDGET)
+    return status, report, ctypes.string_at(output, report.used) if given else b""
 
 
 # ---- Ctrl-C
