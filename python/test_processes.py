@@ -1,6 +1,7 @@
 """Kernels in threads and in other processes, and Ctrl-C."""
 import array
 import concurrent.futures
+import logging
 import multiprocessing
 import os
 import pickle
@@ -95,7 +96,8 @@ class Exceptions(unittest.TestCase):
                 self.assertEqual(pool.submit(kernel.f.run, a=array.array("i", [1]), n=5).result(), isp.Result(25, b"5 6\n"))
 
     def test_dask(self):
-        cluster = distributed.LocalCluster(n_workers=1, threads_per_worker=1, host="127.0.0.1", dashboard_address=None, processes=True)
+        quiet = {"dashboard_address": None, "silence_logs": logging.CRITICAL}
+        cluster = distributed.LocalCluster(n_workers=1, threads_per_worker=1, host="127.0.0.1", processes=True, **quiet)
         with cluster, distributed.Client(cluster) as client:
             self.tried(lambda function, given: client.submit(function, pure=False, **given).result())
             kernel = isp.compile(SPEAKING)
