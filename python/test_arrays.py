@@ -243,10 +243,11 @@ class Long(unittest.TestCase):
     def test_picture(self):
         """Three colours of 3840 x 2160 pixels are one array."""
         picture = numpy.random.default_rng(1).integers(0, 256, (3, 2160, 3840), numpy.uint8)
-        wanted = numpy.minimum(picture.astype(int) + 50, 255)
-        kernel = isp.compile(self.SOURCE, gang=32, native=True)
-        kernel.lit(a=picture, count=picture.size)
-        self.assertTrue(numpy.array_equal(picture, wanted))
+        wanted = numpy.minimum(picture.astype(numpy.uint16) + 50, 255)
+        for native in (False, True):
+            kernel, given = isp.compile(self.SOURCE, gang=32, native=native), picture.copy()
+            kernel.lit(a=given, count=given.size)
+            self.assertTrue(numpy.array_equal(given, wanted))
 
     def longest(self, kernel, count):
         """The last elements of an array of so many, and the first that it does not have. (A page of memory is there once it is used.)"""
@@ -261,6 +262,11 @@ class Long(unittest.TestCase):
         kernel = isp.compile(self.SOURCE, native=True)
         for count in (2**31 + 5, 2**32 + 5):
             self.longest(kernel, count)
+
+    if os.environ.get("ISP_LARGE"):
+
+        def test_longest(self):
+            self.longest(isp.compile(self.SOURCE), 2**31 + 5)
 
 
 if __name__ == "__main__":

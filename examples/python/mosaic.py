@@ -97,10 +97,7 @@ def main():
     if cluster is not None:
         cluster.close()
     kernel.budget = 2**63
-    whole = picture.reshape(-1)
-    for first in range(0, whole.size, 1 << 24):  # an array has 16,777,216 elements at most
-        part = whole[first : first + (1 << 24)]
-        kernel.brighten(pixels=part, count=part.size, level=LEVEL)
+    kernel.brighten(pixels=picture, count=picture.size, level=LEVEL)
     same = numpy.array_equal(tiled, picture)
     print("the tiles are the whole" if same else "the tiles differ from the whole")
     return not same
