@@ -172,9 +172,10 @@ class Calls(unittest.TestCase):
             }
             export void packed(uniform int a[], uniform int b[]) { packed_store_active(a, b[programIndex]); }
             export void loaded(uniform int a[], uniform int b[]) { int v; packed_load_active(a, &v); b[programIndex] = v; }
-            export void self(uniform int a[], uniform int n, uniform int b[]) { if (n > 0) { self(b, n - 1, a); } b[0] = 1; }""")
+            export void self(uniform int a[], uniform int n, uniform int b[], const uniform int c[]) { if (n > 0) { self(b, n - 1, a, c); } b[0] = 1; }
+            export void round(uniform int a[], uniform int b[], uniform int c[], uniform int n) { if (n > 0) { round(b, c, a, n - 1); } c[0] = 1; }""")
         written = {name: "".join(it.name for it in signature.parameters if it.is_written) for name, signature in kernel.signatures.items()}
-        self.assertEqual(written, {"f": "ab", "g": "", "each": "abc", "packed": "a", "loaded": "b", "self": "ab"})
+        self.assertEqual(written, {"f": "ab", "g": "", "each": "abc", "packed": "a", "loaded": "b", "self": "ab", "round": "abc"})
 
     def test_code(self):
         kernel = isp.compile(PLUS, gang=8)

@@ -140,11 +140,12 @@ class Threads(unittest.TestCase):
 INTERRUPT = """
 import array, os, signal, threading, time, isp
 def interrupt():
-    time.sleep(0.2)
+    time.sleep(WAITED)
     sent.append(time.monotonic())
     os.kill(os.getpid(), signal.SIGINT)
 """
 INTERRUPTED = f"""
+WAITED = 1
 kernel, values = isp.compile({ENDLESS!r}), array.array("i", [1, 2])
 kernel.budget = 2**63
 for _ in range(2):
@@ -161,6 +162,7 @@ for _ in range(2):
 print(isp.compile({PLUS!r}).f(a=array.array("i", range(4))))
 """
 INTERRUPTED_NATIVE = f"""
+WAITED = 0.2
 kernel, values, sent = isp.compile({LONG!r}, native=True), array.array("i", [1, 2]), []
 thread = threading.Thread(target=interrupt)
 try:
