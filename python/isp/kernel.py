@@ -53,7 +53,7 @@ class Function:
 
     __slots__ = ("kernel", "name", "budget")
 
-    def __init__(self, kernel: "Kernel", name: str, budget: Optional[int] = None):
+    def __init__(self, kernel: Kernel, name: str, budget: Optional[int] = None):
         self.kernel, self.name, self.budget = kernel, name, budget
 
     @property
@@ -62,12 +62,14 @@ class Function:
 
     @property
     def signature(self) -> Signature:
+        """What it takes and gives."""
         return self.kernel.signatures[self.name]
 
     def __repr__(self):
         return f"<{self.name}{self.signature}>"
 
     def __call__(self, /, **arguments):
+        """Makes a call, and returns what the function returns: an int, a bool or None."""
         return self.run(**arguments).value
 
     def run(self, /, **arguments) -> Result:
@@ -77,7 +79,7 @@ class Function:
             budget = arguments.pop("_budget")
         return self.kernel._run(self.name, None if budget is None else checked_budget(budget), arguments)
 
-    def within(self, budget: int) -> "Function":
+    def within(self, budget: int) -> Function:
         """Returns the same function with a budget of its own; ValueError for a number that is none."""
         return Function(self.kernel, self.name, checked_budget(budget))
 
