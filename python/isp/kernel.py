@@ -164,7 +164,7 @@ class Kernel:
         packed = arguments.packed(entry, signature, given, found)
         status, report, output = self._made(entry, packed, self.budget if budget is None else budget)
         self._last.output = output
-        self._room = max(library.ROOM, 2 * len(output))
+        self._room = max(library.ROOM, len(output) + len(output) // 4)
         if status in (errors.OK, errors.TRAP):
             arguments.unpack(packed, found)
         if status == errors.TRAP:

@@ -101,6 +101,11 @@ def c_file(code):
     return _written(lambda room, size, report: library().isp_native(code, len(code), room, size, report))
 
 
+def first_bytes(room, count):
+    """Returns so many bytes of a room. (ctypes.string_at takes a C int, which has no 2^31.)"""
+    return memoryview(room)[:count].tobytes()
+
+
 def _written(call):
     """Makes a call that writes a text, with room enough; returns the status, the text and the report."""
     report = Report(used=ROOM)
@@ -108,7 +113,7 @@ def _written(call):
         room = ctypes.create_string_buffer(max(1, report.used))
         status = call(room, len(room), ctypes.byref(report))
         if status != errors.ROOM:
-            return status, ctypes.string_at(room, report.used).decode() if status == errors.OK else "", report
+            return status, first_bytes(room, report.used).decode() if status == errors.OK else "", report
 
 
 def run(code, entry, packed, budget, room):
@@ -119,7 +124,7 @@ def run(code, entry, packed, budget, room):
     output = ctypes.create_string_buffer(room)
     status = library().isp_run(code, len(code), ctypes.byref(job), held, size, output, room, ctypes.byref(report))
     given = status in (errors.OK, errors.TRAP, errors.BUDGET)
-    return status, report, ctypes.string_at(output, report.used) if given else b""
+    return status, report, first_bytes(output, report.used) if given else b""
 
 
 # ---- Ctrl-C

@@ -81,7 +81,7 @@ class Native(Kernel):
         run = _Run(write=self._write, to=ctypes.addressof(held))
         try:
             end = call(ctypes.byref(run), *words)
-            return end, run, ctypes.string_at(held.bytes, held.used) if held.used else b""
+            return end, run, (ctypes.c_char * held.used).from_address(held.bytes).raw if held.used else b""
         finally:
             self._calls.isp_output_free(ctypes.byref(held))
 
