@@ -7,9 +7,10 @@
  * remembers anything, so several threads may make calls at once, each over memory of its own.
  *
  * What a caller owes, and no call can check:
- *   - A pointer goes with a size, and that many bytes are there. No pointer is NULL, not even where its size is 0: pass "".
- *   - What a call writes, a room, a struct or `packed`, overlaps nothing else that it is passed.
+ *   - A pointer goes with a size, and that many bytes are there. Where the size is 0 the pointer may be NULL. A pointer to a struct is not.
+ *   - What a call writes, a room, a struct or `packed`, overlaps nothing else that it is passed. Rooms may stand side by side, at any address.
  *   - malloc, realloc and free are those of one allocator. No call is made from a signal handler.
+ *   - The thread has ISP_STACK bytes of stack left.
  *
  * The machine is x86-64 Linux: the little end of a number comes first.
  */
@@ -24,6 +25,9 @@
 #ifdef __cplusplus
 extern "C" {
 #endif
+
+/* The stack that any call takes at most, in bytes (examples/c/stack.c measures it). */
+#define ISP_STACK (1024 * 1024)
 
 /* What every call gives back. Up to 9 they are the statuses of the program `isp` (README.md); docs/FAULTS.md has each
  * fault by its number, with what to do. */
@@ -138,7 +142,8 @@ uint8_t isp_trace(const char *code, size_t code_size, const struct isp_trace *tr
  *
  * `packed` has the arguments in the order of the parameters, with nothing between: a value in 8 bytes; an array as 8 bytes
  * with the number of its elements and then the elements, each in the bytes of its type (bool in 1, as 0 or 1). Behind a run
- * it begins with the arrays alone, in the same form, in their order, which never takes more; the bytes behind them stay.
+ * it begins with the arrays alone, in the same form, in their order, which never takes more; the bytes behind them stay. An array has
+ * up to 2^63 - 1 elements.
  *
  * Each of these goes from `at` on, and gives the place behind. */
 
@@ -199,6 +204,15 @@ struct isp_streams {
     struct isp_used used;
 };
 
+/* The name of a function as a word of a command. No function's name has a byte past 127, and no function has the empty name. */
+static inline struct isp_text isp_name(struct isp_text entry)
+{
+    for (size_t i = 0; i < entry.size; i++)
+        if ((unsigned char)entry.at[i] > 127)
+            return isp_string("");
+    return entry;
+}
+
 /* A number in decimal. `digits` has room for 21 bytes. */
 static inline struct isp_text isp_decimal(char *digits, uint64_t number)
 {
@@ -231,10 +245,10 @@ static inline uint8_t isp_json(struct isp_text source, uint32_t gang, struct isp
                                struct isp_streams *to)
 {
     char width[21], most[21];
-    struct isp_text words[] = {isp_string("run"), isp_string("--gang"), isp_decimal(width, gang), isp_string("--budget"),
-                               isp_decimal(most, budget), isp_string("source"), entry, isp_string("arguments")};
+    struct isp_text words[] = {isp_string("run"), isp_string("--gang"), isp_decimal(width, gang), isp_string("--budget"), isp_decimal(most, budget),
+                               isp_string("--"), isp_string("source"), isp_name(entry), isp_string("arguments")};
     struct isp_file files[] = {{isp_string("source"), source}, {isp_string("arguments"), json}};
-    return isp_command(words, 8, files, 2, to->out, to->out_room, to->err, to->err_room, &to->used);
+    return isp_command(words, 9, files, 2, to->out, to->out_room, to->err, to->err_room, &to->used);
 }
 
 /* `isp solo`: the answer in JSON of the instances one by one; a loop makes at most `turns` iterations each time it is
@@ -244,10 +258,10 @@ static inline uint8_t isp_solo(struct isp_text source, uint32_t gang, struct isp
                                struct isp_streams *to)
 {
     char width[21], most[21];
-    struct isp_text words[] = {isp_string("solo"), isp_string("--gang"), isp_decimal(width, gang), isp_string("--turns"),
-                               isp_decimal(most, turns), isp_string("source"), entry, isp_string("arguments")};
+    struct isp_text words[] = {isp_string("solo"), isp_string("--gang"), isp_decimal(width, gang), isp_string("--turns"), isp_decimal(most, turns),
+                               isp_string("--"), isp_string("source"), isp_name(entry), isp_string("arguments")};
     struct isp_file files[] = {{isp_string("source"), source}, {isp_string("arguments"), json}};
-    return isp_command(words, 8, files, 2, to->out, to->out_room, to->err, to->err_room, &to->used);
+    return isp_command(words, 9, files, 2, to->out, to->out_room, to->err, to->err_room, &to->used);
 }
 
 #ifdef __cplusplus

@@ -109,7 +109,9 @@ static void running(void)
     packed[4] = 1; /* above the width of an int */
     WANT(ran("f", 1000, packed, size, sizeof output) == ISP_ARGUMENTS && report.why.number == 75 && report.why.parameter == 0);
     packed[4] = 0;
-    uint64_t many = 16777217;
+    uint64_t most = ((uint64_t)1 << 63) - 1, many = (uint64_t)1 << 63;
+    memcpy(packed + 8, &most, 8);
+    WANT(ran("f", 1000, packed, size, sizeof output) == ISP_ARGUMENTS && report.why.number == 72 && report.why.parameter == 1);
     memcpy(packed + 8, &many, 8);
     WANT(ran("f", 1000, packed, size, sizeof output) == ISP_ARGUMENTS && report.why.number == 76 && report.why.parameter == 1);
     memcpy(packed, before, sizeof packed);
@@ -137,6 +139,25 @@ static void trapping(void)
     WANT(elements[0] == 5 && elements[3] == 5 && report.used == 1 && output[0] == 'x');
 }
 
+/* whether the kernel traps so for n = 0: the number, and the word that the line has */
+static int traps(const char *source, uint32_t trap, const char *word)
+{
+    unsigned char packed[8] = {0};
+    char begin[32];
+    kernel(source);
+    uint8_t status = ran("f", 100000, packed, sizeof packed, sizeof output);
+    snprintf(begin, sizeof begin, "isp: trap %s at ", word);
+    return status == ISP_TRAP && report.why.trap == trap && report.why.number == 0 && strncmp(report.line, begin, strlen(begin)) == 0;
+}
+
+static void each_trap(void)
+{
+    WANT(traps("export uniform int f(uniform int n) { return 7 / n; }", ISP_TRAP_DIVIDE, "divide"));
+    WANT(traps("export uniform int f(uniform int n) { uniform int a[3]; return a[n - 1]; }", ISP_TRAP_INDEX, "index"));
+    WANT(traps("export void f(uniform int n) { assert(n > 5); }", ISP_TRAP_ASSERT, "assert"));
+    WANT(traps("uniform int g(uniform int n) { return g(n + 1); } export uniform int f(uniform int n) { return g(n); }", ISP_TRAP_DEPTH, "depth"));
+}
+
 static void reading(void)
 {
     unsigned char packed[8] = {0};
@@ -145,6 +166,9 @@ static void reading(void)
     strcpy(code, "isp 1 gang 4\nfunc f export void\nm 1\njmp L1\nend\n");
     WANT(ran("f", 10, packed, 0, 0) == ISP_CODE && report.why.number == 42 && report.why.function == 0 && report.why.instruction == 0);
     WANT(strcmp(report.line, "isp: 42 BadJump in function 0, instruction 0\n") == 0);
+    strcpy(code, "isp 1 gang 4\nfunc f export void\nm 1\nret -\nend\nfunc g export void\ns i32\nm 1\nconst s0 1\nconst s0 2\njmp L9\nend\n");
+    WANT(ran("f", 10, packed, 0, 0) == ISP_CODE && report.why.number == 42 && report.why.function == 1 && report.why.instruction == 2);
+    WANT(strcmp(report.line, "isp: 42 BadJump in function 1, instruction 2\n") == 0);
     strcpy(code, "\xe9");
     WANT(ran("f", 10, packed, 0, 0) == ISP_TEXT && strcmp(report.line, "isp: cannot read code\n") == 0);
 }
@@ -234,6 +258,96 @@ static void commanding(void)
     WANT(isp_command(words, 2, &(struct isp_file){source, source}, 0, out, sizeof out, err, sizeof err, &to.used) == ISP_WORDS);
 }
 
+/* whether a command gave this line on standard output, or on standard error, and nothing else */
+static int gave(const struct isp_streams *to, const char *out, const char *err)
+{
+    return to->used.out == strlen(out) && memcmp(to->out, out, strlen(out)) == 0 && to->used.err == strlen(err) && memcmp(to->err, err, strlen(err)) == 0;
+}
+
+/* Each value goes where it belongs: the gang, the budget, the turns, and the entry, which is no option. */
+static void by_value(void)
+{
+    char out[4096], err[4096];
+    struct isp_streams to = {out, sizeof out, err, sizeof err, {0, 0}};
+    struct isp_text width = isp_string("export void f(uniform int a[]) { a[programIndex] = programCount; }");
+    struct isp_text f = isp_string("f"), eight = isp_string("{\"a\":[0,0,0,0,0,0,0,0]}");
+    WANT(isp_json(width, 8, f, eight, 1000, &to) == ISP_OK && gave(&to, "{\"arrays\":{\"a\":[8,8,8,8,8,8,8,8]},\"result\":null}\n", ""));
+    WANT(isp_solo(width, 8, f, eight, 1000, &to) == ISP_OK && gave(&to, "{\"arrays\":{\"a\":[8,8,8,8,8,8,8,8]},\"result\":null}\n", ""));
+    WANT(isp_asm(width, 8, &to) == ISP_OK && memcmp(out, "isp 1 gang 8\n", 13) == 0);
+    WANT(isp_check(width, 9, &to) == ISP_WORDS && isp_check(width, 16, &to) == ISP_OK);
+
+    /* nine turns, more than the instances of the gang */
+    struct isp_text loop = isp_string("export uniform int f(uniform int n) { uniform int k = 0; while (k < n) k++; return k; }");
+    WANT(isp_solo(loop, 4, f, isp_string("{\"n\":9}"), 9, &to) == ISP_OK && gave(&to, "{\"arrays\":{},\"result\":9}\n", ""));
+    WANT(isp_solo(loop, 4, f, isp_string("{\"n\":10}"), 9, &to) == ISP_BUDGET && gave(&to, "", "isp: turns used, instance 0\n"));
+    WANT(isp_json(loop, 4, f, isp_string("{\"n\":9}"), UINT64_MAX, &to) == ISP_OK && gave(&to, "{\"arrays\":{},\"result\":9}\n", ""));
+
+    static const char *const names[] = {"--help", "-h", "--", "-", "", "--gang", "--budget=1", "source", "arguments", "f ", "\xe9", "f\n"};
+    for (size_t i = 0; i < sizeof names / sizeof *names; i++) {
+        WANT(isp_json(loop, 4, isp_string(names[i]), isp_string("{\"n\":9}"), 1000, &to) == ISP_ARGUMENTS && gave(&to, "", "isp: 50 NoEntry\n"));
+        WANT(isp_solo(loop, 4, isp_string(names[i]), isp_string("{\"n\":9}"), 1000, &to) == ISP_ARGUMENTS && gave(&to, "", "isp: 50 NoEntry\n"));
+    }
+}
+
+/* A pointer with size 0 may be NULL. */
+static void without_bytes(void)
+{
+    struct isp_text none = {NULL, 0};
+    struct isp_job job = {none, 1000};
+    WANT(isp_compile(NULL, 0, 4, code, sizeof code, &report) == ISP_OK && report.used == 13 && memcmp(code, "isp 1 gang 4\n", 13) == 0);
+    WANT(isp_compile("", 0, 4, NULL, 0, &report) == ISP_ROOM && report.used == 13);
+    WANT(isp_compile(NULL, 0, 5, NULL, 0, &report) == ISP_WORDS);
+    WANT(isp_run(NULL, 0, &job, NULL, 0, NULL, 0, &report) == ISP_CODE && report.why.number == 60 && report.why.line == 1);
+    WANT(isp_native(NULL, 0, NULL, 0, &report) == ISP_CODE && report.why.number == 60);
+    kernel("export void f() { print(\"x\"); }");
+    size_t size = strlen(code);
+    WANT(isp_run(code, size, &job, NULL, 0, NULL, 0, &report) == ISP_ARGUMENTS && report.why.number == 50);
+    job.entry = isp_string("f");
+    WANT(isp_run(code, size, &job, NULL, 0, NULL, 0, &report) == ISP_ROOM && report.used == 1);
+    WANT(isp_run(code, size, &job, NULL, 0, output, sizeof output, &report) == ISP_OK && output[0] == 'x');
+    WANT(isp_native(code, size, NULL, 0, &report) == ISP_ROOM && report.used > 100);
+    struct isp_trace all = {job, 0, 1000, 1};
+    WANT(isp_trace(code, size, &all, NULL, 0, NULL, 0, &report) == ISP_ROOM && report.used > 10);
+
+    struct isp_streams to = {NULL, 0, NULL, 0, {0, 0}};
+    WANT(isp_command(NULL, 0, NULL, 0, NULL, 0, NULL, 0, &to.used) == ISP_ROOM && to.used.err > 0);
+    WANT(isp_check(none, 4, &to) == ISP_ROOM && to.used.out == 3);
+    char room[64];
+    to.out = room, to.out_room = sizeof room;
+    WANT(isp_check(none, 4, &to) == ISP_OK && gave(&to, "ok\n", ""));
+    WANT(isp_asm(none, 4, &to) == ISP_OK && gave(&to, "isp 1 gang 4\n", ""));
+    to.err = output, to.err_room = sizeof output;
+    WANT(isp_json(none, 4, none, none, 1000, &to) == ISP_ARGUMENTS && gave(&to, "", "isp: 50 NoEntry\n"));
+    WANT(isp_solo(none, 4, none, none, 1000, &to) == ISP_ARGUMENTS && gave(&to, "", "isp: 50 NoEntry\n"));
+}
+
+/* Rooms that touch, at odd addresses: `output`, `packed` and a room for code stand side by side, and each call writes its own alone. */
+static void side_by_side(void)
+{
+    kernel("export void f(uniform int a[]) { a[programIndex] = a[programIndex] + 1; print(\"xy\"); }");
+    static char all[8192], before[8192];
+    size_t size = strlen(code), array = ISP_ARRAY_SIZE(4, 4);
+    int elements[] = {1, 2, 3, 4};
+    memset(all, '#', sizeof all);
+    char *says = all + 1, *packed = says + 2, *text = packed + array;
+    isp_put_array((unsigned char *)packed, elements, 4, 4);
+    memcpy(before, all, sizeof all);
+    struct isp_job job = {isp_string("f"), 1000};
+    WANT(isp_run(code, size, &job, packed, array, says, 2, &report) == ISP_OK && memcmp(says, "xy", 2) == 0);
+    isp_take_array((unsigned char *)packed, elements, 4, 4);
+    WANT(elements[0] == 2 && elements[3] == 5 && all[0] == '#' && untouched(text, all + sizeof all - text));
+    WANT(isp_compile("", 0, 32, text, 14, &report) == ISP_OK && memcmp(text, "isp 2 gang 32\n", 14) == 0);
+    WANT(memcmp(says, "xy", 2) == 0 && untouched(text + 14, all + sizeof all - text - 14));
+
+    /* rooms that share a byte: what it holds then is not said, but the call returns, and nothing beyond the two rooms changes */
+    memcpy(all, before, sizeof all);
+    isp_run(code, size, &job, packed, array, packed - 1, 2, &report);
+    WANT(all[0] == '#' && says[0] == '#' && untouched(text, all + sizeof all - text));
+    memcpy(all, before, sizeof all);
+    isp_compile("", 0, 4, text - 1, 13, &report);
+    WANT(memcmp(all, before, (size_t)(text - 1 - all)) == 0 && untouched(text + 12, all + sizeof all - text - 12));
+}
+
 /* Every call says that memory is refused, and changes nothing. */
 static void without_memory(void)
 {
@@ -301,10 +415,14 @@ int main(int count, char **words)
         compiling();
         running();
         trapping();
+        each_trap();
         reading();
         translating();
         stepping();
         commanding();
+        by_value();
+        without_bytes();
+        side_by_side();
     }
     printf("%d calls, %d differ\n", calls, differ);
     return differ != 0;
