@@ -46,6 +46,25 @@ struct isp_run {
 #include <stdlib.h>
 #include <string.h>
 
+/* a line is a call where the compiler does not optimize, and with -DISP_CALLS (see the end) */
+#if !defined ISP_CALLS && !defined __OPTIMIZE__
+#define ISP_CALLS 1
+#endif
+
+/* What the processor has beside C's operators; -DISP_PLAIN does without. ISP_GATHERS is how many elements of 4 bytes it gathers at once, ISP_MASKED that it loads
+ * and stores the lanes of a mask alone, and ISP_BIT_MASKS that masks are bits: gcc 12 makes slower code of those. */
+#if !defined ISP_PLAIN && defined __AVX512F__ && defined __AVX512BW__ && defined __AVX512VL__ && defined __AVX512DQ__
+#include <immintrin.h>
+#define ISP_MASKED 1
+#define ISP_GATHERS (ISP_GANG < 16 ? ISP_GANG : 16)
+#if defined __clang__ && ISP_GANG >= 16
+#define ISP_BIT_MASKS 1
+#endif
+#elif !defined ISP_PLAIN && defined __AVX2__
+#include <immintrin.h>
+#define ISP_GATHERS (ISP_GANG < 8 ? ISP_GANG : 8)
+#endif
+
 /* labels that nothing names, and vectors that are passed within a file */
 #pragma GCC diagnostic ignored "-Wunused-label"
 #pragma GCC diagnostic ignored "-Wpsabi"
@@ -66,7 +85,7 @@ struct isp_run {
 /* ---- registers */
 
 /* A scalar is a value of C's type, a vector has one a lane, and of bool a char that is 0 or 1. A mask has -1 in the lanes
- * that it has and 0 in the others. */
+ * that it has and 0 in the others, or it is a number with a bit a lane. */
 #define ISP_VECTOR(t) __attribute__((vector_size(sizeof(t) * ISP_GANG))) t
 
 typedef ISP_VECTOR(char) ispm_v_bool;
@@ -78,7 +97,13 @@ typedef ISP_VECTOR(int32_t) ispm_v_int32_t;
 typedef ISP_VECTOR(uint32_t) ispm_v_uint32_t;
 typedef ISP_VECTOR(int64_t) ispm_v_int64_t;
 typedef ISP_VECTOR(uint64_t) ispm_v_uint64_t;
+#ifndef ISP_BIT_MASKS
 typedef ispm_v_int8_t ispm_mask;
+#elif ISP_GANG == 32
+typedef uint32_t ispm_mask;
+#else
+typedef uint16_t ispm_mask;
+#endif
 
 /* An array is a pointer and a count. The count of an array of which each lane has its own has a type of its own; there
  * the elements of one number lie side by side, one a lane. */
@@ -113,6 +138,51 @@ struct ispm_own {
         ispm_v_uint64_t: (ispm_v_uint64_t){0}))
 
 /* ---- masks */
+
+#ifdef ISP_MASKED
+/* a bit for each byte that is -1, of bytes that are 0 or -1 */
+ISP_INLINE uint32_t ispm_bits(ispm_v_int8_t x)
+{
+#if ISP_GANG == 32
+    return _mm256_movepi8_mask((__m256i)x);
+#elif ISP_GANG == 16
+    return _mm_movepi8_mask((__m128i)x);
+#else
+    union {
+        __m128i all;
+        ispm_v_int8_t lanes;
+    } bytes = {_mm_setzero_si128()};
+    bytes.lanes = x;
+    return _mm_movepi8_mask(bytes.all);
+#endif
+}
+#endif
+
+#ifdef ISP_BIT_MASKS
+
+#define ISP_FULL ((ispm_mask)(((uint64_t)1 << ISP_GANG) - 1))
+#define ISP_ANY(k) ((k) != 0)
+#define ISP_EVERY(k) ((k) == ISP_FULL)
+#define ISP_LOWEST(k) ((k) ? __builtin_ctz(k) : 0)
+#define ISP_LONE(n) ((ispm_mask)((uint64_t)1 << (n)))
+#define ISP_FIRST(n) ((ispm_mask)(((uint64_t)1 << (n)) - 1))
+#define ISP_HAS(k, p) ((k) >> (p) & 1)
+
+/* the lanes of a mask as bytes that are 0 or -1, and the mask of lanes that are 0 or -1 */
+ISP_INLINE ispm_v_int8_t ispm_lanes(ispm_mask k)
+{
+#if ISP_GANG == 32
+    return (ispm_v_int8_t)_mm256_movm_epi8(k);
+#else
+    return (ispm_v_int8_t)_mm_movm_epi8(k);
+#endif
+}
+
+#define ISP_LANES(k) ispm_lanes(k)
+#define ISP_MASK_OF(x) ((ispm_mask)ispm_bits(__builtin_convertvector(x, ispm_v_int8_t)))
+#define ISP_AS_BITS(k) (k)
+
+#else
 
 #define ISP_FULL (~(ispm_mask){0})
 
@@ -158,18 +228,67 @@ struct ispm_own {
 #define ISP_LONE(n) ((ispm_mask){ISP_NUMBERS} == ISP_ALL(ispm_mask, n))
 #define ISP_FIRST(n) ((ispm_mask){ISP_NUMBERS} < ISP_ALL(ispm_mask, n))
 
-/* a mask with lanes as wide as those of a vector */
-#define ISP_WIDE(x, k) ((ISP_TYPE(x))__builtin_convertvector(k, __typeof__((x) == (x))))
+/* it has the lane of a number */
+#define ISP_HAS(k, p) ((k)[p])
+
+/* the lanes of a mask as bytes that are 0 or -1, and the mask of lanes that are 0 or -1 */
+#define ISP_LANES(k) (k)
+#define ISP_MASK_OF(x) __builtin_convertvector(x, ispm_mask)
+#define ISP_AS_BITS(k) ispm_bits(k)
+
+#endif
+
+/* lanes of 0 or -1 as wide as those of a vector, from bytes and from a mask */
+#define ISP_WIDENED(x, lanes) ((ISP_TYPE(x))__builtin_convertvector(lanes, __typeof__((x) == (x))))
+#define ISP_WIDE(x, k) ISP_WIDENED(x, ISP_LANES(k))
 
 /* the lanes of a mask, and 0 in the others */
 #define ISP_ON(x, k) ((x) & ISP_WIDE(x, k))
 
 /* writes the lanes of a mask, and keeps the others */
-#define ISP_PUT(d, x, k) \
+#define ISP_BLEND(d, x, k) \
     do { \
         const ISP_TYPE(d) ispm_new = (ISP_TYPE(d))(x), ispm_wide = ISP_WIDE(d, k); \
         (d) = (ispm_new & ispm_wide) | ((d) & ~ispm_wide); \
     } while (0)
+#define ISP_PUT(d, x, k) \
+    do { \
+        ISP_BLEND(d, x, k); \
+        ISP_NOT_SMALL(d); \
+    } while (0)
+
+/* ---- small indices: beside each vector v stands v_low, of int32, and v_small, which says that each lane of v is that of v_low. What converts to int64 keeps both,
+ * any other line that writes v ends it. So an index that was made of 32 bits is used in 32 bits, and the compiler drops what nothing uses. */
+
+#if defined ISP_CALLS && ISP_CALLS
+#define ISP_SMALL_KEPT(v, known)
+#define ISP_NOT_SMALL(d) (void)0
+#define ISP_SMALL_TOO(d, x, k) (void)0
+#define ISP_IF_SMALL(a, i, then)
+#else
+#define ISP_SMALL_KEPT(v, known) \
+    ispm_v_int32_t v##_low ISP_UNUSED = {0}; \
+    bool v##_small ISP_UNUSED = known;
+#define ISP_NOT_SMALL(d) d##_small = false
+#define ISP_FITS(x) \
+    _Generic((x), \
+        ispm_v_uint32_t: false, \
+        ispm_v_int64_t: false, \
+        ispm_v_uint64_t: false, \
+        default: true)
+#define ISP_SMALL_TOO(d, x, k) \
+    do { \
+        if (ISP_FITS(x) && _Generic((d), ispm_v_int64_t: true, default: false)) \
+            ISP_BLEND(d##_low, __builtin_convertvector(x, ispm_v_int32_t), k); \
+        else \
+            ISP_NOT_SMALL(d); \
+    } while (0)
+#define ISP_LOW(v) v##_low
+#define ISP_IF_SMALL(a, i, then) \
+    if (!ISP_IS_OWN(a) && i##_small) \
+        then; \
+    else
+#endif
 
 /* truths of lanes that are 0 or -1 */
 #define ISP_TRUTHS(x) (__builtin_convertvector(x, ispm_v_bool) & 1)
@@ -256,21 +375,152 @@ ISP_INLINE uint64_t ispm_own_count(struct ispm_own n)
 #define ISP_AT(a, e, p) ((a)[ISP_IS_OWN(a) ? (uint64_t)(e) * ISP_GANG + (uint64_t)(p) : (uint64_t)(e)])
 
 /* traps at the lowest lane whose index is outside, a negative one being above all as an unsigned number */
-#define ISP_INSIDE(a, i, k, q) \
+#define ISP_INSIDE(v, i, n, k, q) \
     do { \
-        const ispm_v_int64_t ispm_out = ((ispm_v_uint64_t)(i) >= ISP_ALL(ispm_v_uint64_t, ISP_COUNT(a))) & ISP_WIDE(i, k); \
-        int64_t ispm_some = 0; \
-        ISP_EACH(ispm_p) \
-            ispm_some |= ispm_out[ispm_p]; \
-        if (ispm_some) \
-            ISP_TRAP(ISP_INDEX, q, ISP_LOWEST(__builtin_convertvector(ispm_out, ispm_mask))); \
+        const ispm_mask ispm_out = ISP_MASK_OF((v)(i) >= ISP_ALL(v, n)) & (k); \
+        if (ISP_ANY(ispm_out)) \
+            ISP_TRAP(ISP_INDEX, q, ISP_LOWEST(ispm_out)); \
     } while (0)
+
+/* Of indices of 32 bits, 2^31 is above each one that is not negative. */
+#define ISP_HALF ((uint64_t)1 << 31)
+#define ISP_SMALL_COUNT(a) (uint32_t)(ISP_COUNT(a) < ISP_HALF ? ISP_COUNT(a) : ISP_HALF)
 
 /* all elements of a run are inside */
 ISP_INLINE bool ispm_run_inside(uint64_t i, uint64_t n)
 {
     return n >= ISP_GANG && i <= n - ISP_GANG;
 }
+
+/* All lanes are on, and their indices count on from that of lane 0 and are inside. Most that do not count on differ in the last lane already: where a comparison of all lanes
+ * costs more, that is looked at first. */
+ISP_INLINE bool ispm_in_a_row(const ispm_v_int32_t *i, uint32_t n, const ispm_mask *k)
+{
+    const uint32_t first = (uint32_t)(*i)[0];
+#ifndef ISP_MASKED
+    if ((uint32_t)(*i)[ISP_GANG - 1] - first != ISP_GANG - 1)
+        return false;
+#endif
+    const ispm_mask in_a_row = ISP_MASK_OF((ispm_v_uint32_t)*i - ISP_ALL(ispm_v_uint32_t, first) == (ispm_v_uint32_t){ISP_NUMBERS}) & *k;
+    return ISP_EVERY(in_a_row) && ispm_run_inside(first, n);
+}
+
+#ifdef ISP_GATHERS
+
+/* as many lanes of int32 as are gathered at once, and so many of those */
+#if ISP_GATHERS == 16
+typedef __m512i ispm_part;
+#elif ISP_GATHERS == 8
+typedef __m256i ispm_part;
+#else
+typedef __m128i ispm_part;
+#endif
+#define ISP_PARTS (ISP_GANG / ISP_GATHERS)
+union ispm_parts {
+    ispm_v_int32_t whole;
+    ispm_part part[ISP_PARTS];
+};
+
+/* the words of 4 bytes that begin `i * scale` bytes behind an address, of the lanes of part c that are on; of the others nothing is read */
+#if defined ISP_MASKED && ISP_GATHERS == 16
+#define ISP_PART_WORDS(scale, a, i, k, c) _mm512_mask_i32gather_epi32(_mm512_setzero_si512(), (__mmask16)(ISP_AS_BITS(k) >> 16 * (c)), i, a, scale)
+#elif defined ISP_MASKED && ISP_GATHERS == 8
+#define ISP_PART_WORDS(scale, a, i, k, c) _mm256_mmask_i32gather_epi32(_mm256_setzero_si256(), (__mmask8)ISP_AS_BITS(k), i, a, scale)
+#elif defined ISP_MASKED
+#define ISP_PART_WORDS(scale, a, i, k, c) _mm_mmask_i32gather_epi32(_mm_setzero_si128(), (__mmask8)ISP_AS_BITS(k), i, a, scale)
+#elif ISP_GATHERS == 8
+#define ISP_PART_MASK(k, c) _mm256_cvtepi8_epi32(_mm_loadl_epi64((const __m128i *)((const char *)&k + 8 * (c))))
+#define ISP_PART_WORDS(scale, a, i, k, c) _mm256_mask_i32gather_epi32(_mm256_setzero_si256(), a, i, ISP_PART_MASK(k, c), scale)
+#else
+#define ISP_PART_WORDS(scale, a, i, k, c) _mm_mask_i32gather_epi32(_mm_setzero_si128(), a, i, (__m128i)ISP_WIDE((ispm_v_int32_t){0}, k), scale)
+#endif
+
+#define ISP_WORDS_AT(scale) \
+    ISP_INLINE ispm_v_int32_t ispm_words_##scale(const void *a, const ispm_v_int32_t *i, const ispm_mask *k) \
+    { \
+        const union ispm_parts at = {*i}; \
+        union ispm_parts words; \
+        for (int c = 0; c < ISP_PARTS; c++) \
+            words.part[c] = ISP_PART_WORDS(scale, a, at.part[c], *k, c); \
+        return words.whole; \
+    }
+ISP_WORDS_AT(1)
+ISP_WORDS_AT(2)
+ISP_WORDS_AT(4)
+
+/* The elements of 1, 2 or 4 bytes at indices that are inside, of the lanes that are on, with any bits above. A word that would end past the array begins where the
+ * array's last one does, so n elements have 4 bytes at least. */
+ISP_INLINE ispm_v_int32_t ispm_elements(const void *a, size_t size, uint32_t n, const ispm_v_int32_t *i, const ispm_mask *k)
+{
+    if (size == 4)
+        return ispm_words_4(a, i, k);
+    const ispm_v_int32_t last = ISP_ALL(ispm_v_int32_t, n - 4 / size), before = *i < last;
+    const ispm_v_int32_t at = (*i & before) | (last & ~before);
+    const ispm_v_uint32_t behind = ((ispm_v_uint32_t)*i - (ispm_v_uint32_t)at) & ISP_ALL(ispm_v_uint32_t, 4 / size - 1);
+    const ispm_v_uint32_t words = (ispm_v_uint32_t)(size == 2 ? ispm_words_2(a, &at, k) : ispm_words_1(a, &at, k));
+    return (ispm_v_int32_t)(words >> behind * ISP_ALL(ispm_v_uint32_t, 8 * size));
+}
+#define ISP_HAS_WORDS(a) (sizeof *(a) <= 4 && ISP_COUNT(a) >= 4 / sizeof *(a))
+
+#else
+
+#define ISP_HAS_WORDS(a) false
+#define ispm_elements(a, size, n, i, k) (*(i))
+
+#endif
+
+/* Writes the lanes of a mask to elements that stand in a row, and nothing of the other elements: they may be another thread's. */
+#ifdef ISP_MASKED
+#define ISP_STORED(size, part, store) \
+    ISP_INLINE void ispm_store_##size(char *to, const char *from, uint32_t k) \
+    { \
+        for (int c = 0; c * sizeof(part) < ISP_GANG * size; c++) { \
+            part lanes = {0}; \
+            memcpy(&lanes, from + c * sizeof lanes, sizeof lanes < ISP_GANG * size ? sizeof lanes : ISP_GANG * size); \
+            store(to + c * sizeof lanes, (k >> c * (sizeof lanes / size)), lanes); \
+        } \
+    }
+#if ISP_GANG == 4
+ISP_STORED(1, __m128i, _mm_mask_storeu_epi8)
+ISP_STORED(2, __m128i, _mm_mask_storeu_epi16)
+ISP_STORED(4, __m128i, _mm_mask_storeu_epi32)
+ISP_STORED(8, __m256i, _mm256_mask_storeu_epi64)
+#elif ISP_GANG == 8
+ISP_STORED(1, __m128i, _mm_mask_storeu_epi8)
+ISP_STORED(2, __m128i, _mm_mask_storeu_epi16)
+ISP_STORED(4, __m256i, _mm256_mask_storeu_epi32)
+ISP_STORED(8, __m512i, _mm512_mask_storeu_epi64)
+#elif ISP_GANG == 16
+ISP_STORED(1, __m128i, _mm_mask_storeu_epi8)
+ISP_STORED(2, __m256i, _mm256_mask_storeu_epi16)
+ISP_STORED(4, __m512i, _mm512_mask_storeu_epi32)
+ISP_STORED(8, __m512i, _mm512_mask_storeu_epi64)
+#else
+ISP_STORED(1, __m256i, _mm256_mask_storeu_epi8)
+ISP_STORED(2, __m512i, _mm512_mask_storeu_epi16)
+ISP_STORED(4, __m512i, _mm512_mask_storeu_epi32)
+ISP_STORED(8, __m512i, _mm512_mask_storeu_epi64)
+#endif
+#define ISP_STORE_LANES(to, y, k) \
+    do { \
+        if (sizeof *(to) == 1) \
+            ispm_store_1((char *)(to), (const char *)&y, ISP_AS_BITS(k)); \
+        else if (sizeof *(to) == 2) \
+            ispm_store_2((char *)(to), (const char *)&y, ISP_AS_BITS(k)); \
+        else if (sizeof *(to) == 4) \
+            ispm_store_4((char *)(to), (const char *)&y, ISP_AS_BITS(k)); \
+        else \
+            ispm_store_8((char *)(to), (const char *)&y, ISP_AS_BITS(k)); \
+    } while (0)
+#else
+/* what a lane that is off would write goes to a place of its own: whether it is on is data then, and not a branch that the processor foresees wrongly */
+#define ISP_STORE_LANES(to, y, k) \
+    ISP_EACH(ispm_p) \
+    { \
+        ISP_TYPE((to)[0]) ispm_spare; \
+        *(ISP_HAS(k, ispm_p) ? (to) + ispm_p : &ispm_spare) = (y)[ispm_p]; \
+    }
+#endif
 
 /* ==== the file: places, texts, functions and registers */
 
@@ -287,13 +537,17 @@ ISP_INLINE bool ispm_run_inside(uint64_t i, uint64_t n)
 #define DECLARED );
 #define BEGIN ) {
 #define STAKE(t, s)
-#define VTAKE(t, v) ispm_v_##t v ISP_UNUSED = *v##_given;
+#define VTAKE(t, v) \
+    ispm_v_##t v ISP_UNUSED = *v##_given; \
+    ISP_SMALL_KEPT(v, false)
 #define ATAKE(t, a)
 #define START m0 = *m0_given;
 #define END }
 
 #define SCALAR(t, s) t s ISP_UNUSED = 0;
-#define VECTOR(t, v) ispm_v_##t v ISP_UNUSED = {0};
+#define VECTOR(t, v) \
+    ispm_v_##t v ISP_UNUSED = {0}; \
+    ISP_SMALL_KEPT(v, true)
 #define MASK(m) ispm_mask m ISP_UNUSED = {0};
 #define ISP_LOCAL(t, a, n) \
     void *a##_memory __attribute__((cleanup(ispm_drop))) = calloc(n, sizeof(t)); \
@@ -355,7 +609,10 @@ ISP_INLINE bool ispm_run_inside(uint64_t i, uint64_t n)
 
 #define VCOPY(d, x, k) ISP_VSET(d, x, k)
 #define VCONV(d, x, k) \
-    ISP_VSET(d, _Generic((d), ispm_v_bool: ISP_TRUTHS((x) != ISP_ZERO(x)), default: __builtin_convertvector(x, ISP_TYPE(d))), k)
+    ISP_STEP do { \
+        ISP_BLEND(d, _Generic((d), ispm_v_bool: ISP_TRUTHS((x) != ISP_ZERO(x)), default: __builtin_convertvector(x, ISP_TYPE(d))), k); \
+        ISP_SMALL_TOO(d, x, k); \
+    } while (0)
 #define VADD(d, x, y, k) ISP_VSET(d, (ISP_U(d))(x) + (ISP_U(d))(y), k)
 #define VSUB(d, x, y, k) ISP_VSET(d, (ISP_U(d))(x) - (ISP_U(d))(y), k)
 #define VMUL(d, x, y, k) ISP_VSET(d, (ISP_U(d))(x) * (ISP_U(d))(y), k)
@@ -376,7 +633,7 @@ ISP_INLINE bool ispm_run_inside(uint64_t i, uint64_t n)
 #define VLE(d, x, y, k) ISP_VSET(d, ISP_TRUTHS((x) <= (y)), k)
 #define VGT(d, x, y, k) ISP_VSET(d, ISP_TRUTHS((x) > (y)), k)
 #define VGE(d, x, y, k) ISP_VSET(d, ISP_TRUTHS((x) >= (y)), k)
-#define VSEL(d, c, x, y, k) ISP_VSET(d, ISP_CHOSEN(ISP_WIDE(x, (c) != ISP_ZERO(c)), x, y), k)
+#define VSEL(d, c, x, y, k) ISP_VSET(d, ISP_CHOSEN(ISP_WIDENED(x, (c) != ISP_ZERO(c)), x, y), k)
 #define SPLAT(d, x, k) ISP_VSET(d, ISP_ALL(ISP_TYPE(d), x), k)
 #define INDEX(d, k) ISP_VSET(d, ((ispm_v_int32_t){ISP_NUMBERS}), k)
 
@@ -385,19 +642,24 @@ ISP_INLINE bool ispm_run_inside(uint64_t i, uint64_t n)
     do { \
         ISP_TYPE(d) ispm_each = {0}; \
         ISP_EACH(ispm_p) \
-            if ((k)[ispm_p]) \
+            if (ISP_HAS(k, ispm_p)) \
                 ispm_each[ispm_p] = x; \
         ISP_PUT(d, ispm_each, k); \
     } while (0)
-#define ISP_VDIVIDE(d, x, y, k, q) \
+/* lanes divide by 1 where the divisor is 0, so that they are off, or -1: by that the quotient is the negative */
+#define ISP_MINUS_ONES(y) (((y) == ~ISP_ZERO(y)) & (ISP_ZERO(y) > ~ISP_ZERO(y)))
+#define ISP_VQUOTIENT(x, y, safe) ISP_CHOSEN(ISP_MINUS_ONES(y), (ISP_U(x)){0} - (ISP_U(x))(x), (ISP_U(x))((x) / safe))
+#define ISP_VREMAINDER(x, y, safe) ((x) % safe)
+#define ISP_VDIVIDE(d, x, y, k, q, result) \
     ISP_STEP do { \
-        const ispm_mask ispm_out = __builtin_convertvector((y) == ISP_ZERO(y), ispm_mask) & (k); \
+        const ispm_mask ispm_out = ISP_MASK_OF((y) == ISP_ZERO(y)) & (k); \
         if (ISP_ANY(ispm_out)) \
             ISP_TRAP(ISP_DIVIDE, q, ISP_LOWEST(ispm_out)); \
-        ISP_BY_LANE(d, x, k); \
+        const ISP_TYPE(y) ispm_safe = ISP_CHOSEN(((y) == ISP_ZERO(y)) | ISP_MINUS_ONES(y), ISP_ALL(ISP_TYPE(y), 1), y); \
+        ISP_PUT(d, result(x, y, ispm_safe), k); \
     } while (0)
-#define VDIV(d, x, y, k, q) ISP_VDIVIDE(d, ISP_QUOTIENT((x)[ispm_p], (y)[ispm_p]), y, k, q)
-#define VREM(d, x, y, k, q) ISP_VDIVIDE(d, ISP_REMAINDER((x)[ispm_p], (y)[ispm_p]), y, k, q)
+#define VDIV(d, x, y, k, q) ISP_VDIVIDE(d, x, y, k, q, ISP_VQUOTIENT)
+#define VREM(d, x, y, k, q) ISP_VDIVIDE(d, x, y, k, q, ISP_VREMAINDER)
 
 /* ==== masks */
 
@@ -408,7 +670,11 @@ ISP_INLINE bool ispm_run_inside(uint64_t i, uint64_t n)
 #define MFULL(d) ISP_SET(d, ISP_FULL)
 #define MNONE(d) ISP_SET(d, (ispm_mask){0})
 /* truths are 0 or 1 a lane: their negatives are a mask. (As a comparison, gcc 12 fails to compile it at times.) */
+#ifdef ISP_BIT_MASKS
+#define MTEST(d, x, y) ISP_SET(d, ISP_MASK_OF(((x) & ISP_WIDE(x, y)) != ISP_ZERO(x)))
+#else
 #define MTEST(d, x, y) ISP_SET(d, -(ispm_mask)(x) & (y))
+#endif
 #define MLOW(d, x) ISP_SET(d, ISP_LONE(ISP_LOWEST(x)) & (x))
 #define MFIRST(d, x) ISP_SET(d, ISP_LOWEST(x))
 /* the lanes p with x + p below y as whole numbers: those below y - x, which has no sign and fits where x is below y */
@@ -439,31 +705,69 @@ ISP_INLINE bool ispm_run_inside(uint64_t i, uint64_t n)
     ISP_STEP ISP_ELEMENT(a, i, k, q); \
     (a)[i] = (y)
 
+/* where the index was made of 32 bits, by those */
+#define ISP_GATHER_SMALL(d, a, i, k, q) \
+    do { \
+        const uint32_t ispm_n = ISP_SMALL_COUNT(a); \
+        ISP_TYPE(d) ispm_each = {0}; \
+        if (ispm_in_a_row(&(i), ispm_n, &(k))) \
+            memcpy(&ispm_each, (a) + (i)[0], sizeof ispm_each); \
+        else { \
+            ISP_INSIDE(ispm_v_uint32_t, i, ispm_n, k, q); \
+            if (ISP_HAS_WORDS(a)) \
+                ispm_each = __builtin_convertvector(ispm_elements(a, sizeof *(a), ispm_n, &(i), &(k)), ISP_TYPE(d)); \
+            else if (ISP_ANY(k)) { \
+                const ispm_v_int32_t ispm_i = ISP_ON(i, k); \
+                ISP_EACH(ispm_p) \
+                    ispm_each[ispm_p] = (a)[ispm_i[ispm_p]]; \
+            } \
+        } \
+        ISP_PUT(d, ispm_each, k); \
+    } while (0)
 /* a lane that is off reads what is at 0; where one is on and inside, that is there */
 #define GATHER(d, a, i, k, q) \
     ISP_STEP do { \
-        ISP_INSIDE(a, i, k, q); \
-        if (ISP_ANY(k)) { \
-            const ispm_v_int64_t ispm_i = ISP_ON(i, k); \
-            ISP_TYPE(d) ispm_each = {0}; \
-            ISP_EACH(ispm_p) \
-                ispm_each[ispm_p] = ISP_AT(a, ispm_i[ispm_p], ispm_p); \
-            ISP_PUT(d, ispm_each, k); \
+        ISP_IF_SMALL(a, i, ISP_GATHER_SMALL(d, a, ISP_LOW(i), k, q)) \
+        { \
+            ISP_INSIDE(ispm_v_uint64_t, i, ISP_COUNT(a), k, q); \
+            if (ISP_ANY(k)) { \
+                const ispm_v_int64_t ispm_i = ISP_ON(i, k); \
+                ISP_TYPE(d) ispm_each = {0}; \
+                ISP_EACH(ispm_p) \
+                    ispm_each[ispm_p] = ISP_AT(a, ispm_i[ispm_p], ispm_p); \
+                ISP_PUT(d, ispm_each, k); \
+            } \
         } \
     } while (0)
 /* the lanes from the lowest on, so that of two at one place the higher wins */
+#define ISP_SCATTER_SMALL(a, i, y, k, q) \
+    do { \
+        const uint32_t ispm_n = ISP_SMALL_COUNT(a); \
+        if (ispm_in_a_row(&(i), ispm_n, &(k))) { \
+            const ISP_TYPE(y) ispm_each = (y); \
+            memcpy((a) + (i)[0], &ispm_each, sizeof ispm_each); \
+        } else { \
+            ISP_INSIDE(ispm_v_uint32_t, i, ispm_n, k, q); \
+            ISP_EACH(ispm_p) \
+                if (ISP_HAS(k, ispm_p)) \
+                    (a)[(i)[ispm_p]] = (y)[ispm_p]; \
+        } \
+    } while (0)
 #define SCATTER(a, i, y, k, q) \
     ISP_STEP do { \
-        ISP_INSIDE(a, i, k, q); \
-        ISP_EACH(ispm_p) \
-            if ((k)[ispm_p]) \
-                ISP_AT(a, (i)[ispm_p], ispm_p) = (y)[ispm_p]; \
+        ISP_IF_SMALL(a, i, ISP_SCATTER_SMALL(a, ISP_LOW(i), y, k, q)) \
+        { \
+            ISP_INSIDE(ispm_v_uint64_t, i, ISP_COUNT(a), k, q); \
+            ISP_EACH(ispm_p) \
+                if (ISP_HAS(k, ispm_p)) \
+                    ISP_AT(a, (i)[ispm_p], ispm_p) = (y)[ispm_p]; \
+        } \
     } while (0)
 
 /* as unsigned numbers i + p is outside just where it is as whole numbers */
 #define ISP_RUN(a, i, k, q) \
     ISP_EACH(ispm_p) \
-        if ((k)[ispm_p] && (uint64_t)(i) + (uint64_t)ispm_p >= ISP_COUNT(a)) \
+        if (ISP_HAS(k, ispm_p) && (uint64_t)(i) + (uint64_t)ispm_p >= ISP_COUNT(a)) \
             ISP_TRAP(ISP_INDEX, q, ispm_p)
 #define VLOAD(d, a, i, k, q) \
     ISP_STEP do { \
@@ -478,15 +782,16 @@ ISP_INLINE bool ispm_run_inside(uint64_t i, uint64_t n)
     } while (0)
 #define VSTORE(a, i, y, k, q) \
     ISP_STEP do { \
-        if (ISP_EVERY(k) && ispm_run_inside((uint64_t)(i), ISP_COUNT(a))) { \
-            const ISP_TYPE(y) ispm_each = (y); \
-            memcpy((a) + (i), &ispm_each, sizeof ispm_each); \
-        } else { \
+        const ISP_TYPE(y) ispm_each = (y); \
+        if (!ispm_run_inside((uint64_t)(i), ISP_COUNT(a))) { \
             ISP_RUN(a, i, k, q); \
             ISP_EACH(ispm_p) \
-                if ((k)[ispm_p]) \
-                    (a)[(uint64_t)(i) + (uint64_t)ispm_p] = (y)[ispm_p]; \
-        } \
+                if (ISP_HAS(k, ispm_p)) \
+                    (a)[(uint64_t)(i) + (uint64_t)ispm_p] = ispm_each[ispm_p]; \
+        } else if (ISP_EVERY(k)) \
+            memcpy((a) + (i), &ispm_each, sizeof ispm_each); \
+        else \
+            ISP_STORE_LANES((a) + (i), ispm_each, k); \
     } while (0)
 
 /* the lanes of the mask, the lowest first, and elements from i on */
@@ -494,11 +799,11 @@ ISP_INLINE bool ispm_run_inside(uint64_t i, uint64_t n)
     do { \
         uint64_t ispm_e = (uint64_t)(i); \
         ISP_EACH(ispm_p) \
-            if ((k)[ispm_p] && ispm_e++ >= ISP_COUNT(a)) \
+            if (ISP_HAS(k, ispm_p) && ispm_e++ >= ISP_COUNT(a)) \
                 ISP_TRAP(ISP_INDEX, q, ispm_p); \
         ispm_e = (uint64_t)(i); \
         ISP_EACH(ispm_p) \
-            if ((k)[ispm_p]) { \
+            if (ISP_HAS(k, ispm_p)) { \
                 x; \
                 ispm_e++; \
             } \
@@ -526,7 +831,7 @@ ISP_INLINE bool ispm_run_inside(uint64_t i, uint64_t n)
         else \
             for (uint64_t ispm_e = 0; ispm_e < ISP_COUNT(a); ispm_e++) \
                 ISP_EACH(ispm_p) \
-                    if ((k)[ispm_p]) \
+                    if (ISP_HAS(k, ispm_p)) \
                         ISP_AT(a, ispm_e, ispm_p) = 0; \
     } while (0)
 
@@ -538,7 +843,7 @@ ISP_INLINE bool ispm_run_inside(uint64_t i, uint64_t n)
         t ispm_sum = first; \
         bool ispm_none = true; \
         ISP_EACH(ispm_p) \
-            if ((k)[ispm_p]) { \
+            if (ISP_HAS(k, ispm_p)) { \
                 more; \
                 ispm_none = false; \
             } \
@@ -558,7 +863,7 @@ ISP_INLINE bool ispm_run_inside(uint64_t i, uint64_t n)
         ISP_TYPE(d) ispm_each = {0}; \
         uint64_t ispm_sum = first; \
         ISP_EACH(ispm_p) \
-            if ((k)[ispm_p]) { \
+            if (ISP_HAS(k, ispm_p)) { \
                 ispm_each[ispm_p] = (__typeof__((d)[0]))ispm_sum; \
                 more; \
             } \
@@ -585,7 +890,7 @@ ISP_INLINE bool ispm_run_inside(uint64_t i, uint64_t n)
         const ISP_TYPE(x) ispm_x = ISP_ON(x, k), ispm_y = ISP_ON(y, k); \
         ISP_BY_LANE(d, ((uint32_t)(i)[ispm_p] & ISP_GANG ? ispm_y[ISP_LANE((i)[ispm_p])] : ispm_x[ISP_LANE((i)[ispm_p])]), k); \
     } while (0)
-#define EXTR(d, x, i, k) ISP_SET(d, (k)[ISP_LANE(i)] ? (x)[ISP_LANE(i)] : 0)
+#define EXTR(d, x, i, k) ISP_SET(d, ISP_HAS(k, ISP_LANE(i)) ? (x)[ISP_LANE(i)] : 0)
 #define INS(d, x, i, y, k) \
     ISP_STEP do { \
         ISP_TYPE(x) ispm_x = (x); \
@@ -612,7 +917,7 @@ ISP_INLINE bool ispm_run_inside(uint64_t i, uint64_t n)
         ISP_EACH(ispm_p) \
         { \
             ispm_text[ispm_count++] = ispm_p ? ',' : '['; \
-            if ((k)[ispm_p]) \
+            if (ISP_HAS(k, ispm_p)) \
                 ispm_count += ISP_PRINT(ispm_text + ispm_count, (x)[ispm_p]); \
             else \
                 ispm_text[ispm_count++] = '_'; \
@@ -665,9 +970,6 @@ ISP_INLINE bool ispm_run_inside(uint64_t i, uint64_t n)
 
 /* ==== short lines, where the compiler does not optimize, and with -DISP_CALLS: each is a call of one of the macros above */
 
-#if !defined ISP_CALLS && !defined __OPTIMIZE__
-#define ISP_CALLS 1
-#endif
 #if defined ISP_CALLS && ISP_CALLS
 #include "isp_calls.h"
 #endif
