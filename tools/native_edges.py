@@ -10,7 +10,6 @@ Budgets, memory and output are tried with -O1 and with -O0, where each line of v
 """
 import os
 import re
-import shutil
 import subprocess
 import tempfile
 import time
@@ -37,7 +36,7 @@ int main(void)
 {{
     int32_t a[] = {{10, 20, 30, 40, 50}}, result = 0;
     struct isp_run run = {{0}};
-    enum isp_end end = kernel_{entry}(&run, a, 5, 5, &result);
+    enum isp_end end = CALLED_{entry}(&run, a, 5, 5, &result);
     printf("%d %d %d %d %d %d %d\\n", end, result, a[0], a[1], a[2], a[3], a[4]);
     return 0;
 }}
@@ -62,6 +61,18 @@ export void f(uniform int a[]) {
 }
 """
 
+# functions that give nothing back, called by some lanes and by none, and an end
+ENDING = """void mark(uniform int a[], int x) {
+    a[programIndex] = x;
+}
+export void f(uniform int a[]) {
+    int x = a[programIndex];
+    if (x > 20) mark(a, x - 1);
+    if (x > 50) mark(a, 0);
+    print("x %\\n", x);
+}
+"""
+
 BUDGETS = """
 #include <stdio.h>
 static bool keep(void *to, const char *bytes, size_t count)
@@ -76,7 +87,7 @@ int main(int count, char **words)
     static const char *const kinds[] = {"divide", "index", "assert", "depth"};
     int32_t a[] = {1, 2, 30, 41};
     struct isp_run run = {.write = keep, .most_steps = strtoull(words[1], NULL, 10)};
-    enum isp_end end = kernel_f(&run, a, 4);
+    enum isp_end end = CALLED_f(&run, a, 4);
     if (end == ISP_NO_STEPS)
         fprintf(stderr, "isp: budget used\\n");
     if (end == ISP_TRAPPED)
@@ -115,11 +126,16 @@ int main(int count, char **words)
     refused_write = strtoul(words[2], NULL, 10);
     int32_t a[] = {1, 2, 30, 41};
     struct isp_run run = {.write = keep};
-    enum isp_end end = kernel_f(&run, a, 4);
+    enum isp_end end = CALLED_f(&run, a, 4);
     fprintf(stderr, "%lu %lu\\n", grown, written);
     return end == ISP_ENDED ? 0 : end == ISP_TRAPPED ? 3 : end == ISP_NO_MEMORY ? 7 : 9;
 }
 """
+
+
+def joined(text, program):
+    """A C file with a program behind it, where CALLED_ stands for what the file's names begin with."""
+    return text + program.replace("CALLED_", re.search(r"^enum isp_end ([a-z]+_)\w+\(struct isp_run", text, re.M)[1])
 
 
 class Edges:
@@ -154,29 +170,34 @@ class Edges:
         """Each name as the entry, with another one as its array."""
         for entry, array in zip(NAMES, NAMES[1:] + NAMES[:1]):
             text = self.of_source(4, COUNTED.format(entry=entry, array=array))
-            if program := self.built(folder, compiler, text + TOLD.format(entry=entry), ["-O0"]):
+            if program := self.built(folder, compiler, joined(text, TOLD.format(entry=entry)), ["-O0"]):
                 self.check(f"{compiler}: {entry}({array})", self.said(program), (0, "0 10 10 21 32 43 54\n", ""))
 
     def budgets(self, folder, compiler):
-        """Each budget, up to one with which the run comes to its end."""
-        text = self.of_source(4, LONG)
-        programs = [self.built(folder, compiler, text + BUDGETS, [*form, "-DISP_STEPS"]) for form in FORMS]
+        """Each budget, up to one with which the run comes to its end: a trap, and the last line."""
+        self.budgets_of(folder, compiler, LONG, 3)
+        self.budgets_of(folder, compiler, ENDING, 0)
+
+    def budgets_of(self, folder, compiler, kernel, status):
+        text = self.of_source(4, kernel)
+        programs = [self.built(folder, compiler, joined(text, BUDGETS), [*form, "-DISP_STEPS"]) for form in FORMS]
         source, arguments = f"{folder}/long.ispc", f"{folder}/long.json"
-        for path, content in ((source, LONG), (arguments, '{"a":[1,2,30,41]}')):
+        for path, content in ((source, kernel), (arguments, '{"a":[1,2,30,41]}')):
             with open(path, "w", encoding="utf-8") as file:
                 file.write(content)
+        wanted = None, "", ""
         for budget in range(2000) if all(programs) else ():
             wanted = self.said(self.isp, "run", "--budget", str(budget), source, "f", arguments)
             for form, program in zip(FORMS, programs):
                 self.check(f"{compiler} {' '.join(form)}: budget {budget}", self.said(program, str(budget)), wanted)
             if wanted[0] != 4:
                 break
-        self.check(f"{compiler}: the run traps within 2,000 instructions", wanted[0], 3)
+        self.check(f"{compiler}: the run is over within 2,000 instructions", wanted[0], status)
 
     def refusals(self, folder, compiler):
         """Each growth and each piece of output refused in turn; what was taken is looked for by the compiler's own check of leaks."""
         text = self.of_source(4, LONG)
-        text = REFUSING + "#include <stdlib.h>\n#define calloc sparing\n" + text + REFUSED
+        text = REFUSING + "#include <stdlib.h>\n#define calloc sparing\n" + joined(text, REFUSED)
         for form in FORMS:
             if program := self.built(folder, compiler, text, [*form, *LEAKS]):
                 self.refused(f"{compiler} {' '.join(form)}", program)
@@ -202,9 +223,9 @@ class Edges:
         """A kernel of 400 lines, by a gang of 16."""
         lines = "\n".join(f"    x = x * {3 + k % 50} + (y ^ {k});\n    y = y + (x >> {1 + k % 7});" for k in range(200))
         source = f"export void f(uniform int a[]) {{\n    int x = a[programIndex], y = 1;\n{lines}\n    a[programIndex] = x + y;\n}}\n"
-        main = "int main(void)\n{\n    int32_t a[16] = {0};\n    struct isp_run run = {0};\n    return kernel_f(&run, a, 16);\n}\n"
+        main = "int main(void)\n{\n    int32_t a[16] = {0};\n    struct isp_run run = {0};\n    return CALLED_f(&run, a, 16);\n}\n"
         begun = time.monotonic()
-        program = self.built(folder, compiler, self.of_source(16, source) + main, ["-O1"])
+        program = self.built(folder, compiler, joined(self.of_source(16, source), main), ["-O1"])
         self.check(f"{compiler}: 400 lines within a minute", time.monotonic() - begun < 60, True)
         if program:
             self.check(f"{compiler}: 400 lines", self.said(program), (0, "", ""))
@@ -213,7 +234,7 @@ class Edges:
 def differences(isp, of_source, include):
     """Runs all, and returns how many were tried and a line for each that differs."""
     edges = Edges(isp, of_source, include)
-    for compiler in filter(shutil.which, COMPILERS):
+    for compiler in COMPILERS:
         for test in (edges.names, edges.budgets, edges.refusals, edges.lengths):
             with tempfile.TemporaryDirectory() as folder:
                 test(folder, compiler)

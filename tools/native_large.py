@@ -6,11 +6,11 @@ tools/gang.py, which evaluates the source, finds: an end, and a trap behind some
 import json
 import os
 import resource
-import shutil
 import subprocess
 import tempfile
 
 from gang import Machine
+from native_edges import joined
 
 GANG = 8
 LINES = 10_000
@@ -60,7 +60,7 @@ int main(int count, char **words)
     int32_t a[] = {{{a}}}, result = 0;
     int64_t b[] = {{{b}}};
     struct isp_run run = {{0}};
-    enum isp_end end = kernel_f(&run, a, {count}, b, {count}, (int32_t)strtol(words[1], NULL, 10), &result);
+    enum isp_end end = CALLED_f(&run, a, {count}, b, {count}, (int32_t)strtol(words[1], NULL, 10), &result);
     for (int i = 0; i < {count}; i++)
         printf("%d %lld\\n", a[i], (long long)b[i]);
     if (end == ISP_TRAPPED)
@@ -105,13 +105,13 @@ def differences(of_source, include, lines=LINES):
     text = source(lines)
     main = MAIN.format(count=GANG, **{name: ", ".join(f"{z}ll" if name == "b" else f"(int32_t){z}ll" for z in row) for name, row in ARRAYS.items()})
     answers = {n: wanted(text, n) for n in (7, -1)}
-    c_file = of_source(GANG, text) + main
+    c_file = joined(of_source(GANG, text), main)
     tried, wrong, times = 0, [], []
     with tempfile.TemporaryDirectory() as folder:
         path = f"{folder}/large.c"
         with open(path, "w", encoding="utf-8") as file:
             file.write(c_file)
-        for compiler in filter(shutil.which, COMPILERS):
+        for compiler in COMPILERS:
             for mode in MODES:
                 name = " ".join([compiler, *mode])
                 tried += 1

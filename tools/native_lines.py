@@ -1,8 +1,12 @@
 """Programs in code text that try each instruction, with what docs/MACHINE.md says of it, worked out in plain numbers.
 
-tests() yields a name, the code text, the entry, its arguments, and what must come out, as tools/native-test takes them.
+tests() yields a name, the code text, the entry, its arguments, and what must come out, as tools/native-test takes them. `steps` is how many instructions it takes, where
+that is told. `readonly` gives an array the number of its elements that may be written; the others stand in memory where a write ends the program.
+untried() compares the forms of instructions in the table of docs/MACHINE.md with those in the programs.
 """
+import itertools
 import random
+import re
 
 GANGS = 4, 8, 16, 32
 BITS = {"b": 1, "i8": 8, "u8": 8, "i16": 16, "u16": 16, "i32": 32, "u32": 32, "i64": 64, "u64": 64}
@@ -63,6 +67,17 @@ def some(dice, t):
     return convert(t, dice.choice(near) if dice.random() < 0.6 else dice.getrandbits(64))
 
 
+def labelled(lines):
+    """The lines with numbers for names: `name:` stands before the line that `@name` means."""
+    at, code = {}, []
+    for line in lines:
+        if line.endswith(":"):
+            at[line[:-1]] = len(code)
+        else:
+            code.append(line)
+    return [re.sub(r"@(\w+)", lambda name: f"L{at[name[1]]}", line) for line in code]
+
+
 class Code:
     """A function that is written line by line. Registers come by their type; what it stores in the array of a type must be what was told."""
 
@@ -100,7 +115,7 @@ class Code:
     def text(self, places=((0, 1), (2, 5)), before=()):
         types = [f"s {' '.join(self.scalars)}"] * bool(self.scalars) + [f"v {' '.join(self.vectors)}"] * bool(self.vectors)
         head = [f"isp {2 if self.gang == 32 else 1} gang {self.gang}", *(f"place {a} {b}" for a, b in places), "text 68c3a90a", *before, "func f export void"]
-        return "\n".join([*head, *self.params, *self.locals, *types, f"m {self.masks}", *self.body, "ret -", "end"]) + "\n"
+        return "\n".join([*head, *self.params, *self.locals, *types, f"m {self.masks}", *labelled([*self.body, "ret -"]), "end"]) + "\n"
 
 
 class Rounds(Code):
@@ -110,8 +125,8 @@ class Rounds(Code):
         super().__init__(gang, dice)
         self.t, self.outs, self.wanted, self.writes = t, {}, {}, []
         size = gang * ROUNDS
-        masks = [[1] * gang, [0] * gang] + [[int(dice.random() < chance) for _ in range(gang)] for chance in (0.5, 0.9, 0.2, 0.5, 0.5)]
-        masks.append([int(p == gang - 2) for p in range(gang)])
+        masks = [[1] * gang, [0] * gang] + [[int(dice.random() < chance) for _ in range(gang)] for chance in (0.5, 0.9, 0.2, 0.5)]
+        masks += [[int(p == gang - 2) for p in range(gang)], [int(p != 1) for p in range(gang)]]
         self.k = sum(masks, [])
         self.rows = {name: [some(dice, t) for _ in range(size)] for name in "xyd"}
         self.rows["n"] = [z or 3 for z in (some(dice, t) for _ in range(size))]
@@ -125,7 +140,7 @@ class Rounds(Code):
         self.step, self.one = self.constant("i64", gang), self.constant("i64", 1)
         self.end, self.again, self.zero = self.constant("i64", size), self.scalar("b"), self.constant("i64", 0)
         self.full, self.m = "m0", self.mask()
-        self.start = len(self.body)
+        self.line("round:")
         for name, array in places.items():
             kind = kinds.get(name, "b")
             self.v[name], self.first[name] = self.vector(kind), self.scalar(kind)
@@ -156,27 +171,29 @@ class Rounds(Code):
         self.line(f"store {array} {place} {register} m0 p0", f"add {place} {place} {self.one}")
 
     def result(self, t):
+        """Registers for results of a type: a vector, a scalar, and a vector with 1 0 1 0 .. as `c` has it."""
         if t not in self.results:
-            self.results[t] = self.vector(t), self.scalar(t), self.vector(t), self.scalar(t)
+            self.results[t] = self.vector(t), self.scalar(t), self.vector(t)
+            self.line(f"conv {self.results[t][2]} {self.v['c']} m0")
         return self.results[t]
 
     def lanes(self, t, word, rest, value):
         """An instruction that writes lanes of t under m1: `value` of a round and a lane. The others keep 1 0 1 0 .."""
-        d, _, kept, one = self.result(t)
-        self.line(f"const {one} 1", f"conv {kept} {self.v['c']} m0", f"copy {d} {kept} m0", f"{word} {d} {rest} {self.m}")
+        d, _, kept = self.result(t)
+        self.line(f"copy {d} {kept} m0", f"{word} {d} {rest} {self.m}")
         self.stored(t, d)
         self.wants(t, lambda r: [value(r, p) if self.on(r, p) else self.row("c", r)[p] for p in range(self.gang)])
 
     def one_value(self, t, line, value):
         """An instruction that writes a scalar of t."""
-        _, d, _, _ = self.result(t)
+        d = self.result(t)[1]
         self.line(line.replace("D", d))
         self.stored_one(t, d)
         self.wants(t, lambda r: [value(r)])
 
     def mask_out(self, m, lanes):
         """The lanes of a mask, as a row of truths."""
-        d, one, _, _ = self.result("b")
+        d, one, _ = self.result("b")
         self.line(f"const {one} 0", f"splat {d} {one} m0", f"const {one} 1", f"splat {d} {one} {m}")
         self.stored("b", d)
         self.wants("b", lambda r: [int(lanes(r, p)) for p in range(self.gang)])
@@ -192,7 +209,7 @@ class Rounds(Code):
         return self.row(name, r)[p] if 0 <= p < self.gang and self.on(r, p) else 0
 
     def finished(self):
-        self.line(f"add {self.at} {self.at} {self.step}", f"lt {self.again} {self.at} {self.end}", f"jnz {self.again} L{self.start}")
+        self.line(f"add {self.at} {self.at} {self.step}", f"lt {self.again} {self.at} {self.end}", f"jnz {self.again} @round")
         found = {t: [] for t in self.outs}
         for r in range(ROUNDS):
             for t, values in self.asked:
@@ -237,7 +254,7 @@ def plain_lines(c, t):
         c.lanes(t, word, v["x"], lambda r, p, op=op: wrap(t, op(x(r, p))))
         c.one_value(t, f"{word} D {s['x']}", lambda r, op=op: wrap(t, op(x(r, 0))))
     for word, op in DIVISIONS.items():
-        d, _, kept, _ = c.result(t)
+        d = c.result(t)[0]
         c.line(f"copy {d} {v['d']} m0", f"{word} {d} {v['x']} {v['n']} {c.m} p0")
         c.stored(t, d)
         c.wants(t, lambda r, op=op: [wrap(t, op(x(r, p), n(r, p))) if c.on(r, p) else c.row("d", r)[p] for p in range(c.gang)])
@@ -312,8 +329,7 @@ def mask_lines(c, t):
         c.mask_out(m, lambda r, p, a=a, b=b: a + p < b)
     for word, op in (("joff", lambda ps: not ps), ("jon", bool), ("jall", lambda ps: len(ps) == c.gang)):
         d = c.result("b")[1]
-        at = len(c.body)
-        c.line(f"const {d} 1", f"{word} {c.m} L{at + 3}", f"const {d} 0")
+        c.line(f"const {d} 1", f"{word} {c.m} @{word}", f"const {d} 0", f"{word}:")
         c.stored_one("b", d)
         c.wants("b", lambda r, op=op: [int(op(c.members(r)))])
 
@@ -399,22 +415,23 @@ def rounds(group, lines, dice):
             yield f"lines: {group} of {t} at {gang}", text, "f", c.values, {"end": "ends", "writes": writes, "arrays": wanted, "result": None}
 
 
-def trap_of(gang, name, t, lines, values, kind, instance):
-    """A function over x, y of t, e of i64 and k, where an instruction traps at p1."""
+def trap_of(gang, name, t, lines, values, kind, instance, index="i64"):
+    """A function over x, y of t, e of the index's type and k, where an instruction traps at p1."""
     c = Code(gang, None)
-    for one, kind_of in (("x", t), ("y", t), ("e", "i64"), ("k", "b")):
+    for one, kind_of in (("x", t), ("y", t), ("e", index), ("k", "b")):
         c.array(one, kind_of, values[one])
     zero, m = c.constant("i64", 0), c.mask()
-    x, y, e, k = c.vector(t), c.vector(t), c.vector("i64"), c.vector("b")
+    x, y, given, k, e = c.vector(t), c.vector(t), c.vector(index), c.vector("b"), c.vector("i64")
     sx, sy, se = c.scalar(t), c.scalar(t), c.scalar("i64")
-    count = c.scalar("i32")
-    for register, place in ((x, 0), (y, 1), (e, 2), (k, 3)):
+    first, count = c.scalar(index), c.scalar("i32")
+    for register, place in ((x, 0), (y, 1), (given, 2), (k, 3)):
         c.line(f"vload {register} a{place} {zero} m0 p0")
-    c.line(f"mtest {m} {k} m0", f"load {sx} a0 {zero} m0 p0", f"load {sy} a1 {zero} m0 p0", f"load {se} a2 {zero} m0 p0")
-    c.line(lines.format(x=x, y=y, e=e, m=m, sx=sx, sy=sy, se=se, count=count))
+    c.line(f"mtest {m} {k} m0", f"load {sx} a0 {zero} m0 p0", f"load {sy} a1 {zero} m0 p0", f"load {first} a2 {zero} m0 p0")
+    c.line(f"conv {e} {given} m0", f"conv {se} {first}", lines.format(x=x, y=y, e=e, m=m, sx=sx, sy=sy, se=se, count=count))
     arrays = {one: list(row) for one, row in values.items()}
     arrays["k"] = [bool(one) for one in arrays["k"]]
     wanted = {"end": "traps", "kind": kind, "start": 2, "stop": 5, "instance": instance, "writes": "", "arrays": arrays, "result": None}
+    wanted["steps"] = len(c.body)
     return f"lines: {name} of {t} at {gang}", c.text(), "f", c.values, wanted
 
 
@@ -449,31 +466,272 @@ def traps(dice):
             yield trap_of(gang, "fail", "i32", "fail {m} p1", base, "assert", on[0])
 
 
+# ---- indices
+
+# what an index is made of, and elements of each size
+INDEX_TYPES = "i32", "i64", "u32", "i8", "u8"
+ELEMENTS = "u8", "i16", "i32", "u64", "b"
+# how many elements lie behind a row of all lanes
+MORE = 3
+
+
+def index_rows(gang):
+    """Rows of indices into an array of gang + MORE elements: counting on from its start and to its end, and much like it; descending, equal, any."""
+    on = list(range(gang))
+    for first in range(MORE + 1):
+        yield [first + p for p in on]
+    for odd in (1, gang // 2, gang - 2):
+        yield [1 + p + (p == odd) for p in on]
+    yield [1, *(gang for _ in on[2:]), gang]
+    yield on[::-1]
+    yield [gang + MORE - 1 for _ in on]
+    yield [2 for _ in on]
+    yield [p * 5 % (gang + MORE) for p in on]
+    yield [1 + p // 2 for p in on]
+
+
+def index_masks(gang, dice):
+    """Full, empty, all but one lane, one lane, and any."""
+    yield [1] * gang
+    for odd in (0, gang // 2, gang - 1):
+        yield [int(p != odd) for p in range(gang)]
+    yield [int(p == gang - 1) for p in range(gang)]
+    yield [0] * gang
+    yield [dice.randrange(2) for _ in range(gang)]
+
+
+class Indexed(Code):
+    """A loop over rows of indices and masks: what a gather by them gives, and what a scatter leaves. Lanes that are off have indices far outside."""
+
+    def __init__(self, gang, t, index, dice):
+        super().__init__(gang, dice)
+        self.t, self.index, self.size = t, index, gang + MORE
+        rows = list(index_rows(gang))
+        self.rounds = [(row, mask) for row in rows for mask in index_masks(gang, dice)]
+        dice.shuffle(self.rounds)
+        self.befores = [[z % (self.size - 1) for z in dice.choice(rows)] for _ in self.rounds]
+        self.elements = [some(dice, t) for _ in range(self.size)]
+        self.given = [[some(dice, t) for _ in range(gang)] for _ in self.rounds]
+        self.outs = []
+
+    def far(self, p):
+        near = self.size + p
+        return {"i32": (near, -1, -(1 << 31), (1 << 31) - 1), "u32": (near, 1 << 31, (1 << 32) - 1), "i8": (near, -1, -128, 127), "u8": (near, 255)}.get(
+            self.index, (near, -1, 1 << 32, (1 << 32) + 1, 1 - (1 << 32), -(1 << 63), 1 << 62)
+        )[p % 2]
+
+    def wild(self, row, mask):
+        return [z if on else self.far(p) for p, (z, on) in enumerate(zip(row, mask))]
+
+    def out(self, t, values):
+        """An array that takes a row in each round."""
+        array = self.array(f"out{len(self.outs)}", t, [0] * (self.gang * len(self.rounds)))
+        self.outs.append((f"out{len(self.outs)}", t, values))
+        return array
+
+    def written(self):
+        gang, t, index = self.gang, self.t, self.index
+        kinds = {"a": t, "e": index, "before": index, "k": "b", "x": t, "far": "i64"}
+        flat = {
+            "a": self.elements,
+            "e": [z for row, mask in self.rounds for z in self.wild(row, mask)],
+            "before": sum(self.befores, []),
+            "k": [on for _, mask in self.rounds for on in mask],
+            "x": sum(self.given, []),
+            "far": [(z + 1) % self.size for row in self.befores for z in row],
+        }
+        places = {name: self.array(name, kinds[name], list(row)) for name, row in flat.items()}
+        names = "gathered", "mixed", "moved", "kept", "front", "back"
+        outs = {name: self.out(t, name) for name in names}
+        self.locals = [f"loc u {t} {self.size}"]
+        shared = f"a{len(self.params)}"
+        at, step, end, again = self.constant("i64", 0), self.constant("i64", gang), self.constant("i64", gang * len(self.rounds)), self.scalar("b")
+        zero, more, m = self.constant("i64", 0), self.constant("i64", MORE), self.mask()
+        v = {name: self.vector(kind) for name, kind in kinds.items() if name != "a"}
+        i, two, moved, kept, one, d = (*(self.vector("i64") for _ in range(5)), self.vector(t))
+        unit = self.constant("i64", 1)
+        self.line(f"splat {one} {unit} m0", "round:")
+        self.line(*(f"vload {register} {places[name]} {at} m0 p0" for name, register in v.items()), f"mtest {m} {v['k']} m0")
+        fill = f"copy {d} {v['x']} m0"
+        # in the lanes of a mask; by two masks; by a sum of 64 bits in some lanes; and where lanes keep what an earlier round loaded
+        self.line(f"conv {i} {v['e']} {m}", fill, f"gather {d} {places['a']} {i} {m} p0", f"vstore {outs['gathered']} {at} {d} m0 p0")
+        self.line(f"conv {two} {v['before']} m0", f"conv {two} {v['e']} {m}", f"gather {d} {places['a']} {two} m0 p0", f"vstore {outs['mixed']} {at} {d} m0 p0")
+        self.line(f"conv {moved} {v['before']} m0", f"add {moved} {moved} {one} {m}", f"gather {d} {places['a']} {moved} m0 p0", f"vstore {outs['moved']} {at} {d} m0 p0")
+        self.line(f"conv {kept} {v['e']} {m}", f"gather {d} {places['a']} {kept} m0 p0", f"vstore {outs['kept']} {at} {d} m0 p0", f"copy {kept} {v['far']} m0")
+        self.line(f"clear {shared} m0", f"scatter {shared} {i} {v['x']} {m} p0")
+        for name, place in (("front", zero), ("back", more)):
+            self.line(f"vload {d} {shared} {place} m0 p0", f"vstore {outs[name]} {at} {d} m0 p0")
+        self.line(f"add {at} {at} {step}", f"lt {again} {at} {end}", f"jnz {again} @round")
+        return self.text()
+
+    def wanted(self):
+        a, found = self.elements, {name: [] for name in ("gathered", "mixed", "moved", "kept", "front", "back")}
+        kept = [0] * self.gang
+        for (row, mask), before, given in zip(self.rounds, self.befores, self.given):
+            lanes = range(self.gang)
+            found["gathered"] += [a[row[p]] if mask[p] else given[p] for p in lanes]
+            found["mixed"] += [a[row[p] if mask[p] else before[p]] for p in lanes]
+            found["moved"] += [a[before[p] + mask[p]] for p in lanes]
+            found["kept"] += [a[row[p] if mask[p] else kept[p]] for p in lanes]
+            kept = [(z + 1) % self.size for z in before]
+            shared = [0] * self.size
+            for p in lanes:
+                if mask[p]:
+                    shared[row[p]] = given[p]
+            found["front"] += shared[: self.gang]
+            found["back"] += shared[MORE:]
+        return found
+
+
+def truths(values, types):
+    return {name: [bool(x) for x in row] if types[name] == "b" else list(row) for name, row in values.items()}
+
+
+def types_of(c):
+    return {name: t for _, _, t, name in (param.split(" ") for param in c.params)}
+
+
+def indices(dice):
+    for gang in GANGS:
+        for place, index in enumerate(INDEX_TYPES):
+            for t in ELEMENTS if index == "i32" else [ELEMENTS[(place + gang) % len(ELEMENTS)]]:
+                c = Indexed(gang, t, index, dice)
+                text, found = c.written(), c.wanted()
+                wanted = truths({**c.values, **{name: found[values] for name, _, values in c.outs}}, types_of(c))
+                yield f"lines: indices {index} into {t} at {gang}", text, "f", c.values, {"end": "ends", "writes": "", "arrays": wanted, "result": None}
+
+
+def far_indices(dice):
+    """Traps of the lowest lane that is on and outside, by indices of each type."""
+    for gang in GANGS:
+        wrongs = [("i8", -1), ("i8", 127), ("u8", 255), ("i32", gang), ("i32", -1), ("i32", -(1 << 31)), ("i32", (1 << 31) - 1), ("u32", gang), ("u32", 1 << 31), ("u32", (1 << 32) - 1)]
+        wrongs += [("i64", z) for z in (gang, 1 << 31, 1 << 32, (1 << 32) + 1, 1 - (1 << 32), -(1 << 63), (1 << 63) - 1)]
+        masks = [[1] * gang, [int(p >= 2) for p in range(gang)], [int(p == gang - 1) for p in range(gang)], [int(p != 1) for p in range(gang)]]
+        for (index, wrong), mask in itertools.product(wrongs, masks):
+            on = [p for p in range(gang) if mask[p]]
+            low = dice.choice(on)
+            bad = [p for p in range(gang) if p == low or (p > low and p % 3 == 0) or not mask[p]]
+            values = {"x": list(range(gang)), "y": [7] * gang, "e": [wrong if p in bad else p for p in range(gang)], "k": mask}
+            for word, line in (("gather", "gather {x} a0 {e} {m} p1"), ("scatter", "scatter a0 {e} {y} {m} p1")):
+                yield trap_of(gang, f"{word} by {index} {wrong}", "u8" if wrong == gang else "i32", line, values, "index", low, index)
+
+
+# ---- the ends of arrays
+
+
+def short_arrays(dice):
+    """Gathers, runs and packed loads from arrays of 1 to 9 elements, behind which nothing may be read."""
+    for gang in GANGS:
+        for t in ELEMENTS:
+            for size in (1, 2, 3, 4, 5, 7, 9):
+                c = Code(gang, dice)
+                mask = [int(p < size and (p % 3 != 1 or size < 3)) for p in range(gang)]
+                a = c.array("a", t, [some(dice, t) for _ in range(size)])
+                e, k = c.array("e", "i32", [size - 1 - p if mask[p] else 99 for p in range(gang)]), c.array("k", "b", mask)
+                out = c.array("out", t, [0] * (3 * gang))
+                zero, last, m = c.constant("i64", 0), c.constant("i64", size - 1), c.mask()
+                given, i, flags, d, lone, first, none = c.vector("i32"), c.vector("i64"), c.vector("b"), c.vector(t), c.mask(), c.constant("i64", 1), c.scalar("i64")
+                c.line(f"vload {given} {e} {zero} m0 p0", f"vload {flags} {k} {zero} m0 p0", f"mtest {m} {flags} m0", f"conv {i} {given} m0")
+                c.line(f"gather {d} {a} {i} {m} p0", f"vstore {out} {none} {d} m0 p0")
+                for n, (place, lanes) in enumerate(((zero, m), (last, lone)), 1):
+                    there = c.constant("i64", n * gang)
+                    c.line(f"mrange {lone} {zero} {first}", f"vload {d} {a} {place} {lanes} p0", f"vstore {out} {there} {d} m0 p0")
+                values = c.values["a"]
+                rows = [[values[size - 1 - p] if mask[p] else 0 for p in range(gang)], [values[p] if mask[p] else 0 for p in range(gang)]]
+                rows.append([values[size - 1], *rows[1][1:]])
+                wanted = truths({**c.values, "out": sum(rows, [])}, types_of(c))
+                yield f"lines: {size} elements of {t} at {gang}", c.text(), "f", c.values, {"end": "ends", "writes": "", "arrays": wanted, "result": None}
+
+
+def partial_stores(dice):
+    """A store under a mask leaves the elements of lanes that are off alone: from the middle of the lanes on, a write of them ends the program."""
+    for gang in GANGS:
+        half = gang // 2
+        for t in ("i8", "u16", "i32", "u64"):
+            for chance in (1, 0.5, 0):
+                c = Code(gang, dice)
+                mask = [int(p < half and dice.random() < chance) for p in range(gang)]
+                a, k = c.array("a", t, [some(dice, t) for _ in range(2 * gang)]), c.array("k", "b", mask)
+                x, e = c.array("x", t, [some(dice, t) for _ in range(gang)]), c.array("e", "i32", [half + p for p in range(gang)])
+                zero, from_half, m, count = c.constant("i64", 0), c.constant("i64", half), c.mask(), c.scalar("i32")
+                lanes, flags, given, i = c.vector(t), c.vector("b"), c.vector("i32"), c.vector("i64")
+                for register, array in ((lanes, x), (flags, k), (given, e)):
+                    c.line(f"vload {register} {array} {zero} m0 p0")
+                c.line(f"mtest {m} {flags} m0", f"conv {i} {given} m0", f"vstore {a} {from_half} {lanes} {m} p0", f"scatter {a} {i} {lanes} {m} p0")
+                stored = list(c.values["a"])
+                for p in range(gang):
+                    stored[half + p] = c.values["x"][p] if mask[p] else stored[half + p]
+                if t == "i32":
+                    c.line(f"pstore {count} {a} {from_half} {lanes} {m} p0")
+                    members = [p for p in range(gang) if mask[p]]
+                    stored[half : half + len(members)] = [c.values["x"][p] for p in members]
+                wanted = truths({**c.values, "a": stored}, types_of(c))
+                yield f"lines: stores of {t} at {gang}", c.text(), "f", c.values, {"end": "ends", "writes": "", "arrays": wanted, "result": None, "readonly": {"a": gang}}
+
+
+# ---- calls and jumps
+
+
 def calls():
     """A function that calls itself: n deep, with a vector, an array and a mask; it adds up the lanes that called."""
     for gang in GANGS:
-        for deep in (3, 254, 255, 256):
+        for deep, off in ((3, 1), (254, 0), (255, 1), (255, 0), (256, 0)):
             inner = [
                 *("func g inner v i32", "par s i32 n", "par v i32 x", "par a i32 a", "s i32 b i32", "v i32 i32", "m 1"),
                 *("copy v1 v0 m0", "const s1 1", "lt s2 s0 s1", "jnz s2 L8", "splat v2 s1 m0", "add v2 v0 v2 m0", "sub s3 s0 s1"),
                 *("call f0 v1 m0 p1 s3 v2 a0", "ret v1", "end"),
             ]
-            mask = [int(p % 3 != 1) for p in range(gang)]
+            mask = [int(p % 3 != off) for p in range(gang)]
             c = Code(gang, None)
-            a, k = c.array("a", "i32", [10 * p for p in range(gang)]), c.array("k", "b", mask)
-            zero, n = c.constant("i64", 0), c.constant("i32", deep)
+            a, k, many = c.array("a", "i32", [10 * p for p in range(gang)]), c.array("k", "b", mask), c.array("n", "i32", [deep])
+            zero, n = c.constant("i64", 0), c.scalar("i32")
             x, flags, m = c.vector("i32"), c.vector("b"), c.mask()
-            c.line(f"vload {x} {a} {zero} m0 p0", f"vload {flags} {k} {zero} m0 p0", f"mtest {m} {flags} m0")
+            c.line(f"vload {x} {a} {zero} m0 p0", f"vload {flags} {k} {zero} m0 p0", f"mtest {m} {flags} m0", f"load {n} {many} {zero} m0 p0")
             c.line(f"call f0 {x} {m} p1 {n} {x} {a}", f"vstore {a} {zero} {x} m0 p0")
-            wanted = {"end": "ends", "writes": "", "result": None, "arrays": {"a": [10 * p + deep * mask[p] for p in range(gang)], "k": [bool(one) for one in mask]}}
+            arrays = {"a": [10 * p + deep * mask[p] for p in range(gang)], "k": [bool(one) for one in mask], "n": [deep]}
+            wanted = {"end": "ends", "writes": "", "result": None, "arrays": arrays}
+            # the innermost of deep + 1 takes four to the jump and one back, the others nine; then come six of the entry with its call, the store and the end
+            wanted["steps"] = 6 + 9 * deep + 5 + 2
             if deep + 2 > 256:
-                wanted.update(end="traps", kind="depth", start=2, stop=5, instance=0)
+                wanted.update(end="traps", kind="depth", start=2, stop=5, instance=mask.index(1), steps=6 + 8 * 255)
                 wanted["arrays"]["a"] = c.values["a"]
             yield f"lines: calls {deep} deep at {gang}", c.text(before=inner), "f", c.values, wanted
 
 
+def voids():
+    """A call without a result runs under the mask of the call, also where that is empty; its stores and its steps are seen."""
+    inner = ["func g inner void", "par v i32 x", "par s i64 n", "par a i32 a", "s i32", "v i32 i64", "m 1"]
+    inner += ["index v1 m0", "conv v2 v1 m0", "scatter a0 v2 v0 m0 p0", "load s1 a0 s0 m0 p0", "ret -", "end"]
+    for gang in GANGS:
+        for mask in ([1] * gang, [int(p % 3 != 0) for p in range(gang)], [int(p == gang - 1) for p in range(gang)], [0] * gang):
+            c = Code(gang, None)
+            a, k, x = c.array("a", "i32", [0] * gang), c.array("k", "b", mask), c.array("x", "i32", [3 * p + 1 for p in range(gang)])
+            zero, lanes, flags, m = c.constant("i64", 0), c.vector("i32"), c.vector("b"), c.mask()
+            c.line(f"vload {lanes} {x} {zero} m0 p0", f"vload {flags} {k} {zero} m0 p0", f"mtest {m} {flags} m0", f"call f0 - {m} p1 {lanes} {zero} {a}")
+            arrays = {"a": [(3 * p + 1) * mask[p] for p in range(gang)], "k": [bool(one) for one in mask], "x": c.values["x"]}
+            wanted = {"end": "ends", "writes": "", "result": None, "arrays": arrays, "steps": 5 + 5 + 1}
+            yield f"lines: void calls at {gang}", c.text(before=inner), "f", c.values, wanted
+
+
+def jumps():
+    """Each jump by scalars, taken and not, forwards and back: what is passed over leaves its places 0."""
+    for gang in GANGS:
+        for flag in (0, 1):
+            c = Code(gang, None)
+            flags, out = c.array("flags", "b", [flag]), c.array("out", "i32", [0] * 5)
+            zero, s, one, n = c.constant("i64", 0), c.scalar("b"), c.constant("i32", 7), 0
+            places = [c.constant("i64", place) for place in range(5)]
+            c.line(f"load {s} {flags} {zero} m0 p0", f"jz {s} @off", f"store {out} {places[0]} {one} m0 p0", "off:")
+            c.line(f"jnz {s} @on", f"store {out} {places[1]} {one} m0 p0", "on:", "jmp @over", "back:", f"store {out} {places[2]} {one} m0 p0", "jmp @end")
+            c.line("over:", f"jmp @further", f"store {out} {places[3]} {one} m0 p0", "further:", f"store {out} {places[4]} {one} m0 p0", "jmp @back", "end:")
+            wanted = {"end": "ends", "writes": "", "result": None, "arrays": {"flags": [bool(flag)], "out": [7 * flag, 7 * (1 - flag), 7, 0, 7]}}
+            # seven constants, and of what follows all but the store that one of the first two jumps passes over and the one that always is
+            wanted["steps"] = 7 + 3 + 1 + 1 + 1 + 2 + 2 + 1
+            yield f"lines: jumps at {gang}", c.text(), "f", c.values, wanted
+
+
 def passed():
-    """A vector that is passed is 0 in the lanes that do not call: the called function adds up all lanes."""
+    """A vector that is passed is 0 in the lanes that do not call: the called function adds up all lanes. What it gives goes to a scalar."""
     inner = ["func g inner s i64", "par v i32 x", "s i64", "m 2", "mfull m1", "radd s0 v0 m1", "ret s0", "end"]
     for gang in GANGS:
         mask = [int(p % 3 != 1) for p in range(gang)]
@@ -483,8 +741,61 @@ def passed():
         c.line(f"vload {x} {a} {zero} m0 p0", f"vload {flags} {k} {zero} m0 p0", f"mtest {m} {flags} m0")
         c.line(f"call f0 {all_lanes} {m} p1 {x}", f"store {o} {zero} {all_lanes} m0 p0")
         arrays = {"a": c.values["a"], "k": [bool(one) for one in mask], "o": [sum(10 * p + 7 for p in range(gang) if mask[p])]}
-        wanted = {"end": "ends", "writes": "", "result": None, "arrays": arrays}
+        wanted = {"end": "ends", "writes": "", "result": None, "arrays": arrays, "steps": 5 + 3 + 2}
         yield f"lines: passed lanes at {gang}", c.text(before=inner), "f", c.values, wanted
+
+
+# ---- the table of instructions
+
+
+def quoted_forms(row):
+    """The words of a row of the table, each with its operands. Words by themselves have those that follow, or those that stood before."""
+    words, operands = [], []
+    for quoted in re.findall(r"`([^`]*)`", row):
+        parts = quoted.split(" ")
+        plain = list(itertools.takewhile(lambda part: re.fullmatch(r"[a-z]+\d?", part), parts))
+        words, operands = plain or words, parts[len(plain) :] or operands
+        yield from ((word, operands) for word in words if operands)
+
+
+def form(word, operands):
+    """A form in one way of writing: the word with the classes of its operands, where n is a number."""
+    return f"{word} {''.join('n' if re.fullmatch('n|-?[0-9]+', part) else part[0] for part in operands)}"
+
+
+def table_forms(page):
+    """The forms in the table of instructions. Of a call they are what its result goes to, and each kind of register that it passes."""
+    table = page.split("\n## Instructions\n")[1].split("\n## ")[0]
+    found = set()
+    for row in re.findall(r"^\| (`.*?) \|", table, re.M):
+        for word, operands in quoted_forms(row):
+            found.update([f"call {one}" for one in ("-", "s", "v", "passes s", "passes v", "passes a")] if word == "call" else [form(word, operands)])
+    return found
+
+
+def forms_of_code(text):
+    """The forms of a program's instructions."""
+    inside = False
+    for line in text.split("\n"):
+        word, *operands = line.split(" ")
+        if word == "m":
+            inside = True
+        elif word == "end":
+            inside = False
+        elif inside and word == "call":
+            yield f"call {operands[1][0]}"
+            yield from (f"call passes {one[0]}" for one in operands[4:])
+        elif inside:
+            yield form(word, operands)
+
+
+def untried(page, texts):
+    """The forms of the table that are in no program of a gang, and those of programs that are not in the table."""
+    wanted = table_forms(page)
+    for gang in GANGS:
+        found = {one for text in texts if text.split("\n")[0].endswith(f"gang {gang}") for one in forms_of_code(text)}
+        yield from (f"gang {gang}: no program has `{one}`" for one in sorted(wanted - found))
+        yield from (f"gang {gang}: the table has no `{one}`" for one in sorted(found - wanted))
 
 
 def tests():
@@ -494,6 +805,12 @@ def tests():
     yield from rounds("masks", mask_lines, dice)
     yield from rounds("memory", memory_lines, dice)
     yield from rounds("printing", printed_lines, dice)
+    yield from indices(dice)
+    yield from far_indices(dice)
+    yield from short_arrays(dice)
+    yield from partial_stores(dice)
     yield from traps(dice)
     yield from calls()
+    yield from voids()
+    yield from jumps()
     yield from passed()
