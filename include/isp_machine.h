@@ -460,7 +460,7 @@ ISP_INLINE ispm_v_int32_t ispm_elements(const void *a, size_t size, uint32_t n, 
     const ispm_v_uint32_t words = (ispm_v_uint32_t)(size == 2 ? ispm_words_2(a, &at, k) : ispm_words_1(a, &at, k));
     return (ispm_v_int32_t)(words >> behind * ISP_ALL(ispm_v_uint32_t, 8 * size));
 }
-#define ISP_HAS_WORDS(a) (sizeof *(a) <= 4 && ISP_COUNT(a) >= 4 / sizeof *(a))
+#define ISP_HAS_WORDS(a) (sizeof *(a) <= 4 && ISP_COUNT(a) * sizeof *(a) >= 4)
 
 #else
 
