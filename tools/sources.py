@@ -155,7 +155,7 @@ def is_built(name, root=ROOT):
 
 
 def main(words):
-    if words[:1] == ["--state"] and words[1:] in (["isp"], ["ispx"]):
+    if words[:1] == ["--state"] and len(words) == 2 and words[1] in ARTEFACTS:
         total = sources_of(ARTEFACTS[words[1]])
         print("released" if is_released(words[1], total) else "built" if is_built(words[1]) else total)
         return 0
