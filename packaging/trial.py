@@ -29,10 +29,10 @@ ispx explain wrong.ispc 2>&1 | grep -c Fix
 BY_PKG_CONFIG = """
 eval "gcc -std=c11 -O2 $(pkg-config --cflags isp) -o run '$DOC/examples/c/run.c' $(pkg-config --libs isp)"
 ./run "$DOC/examples/brighten.ispc" brighten "$DOC/examples/brighten.json" | cmp - "$DOC/examples/brighten.answer"
-readelf -d run 2>/dev/null | grep -o 'libisp.so.0'
+readelf -d run | grep -o 'libisp.so.0'
 """
 STATIC = """
-eval "gcc -std=c11 -O2 $(pkg-config --cflags isp) -o fixed '$DOC/examples/c/run.c' $(pkg-config --variable=libdir isp | sed 's/ /\\\\ /g')/libisp.a -lm"
+eval "gcc -std=c11 -O2 $(pkg-config --cflags isp) -o fixed '$DOC/examples/c/run.c' $(pkg-config --libs-only-L isp) -l:libisp.a -lm"
 ./fixed "$DOC/examples/brighten.ispc" brighten "$DOC/examples/brighten.json" | cmp - "$DOC/examples/brighten.answer"
 """
 AS_C = """
@@ -84,10 +84,9 @@ FISH = "fish -c 'complete -C \"isp ch\"' | cut -f1; fish -c 'complete -C \"isp r
 
 # (what it is called, the lines of shell, what they print; None: anything)
 EVERYWHERE = [
-    ("the version", "isp --version 2>&1; ispx --version 2>&1", None),
     ("each kernel of examples/", KERNELS, ""),
     ("ispx explains", EXPLAINED, "1\n"),
-    ("a C program by pkg-config", BY_PKG_CONFIG, None),
+    ("a C program by pkg-config", BY_PKG_CONFIG, "libisp.so.0\n"),
     ("a C program with libisp.a", STATIC, ""),
     ("a kernel as C", AS_C, ""),
     ("Python", PYTHON, "True True\n"),
@@ -129,6 +128,12 @@ def ran(words, script, wanted, **how):
     if it.returncode or (wanted is not None and it.stdout != wanted):
         return f"status {it.returncode}: {it.stdout[-1000:]}{it.stderr[-2000:]}"
     return ""
+
+
+def version(release):
+    """Returns the trial of what the programs say of their version."""
+    wanted = "".join(f"{it.name} {it.version}\n" for it in release.programs())
+    return "the version", "isp --version 2>&1 || :; ispx --version 2>&1 || :", wanted
 
 
 def names_below(folder):
@@ -174,7 +179,7 @@ def try_tarball(release, work, trials):
         trials.tell("tarball: install.sh", ran(["sh", "-c"], "*/install.sh \"$PREFIX\"", None, cwd=unpacked, env=told))
     shutil.rmtree(unpacked)
     (work / "c").mkdir()
-    for name, script, wanted in EVERYWHERE:
+    for name, script, wanted in [version(release), *EVERYWHERE]:
         trials.tell(f"tarball: {name}", ran(["sh", "-c"], script, wanted, cwd=work / "c", env=told))
     gone = ran(["sh", "-c"], '"$PREFIX/share/isp/uninstall.sh"', None, cwd=work, env=told)
     left = sorted(set(names_below(home)) - set(before) - {f"{home}/.cache"})
@@ -208,7 +213,7 @@ def try_debian(release, work, trials):
     before = names_below(root / "usr")
     inside = ["chroot", str(root), "/usr/bin/env", "-i", "PATH=/usr/bin:/bin:/usr/sbin:/sbin", "HOME=/root", "DOC=/usr/share/doc/isp", "SHARE=/usr/share", "MODULE=/usr/lib/python3", "sh", "-c"]
     trials.tell("deb: dpkg -i", ran(inside, "dpkg -i /root/isp.deb", None))
-    for name, script, wanted in [*EVERYWHERE, *IN_DEBIAN]:
+    for name, script, wanted in [version(release), *EVERYWHERE, *IN_DEBIAN]:
         trials.tell(f"deb: {name}", ran(inside, "cd /root\n" + script, wanted))
     gone = ran(inside, "dpkg -r isp", None)
     left = sorted(it for it in set(names_below(root / "usr")) - set(before) if "/__pycache__" not in it or "/isp/" in it)
