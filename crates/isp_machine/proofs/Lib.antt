@@ -1,11 +1,4 @@
 pub mod Converts
-pub mod LaneViews
-pub mod MaskViews
-pub mod Finds
-pub mod Shaping
-pub mod Stored
-pub mod Begins
-pub mod Rewrites
 pub mod Written
 pub mod Alike
 pub mod Doing

@@ -1,10 +1,5 @@
 pub mod Rows
-pub mod Shapes
-pub mod Views
-pub mod Arrays
-pub mod Moves
 pub mod Quick
-pub mod Begun
 pub mod Receives
 pub mod Steps
 pub mod Kept

@@ -2,18 +2,18 @@
 ghost use Rattle.std.specs.Prelude.{◌≡◌, ◌+◌, ◌<◌, ◌≤◌, ◌^◌, ◌++◌, ◌∷◌, [], length, slice_get, vec_len, vec_capacity, Some, IfOk, OnOk, OnErr};
 ghost use Rattle.isp_code.specs.Fine.{IsThere, CallFine};
 ghost use Rattle.isp_code.specs.Listing.{Routine};
-ghost use Rattle.isp_machine.specs.Begun.{Begun, given, new_stores, no_frame};
+ghost use Rattle.isp_frames.specs.Begun.{Begun, given, new_stores, no_frame};
 ghost use Rattle.isp_machine.specs.Steps.{Done, Steady};
 ghost use Rattle.isp_machine.specs.declared.stop.Step.TheVariants.{Went};
 
-use crate::frame::{Frame, FrameBox};
-use crate::here::Here;
-use crate::kernels::first_lane;
 use crate::run::Run;
 use crate::stop::Step;
-use crate::zeros::Zeros;
 use isp_base::TrapKind;
 use isp_code::{Call, Class, Instr, Register};
+use isp_frames::frame::{Frame, FrameBox};
+use isp_frames::here::Here;
+use isp_frames::kernels::first_lane;
+use isp_frames::zeros::Zeros;
 use isp_lanes::LaneMask;
 use isp_store::Arrays;
 use isp_verify::Verified;

@@ -10,16 +10,16 @@ ghost use Rattle.isp_code.specs.Lines.{exchanged, reduced, scan_of};
 ghost use Rattle.isp_code.specs.Operands.{scalar_operands, vector_operands};
 ghost use Rattle.isp_code.specs.Registers.{elem_of};
 ghost use Rattle.isp_machine.specs.Crossing.{reduced_elem};
-ghost use Rattle.isp_machine.specs.Moves.{InPlace, ScalarIs};
-ghost use Rattle.isp_machine.specs.Shapes.{Shaped};
+ghost use Rattle.isp_frames.specs.Moves.{InPlace, ScalarIs};
+ghost use Rattle.isp_frames.specs.Shapes.{Shaped};
 ghost use Rattle.isp_machine.specs.reader.Kinds.{is_across};
 ghost use Rattle.isp_store.specs.Held.{Held};
 
-use crate::frame::Frame;
-use crate::here::Here;
 use crate::operands::Target;
 use isp_base::BinOp;
 use isp_code::{Class, Exchange, Reduction, Register, ScalarInstr, Scan, VectorInstr};
+use isp_frames::frame::Frame;
+use isp_frames::here::Here;
 use isp_lanes::{LaneMask, Lanes};
 
 /// The operator on values.

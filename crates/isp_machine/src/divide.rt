@@ -6,18 +6,18 @@ ghost use Rattle.isp_code.specs.Fine.{AllFine, GoesOn, IsThere};
 ghost use Rattle.isp_code.specs.Lines.{division_of};
 ghost use Rattle.isp_code.specs.Operands.{operands};
 ghost use Rattle.isp_code.specs.Registers.{elem_of};
-ghost use Rattle.isp_machine.specs.Moves.{Goes, Fails};
-ghost use Rattle.isp_machine.specs.Shapes.{Shaped, Opened};
+ghost use Rattle.isp_frames.specs.Moves.{Goes, Fails};
+ghost use Rattle.isp_frames.specs.Shapes.{Shaped, Opened};
 ghost use Rattle.isp_machine.specs.reader.Instructions.{divide_of};
 ghost use Rattle.isp_machine.specs.reader.Kinds.{is_division};
 ghost use Rattle.isp_store.specs.Held.{Held, shapes};
 
-use crate::frame::Frame;
-use crate::here::Here;
-use crate::kernels::{divided, division_operator, first_lane};
 use crate::operands::Ratio;
 use isp_base::{Elem, Trap, TrapKind, apply_nonzero};
 use isp_code::{Class, Division, Instr, Register};
+use isp_frames::frame::Frame;
+use isp_frames::here::Here;
+use isp_frames::kernels::{divided, division_operator, first_lane};
 
 fn quotient(op: Division, elem: Elem, x: u64, y: u64) -> u64
     requires x_fits { x < 2 ^ width elem }

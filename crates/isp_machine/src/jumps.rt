@@ -4,17 +4,17 @@ ghost use Rattle.isp_base.specs.Types.{gang_width};
 ghost use Rattle.isp_code.specs.Fine.{IsThere, OperandFine};
 ghost use Rattle.isp_code.specs.Lines.{jumps};
 ghost use Rattle.isp_code.specs.Operands.{tested};
-ghost use Rattle.isp_machine.specs.Moves.{Goes, Fails};
-ghost use Rattle.isp_machine.specs.Rows.{FrameRows};
-ghost use Rattle.isp_machine.specs.Shapes.{Shaped, Opened};
-ghost use Rattle.isp_machine.specs.Views.{conf_of};
+ghost use Rattle.isp_frames.specs.Moves.{Goes, Fails};
+ghost use Rattle.isp_frames.specs.Rows.{FrameRows};
+ghost use Rattle.isp_frames.specs.Shapes.{Shaped, Opened};
+ghost use Rattle.isp_frames.specs.Views.{conf_of};
 ghost use Rattle.isp_store.specs.Held.{Held, shapes};
 
-use crate::frame::Frame;
-use crate::here::Here;
-use crate::kernels::{all_lanes, any_lane, first_lane};
 use isp_base::{Trap, TrapKind};
 use isp_code::{Class, Instr, JumpTest, Register};
+use isp_frames::frame::Frame;
+use isp_frames::here::Here;
+use isp_frames::kernels::{all_lanes, any_lane, first_lane};
 
 /// Jumps.
 pub(crate) fn jump<const N: usize>(here: &Here, frame: &mut Frame<N>, to: u32)

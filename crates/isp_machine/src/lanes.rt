@@ -3,16 +3,16 @@ ghost use Rattle.std.specs.Prelude.{◌≡◌};
 ghost use Rattle.isp_base.specs.declared.types.Elem.TheVariants.{Bool as Truth, I32};
 ghost use Rattle.isp_code.specs.Fine.{IsThere};
 ghost use Rattle.isp_code.specs.Registers.{elem_of};
-ghost use Rattle.isp_machine.specs.Moves.{InPlace};
-ghost use Rattle.isp_machine.specs.Shapes.{Shaped};
+ghost use Rattle.isp_frames.specs.Moves.{InPlace};
+ghost use Rattle.isp_frames.specs.Shapes.{Shaped};
 ghost use Rattle.isp_store.specs.Held.{Held};
 
-use crate::frame::Frame;
-use crate::here::Here;
-use crate::kernels::plain_operator;
 use crate::operands::Target;
 use isp_base::{Compare, UnaryOp};
 use isp_code::{Class, Plain, Register, VectorInstr};
+use isp_frames::frame::Frame;
+use isp_frames::here::Here;
+use isp_frames::kernels::plain_operator;
 
 /// The lanes of another register.
 pub(crate) fn copy<const N: usize>(here: &Here, frame: &mut Frame<N>, target: Target, x: Register)

@@ -9,14 +9,14 @@ ghost use Rattle.isp_code.specs.Fine.{AllFine, IsThere};
 ghost use Rattle.isp_code.specs.Lines.{combined};
 ghost use Rattle.isp_base.specs.Truths.{is_true};
 ghost use Rattle.isp_code.specs.Operands.{mask_operands};
-ghost use Rattle.isp_machine.specs.Moves.{MaskIs, Goes};
-ghost use Rattle.isp_machine.specs.Shapes.{Shaped, Opened};
-ghost use Rattle.isp_machine.specs.Views.{scalars_at};
+ghost use Rattle.isp_frames.specs.Moves.{MaskIs, Goes};
+ghost use Rattle.isp_frames.specs.Shapes.{Shaped, Opened};
+ghost use Rattle.isp_frames.specs.Views.{scalars_at};
 ghost use Rattle.isp_store.specs.Held.{Held, shapes};
 
-use crate::frame::Frame;
-use crate::here::Here;
 use isp_code::{Class, Instr, MaskInstr, MaskOp, Register};
+use isp_frames::frame::Frame;
+use isp_frames::here::Here;
 use isp_lanes::{LaneMask, Lanes};
 
 fn combined<const N: usize>(op: MaskOp, x: &LaneMask<N>, y: &LaneMask<N>) -> LaneMask<N>

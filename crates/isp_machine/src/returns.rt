@@ -5,19 +5,19 @@ ghost use Rattle.isp_code.specs.Fine.{IsGiven, IsThere};
 ghost use Rattle.isp_code.specs.Listing.{Routine};
 ghost use Rattle.isp_code.specs.Registers.{elem_of};
 ghost use Rattle.isp_machine.specs.Receives.{Takes, TakesLanes, Receives};
-ghost use Rattle.isp_machine.specs.Rows.{FrameRows};
-ghost use Rattle.isp_machine.specs.Shapes.{Shaped, GivesOne};
+ghost use Rattle.isp_frames.specs.Rows.{FrameRows};
+ghost use Rattle.isp_frames.specs.Shapes.{Shaped, GivesOne};
 ghost use Rattle.isp_machine.specs.Steps.{Done, Steady};
 ghost use Rattle.isp_machine.specs.declared.stop.Step.TheVariants.{Went};
-ghost use Rattle.isp_machine.specs.Views.{conf_of};
+ghost use Rattle.isp_frames.specs.Views.{conf_of};
 ghost use Rattle.isp_store.specs.Held.{Held};
 
-use crate::frame::{Frame, FrameBox};
-use crate::here::Here;
 use crate::run::Run;
 use crate::stop::Step;
 use isp_base::Value;
 use isp_code::{Class, Instr, Register};
+use isp_frames::frame::{Frame, FrameBox};
+use isp_frames::here::Here;
 use std::mem;
 
 // The value that a run ends with.

@@ -1,6 +1,6 @@
 //! A run.
-use crate::frame::FrameBox;
-use crate::zeros::ZerosBox;
+use isp_frames::frame::FrameBox;
+use isp_frames::zeros::ZerosBox;
 use isp_store::Arrays;
 use std::marker::Model;
 

@@ -8,21 +8,21 @@ ghost use Rattle.isp_code.specs.Lines.{plain_of, scalar_value};
 ghost use Rattle.isp_base.specs.Truths.{is_true};
 ghost use Rattle.isp_code.specs.Operands.{scalar_operands};
 ghost use Rattle.isp_code.specs.Registers.{elem_of};
-ghost use Rattle.isp_machine.specs.Moves.{ScalarIs, Goes, Fails};
-ghost use Rattle.isp_machine.specs.Shapes.{Shaped, Opened};
-ghost use Rattle.isp_machine.specs.Views.{conf_of, scalars_at};
+ghost use Rattle.isp_frames.specs.Moves.{ScalarIs, Goes, Fails};
+ghost use Rattle.isp_frames.specs.Shapes.{Shaped, Opened};
+ghost use Rattle.isp_frames.specs.Views.{conf_of, scalars_at};
 ghost use Rattle.isp_machine.specs.reader.Instructions.{load_of};
 ghost use Rattle.isp_store.specs.Held.{Held, shapes};
 ghost use Rattle.isp_base.specs.declared.types.Elem.{Elem};
 
 use crate::cross::{extract, reduce};
-use crate::frame::Frame;
-use crate::here::Here;
-use crate::kernels::{first_lane, plain_operator};
 use crate::operands::Access;
 use crate::order::compare;
 use isp_base::{Elem, Trap, TrapKind, UnaryOp, apply_nonzero, apply_unary, convert, wrap};
 use isp_code::{Class, Instr, Plain, Register, ScalarInstr};
+use isp_frames::frame::Frame;
+use isp_frames::here::Here;
+use isp_frames::kernels::{first_lane, plain_operator};
 use isp_store::Arrays;
 
 // A number, which the type may not have.

@@ -6,10 +6,10 @@ ghost use Rattle.isp_code.specs.Listing.{Routine};
 ghost use Rattle.isp_machine.specs.Starts.{NoEntryFor, Ready};
 
 use crate::calls::begin;
-use crate::frame::FrameBox;
 use crate::run::Run;
-use crate::zeros::ZerosBox;
 use isp_base::{Argument, Array, Bound};
+use isp_frames::frame::FrameBox;
+use isp_frames::zeros::ZerosBox;
 use isp_lanes::LaneMask;
 use isp_store::Arrays;
 use isp_verify::Verified;

@@ -3,20 +3,20 @@ ghost use Rattle.std.specs.Prelude.{◌≡◌, ◌+◌, ◌<◌, length, IfOk, I
 ghost use Rattle.isp_base.specs.Types.{gang_width};
 ghost use Rattle.isp_code.specs.Fine.{AllFine, GoesOn};
 ghost use Rattle.isp_code.specs.Operands.{operands};
-ghost use Rattle.isp_machine.specs.Moves.{Goes, Fails};
-ghost use Rattle.isp_machine.specs.Shapes.{Shaped, Opened};
+ghost use Rattle.isp_frames.specs.Moves.{Goes, Fails};
+ghost use Rattle.isp_frames.specs.Shapes.{Shaped, Opened};
 ghost use Rattle.isp_machine.specs.Steps.{Comes};
 ghost use Rattle.isp_machine.specs.reader.Instructions.{store_of, store_run_of};
 ghost use Rattle.isp_machine.specs.reader.Kinds.{is_scatter, is_store};
 ghost use Rattle.isp_machine.specs.declared.stop.Step.TheVariants.{Went};
 ghost use Rattle.isp_store.specs.Held.{shapes};
 
-use crate::frame::Frame;
-use crate::here::Here;
 use crate::operands::Access;
 use crate::stop::Step;
 use isp_base::{Trap, TrapKind};
 use isp_code::{Instr, Register};
+use isp_frames::frame::Frame;
+use isp_frames::here::Here;
 use isp_store::Arrays;
 
 // Stores a scalar, and goes on to the next instruction.

@@ -3,18 +3,18 @@ ghost use Rattle.std.specs.Prelude.{◌≡◌, ◌+◌, ◌<◌, length, Err, If
 ghost use Rattle.isp_base.specs.Types.{gang_width};
 ghost use Rattle.isp_code.specs.Fine.{AllFine};
 ghost use Rattle.isp_code.specs.Operands.{vector_operands};
-ghost use Rattle.isp_machine.specs.Moves.{Sure, VectorIs, InPlace, Goes, Fails};
-ghost use Rattle.isp_machine.specs.Shapes.{Shaped, Opened};
+ghost use Rattle.isp_frames.specs.Moves.{Sure, VectorIs, InPlace, Goes, Fails};
+ghost use Rattle.isp_frames.specs.Shapes.{Shaped, Opened};
 ghost use Rattle.isp_machine.specs.reader.Instructions.{gather_of, load_run_of};
 ghost use Rattle.isp_store.specs.Held.{Held, shapes};
 
 use crate::cross::across;
-use crate::frame::Frame;
-use crate::here::Here;
 use crate::lanes::{apply, combine, compare, convert, copy, number, select, splat};
 use crate::operands::{Access, Target};
 use isp_base::{Trap, TrapKind};
 use isp_code::{Instr, Register, VectorInstr};
+use isp_frames::frame::Frame;
+use isp_frames::here::Here;
 use isp_store::Arrays;
 
 /// What an instruction that cannot fail leaves in the lanes of the register, which is written where it stands.

@@ -3,9 +3,9 @@ use Rattle.std.specs.Prelude.{slice_get}
 use Rattle.std.proofs.lemmas.List.{length-map}
 use Rattle.std.proofs.lemmas.Result.{on_ok_weaker}
 use Rattle.isp_code.specs.Listing.{Listing, Routine, routine_of}
-use Rattle.isp_machine.specs.Begun.{Begun, given, new_stores}
+use Rattle.isp_frames.specs.Begun.{Begun, given, new_stores}
 use Rattle.isp_verify.proofs.Exports.{routine_at}
-use Rattle.isp_machine.proofs.Finds.{some_same, masks_of}
+use Rattle.isp_frames.proofs.Finds.{some_same, masks_of}
 use Rattle.isp_machine.proofs.calls.begin.Goals as goal
 
 pub begin-requires : goal.begin-requires

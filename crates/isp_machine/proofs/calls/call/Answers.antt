@@ -8,16 +8,17 @@ use Rattle.isp_code.specs.Calls.{place_at}
 use Rattle.isp_code.specs.Listing.{Listing}
 use Rattle.isp_code.specs.declared.instr.Instr.TheVariants as instr
 use Rattle.isp_store.specs.Held.{Held}
-use Rattle.isp_machine.specs.Begun.{Begun, AreThere, by_call, given, new_stores}
-use Rattle.isp_machine.specs.Rows.{FrameRows, RunRows, run_of}
+use Rattle.isp_frames.specs.Begun.{Begun, AreThere, by_call, given, new_stores}
+use Rattle.isp_frames.specs.Rows.{FrameRows}
+use Rattle.isp_machine.specs.Rows.{RunRows, run_of}
 use Rattle.isp_machine.specs.Steps.{Done, Steady}
-use Rattle.isp_machine.specs.Views.{masks_at}
+use Rattle.isp_frames.specs.Views.{masks_at}
 use Rattle.isp_machine.specs.declared.stop.Step.{Step}
 use Rattle.isp_machine.specs.declared.stop.Step.TheVariants.{Went, Trapped}
 use Rattle.isp_machine.proofs.Called.{runs_of, call_done, too_deep, found_low}
 use Rattle.isp_machine.proofs.Doing.{called}
 use Rattle.isp_machine.proofs.Passes.{are_there}
-use Rattle.isp_machine.proofs.Rewrites.{along}
+use Rattle.isp_frames.proofs.Rewrites.{along}
 use Rattle.isp_machine.proofs.calls.call.Goals as goal
 
 pub pass_call-requires : goal.pass_call-requires

@@ -4,7 +4,7 @@ use Rattle.isp_base.specs.Maps.{on, over}
 use Rattle.isp_base.specs.Types.{gang_width}
 use Rattle.isp_base.specs.Values.{number}
 use Rattle.isp_base.specs.declared.types.Elem.TheVariants.{I32}
-use Rattle.isp_machine.specs.Views.{masks_at, scalars_at, vectors_at}
+use Rattle.isp_frames.specs.Views.{masks_at, scalars_at, vectors_at}
 use Rattle.isp_machine.proofs.Written.{vector_elem_is}
 use Rattle.isp_machine.proofs.cross.exchange.Goals as goal
 

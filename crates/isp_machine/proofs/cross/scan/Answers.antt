@@ -3,7 +3,7 @@ use Rattle.isp_base.specs.Cross.{exclusive_scan}
 use Rattle.isp_code.specs.Lines.{scan_of}
 use Rattle.isp_code.specs.Registers.{elem_of}
 use Rattle.isp_base.specs.Maps.{on, over}
-use Rattle.isp_machine.specs.Views.{masks_at, vectors_at}
+use Rattle.isp_frames.specs.Views.{masks_at, vectors_at}
 use Rattle.isp_machine.proofs.Written.{vector_elem_is}
 use Rattle.isp_machine.proofs.cross.scan.Goals as goal
 

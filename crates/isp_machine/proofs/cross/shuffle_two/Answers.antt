@@ -2,7 +2,7 @@ use Rattle.std.proofs.Common.{refl, sym, ◌∙◌}
 use Rattle.isp_base.specs.Cross.{shuffle_two}
 use Rattle.isp_base.specs.Maps.{on, over}
 use Rattle.isp_base.specs.Types.{gang_width}
-use Rattle.isp_machine.specs.Views.{masks_at, vectors_at}
+use Rattle.isp_frames.specs.Views.{masks_at, vectors_at}
 use Rattle.isp_machine.proofs.Written.{vector_elem_is}
 use Rattle.isp_machine.proofs.cross.shuffle_two.Goals as goal
 

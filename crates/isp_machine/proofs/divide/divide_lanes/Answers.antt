@@ -8,10 +8,10 @@ use Rattle.isp_code.specs.Lines.{division_of, divided, moved, unless, set_vector
 use Rattle.isp_code.specs.Registers.{elem_of}
 use Rattle.isp_code.specs.declared.instr.Instr.TheVariants as instr
 use Rattle.isp_code.specs.declared.register.Class.{Class}
-use Rattle.isp_machine.specs.Arrays.{vector_in}
-use Rattle.isp_machine.specs.Rows.{FrameRows}
-use Rattle.isp_machine.specs.Views.{conf_of, vectors_at, masks_at}
-use Rattle.isp_machine.proofs.Shaping.{goes_by_vector}
+use Rattle.isp_frames.specs.Arrays.{vector_in}
+use Rattle.isp_frames.specs.Rows.{FrameRows}
+use Rattle.isp_frames.specs.Views.{conf_of, vectors_at, masks_at}
+use Rattle.isp_frames.proofs.Shaping.{goes_by_vector}
 use Rattle.isp_machine.proofs.divide.divide_lanes.Goals as goal
 
 pub returns-in-Ok-clause-ok : goal.returns-in-Ok-clause-ok

@@ -8,10 +8,10 @@ use Rattle.isp_code.specs.Lines.{division_of, divided, moved, unless, failing, s
 use Rattle.isp_code.specs.Registers.{elem_of}
 use Rattle.isp_code.specs.declared.instr.Instr.TheVariants as instr
 use Rattle.isp_code.specs.declared.register.Class.{Class}
-use Rattle.isp_machine.specs.Rows.{FrameRows}
-use Rattle.isp_machine.specs.Views.{conf_of, scalars_at}
-use Rattle.isp_machine.proofs.MaskViews.{not_zero}
-use Rattle.isp_machine.proofs.Shaping.{goes_by_scalar}
+use Rattle.isp_frames.specs.Rows.{FrameRows}
+use Rattle.isp_frames.specs.Views.{conf_of, scalars_at}
+use Rattle.isp_frames.proofs.MaskViews.{not_zero}
+use Rattle.isp_frames.proofs.Shaping.{goes_by_scalar}
 use Rattle.isp_machine.proofs.divide.divide_scalars.Goals as goal
 
 pub returns-clause-ok : goal.returns-clause-ok

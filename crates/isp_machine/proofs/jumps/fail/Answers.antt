@@ -7,9 +7,9 @@ use Rattle.isp_base.specs.Cross.{or_zero}
 use Rattle.isp_code.specs.Conf.{Fail}
 use Rattle.isp_code.specs.Lines.{moved, unless, next}
 use Rattle.isp_code.specs.declared.instr.Instr.TheVariants as instr
-use Rattle.isp_machine.specs.Views.{conf_of, masks_at}
-use Rattle.isp_machine.proofs.MaskViews.{found_first, any_lowest}
-use Rattle.isp_machine.proofs.Shaping.{goes_to}
+use Rattle.isp_frames.specs.Views.{conf_of, masks_at}
+use Rattle.isp_frames.proofs.MaskViews.{found_first, any_lowest}
+use Rattle.isp_frames.proofs.Shaping.{goes_to}
 use Rattle.isp_machine.proofs.jumps.fail.Goals as goal
 
 pub returns-then-any_lane-clause-err : goal.returns-then-any_lane-clause-err

@@ -1,6 +1,6 @@
 use Rattle.std.proofs.Common.{refl}
 use Rattle.isp_code.specs.declared.instr.Instr.TheVariants as instr
-use Rattle.isp_machine.proofs.Shaping.{goes_to}
+use Rattle.isp_frames.proofs.Shaping.{goes_to}
 use Rattle.isp_machine.proofs.jumps.jump.Goals as goal
 
 pub returns : goal.returns

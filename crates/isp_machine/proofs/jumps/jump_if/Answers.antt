@@ -2,8 +2,8 @@ use Rattle.std.proofs.Common.{ap, ◌∙◌, ◌+◌, Bool}
 use Rattle.std.specs.Prelude.{if◌then◌else◌}
 use Rattle.isp_code.specs.Conf.{Go}
 use Rattle.isp_code.specs.declared.instr.Instr.TheVariants as instr
-use Rattle.isp_machine.specs.Views.{conf_of}
-use Rattle.isp_machine.proofs.Shaping.{goes_to}
+use Rattle.isp_frames.specs.Views.{conf_of}
+use Rattle.isp_frames.proofs.Shaping.{goes_to}
 use Rattle.isp_machine.proofs.jumps.jump_if.Goals as goal
 
 pub returns-then-jumps : goal.returns-then-jumps

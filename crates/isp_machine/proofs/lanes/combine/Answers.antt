@@ -5,9 +5,9 @@ use Rattle.isp_base.specs.Values.{op_bits}
 use Rattle.isp_code.specs.Lines.{plain_of}
 use Rattle.isp_code.specs.Registers.{elem_of}
 use Rattle.isp_lanes.specs.Lanes.{written}
-use Rattle.isp_machine.specs.Arrays.{vector_in, mask_in}
-use Rattle.isp_machine.specs.Views.{masks_at, vectors_at}
-use Rattle.isp_machine.proofs.LaneViews as views
+use Rattle.isp_frames.specs.Arrays.{vector_in, mask_in}
+use Rattle.isp_frames.specs.Views.{masks_at, vectors_at}
+use Rattle.isp_frames.proofs.LaneViews as views
 use Rattle.isp_machine.proofs.lanes.combine.Goals as goal
 
 pub returns-clause-written : goal.returns-clause-written

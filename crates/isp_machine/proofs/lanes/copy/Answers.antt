@@ -1,9 +1,9 @@
 use Rattle.std.proofs.Common.{refl}
 use Rattle.isp_base.specs.Maps.{on}
 use Rattle.isp_lanes.specs.Lanes.{written}
-use Rattle.isp_machine.specs.Arrays.{vector_in, mask_in}
-use Rattle.isp_machine.specs.Views.{masks_at, vectors_at}
-use Rattle.isp_machine.proofs.LaneViews as views
+use Rattle.isp_frames.specs.Arrays.{vector_in, mask_in}
+use Rattle.isp_frames.specs.Views.{masks_at, vectors_at}
+use Rattle.isp_frames.proofs.LaneViews as views
 use Rattle.isp_machine.proofs.lanes.copy.Goals as goal
 
 pub returns-clause-written : goal.returns-clause-written

@@ -6,10 +6,10 @@ use Rattle.isp_base.specs.Maps.{lane_of, on, over}
 use Rattle.isp_base.specs.Sets.{flag_of}
 use Rattle.isp_base.specs.Truths.{is_true}
 use Rattle.isp_lanes.specs.Lanes.{is_on, written}
-use Rattle.isp_machine.specs.Arrays.{vector_in, mask_in}
-use Rattle.isp_machine.specs.Views.{masks_at, vectors_at}
-use Rattle.isp_machine.proofs.LaneViews as views
-use Rattle.isp_machine.proofs.MaskViews.{true_is}
+use Rattle.isp_frames.specs.Arrays.{vector_in, mask_in}
+use Rattle.isp_frames.specs.Views.{masks_at, vectors_at}
+use Rattle.isp_frames.proofs.LaneViews as views
+use Rattle.isp_frames.proofs.MaskViews.{true_is}
 use Rattle.isp_machine.proofs.lanes.select.Goals as goal
 
 pub returns-clause-written : goal.returns-clause-written

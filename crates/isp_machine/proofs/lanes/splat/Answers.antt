@@ -1,9 +1,9 @@
 use Rattle.std.proofs.Common.{refl, ◌∙◌, replicate}
 use Rattle.isp_base.specs.Maps.{lane_of, on, over}
 use Rattle.isp_lanes.specs.Lanes.{written}
-use Rattle.isp_machine.specs.Arrays.{vector_in, mask_in}
-use Rattle.isp_machine.specs.Views.{masks_at, scalars_at}
-use Rattle.isp_machine.proofs.LaneViews as views
+use Rattle.isp_frames.specs.Arrays.{vector_in, mask_in}
+use Rattle.isp_frames.specs.Views.{masks_at, scalars_at}
+use Rattle.isp_frames.proofs.LaneViews as views
 use Rattle.isp_machine.proofs.lanes.splat.Goals as goal
 
 pub returns-clause-written : goal.returns-clause-written

@@ -2,7 +2,7 @@ use Rattle.std.proofs.Common.{ap, ◌∙◌, sym, refl, not, ◌&&◌, ◌||◌}
 use Rattle.isp_base.specs.Sets.{flag_of}
 use Rattle.isp_code.specs.Lines.{combined}
 use Rattle.isp_code.specs.declared.instr.MaskOp.{MaskOp}
-use Rattle.isp_machine.proofs.LaneViews.{joined}
+use Rattle.isp_frames.proofs.LaneViews.{joined}
 use Rattle.isp_machine.proofs.masks.combined.Goals as goal
 
 pub returns-in-And : goal.returns-in-And

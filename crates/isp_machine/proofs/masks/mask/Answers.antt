@@ -1,6 +1,6 @@
 use Rattle.std.proofs.Common.{ap, ◌∙◌, ◌+◌}
-use Rattle.isp_machine.specs.Rows.{FrameRows}
-use Rattle.isp_machine.proofs.Shaping.{dest_mask, goes_mask}
+use Rattle.isp_frames.specs.Rows.{FrameRows}
+use Rattle.isp_frames.proofs.Shaping.{dest_mask, goes_mask}
 use Rattle.isp_machine.proofs.masks.mask.Goals as goal
 
 pub returns : goal.returns

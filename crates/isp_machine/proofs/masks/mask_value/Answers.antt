@@ -3,7 +3,7 @@ use Rattle.isp_base.specs.Values.{number}
 use Rattle.isp_base.specs.declared.types.Elem.TheVariants.{I64}
 use Rattle.isp_code.specs.Lines.{mask_value}
 use Rattle.isp_code.specs.declared.instr.MaskInstr.{MaskInstr}
-use Rattle.isp_machine.specs.Views.{conf_of, scalars_at}
+use Rattle.isp_frames.specs.Views.{conf_of, scalars_at}
 use Rattle.isp_machine.proofs.masks.mask_value.Goals as goal
 
 pub returns-in-Range : goal.returns-in-Range

@@ -2,7 +2,7 @@ use Rattle.std.proofs.Common.{ap, ◌∙◌, pos, ◌+ℤ◌, int_lt, nat_lt, �
 use Rattle.isp_base.specs.Sets.{flag_of}
 use Rattle.isp_base.specs.Values.{number}
 use Rattle.isp_base.specs.declared.types.Elem.TheVariants.{I64}
-use Rattle.isp_machine.proofs.MaskViews.{ranged}
+use Rattle.isp_frames.proofs.MaskViews.{ranged}
 use Rattle.isp_machine.proofs.masks.range.Goals as goal
 
 pub returns : goal.returns

@@ -10,8 +10,8 @@ use Rattle.isp_base.specs.declared.types.Elem.TheVariants.{I64}
 use Rattle.isp_code.specs.Registers.{elem_of}
 use Rattle.isp_code.specs.declared.instr.Instr.TheVariants as instr
 use Rattle.isp_store.specs.Held.{elements}
-use Rattle.isp_machine.specs.Moves.{Fails}
-use Rattle.isp_machine.specs.Rows.{FrameRows}
+use Rattle.isp_frames.specs.Moves.{Fails}
+use Rattle.isp_frames.specs.Rows.{FrameRows}
 use Rattle.isp_machine.proofs.Consecutive.{goes_packed_load, fails_packed_load}
 use Rattle.isp_machine.proofs.packed.packed_load.Goals as goal
 

@@ -6,8 +6,8 @@ use Rattle.isp_base.specs.declared.trap.Trap.{Trap}
 use Rattle.isp_base.specs.declared.types.Elem.{Elem}
 use Rattle.isp_code.specs.Registers.{elem_of}
 use Rattle.isp_code.specs.declared.instr.Instr.TheVariants as instr
-use Rattle.isp_machine.specs.Moves.{Fails}
-use Rattle.isp_machine.specs.Rows.{FrameRows}
+use Rattle.isp_frames.specs.Moves.{Fails}
+use Rattle.isp_frames.specs.Rows.{FrameRows}
 use Rattle.isp_machine.proofs.Consecutive.{goes_packed_store, fails_packed_store}
 use Rattle.isp_machine.proofs.packed.packed_store.Goals as goal
 

@@ -4,7 +4,8 @@ use Rattle.std.specs.Option.{option_to_list}
 use Rattle.isp_code.specs.declared.instr.Instr.TheVariants as instr
 use Rattle.isp_store.specs.Held.{Held}
 use Rattle.isp_machine.specs.Receives.{Takes, Receives}
-use Rattle.isp_machine.specs.Rows.{FrameRows, RunRows, run_of}
+use Rattle.isp_frames.specs.Rows.{FrameRows}
+use Rattle.isp_machine.specs.Rows.{RunRows, run_of}
 use Rattle.isp_machine.specs.Steps.{Done, Steady}
 use Rattle.isp_machine.specs.declared.stop.Step.{Step}
 use Rattle.isp_machine.specs.declared.stop.Step.TheVariants.{Went}

@@ -3,9 +3,9 @@ use Rattle.isp_base.specs.Maps.{lane_of, on, over}
 use Rattle.isp_base.specs.Rows.{Row}
 use Rattle.isp_base.specs.Sets.{flag_of}
 use Rattle.isp_lanes.specs.Lanes.{written}
-use Rattle.isp_machine.specs.Arrays.{vector_in}
+use Rattle.isp_frames.specs.Arrays.{vector_in}
 use Rattle.isp_machine.specs.Receives.{Receives}
-use Rattle.isp_machine.proofs.LaneViews.{copied}
+use Rattle.isp_frames.proofs.LaneViews.{copied}
 use Rattle.isp_machine.proofs.Returned.{receives_lanes}
 use Rattle.isp_machine.proofs.returns.receive_lanes.Goals as goal
 

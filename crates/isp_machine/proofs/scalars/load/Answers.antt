@@ -4,8 +4,8 @@ use Rattle.isp_base.specs.Values.{width}
 use Rattle.isp_base.specs.declared.trap.Trap.{Trap}
 use Rattle.isp_base.specs.declared.types.Elem.{Elem}
 use Rattle.isp_code.specs.declared.instr.ScalarInstr.TheVariants as scalar
-use Rattle.isp_machine.specs.Moves.{ScalarIs}
-use Rattle.isp_machine.proofs.Stored.{loaded, not_loaded}
+use Rattle.isp_frames.specs.Moves.{ScalarIs}
+use Rattle.isp_frames.proofs.Stored.{loaded, not_loaded}
 use Rattle.isp_machine.proofs.scalars.load.Goals as goal
 
 pub returns-in-Ok-clause-value : goal.returns-in-Ok-clause-value

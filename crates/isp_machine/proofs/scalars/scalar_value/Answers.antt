@@ -1,6 +1,6 @@
 use Rattle.std.proofs.Common.{sym, subst, Ok}
 use Rattle.isp_code.specs.declared.instr.ScalarInstr.{ScalarInstr}
-use Rattle.isp_machine.specs.Moves.{ScalarIs}
+use Rattle.isp_frames.specs.Moves.{ScalarIs}
 use Rattle.isp_machine.proofs.scalars.scalar_value.Goals as goal
 
 pub returns-in-Reduce-clause-value : goal.returns-in-Reduce-clause-value

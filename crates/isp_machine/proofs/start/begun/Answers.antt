@@ -1,8 +1,8 @@
 use Rattle.std.proofs.Common.{◌≡◌, ap, ◌∙◌, length, rules}
 use Rattle.isp_base.specs.Arguments.{rows}
 use Rattle.isp_store.specs.Held.{Held}
-use Rattle.isp_machine.specs.Begun.{Begun, given}
-use Rattle.isp_machine.proofs.Rewrites.{along}
+use Rattle.isp_frames.specs.Begun.{Begun, given}
+use Rattle.isp_frames.proofs.Rewrites.{along}
 use Rattle.isp_machine.proofs.start.begun.Goals as goal
 
 pub returns : goal.returns

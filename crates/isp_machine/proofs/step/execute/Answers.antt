@@ -9,10 +9,10 @@ use Rattle.isp_code.specs.Operands.{operands, call_operands}
 use Rattle.isp_code.specs.Registers.{elem_of}
 use Rattle.isp_code.specs.declared.instr.Instr.{Instr}
 use Rattle.isp_code.specs.declared.instr.Instr.TheVariants as instr
-use Rattle.isp_machine.specs.Moves.{Computes}
+use Rattle.isp_frames.specs.Moves.{Computes}
 use Rattle.isp_machine.specs.Rows.{run_of}
 use Rattle.isp_machine.specs.Steps.{Done, Steady}
-use Rattle.isp_machine.specs.Views.{scalars_at, vectors_at, masks_at}
+use Rattle.isp_frames.specs.Views.{scalars_at, vectors_at, masks_at}
 use Rattle.isp_machine.proofs.Doing.{spoken, computed, came, call_mask, call_place}
 use Rattle.isp_machine.proofs.step.execute.Goals as goal
 

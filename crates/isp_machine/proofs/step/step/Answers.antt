@@ -3,7 +3,7 @@ use Rattle.std.specs.Prelude.{slice_get}
 use Rattle.isp_code.specs.Fine.{AllFine, CallsFine}
 use Rattle.isp_code.specs.Listing.{Listing}
 use Rattle.isp_code.specs.Operands.{operands}
-use Rattle.isp_machine.specs.Rows.{FrameRows}
+use Rattle.isp_frames.specs.Rows.{FrameRows}
 use Rattle.isp_machine.specs.Steps.{Steady}
 use Rattle.isp_machine.proofs.Doing.{line_fine, line_calls, line_goes_on}
 use Rattle.isp_machine.proofs.step.step.Goals as goal

@@ -1,5 +1,5 @@
 use Rattle.std.proofs.Common.{ap, ◌∙◌, ◌+◌}
-use Rattle.isp_machine.specs.Rows.{FrameRows}
+use Rattle.isp_frames.specs.Rows.{FrameRows}
 use Rattle.isp_machine.proofs.Written.{goes_clear}
 use Rattle.isp_machine.proofs.stores.clear.Goals as goal
 

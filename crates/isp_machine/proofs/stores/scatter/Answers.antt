@@ -4,8 +4,8 @@ use Rattle.isp_code.specs.Fine.{AllFine}
 use Rattle.isp_code.specs.Operands.{operands}
 use Rattle.isp_code.specs.declared.instr.Instr.{Instr}
 use Rattle.isp_code.specs.declared.instr.Instr.TheVariants as instr
-use Rattle.isp_machine.specs.Moves.{Fails}
-use Rattle.isp_machine.specs.Rows.{FrameRows}
+use Rattle.isp_frames.specs.Moves.{Fails}
+use Rattle.isp_frames.specs.Rows.{FrameRows}
 use Rattle.isp_machine.specs.Steps.{Comes}
 use Rattle.isp_machine.specs.declared.stop.Step.{Step}
 use Rattle.isp_machine.specs.declared.stop.Step.TheVariants.{Went}

@@ -1,4 +1,4 @@
-use Rattle.isp_machine.proofs.Stored.{goes_store}
+use Rattle.isp_frames.proofs.Stored.{goes_store}
 use Rattle.isp_machine.proofs.stores.store.Goals as goal
 
 pub returns-in-Ok-clause-ok : goal.returns-in-Ok-clause-ok

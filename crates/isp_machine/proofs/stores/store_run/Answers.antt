@@ -3,7 +3,7 @@ use Rattle.isp_base.specs.Maps.{lane_of}
 use Rattle.isp_base.specs.Sets.{flag_of}
 use Rattle.isp_base.specs.declared.trap.Trap.{Trap}
 use Rattle.isp_code.specs.declared.instr.Instr.TheVariants as instr
-use Rattle.isp_machine.specs.Moves.{Fails}
+use Rattle.isp_frames.specs.Moves.{Fails}
 use Rattle.isp_machine.proofs.Consecutive.{goes_run, fails_run}
 use Rattle.isp_machine.proofs.stores.store_run.Goals as goal
 

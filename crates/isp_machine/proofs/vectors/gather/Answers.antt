@@ -1,8 +1,8 @@
 use Rattle.std.proofs.Common.{sym, ◌∙◌, subst, Err, rules}
 use Rattle.isp_base.specs.declared.trap.Trap.{Trap}
 use Rattle.isp_code.specs.declared.instr.VectorInstr.TheVariants as vector
-use Rattle.isp_machine.specs.Moves.{VectorIs}
-use Rattle.isp_machine.proofs.Stored.{gathered, not_gathered}
+use Rattle.isp_frames.specs.Moves.{VectorIs}
+use Rattle.isp_frames.proofs.Stored.{gathered, not_gathered}
 use Rattle.isp_machine.proofs.Written.{array_low, array_there, array_elem_is, vector_elem_is}
 use Rattle.isp_machine.proofs.vectors.gather.Goals as goal
 

@@ -1,8 +1,8 @@
 use Rattle.std.proofs.Common.{refl, sym, subst, Err}
 use Rattle.isp_base.specs.declared.trap.Trap.{Trap}
 use Rattle.isp_code.specs.declared.instr.VectorInstr.TheVariants as vector
-use Rattle.isp_machine.specs.Moves.{VectorIs}
-use Rattle.isp_machine.specs.Views.{masks_at}
+use Rattle.isp_frames.specs.Moves.{VectorIs}
+use Rattle.isp_frames.specs.Views.{masks_at}
 use Rattle.isp_machine.proofs.Consecutive.{run_loaded, run_not_loaded}
 use Rattle.isp_machine.proofs.vectors.load_run.Goals as goal
 

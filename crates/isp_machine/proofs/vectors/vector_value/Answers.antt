@@ -1,7 +1,7 @@
 use Rattle.std.proofs.Common.{sym, subst, Err}
 use Rattle.std.specs.Prelude.{IfErr}
 use Rattle.isp_code.specs.declared.instr.VectorInstr.{VectorInstr}
-use Rattle.isp_machine.specs.Moves.{VectorIs}
+use Rattle.isp_frames.specs.Moves.{VectorIs}
 use Rattle.isp_machine.proofs.vectors.vector_value.Goals as goal
 
 pub returns-in-Gather-clause-err : goal.returns-in-Gather-clause-err

@@ -1,0 +1,13 @@
+use Rattle.std.proofs.Common.{sym, ap}
+use Rattle.isp_code.specs.Conf.{Say}
+use Rattle.isp_base.specs.Prints.{value_text}
+use Rattle.isp_code.specs.Registers.{elem_of}
+use Rattle.isp_frames.specs.Rows.{FrameRows}
+use Rattle.isp_frames.specs.Views.{conf_of, scalars_at}
+use Rattle.isp_frames.proofs.says.print_scalar.Goals as goal
+
+pub returns-clause-ok : goal.returns-clause-ok
+returns-clause-ok g c =
+    let h = c.args.here.now in
+    let f = c.args.frame.now in
+    record { acts = λ s ws out. ap (λ (z : FrameRows). Say (value_text (elem_of h.routine c.args.x) (scalars_at f c.args.x.number)) (conf_of s z ws out)) (sym c.next.ensures); at_next = c.next.ensures }

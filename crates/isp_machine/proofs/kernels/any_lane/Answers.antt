@@ -1,6 +1,0 @@
-use Rattle.std.proofs.Common.{◌∙◌}
-use Rattle.isp_machine.proofs.MaskViews.{any_at}
-use Rattle.isp_machine.proofs.kernels.any_lane.Goals as goal
-
-pub returns : goal.returns
-returns g c = c.any.ensures ∙ any_at g.row.N c.args.mask.now c.told.ensures.long
