@@ -15,10 +15,10 @@ use Rattle.isp_typed.specs.declared.library.Part.{Part}
 use Rattle.isp_typed.specs.declared.variable.Holds.{Holds}
 use Rattle.isp_typed.specs.declared.variable.Holds.TheVariants as holds
 use Rattle.isp_typed.specs.declared.variable.Variable.{Variable}
-use Rattle.isp_lower.specs.Asks.{Ask, Nothing, Both, Register, ArrayOf, LocalOf, MaskOf, Number, Loads, first_slot, second_slot, beyond, lift_asks, test_asks, sides_ask, read_asks, copy_asks, value_asks, work_asks, taken}
-use Rattle.isp_lower.specs.Asks.{expr_asks, target_asks, base_asks, values_asks, call_asks, arguments_asks, argument_asks, change_asks, simple_asks, place_asks, run_asks, start_asks}
-use Rattle.isp_lower.specs.Callees.{next_rate, later}
-use Rattle.isp_lower.specs.Library.{library_rates}
+use Rattle.isp_lower_code.specs.Asks.{Ask, Nothing, Both, Register, ArrayOf, LocalOf, MaskOf, Number, Loads, first_slot, second_slot, beyond, lift_asks, test_asks, sides_ask, read_asks, copy_asks, value_asks, work_asks, taken}
+use Rattle.isp_lower_code.specs.Asks.{expr_asks, target_asks, base_asks, values_asks, call_asks, arguments_asks, argument_asks, change_asks, simple_asks, place_asks, run_asks, start_asks}
+use Rattle.isp_lower_code.specs.Callees.{next_rate, later}
+use Rattle.isp_lower_code.specs.Library.{library_rates}
 
 module _ (vars : List Variable) where
   -- each array is a variable

@@ -14,10 +14,10 @@ use Rattle.isp_typed.specs.declared.variable.Holds.TheVariants as holds
 use Rattle.isp_typed.specs.declared.variable.Variable.{Variable}
 use Rattle.isp_lower.specs.Drafts.{Draft, all_routines, routine_at_work}
 use Rattle.isp_meaning.specs.Calls.{same_rate}
-use Rattle.isp_lower.specs.Emitted.{Begins, result_rows, row_at, row_where, value_row, value_rows}
-use Rattle.isp_lower.specs.Header.{heading_of, param_of, params_of, routine_with, types_of, value_kind}
-use Rattle.isp_lower.specs.Rows.{Row}
-use Rattle.isp_lower.specs.Setting.{Setting, IsSettled}
+use Rattle.isp_lower_code.specs.FirstRows.{Begins, result_rows, row_at, row_where, value_row, value_rows}
+use Rattle.isp_lower_code.specs.Header.{heading_of, param_of, params_of, routine_with, types_of, value_kind}
+use Rattle.isp_lower_code.specs.Rows.{Row}
+use Rattle.isp_lower_code.specs.Setting.{Setting, IsSettled}
 use Rattle.isp_emitted.specs.Finished.{RunsDraft, HasDraft, FinishedHas}
 use Rattle.isp_emitted.specs.OfRows.{StartsWith}
 

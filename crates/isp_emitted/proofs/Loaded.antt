@@ -12,9 +12,9 @@ use Rattle.isp_meaning.specs.Outcomes.{Val, Gives, Fails, Stops, Done}
 use Rattle.isp_meaning.specs.State.{State}
 use Rattle.isp_typed.specs.Typed.{TFunction}
 use Rattle.isp_typed.specs.declared.variable.ArrayVariable.{ArrayVariable}
-use Rattle.isp_lower.specs.Layout.{IsApart}
-use Rattle.isp_lower.specs.Runs.{DoneRuns, Enters, Runs}
-use Rattle.isp_lower.specs.Setting.{Setting, ArrayFits, ArrayFitsAt, IsCalling, IsSettled, Spares, Stands}
+use Rattle.isp_lower_code.specs.Layout.{IsApart}
+use Rattle.isp_lower_code.specs.Runs.{DoneRuns, Enters, Runs}
+use Rattle.isp_lower_code.specs.Setting.{Setting, ArrayFits, ArrayFitsAt, IsCalling, IsSettled, Spares, Stands}
 
 abbrev pub with_loaded : Setting → (ℕ → Bool) → Setting
 with_loaded w k = record w { layout = record w.layout { loaded = k } }

@@ -2,8 +2,8 @@
 use Rattle.std.proofs.Common.{◌≡◌, ℕ, zero, suc, ◌+◌, ◌<◌, List, [], ◌∷◌, ◌++◌, length, refl, sym, ap, ◌∙◌, arith, length-append}
 use Rattle.std.specs.Prelude.{slice_get, slice_set}
 use Rattle.isp_code.specs.declared.instr.Instr.{Instr}
-use Rattle.isp_lower.specs.Patched.{instr_at, patched, retargeted}
-use Rattle.isp_lower.specs.Setting.{AreAt}
+use Rattle.isp_lower_code.specs.Patched.{instr_at, patched, retargeted}
+use Rattle.isp_lower_code.specs.Setting.{AreAt}
 use Rattle.isp_emitted.specs.Parts.{SamePart, PartsStay, PatchedStays}
 
 -- ---- parts that stay

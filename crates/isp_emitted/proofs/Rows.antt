@@ -9,11 +9,11 @@ use Rattle.isp_base.specs.declared.types.Rate.{Rate}
 use Rattle.isp_base.specs.declared.types.Rate.TheVariants.{Uniform, Varying}
 use Rattle.isp_code.specs.Listing.{Routine}
 use Rattle.isp_code.specs.Registers.{elem_of, scalars_of, vectors_of}
-use Rattle.isp_lower.specs.Emitted.{Begins}
-use Rattle.isp_lower.specs.Header.{types_of}
-use Rattle.isp_lower.specs.Layout.{register}
-use Rattle.isp_lower.specs.Rows.{Name, Variable, Result, Spare, Place, Fresh, Kept, Row, has_type, keeps, Rows, name_number, number_in, elem_in, rows_at, layout_of, numbered, HasRow}
-use Rattle.isp_lower.specs.Tables.{IsNamedIn}
+use Rattle.isp_lower_code.specs.FirstRows.{Begins}
+use Rattle.isp_lower_code.specs.Header.{types_of}
+use Rattle.isp_lower_code.specs.Layout.{register}
+use Rattle.isp_lower_code.specs.Rows.{Name, Variable, Result, Spare, Place, Fresh, Kept, Row, has_type, keeps, Rows, name_number, number_in, elem_in, rows_at, layout_of, numbered, HasRow}
+use Rattle.isp_lower_code.specs.Tables.{IsNamedIn}
 use Rattle.isp_emitted.specs.OfRows.{StartsWith}
 
 -- ---- the type of a row stands at its number

@@ -12,16 +12,16 @@ use Rattle.isp_code.specs.declared.instr.Instr.{Instr}
 use Rattle.isp_meaning.specs.Calls.{same_rate}
 use Rattle.isp_meaning.specs.Payloads.{converted}
 use Rattle.isp_typed.specs.Typed.{TExpr, t_constant, t_program_index, t_place, t_convert, t_cast, t_unary, t_binary, t_compare, t_logic, t_choose, t_call, t_library, t_packed_store, t_packed_load, TPlace, t_variable, t_element, type_of}
-use Rattle.isp_lower.specs.Asks.{Ask, Nothing, Both, Register, ArrayOf, LocalOf, MaskOf, Number, Loads, lift_asks, taken, whole_asks, index_asks, is_lane, start_asks, element_asks, copy_asks, value_asks, expr_asks, target_asks}
-use Rattle.isp_lower.specs.Code.{variable_read, read_code}
-use Rattle.isp_lower.specs.Elements.{names, is_counter, counts, is_run, start_in, start_code, index_by, index_by_of}
-use Rattle.isp_lower.specs.Found.{in_vector, is_kept, kept_found, operand_by, vector_of, lifted, lift_code, part_to, lift_to, convert_to, is_copied, variable_found, place_found, found, operand, operand_of, whole, whole_of, index, index_of, is_whole}
-use Rattle.isp_lower.specs.Instructions.{convert, constant, copy, splat, read_by}
-use Rattle.isp_lower.specs.Known.{bits_as, known, unless_kept, constant_of}
-use Rattle.isp_lower.specs.Pieces.{two, guard, choice, pair_code}
-use Rattle.isp_lower.specs.Stays.{stays, stays_at, is_short}
-use Rattle.isp_lower.specs.Layout.{Layout}
-use Rattle.isp_lower.specs.Rows.{numbered}
+use Rattle.isp_lower_code.specs.Asks.{Ask, Nothing, Both, Register, ArrayOf, LocalOf, MaskOf, Number, Loads, lift_asks, taken, whole_asks, index_asks, is_lane, start_asks, element_asks, copy_asks, value_asks, expr_asks, target_asks}
+use Rattle.isp_lower_code.specs.Code.{variable_read, read_code}
+use Rattle.isp_lower_code.specs.Elements.{names, is_counter, counts, is_run, start_in, start_code, index_by, index_by_of}
+use Rattle.isp_lower_code.specs.Found.{in_vector, is_kept, kept_found, operand_by, vector_of, lifted, lift_code, part_to, lift_to, convert_to, is_copied, variable_found, place_found, found, operand, operand_of, whole, whole_of, index, index_of, is_whole}
+use Rattle.isp_lower_code.specs.Instructions.{convert, constant, copy, splat, read_by}
+use Rattle.isp_lower_code.specs.Known.{bits_as, known, unless_kept, constant_of}
+use Rattle.isp_lower_code.specs.Pieces.{two, guard, choice, pair_code}
+use Rattle.isp_lower_code.specs.Stays.{stays, stays_at, is_short}
+use Rattle.isp_lower_code.specs.Layout.{Layout}
+use Rattle.isp_lower_code.specs.Rows.{numbered}
 
 -- ---- pieces of code
 

@@ -13,17 +13,17 @@ use Rattle.isp_typed.specs.Typed.{TExpr, t_constant, t_program_index, t_place, t
 use Rattle.isp_typed.specs.Typed.{t_packed_store, t_packed_load, TPlace, t_variable, t_element, TBase, t_whole, t_from, base_array, TArgument, t_by_value, t_by_name, TCall}
 use Rattle.isp_typed.specs.Typed.{t_called, TArguments, t_no_arguments, t_argument_then, TExprs, t_no_exprs, t_expr_then, type_of}
 use Rattle.isp_typed.specs.declared.variable.Logic.{Logic}
-use Rattle.isp_lower.specs.Asks.{taken, first_slot, second_slot, expr_asks, target_asks, first_asks, values_asks, call_asks, arguments_asks, argument_asks}
-use Rattle.isp_lower.specs.Callees.{next_rate, later}
-use Rattle.isp_lower.specs.Code.{read_code, choose_code, choose_to, value_registers, argument_register, argument_registers, calling, base_register, expr_to, index_code, base_code, values_code, call_code, arguments_code, argument_code, expr_code}
-use Rattle.isp_lower.specs.Found.{part_to, lift_to, found, operand, operand_of, is_kept, convert_to}
-use Rattle.isp_lower.specs.Instructions.{constant, unary, compare, operate, operate_places, packed_store, packed_load, copy, select, where_so, the_others, jump_off, jump_on}
-use Rattle.isp_lower.specs.Known.{constant_of, unless_kept}
-use Rattle.isp_lower.specs.Pieces.{guard, choice, needing, decided, logic_code, choose_rest, move_code}
-use Rattle.isp_lower.specs.Spans.{expr_places, index_places, read_places, base_places, values_places, call_places, arguments_places, argument_places}
-use Rattle.isp_lower.specs.Stays.{is_short}
-use Rattle.isp_lower.specs.Layout.{Layout, register, array_register, mask_register}
-use Rattle.isp_lower.specs.Library.{library_code, library_rates}
+use Rattle.isp_lower_code.specs.Asks.{taken, first_slot, second_slot, expr_asks, target_asks, first_asks, values_asks, call_asks, arguments_asks, argument_asks}
+use Rattle.isp_lower_code.specs.Callees.{next_rate, later}
+use Rattle.isp_lower_code.specs.Code.{read_code, choose_code, choose_to, value_registers, argument_register, argument_registers, calling, base_register, expr_to, index_code, base_code, values_code, call_code, arguments_code, argument_code, expr_code}
+use Rattle.isp_lower_code.specs.Found.{part_to, lift_to, found, operand, operand_of, is_kept, convert_to}
+use Rattle.isp_lower_code.specs.Instructions.{constant, unary, compare, operate, operate_places, packed_store, packed_load, copy, select, where_so, the_others, jump_off, jump_on}
+use Rattle.isp_lower_code.specs.Known.{constant_of, unless_kept}
+use Rattle.isp_lower_code.specs.Pieces.{guard, choice, needing, decided, logic_code, choose_rest, move_code}
+use Rattle.isp_lower_code.specs.Spans.{expr_places, index_places, read_places, base_places, values_places, call_places, arguments_places, argument_places}
+use Rattle.isp_lower_code.specs.Stays.{is_short}
+use Rattle.isp_lower_code.specs.Layout.{Layout, register, array_register, mask_register}
+use Rattle.isp_lower_code.specs.Library.{library_code, library_rates}
 use Rattle.isp_lower.specs.Reserved.{choice_asks}
 use Rattle.isp_emitted.proofs.Same.{is_kept_same, Alike, SameIn, two_same, guard_same, choice_same, joined_same, pair_same, part_same, lift_to_same, convert_same, found_same, operand_same}
 use Rattle.isp_emitted.proofs.Same.{operand_of_same, argument_found, argument_of_same, index_same, index_of_same, by_of_same, read_same, short_same, sides_found}

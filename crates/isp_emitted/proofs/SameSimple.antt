@@ -7,16 +7,16 @@ use Rattle.isp_base.specs.declared.types.Rate.{Rate}
 use Rattle.isp_base.specs.declared.types.Rate.TheVariants.{Uniform, Varying}
 use Rattle.isp_typed.specs.Typed.{TExpr, t_constant, t_program_index, t_place, t_convert, t_cast, t_unary, t_binary, t_compare, t_logic, t_choose, t_call, t_library, t_packed_store}
 use Rattle.isp_typed.specs.Typed.{t_packed_load, TPlace, t_variable, t_element, TSimple, t_value, t_run, t_assign, t_update, t_step, place_type, type_of}
-use Rattle.isp_lower.specs.Asks.{beyond, taken, work_asks, change_asks, one_asks, assign_asks, update_asks, step_asks, expr_asks, target_asks, simple_asks}
-use Rattle.isp_lower.specs.Code.{expr_to, expr_code, index_code, variable_from, variable_code}
-use Rattle.isp_lower.specs.Elements.{index_by, is_run}
-use Rattle.isp_lower.specs.Found.{part_to, lift_to, found, operand, operand_of}
-use Rattle.isp_lower.specs.Instructions.{convert, operate, operate_places, copy, read_by, write_by}
-use Rattle.isp_lower.specs.Known.{constant_of}
-use Rattle.isp_lower.specs.Spans.{expr_places, index_places}
-use Rattle.isp_lower.specs.Stays.{writes_part, writes_last}
-use Rattle.isp_lower.specs.Layout.{Layout}
-use Rattle.isp_lower.specs.Simple.{one_of, assign_code, update_to, change_code, change_by_code, one_in, one_code, step_code, simple_code, simple_places}
+use Rattle.isp_lower_code.specs.Asks.{beyond, taken, work_asks, change_asks, one_asks, assign_asks, update_asks, step_asks, expr_asks, target_asks, simple_asks}
+use Rattle.isp_lower_code.specs.Code.{expr_to, expr_code, index_code, variable_from, variable_code}
+use Rattle.isp_lower_code.specs.Elements.{index_by, is_run}
+use Rattle.isp_lower_code.specs.Found.{part_to, lift_to, found, operand, operand_of}
+use Rattle.isp_lower_code.specs.Instructions.{convert, operate, operate_places, copy, read_by, write_by}
+use Rattle.isp_lower_code.specs.Known.{constant_of}
+use Rattle.isp_lower_code.specs.Spans.{expr_places, index_places}
+use Rattle.isp_lower_code.specs.Stays.{writes_part, writes_last}
+use Rattle.isp_lower_code.specs.Layout.{Layout}
+use Rattle.isp_lower_code.specs.Simple.{one_of, assign_code, update_to, change_code, change_by_code, one_in, one_code, step_code, simple_code, simple_places}
 use Rattle.isp_emitted.proofs.Same.{is_kept_same, Alike, SameIn, two_same, joined_same, part_same, lift_to_same, copied_same, found_same, operand_same, run_same, by_same, short_same}
 use Rattle.isp_emitted.proofs.SameCode.{places_same, index_places_same, read_places_same, call_places_same, to_same, code_same, taken_same, target_same, call_same}
 

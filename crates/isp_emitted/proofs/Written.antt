@@ -9,23 +9,23 @@ use Rattle.isp_base.specs.Sets.{Mask}
 use Rattle.isp_code.specs.Conf.{Conf}
 use Rattle.isp_meaning.specs.Outcomes.{Stops}
 use Rattle.isp_meaning.specs.State.{State}
-use Rattle.isp_lower.specs.Steps.{GoesOn}
+use Rattle.isp_lower_code.specs.Steps.{GoesOn}
 use Rattle.isp_lower.specs.Adding.{Adds, expr_in, layout_in, simple_in}
-use Rattle.isp_lower.specs.Asks.{Ask, expr_asks, simple_asks}
-use Rattle.isp_lower.specs.Callees.{rates_in}
-use Rattle.isp_lower.specs.Code.{expr_code}
-use Rattle.isp_lower.specs.Found.{found}
-use Rattle.isp_lower.specs.Spans.{expr_places}
+use Rattle.isp_lower_code.specs.Asks.{Ask, expr_asks, simple_asks}
+use Rattle.isp_lower_code.specs.Callees.{rates_in}
+use Rattle.isp_lower_code.specs.Code.{expr_code}
+use Rattle.isp_lower_code.specs.Found.{found}
+use Rattle.isp_lower_code.specs.Spans.{expr_places}
 use Rattle.isp_lower.specs.Drafts.{draft_of}
 use Rattle.isp_lower.specs.Emitted.{rows_of}
-use Rattle.isp_lower.specs.Fits.{ExprFits, SimpleFits}
-use Rattle.isp_lower.specs.Laws.{ExprRuns, SimpleRuns, ExprGoesOn, SimpleGoesOn, LayoutsAreApart}
-use Rattle.isp_lower.specs.Layout.{IsApart, Layout}
+use Rattle.isp_lower_code.specs.Fits.{ExprFits, SimpleFits}
+use Rattle.isp_lower_code.specs.Laws.{ExprRuns, SimpleRuns, ExprGoesOn, SimpleGoesOn, LayoutsAreApart}
+use Rattle.isp_lower_code.specs.Layout.{IsApart, Layout}
 use Rattle.isp_lower.specs.Reserved.{Has}
-use Rattle.isp_lower.specs.Rows.{Variable, elem_in, layout_of}
-use Rattle.isp_lower.specs.Runs.{DoneRuns, Runs, Enters}
-use Rattle.isp_lower.specs.Setting.{Setting, AreAt, calls_of, gang_of, Holds, IsSettled, with_turns}
-use Rattle.isp_lower.specs.Simple.{simple_code, simple_places}
+use Rattle.isp_lower_code.specs.Rows.{Variable, elem_in, layout_of}
+use Rattle.isp_lower_code.specs.Runs.{DoneRuns, Runs, Enters}
+use Rattle.isp_lower_code.specs.Setting.{Setting, AreAt, calls_of, gang_of, Holds, IsSettled, with_turns}
+use Rattle.isp_lower_code.specs.Simple.{simple_code, simple_places}
 use Rattle.isp_lower.specs.Written.{Piece}
 use Rattle.isp_lower.specs.declared.reserve.Reserve.{Reserve}
 use Rattle.isp_lower.specs.declared.sites.Site.{Site}

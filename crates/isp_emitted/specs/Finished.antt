@@ -1,10 +1,10 @@
 -- A call of the function that an emitter was at work on, in the code that was finished then or later.
 use Rattle.std.specs.Prelude.{◌≡◌, length, Some}
 use Rattle.isp_lower.specs.Drafts.{Draft, all_routines}
-use Rattle.isp_lower.specs.Emitted.{Begins, first_rows}
-use Rattle.isp_lower.specs.Header.{heading_of}
-use Rattle.isp_lower.specs.Rows.{Rows, layout_of}
-use Rattle.isp_lower.specs.Setting.{Setting, IsSettled}
+use Rattle.isp_lower_code.specs.FirstRows.{Begins, first_rows}
+use Rattle.isp_lower_code.specs.Header.{heading_of}
+use Rattle.isp_lower_code.specs.Rows.{Rows, layout_of}
+use Rattle.isp_lower_code.specs.Setting.{Setting, IsSettled}
 use Rattle.isp_emitted.specs.OfRows.{StartsWith, IsOfRows}
 
 -- scalars and vectors are added

@@ -1,9 +1,9 @@
 -- A call whose routine has the registers of some rows, as an emitter has them.
 use Rattle.std.specs.Prelude.{◌≡◌, List, ◌++◌}
 use Rattle.isp_code.specs.Registers.{scalars_of, vectors_of}
-use Rattle.isp_lower.specs.Header.{types_of}
-use Rattle.isp_lower.specs.Rows.{Rows, layout_of}
-use Rattle.isp_lower.specs.Setting.{Setting}
+use Rattle.isp_lower_code.specs.Header.{types_of}
+use Rattle.isp_lower_code.specs.Rows.{Rows, layout_of}
+use Rattle.isp_lower_code.specs.Setting.{Setting}
 
 -- a list begins with another
 pub record StartsWith {A : Type 0} (xs ys : List A) : Type 0 where

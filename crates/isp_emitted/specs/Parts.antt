@@ -1,7 +1,7 @@
 -- A part of a list, from one number on and before another, that a later list has too.
 use Rattle.std.specs.Prelude.{◌≡◌, ◌≤◌, ◌<◌, ℕ, List, ◌++◌, length, slice_get}
 use Rattle.isp_code.specs.declared.instr.Instr.{Instr}
-use Rattle.isp_lower.specs.Patched.{patched}
+use Rattle.isp_lower_code.specs.Patched.{patched}
 
 -- from n on and before m the second list has what the first has
 abbrev pub SamePart : {A : Type 0} → ℕ → ℕ → List A → List A → Type 0

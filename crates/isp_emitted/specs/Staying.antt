@@ -3,13 +3,13 @@ use Rattle.std.specs.Prelude.{◌≡◌, ◌≤◌, ℕ, List}
 use Rattle.isp_base.specs.declared.types.Elem.{Elem}
 use Rattle.isp_base.specs.declared.types.Rate.{Rate}
 use Rattle.isp_typed.specs.Typed.{TExpr, TSimple}
-use Rattle.isp_lower.specs.Asks.{Ask, expr_asks, simple_asks}
-use Rattle.isp_lower.specs.Code.{expr_code}
-use Rattle.isp_lower.specs.Found.{found}
+use Rattle.isp_lower_code.specs.Asks.{Ask, expr_asks, simple_asks}
+use Rattle.isp_lower_code.specs.Code.{expr_code}
+use Rattle.isp_lower_code.specs.Found.{found}
 use Rattle.isp_lower.specs.Emitted.{Grows, rows_of}
 use Rattle.isp_lower.specs.Reserved.{Has}
-use Rattle.isp_lower.specs.Rows.{layout_of, with_fresh_at}
-use Rattle.isp_lower.specs.Simple.{simple_code}
+use Rattle.isp_lower_code.specs.Rows.{layout_of, with_fresh_at}
+use Rattle.isp_lower_code.specs.Simple.{simple_code}
 use Rattle.isp_lower.specs.declared.registers.Registers.{Registers}
 use Rattle.isp_lower.specs.declared.reserve.Reserve.{Reserve}
 

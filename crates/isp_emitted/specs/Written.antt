@@ -9,15 +9,15 @@ use Rattle.isp_meaning.specs.State.{State}
 use Rattle.isp_typed.specs.Fine.{FineExpr, FineSimple}
 use Rattle.isp_typed.specs.Typed.{TExpr, TSimple, type_of}
 use Rattle.isp_lower.specs.Adding.{Adds, expr_in, layout_in, simple_in}
-use Rattle.isp_lower.specs.Asks.{Ask, expr_asks, simple_asks}
-use Rattle.isp_lower.specs.Found.{found}
+use Rattle.isp_lower_code.specs.Asks.{Ask, expr_asks, simple_asks}
+use Rattle.isp_lower_code.specs.Found.{found}
 use Rattle.isp_lower.specs.Drafts.{draft_of}
 use Rattle.isp_lower.specs.Emitted.{Grows}
-use Rattle.isp_lower.specs.Rated.{IsRated, SimpleRated}
+use Rattle.isp_lower_code.specs.Rated.{IsRated, SimpleRated}
 use Rattle.isp_lower.specs.Reserved.{Has}
-use Rattle.isp_lower.specs.Runs.{DoneRuns, Enters, Runs}
-use Rattle.isp_lower.specs.Setting.{Setting, IsSettled, calls_of, gang_of, with_turns, Holds}
-use Rattle.isp_lower.specs.Steps.{GoesOn}
+use Rattle.isp_lower_code.specs.Runs.{DoneRuns, Enters, Runs}
+use Rattle.isp_lower_code.specs.Setting.{Setting, IsSettled, calls_of, gang_of, with_turns, Holds}
+use Rattle.isp_lower_code.specs.Steps.{GoesOn}
 use Rattle.isp_lower.specs.Written.{Piece}
 use Rattle.isp_lower.specs.declared.sites.Site.{Site}
 use Rattle.isp_lower.specs.declared.types.Emitter.{Emitter}

@@ -11,10 +11,11 @@ use Rattle.isp_code.specs.declared.register.Class.{Class}
 use Rattle.isp_code.specs.declared.register.Class.TheVariants as class
 use Rattle.isp_code.specs.declared.register.Register.{Register}
 use Rattle.isp_lower.specs.Drafts.{HasAllNamed, draft_of}
-use Rattle.isp_lower.specs.Emitted.{Appends, Begins, Grows, rows_of}
-use Rattle.isp_lower.specs.Named.{InCode, InInstr, IsOf, count_of}
-use Rattle.isp_lower.specs.Patched.{patched, retargeted}
-use Rattle.isp_lower.specs.Rows.{Fresh, Row, Rows, with_fresh, with_fresh_at}
+use Rattle.isp_lower_code.specs.FirstRows.{Begins}
+use Rattle.isp_lower.specs.Emitted.{Appends, Grows, rows_of}
+use Rattle.isp_lower_code.specs.Named.{InCode, InInstr, IsOf, count_of}
+use Rattle.isp_lower_code.specs.Patched.{patched, retargeted}
+use Rattle.isp_lower_code.specs.Rows.{Fresh, Row, Rows, with_fresh, with_fresh_at}
 use Rattle.isp_lower.specs.Adding.{AddsCode}
 use Rattle.isp_lower.specs.declared.registers.Registers.{Registers}
 use Rattle.isp_lower.specs.declared.types.Body.{Body}

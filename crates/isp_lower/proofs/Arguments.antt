@@ -18,13 +18,13 @@ use Rattle.isp_typed.specs.declared.variable.Variable.{Variable}
 use Rattle.isp_typed.specs.Nodes.{argument_nodes, arguments_nodes, call_nodes}
 use Rattle.isp_typed.specs.Typed.{TExpr, TPlace, TBase, TArgument, TArguments, TCall, t_called, t_arguments}
 use Rattle.isp_typed.specs.Views.{argument_step, base_step, call_step, expr_step, place_step, argument_of, arguments_of, call_of, function_of, functions_of}
-use Rattle.isp_lower.specs.Lines.{naming}
-use Rattle.isp_lower.specs.Asks.{Both, Nothing, Number, argument_asks, arguments_asks, call_asks, operand_asks}
-use Rattle.isp_lower.specs.Callees.{later, next_rate, rate_held, rates_held, rates_in, rates_of}
-use Rattle.isp_lower.specs.Code.{argument_code, argument_register, argument_registers, arguments_code, call_code, calling}
-use Rattle.isp_lower.specs.Spans.{argument_places, arguments_places, call_places}
+use Rattle.isp_lower_code.specs.Lines.{naming}
+use Rattle.isp_lower_code.specs.Asks.{Both, Nothing, Number, argument_asks, arguments_asks, call_asks, operand_asks}
+use Rattle.isp_lower_code.specs.Callees.{later, next_rate, rate_held, rates_held, rates_in, rates_of}
+use Rattle.isp_lower_code.specs.Code.{argument_code, argument_register, argument_registers, arguments_code, call_code, calling}
+use Rattle.isp_lower_code.specs.Spans.{argument_places, arguments_places, call_places}
 use Rattle.isp_lower.specs.Emitted.{Appends, Present}
-use Rattle.isp_lower.specs.Layout.{Layout, mask_register}
+use Rattle.isp_lower_code.specs.Layout.{Layout, mask_register}
 use Rattle.isp_lower.specs.declared.types.Body.{Body}
 use Rattle.isp_lower.specs.declared.types.Scope.{Scope}
 use Rattle.isp_lower.proofs.Landing.{appends_self, appends_then}

@@ -4,11 +4,11 @@ use Rattle.isp_base.specs.declared.types.Span.{Span}
 use Rattle.isp_base.specs.declared.types.Ty.{Ty}
 use Rattle.isp_code.specs.declared.instr.Instr.{Instr}
 use Rattle.isp_typed.specs.Typed.{TExpr, t_variable}
-use Rattle.isp_lower.specs.Code.{expr_code}
+use Rattle.isp_lower_code.specs.Code.{expr_code}
 use Rattle.isp_lower.specs.Emitted.{Appends, layout}
-use Rattle.isp_lower.specs.Found.{operand, operand_of}
-use Rattle.isp_lower.specs.Instructions.{operate_places}
-use Rattle.isp_lower.specs.Spans.{expr_places}
+use Rattle.isp_lower_code.specs.Found.{operand, operand_of}
+use Rattle.isp_lower_code.specs.Instructions.{operate_places}
+use Rattle.isp_lower_code.specs.Spans.{expr_places}
 use Rattle.isp_lower.specs.Written.{Writes, behind, change_by_at, operand_at, update_at, update_code}
 use Rattle.isp_lower.specs.declared.numbered.RegisterNumber.{RegisterNumber}
 use Rattle.isp_lower.specs.declared.sites.Home.{Home}

@@ -1,5 +1,5 @@
 -- Rows that are added change no register that is there; so what code asks for stays there.
-use Rattle.std.proofs.Common.{◌≡◌, ◌⊎◌, inl, inr, ⊎_elim, ℕ, ◌<◌, ◌≤◌, ◌+◌, List, [], ◌++◌, length, map, drop, get_or, refl, sym, ap, subst, ◌∙◌, arith, append_assoc, append-nil, Some}
+use Rattle.std.proofs.Common.{◌≡◌, ◌⊎◌, inl, inr, ⊎_elim, ℕ, ◌<◌, ◌≤◌, ◌+◌, List, length, map, drop, get_or, refl, sym, ap, subst, ◌∙◌, arith, Some}
 use Rattle.std.proofs.lemmas.List.{drop_more, drop_all}
 use Rattle.isp_base.specs.declared.types.Elem.{Elem}
 use Rattle.std.specs.Prelude.{Option, None, is_some, true}
@@ -8,26 +8,19 @@ use Rattle.isp_base.specs.declared.types.Rate.TheVariants.{Uniform, Varying}
 use Rattle.isp_typed.specs.Views.{item_of, items_of}
 use Rattle.isp_typed.specs.declared.stmt.TypedItem as rust
 use Rattle.isp_typed.specs.declared.variable.ArrayVariable.{ArrayVariable}
-use Rattle.isp_lower.specs.Asks.{Ask, Nothing, Both, Register, ArrayOf, LocalOf, MaskOf, Number, Loads, All, item_asks, items_asks}
-use Rattle.isp_lower.specs.Emitted.{rows_of, row_of, Begins, Grows, HasArray, HasLoaded, HasRow, Keeps, KeepsIn, Longer}
-use Rattle.isp_lower.specs.Asks.{first_slot, second_slot, sides_ask}
-use Rattle.isp_lower.specs.Reserved.{Gives, Has, HasNumbers, HasSpare, IsReserved}
-use Rattle.isp_lower.specs.Rows.{Name, Variable, Result, Spare, Place, Fresh, Kept, Row, number_in, elem_in, keeps, rows_at}
-use Rattle.isp_lower.specs.Tables.{AnyArray}
-use Rattle.isp_lower.specs.declared.registers.Constant.{Constant}
+use Rattle.isp_lower_code.specs.Asks.{Ask, Nothing, Both, Register, MaskOf, Number, item_asks, items_asks, first_slot, second_slot, sides_ask}
+use Rattle.isp_lower.specs.Emitted.{rows_of, row_of, Grows, HasArray, HasLoaded, HasRow, Keeps, KeepsIn, Longer}
+use Rattle.isp_lower_code.specs.Room.{HasNumbers}
+use Rattle.isp_lower.specs.Reserved.{Gives, Has, HasSpare, IsReserved}
+use Rattle.isp_lower_code.specs.Rows.{Name, Variable, Result, Spare, Place, Fresh, Kept, elem_in, keeps, rows_at}
+use Rattle.isp_lower_code.specs.Tables.{AnyArray}
+use Rattle.isp_lower_code.specs.declared.constant.Constant.{Constant}
 use Rattle.isp_lower.specs.declared.registers.RegisterRow.{RegisterRow}
 use Rattle.isp_lower.specs.declared.registers.Registers.{Registers}
 use Rattle.isp_lower.specs.declared.reserve.Reserve.{Reserve}
-use Rattle.isp_lower.proofs.Rows.{kept_of, kept_row, rows_stay}
+use Rattle.isp_lower_code.proofs.Lemmas.{all_grow, begins_self, begins_then, kept_of, kept_row, stays_in}
 
 -- ---- rows that are added
-
-pub begins_self : (xs : List Row) → Begins xs xs
-begins_self xs = record { more = []; is = sym (append-nil xs) }
-
-pub begins_then : (xs ys zs : List Row) → Begins xs ys → Begins ys zs → Begins xs zs
-begins_then xs ys zs a b =
-    record { more = a.more ++ b.more; is = b.is ∙ ap (λ w. w ++ b.more) a.is ∙ append_assoc xs a.more b.more }
 
 pub grows_self : (r : Registers) → Grows r r
 grows_self r =
@@ -56,25 +49,7 @@ pub kept_same : (a b : Registers) → Grows a b → (r : Rate) (t : Elem) (k : �
 kept_same a b g Uniform t k = g.kept_scalars t k
 kept_same a b g Varying t k = g.kept_vectors t k
 
-pub stays_in : (xs ys : List Row) (x : Name) (t : Elem) → Begins xs ys → elem_in xs x ≡ Some t → (number_in ys x ≡ number_in xs x) × (elem_in ys x ≡ Some t)
-stays_in xs ys x t b e =
-    subst (λ zs. (number_in zs x ≡ number_in xs x) × (elem_in zs x ≡ Some t)) (sym b.is) (rows_stay xs b.more x t e)
-
 -- ---- what code asks for
-
--- what is asked of one thing is there of another one that has all that the first has
-module _ (H H1 : Rate → Name → Elem → Type 0) (A A1 L L1 : ArrayVariable → Type 0) (M M1 : ℕ → Type 0) (W W' : ℕ → Type 0)
-    (names : (r : Rate) (x : Name) (t : Elem) → H r x t → H1 r x t) (arrays : (b : ArrayVariable) → A b → A1 b)
-    (locals : (b : ArrayVariable) → L b → L1 b) (masks : (k : ℕ) → M k → M1 k) (loaded : (v : ℕ) → W v → W' v) where
-  pub all_grow : (a : Ask) → All H A L M W a → All H1 A1 L1 M1 W' a
-  all_grow Nothing f = tt
-  all_grow (Both x y) f = (all_grow x f.0, all_grow y f.1)
-  all_grow (Register r x t) f = names r x t f
-  all_grow (ArrayOf b) f = arrays b f
-  all_grow (LocalOf b) f = locals b f
-  all_grow (MaskOf k) f = masks k f
-  all_grow (Number k) f = f
-  all_grow (Loads v) f = loaded v f
 
 pub row_grows : (a b : Registers) → Grows a b → (r : Rate) (x : Name) (t : Elem) → HasRow a r x t → HasRow b r x t
 row_grows a b g Uniform x t e = (stays_in (rows_of a).scalars (rows_of b).scalars x t g.scalars e).1

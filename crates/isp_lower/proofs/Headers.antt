@@ -6,7 +6,7 @@ use Rattle.isp_base.specs.declared.types.Elem.{Elem}
 use Rattle.isp_lower.specs.Emitted.{row_of}
 use Rattle.isp_lower.specs.declared.registers.RegisterRow.{RegisterRow}
 use Rattle.isp_typed.specs.declared.variable.Variable.{Variable}
-use Rattle.isp_lower.specs.Header.{AreSmall, IsSmall, types_of}
+use Rattle.isp_lower_code.specs.Header.{AreSmall, IsSmall, types_of}
 
 types_last : (xs : List RegisterRow) (x : RegisterRow) → types_of (map row_of (xs ++ x ∷ [])) ≡ types_of (map row_of xs) ++ x.elem ∷ []
 types_last [] x = refl

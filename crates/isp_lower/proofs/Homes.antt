@@ -5,8 +5,8 @@ use Rattle.isp_typed.specs.declared.variable.Holds.{Holds}
 use Rattle.isp_typed.specs.declared.variable.Holds.TheVariants as holds
 use Rattle.isp_typed.specs.declared.variable.Variable as declared
 use Rattle.isp_meaning.specs.Calls.{same_rate}
-use Rattle.isp_lower.specs.Rows.{Row}
-use Rattle.isp_lower.specs.Emitted.{array_row, array_rows, row_at, row_where, value_row, value_rows}
+use Rattle.isp_lower_code.specs.Rows.{Row}
+use Rattle.isp_lower_code.specs.FirstRows.{array_row, array_rows, row_at, row_where, value_row, value_rows}
 
 where_apart : (b : Bool) (x : Row) (rows : List Row) → row_where b x rows ≡ row_where b x [] ++ rows
 where_apart true x rows = refl

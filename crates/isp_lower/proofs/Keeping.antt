@@ -7,13 +7,13 @@ use Rattle.isp_base.specs.declared.types.Span.{Span}
 use Rattle.isp_base.specs.declared.types.Value.{Value}
 use Rattle.isp_code.specs.declared.instr.Instr.{Instr}
 use Rattle.isp_typed.specs.Typed.{TExpr, t_constant, t_program_index, t_place, t_convert, t_cast, t_unary, t_binary, t_compare, t_logic, t_choose, t_call, t_library, t_packed_store, t_packed_load, type_of}
-use Rattle.isp_lower.specs.Found.{found, in_vector, is_kept, lift_code, operand_of}
-use Rattle.isp_lower.specs.Known.{constant_of, known, known_as, unless_kept}
-use Rattle.isp_lower.specs.Spans.{expr_places}
+use Rattle.isp_lower_code.specs.Found.{found, in_vector, is_kept, lift_code, operand_of}
+use Rattle.isp_lower_code.specs.Known.{constant_of, known, known_as, unless_kept}
+use Rattle.isp_lower_code.specs.Spans.{expr_places}
 use Rattle.isp_lower.specs.Emitted.{Appends}
-use Rattle.isp_lower.specs.Layout.{Layout}
+use Rattle.isp_lower_code.specs.Layout.{Layout}
 use Rattle.isp_lower.specs.declared.types.Body.{Body}
-use Rattle.isp_lower.proofs.Found.{constant_is_one}
+use Rattle.isp_lower_code.proofs.Lemmas.{constant_is_one}
 use Rattle.isp_lower.proofs.Landing.{appends_self}
 
 -- a constant names no place of the source

@@ -10,13 +10,13 @@ use Rattle.isp_code.specs.declared.instr.Instr.TheVariants as instr
 use Rattle.std.proofs.Math.Seq.{set-append_seam}
 use Rattle.isp_base.specs.declared.types.Span.{Span}
 use Rattle.isp_code.specs.declared.instr.Instr.{Instr}
-use Rattle.isp_lower.specs.Code.{choose_code, choose_to, expr_code, expr_to}
-use Rattle.isp_lower.specs.Found.{found, operand_of}
-use Rattle.isp_lower.specs.Instructions.{copy, operate, select}
-use Rattle.isp_lower.specs.Pieces.{choice, guard, move, move_code}
-use Rattle.isp_lower.specs.Spans.{expr_places}
-use Rattle.isp_lower.specs.Stays.{is_short}
-use Rattle.isp_lower.specs.Layout.{Layout}
+use Rattle.isp_lower_code.specs.Code.{choose_code, choose_to, expr_code, expr_to}
+use Rattle.isp_lower_code.specs.Found.{found, operand_of}
+use Rattle.isp_lower_code.specs.Instructions.{copy, operate, select}
+use Rattle.isp_lower_code.specs.Pieces.{choice, guard, move, move_code}
+use Rattle.isp_lower_code.specs.Spans.{expr_places}
+use Rattle.isp_lower_code.specs.Stays.{is_short}
+use Rattle.isp_lower_code.specs.Layout.{Layout}
 use Rattle.isp_lower.proofs.Staying.{short_silent}
 use Rattle.isp_typed.specs.Typed.{TExpr, t_choose, type_of}
 use Rattle.isp_base.specs.declared.types.Ty.{Ty}

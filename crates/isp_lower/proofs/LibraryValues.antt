@@ -11,14 +11,14 @@ use Rattle.isp_typed.specs.Typed.{t_exprs}
 use Rattle.isp_typed.specs.Views.{expr_of, exprs_of}
 use Rattle.isp_typed.specs.declared.expr.TypedExpr as rust
 use Rattle.isp_typed.specs.declared.library.Part.{Part}
-use Rattle.isp_lower.specs.Asks.{Both, Nothing, Number, operand_asks, values_asks}
-use Rattle.isp_lower.specs.Callees.{later, next_rate}
-use Rattle.isp_lower.specs.Code.{expr_code, value_registers, values_code}
-use Rattle.isp_lower.specs.Found.{operand, operand_of}
-use Rattle.isp_lower.specs.Spans.{expr_places, values_places}
+use Rattle.isp_lower_code.specs.Asks.{Both, Nothing, Number, operand_asks, values_asks}
+use Rattle.isp_lower_code.specs.Callees.{later, next_rate}
+use Rattle.isp_lower_code.specs.Code.{expr_code, value_registers, values_code}
+use Rattle.isp_lower_code.specs.Found.{operand, operand_of}
+use Rattle.isp_lower_code.specs.Spans.{expr_places, values_places}
 use Rattle.isp_lower.specs.Emitted.{Appends}
-use Rattle.isp_lower.specs.Layout.{Layout}
-use Rattle.isp_lower.specs.Library.{rate_taken, rates_taken, register_at}
+use Rattle.isp_lower_code.specs.Layout.{Layout}
+use Rattle.isp_lower_code.specs.Library.{rate_taken, rates_taken, register_at}
 use Rattle.isp_lower.specs.Written.{numbers}
 use Rattle.isp_lower.specs.declared.numbered.RegisterNumber.{RegisterNumber}
 use Rattle.isp_lower.specs.declared.types.Body.{Body}

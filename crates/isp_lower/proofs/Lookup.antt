@@ -1,5 +1,5 @@
 -- Rows of registers, and a map that tells where the first row of each name stands.
-use Rattle.std.proofs.Common.{◌≡◌, ◌<◌, ◌≤◌, ℕ, zero, suc, map, subst, ◌+◌, length, List, [], ◌∷◌, ◌++◌, Some, None, Bool, true, false, refl, sym, ap, ◌∙◌, ◌≢◌, arith, eqb-true, eq-eqb, ne_eqb, get_or, take, inl, append-nil, length-append}
+use Rattle.std.proofs.Common.{◌≡◌, ◌<◌, ◌≤◌, ℕ, zero, suc, map, subst, ◌+◌, length, List, [], ◌∷◌, ◌++◌, Some, None, Bool, true, false, refl, sym, ap, ◌∙◌, ◌≢◌, arith, eqb-true, eq-eqb, ne_eqb, get_or, take, ◌⊎◌, inl, inr, append-nil, length-append}
 use Rattle.std.specs.Prelude.{◌==◌, if◌then◌else◌, Option, IfSome, IfNone, is_some, slice_get, cond, nat_lt}
 use Rattle.std.specs.BTreeMap.{BTreeMap, get}
 use Rattle.std.specs.Ordering.{nat_cmp, is_eq}
@@ -11,11 +11,46 @@ use Rattle.isp_base.specs.Ranks.{rank, same_elem}
 use Rattle.isp_base.specs.declared.types.Elem.{Elem}
 use Rattle.isp_base.proofs.RankLaws.{same_is}
 use Rattle.isp_lower.specs.Lookup.{AreNamedFrom, HasOwnType, IsNamedAt, IsPlain, Tells, name_of, own_type, row_of}
-use Rattle.isp_lower.specs.Rows.{Name, Variable, Result, Spare, Place, Fresh, Kept, Row, has_type, keeps, name_number, number_in, elem_in, with_fresh}
+use Rattle.isp_lower_code.specs.Rows.{Name, Variable, Result, Spare, Place, Fresh, Kept, Row, has_type, keeps, name_number, number_in, elem_in, with_fresh}
 use Rattle.isp_lower.specs.Emitted.{KeepsIn}
 use Rattle.isp_lower.specs.declared.registers.RegisterName.TheVariants as one
 use Rattle.isp_lower.specs.declared.registers.RegisterRow.{RegisterRow}
-use Rattle.isp_lower.proofs.Rows.{few_ranks, kept_more, kept_of, plain_keeps, rows_stay}
+use Rattle.isp_lower_code.proofs.Lemmas.{few_ranks, kept_of, rows_stay}
+
+-- ---- which constants a row more keeps
+
+-- a row of another name keeps no constant more
+other_keeps : (rows : List Row) (z : Row) (t : Elem) (b : ℕ) → (name_number z.name == name_number (Kept t b)) ≡ false → keeps (rows ++ z ∷ []) t b ≡ keeps rows t b
+other_keeps rows z t b e = ap (has_type t) (go rows)
+  where
+    go : (xs : List Row) → elem_in (xs ++ z ∷ []) (Kept t b) ≡ elem_in xs (Kept t b)
+    go [] = ap (λ d. if d then Some z.elem else None) e
+    go (y ∷ ys) = ap (λ o. if name_number y.name == name_number (Kept t b) then Some y.elem else o) (go ys)
+
+plain_keeps : (rows : List Row) (z : Row) (t : Elem) (b : ℕ) → IsPlain z.name → keeps (rows ++ z ∷ []) t b ≡ keeps rows t b
+plain_keeps rows z t b plain = other_keeps rows z t b (other z.name plain)
+  where
+    other : (x : Name) → IsPlain x → (name_number x == name_number (Kept t b)) ≡ false
+    other (Variable v) p = ne_eqb (name_number (Variable v)) (name_number (Kept t b)) (λ e. omega (arith, e))
+    other Result p = ne_eqb (name_number Result) (name_number (Kept t b)) (λ e. omega (arith, e))
+    other (Spare u j) p = ne_eqb (name_number (Spare u j)) (name_number (Kept t b)) (λ e. omega (arith, e))
+    other Place p = ne_eqb (name_number Place) (name_number (Kept t b)) (λ e. omega (arith, e))
+    other (Fresh j) p = ne_eqb (name_number (Fresh j)) (name_number (Kept t b)) (λ e. omega (arith, e))
+    other (Kept u c) p = absurd p
+
+-- the row of a constant keeps that one, and no other one more
+kept_more : (rows : List Row) (u : Elem) (c : ℕ) (t : Elem) (b : ℕ) → keeps (rows ++ record { name = Kept u c; elem = u } ∷ []) t b ≡ true → (keeps rows t b ≡ true) ⊎ ((t ≡ u) × (b ≡ c))
+kept_more rows u c t b h = go (name_number (Kept u c) == name_number (Kept t b)) refl
+  where
+    go : (d : Bool) → (name_number (Kept u c) == name_number (Kept t b)) ≡ d → (keeps rows t b ≡ true) ⊎ ((t ≡ u) × (b ≡ c))
+    go true e =
+        let n = eqb-true (name_number (Kept u c)) (name_number (Kept t b)) e in
+        let x = few_ranks u in
+        let y = few_ranks t in
+        inr (same_is t u (eq-eqb (rank t) (rank u) (omega (arith, n, x, y))), omega (arith, n, x, y))
+    go false e = inl (sym (other_keeps rows (record { name = Kept u c; elem = u }) t b e) ∙ h)
+
+-- ---- the row of a name
 
 some_same : {A : Type 0} {x y : A} → Some x ≡ Some y → x ≡ y
 some_same e = cc

@@ -7,9 +7,9 @@ use Rattle.isp_code.specs.declared.instr.Instr.{Instr}
 use Rattle.isp_code.specs.declared.operand.Operand.{Operand}
 use Rattle.isp_code.specs.declared.operand.Operand.TheVariants.{Any as AnyRegister, Scalar, Vector, Mask, Array, Number, Place, Text, Target, Back}
 use Rattle.isp_code.specs.declared.register.Register.{Register}
-use Rattle.isp_lower.specs.Layout.{class_at, mask_register, register}
-use Rattle.isp_lower.specs.Named.{InOption, InOperand, InOperands, InCode, IsOf, Unnamed, count_of}
-use Rattle.isp_lower.specs.Rows.{Rows, rows_at}
+use Rattle.isp_lower_code.specs.Layout.{class_at, mask_register, register}
+use Rattle.isp_lower_code.specs.Named.{InOption, InOperand, InOperands, InCode, IsOf, Unnamed, count_of}
+use Rattle.isp_lower_code.specs.Rows.{Rows, rows_at}
 
 -- ---- something weaker holds too of what is named
 

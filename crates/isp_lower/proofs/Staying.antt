@@ -5,12 +5,12 @@ use Rattle.isp_base.specs.declared.types.Rate.{Rate}
 use Rattle.isp_base.specs.declared.types.Value.{Value}
 use Rattle.isp_typed.specs.Typed.{TExpr, t_constant, t_program_index, t_place, t_convert, t_cast, t_unary, t_binary, t_compare, t_logic, t_choose, t_call, t_library, t_packed_store, t_packed_load, t_variable, t_element, type_of}
 use Rattle.isp_meaning.specs.Calls.{same_rate}
-use Rattle.isp_lower.specs.Layout.{Layout}
-use Rattle.isp_lower.specs.Found.{is_kept}
-use Rattle.isp_lower.specs.Known.{constant_of}
-use Rattle.isp_lower.specs.Spans.{expr_places}
-use Rattle.isp_lower.specs.Stays.{is_short, stays, stays_at}
-use Rattle.isp_lower.proofs.Found.{constant_is_one}
+use Rattle.isp_lower_code.specs.Layout.{Layout}
+use Rattle.isp_lower_code.specs.Found.{is_kept}
+use Rattle.isp_lower_code.specs.Known.{constant_of}
+use Rattle.isp_lower_code.specs.Spans.{expr_places}
+use Rattle.isp_lower_code.specs.Stays.{is_short, stays, stays_at}
+use Rattle.isp_lower_code.proofs.Lemmas.{constant_is_one}
 
 both_true : (a b : Bool) → (a && b) ≡ true → (a ≡ true) × (b ≡ true)
 both_true true b e = (refl, e)

@@ -4,15 +4,15 @@ use Rattle.std.specs.Prelude.{◌≡◌, ◌≤◌, ℕ, List}
 use Rattle.isp_base.specs.declared.types.Span.{Span}
 use Rattle.isp_code.specs.declared.instr.Instr.{Instr}
 use Rattle.isp_typed.specs.Views.{functions_of}
-use Rattle.isp_lower.specs.Callees.{rates_in}
+use Rattle.isp_lower_code.specs.Callees.{rates_in}
 use Rattle.isp_typed.specs.Typed.{TExpr, TSimple}
-use Rattle.isp_lower.specs.Code.{expr_code}
-use Rattle.isp_lower.specs.Spans.{expr_places}
+use Rattle.isp_lower_code.specs.Code.{expr_code}
+use Rattle.isp_lower_code.specs.Spans.{expr_places}
 use Rattle.isp_lower.specs.Drafts.{draft_of}
 use Rattle.isp_lower.specs.Emitted.{Appends, Grows, rows_of}
-use Rattle.isp_lower.specs.Layout.{Layout}
-use Rattle.isp_lower.specs.Rows.{layout_of}
-use Rattle.isp_lower.specs.Simple.{simple_code, simple_places}
+use Rattle.isp_lower_code.specs.Layout.{Layout}
+use Rattle.isp_lower_code.specs.Rows.{layout_of}
+use Rattle.isp_lower_code.specs.Simple.{simple_code, simple_places}
 use Rattle.isp_lower.specs.Written.{Piece}
 use Rattle.isp_lower.specs.declared.sites.Site.{Site}
 use Rattle.isp_lower.specs.declared.types.Emitter.{Emitter}

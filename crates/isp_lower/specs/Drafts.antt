@@ -1,5 +1,5 @@
 -- A program's code while it is written: what an emitter has, as lists.
-use Rattle.std.specs.Prelude.{◌≡◌, ℕ, ◌+◌, ◌≤◌, List, [], ◌∷◌, ◌++◌, length, map, Bool, true, Option, Some, None, IsSome, option_map}
+use Rattle.std.specs.Prelude.{◌≡◌, ℕ, ◌+◌, ◌≤◌, List, [], ◌∷◌, ◌++◌, length, map, true, Option, Some, None, IsSome, option_map}
 use Rattle.std.specs.List.{list_all}
 use Rattle.isp_base.specs.declared.types.Elem.{Elem}
 use Rattle.isp_base.specs.declared.types.Gang.{Gang}
@@ -10,13 +10,14 @@ use Rattle.isp_code.specs.Writable.{has_byte, parts_fit, place_fits}
 use Rattle.isp_code.specs.declared.instr.Instr.{Instr}
 use Rattle.isp_typed.specs.Typed.{Program, TFunction}
 use Rattle.isp_typed.specs.Views.{functions_of}
-use Rattle.isp_lower.specs.Emitted.{first_rows, rows_of, texts_of}
-use Rattle.isp_lower.specs.Header.{Heading, heading_of, routine_with}
+use Rattle.isp_lower_code.specs.FirstRows.{first_rows}
+use Rattle.isp_lower.specs.Emitted.{rows_of, texts_of}
+use Rattle.isp_lower_code.specs.Header.{Heading, heading_of, routine_with}
 pub use Rattle.isp_lower.specs.Headings.{heading_in}
-use Rattle.isp_lower.specs.Lines.{has_small_number}
-use Rattle.isp_lower.specs.Named.{InCode, InInstr, IsOf}
-use Rattle.isp_lower.specs.Patched.{patched}
-use Rattle.isp_lower.specs.Rows.{Rows, with_fresh_at}
+use Rattle.isp_lower_code.specs.Lines.{has_small_numbers}
+use Rattle.isp_lower_code.specs.Named.{InCode, InInstr, IsOf}
+use Rattle.isp_lower_code.specs.Patched.{patched}
+use Rattle.isp_lower_code.specs.Rows.{Rows, with_fresh_at}
 use Rattle.isp_lower.specs.declared.closing.Closed.{Closed}
 use Rattle.isp_lower.specs.declared.types.Emitter.{Emitter}
 
@@ -112,10 +113,6 @@ pub record TablesCanBeWritten (d : Draft) : Type 0 where
   pub few_places : length d.places ≤ 4294967295
   pub texts : list_all has_byte d.texts ≡ true
   pub few_texts : length d.texts ≤ 4294967295
-
--- the numbers that its instructions name have 32 bits
-abbrev pub has_small_numbers : Routine → Bool
-has_small_numbers g = list_all has_small_number g.code
 
 -- and of each function the names, the local arrays, the constants and the numbers
 pub record CanBeWritten (d : Draft) : Type 0 where

@@ -1,24 +1,19 @@
 -- Registers as rows (Rows), those with which a function begins, and what writers append to a body: of code the first
 -- instruction has number pc, of its places in the source the first has number p.
-use Rattle.std.specs.Prelude.{◌≡◌, ◌<◌, ◌≤◌, ◌+◌, ◌⊎◌, ℕ, suc, List, [], ◌∷◌, ◌++◌, length, map, Option, Some, None, Bool, true, false}
+use Rattle.std.specs.Prelude.{◌≡◌, ◌<◌, ◌≤◌, ◌+◌, ◌⊎◌, ℕ, List, [], ◌∷◌, ◌++◌, length, map, Some, true}
 use Rattle.isp_base.specs.declared.types.Elem.{Elem}
 use Rattle.isp_base.specs.declared.types.Rate.{Rate}
-use Rattle.isp_base.specs.declared.types.Rate.TheVariants.{Uniform, Varying}
 use Rattle.isp_base.specs.declared.types.Span.{Span}
-use Rattle.isp_base.specs.declared.types.Ty.{Ty}
 use Rattle.isp_code.specs.declared.instr.Instr.{Instr}
 use Rattle.isp_typed.specs.declared.variable.ArrayVariable.{ArrayVariable}
-use Rattle.isp_typed.specs.declared.variable.Holds.{Holds}
-use Rattle.isp_typed.specs.declared.variable.Holds.TheVariants as holds
-use Rattle.isp_typed.specs.declared.variable.Variable as declared
-use Rattle.isp_meaning.specs.Calls.{same_rate}
-use Rattle.isp_lower.specs.Asks.{Ask, All}
-use Rattle.isp_lower.specs.Layout.{Layout}
+use Rattle.isp_lower_code.specs.Asks.{Ask, All}
+use Rattle.isp_lower_code.specs.FirstRows.{Begins}
+use Rattle.isp_lower_code.specs.Layout.{Layout}
 pub use Rattle.isp_lower.specs.Lookup.{name_of, row_of}
-use Rattle.isp_lower.specs.Rows.{Name, Variable, Result, Row, Rows, rows_at, elem_in, keeps, IsLoaded, layout_of}
+use Rattle.isp_lower_code.specs.Rows.{Name, Variable, Row, Rows, rows_at, elem_in, keeps, IsLoaded, layout_of}
 use Rattle.isp_typed.specs.Views.{functions_of}
-use Rattle.isp_lower.specs.Callees.{rates_in}
-use Rattle.isp_lower.specs.declared.registers.Constant.{Constant}
+use Rattle.isp_lower_code.specs.Callees.{rates_in}
+use Rattle.isp_lower_code.specs.declared.constant.Constant.{Constant}
 use Rattle.isp_lower.specs.declared.registers.Registers.{Registers}
 use Rattle.isp_lower.specs.declared.types.Body.{Body}
 use Rattle.isp_lower.specs.declared.types.Scope.{Scope}
@@ -28,11 +23,6 @@ use Rattle.isp_lower.specs.declared.types.Scope.{Scope}
 abbrev pub rows_of : Registers → Rows
 rows_of r =
     record { scalars = map row_of r.scalars; vectors = map row_of r.vectors; arrays = map row_of r.arrays; loaded = map row_of r.loaded }
-
--- the second list begins with the first
-pub record Begins (xs ys : List Row) : Type 0 where
-  pub more : List Row
-  pub is : ys ≡ xs ++ more
 
 -- registers are added, and those that are there stay; no more constants are kept
 pub record Grows (old new : Registers) : Type 0 where
@@ -80,43 +70,6 @@ HasArray r b = elem_in (rows_of r).arrays (Variable b.number) ≡ Some b.ty.elem
 -- a packed load writes the variable
 abbrev pub HasLoaded : Registers → ℕ → Type 0
 HasLoaded r v = IsLoaded (rows_of r) v
-
--- ---- the registers with which a function begins: those of its variables, in their order, and of what it gives back
-
-abbrev pub row_at : ℕ → Elem → Row
-row_at v t = record { name = Variable v; elem = t }
-
--- a row that is there, or is not
-abbrev pub row_where : Bool → Row → List Row → List Row
-row_where true x rows = x ∷ rows
-row_where false x rows = rows
-
-abbrev pub value_row : Rate → Holds → ℕ → List Row → List Row
-value_row r (holds.Value t) v rows = row_where (same_rate r t.rate) (row_at v t.elem) rows
-value_row r (holds.Given t) v rows = rows
-value_row r (holds.Local t n) v rows = rows
-
-abbrev pub array_row : Holds → ℕ → List Row → List Row
-array_row (holds.Value t) v rows = rows
-array_row (holds.Given t) v rows = row_at v t ∷ rows
-array_row (holds.Local t n) v rows = row_at v t.elem ∷ rows
-
--- of variables whose numbers begin at v
-abbrev pub value_rows : Rate → ℕ → List declared.Variable → List Row
-value_rows r v [] = []
-value_rows r v (x ∷ xs) = value_row r x.holds v (value_rows r (suc v) xs)
-
-abbrev pub array_rows : ℕ → List declared.Variable → List Row
-array_rows v [] = []
-array_rows v (x ∷ xs) = array_row x.holds v (array_rows (suc v) xs)
-
-abbrev pub result_rows : Rate → Option Ty → List Row
-result_rows r None = []
-result_rows r (Some t) = row_where (same_rate r t.rate) (record { name = Result; elem = t.elem }) []
-
-abbrev pub first_rows : List declared.Variable → Option Ty → Rows
-first_rows xs answer =
-    record { scalars = value_rows Uniform 0 xs ++ result_rows Uniform answer; vectors = value_rows Varying 0 xs ++ result_rows Varying answer; arrays = array_rows 0 xs; loaded = [] }
 
 -- ---- what code is written with, and what is appended
 

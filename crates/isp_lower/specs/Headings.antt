@@ -1,5 +1,5 @@
 -- A heading, as lists.
-use Rattle.isp_lower.specs.Header.{Heading}
+use Rattle.isp_lower_code.specs.Header.{Heading}
 use Rattle.isp_lower.specs.declared.header.Heading as rust
 
 abbrev pub heading_in : rust.Heading → Heading

@@ -4,7 +4,7 @@ use Rattle.std.specs.BTreeMap.{BTreeMap, get}
 use Rattle.std.specs.Ordering.{nat_cmp}
 use Rattle.isp_base.specs.declared.types.Elem.{Elem}
 use Rattle.isp_base.specs.declared.types.Elem.TheVariants.{I64}
-use Rattle.isp_lower.specs.Rows.{Name, Variable, Result, Spare, Place, Fresh, Kept, Row, name_number, number_in, elem_in}
+use Rattle.isp_lower_code.specs.Rows.{Name, Variable, Result, Spare, Place, Fresh, Kept, Row, name_number, number_in, elem_in}
 use Rattle.isp_lower.specs.declared.registers.RegisterName.{RegisterName}
 use Rattle.isp_lower.specs.declared.registers.RegisterName.TheVariants as one
 use Rattle.isp_lower.specs.declared.registers.RegisterRow.{RegisterRow}

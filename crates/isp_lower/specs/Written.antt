@@ -15,19 +15,19 @@ use Rattle.isp_code.specs.declared.instr.Instr.TheVariants as instr
 use Rattle.isp_code.specs.declared.instr.JumpTest.TheVariants as jump
 use Rattle.isp_code.specs.declared.register.Register.{Register}
 use Rattle.isp_typed.specs.Typed.{TArgument, TArguments, TBase, TCall, TExpr, TExprs, TPlace, type_of}
-use Rattle.isp_lower.specs.Code.{argument_code, arguments_code, base_code, call_code, choose_code, expr_code, expr_to, value_registers, values_code, variable_code, variable_from, variable_read}
-use Rattle.isp_lower.specs.Elements.{index_by_of, is_run}
-use Rattle.isp_lower.specs.Found.{convert_to, found, index_of, is_copied, is_whole, lift_code, operand, operand_of, whole_of}
-use Rattle.isp_lower.specs.Instructions.{constant, jump_off, jump_on, operate, operate_places, packed_load, packed_store, read_by, select, write_by}
-use Rattle.isp_lower.specs.Known.{constant_of, unless_kept}
-use Rattle.isp_lower.specs.Pieces.{choice, choose_rest, guard, move_code}
-use Rattle.isp_lower.specs.Spans.{argument_places, arguments_places, base_places, call_places, expr_places, index_places, values_places}
+use Rattle.isp_lower_code.specs.Code.{argument_code, arguments_code, base_code, call_code, choose_code, expr_code, expr_to, value_registers, values_code, variable_code, variable_from, variable_read}
+use Rattle.isp_lower_code.specs.Elements.{index_by_of, is_run}
+use Rattle.isp_lower_code.specs.Found.{convert_to, found, index_of, is_copied, is_whole, lift_code, operand, operand_of, whole_of}
+use Rattle.isp_lower_code.specs.Instructions.{constant, jump_off, jump_on, operate, operate_places, packed_load, packed_store, read_by, select, write_by}
+use Rattle.isp_lower_code.specs.Known.{constant_of, unless_kept}
+use Rattle.isp_lower_code.specs.Pieces.{choice, choose_rest, guard, move_code}
+use Rattle.isp_lower_code.specs.Spans.{argument_places, arguments_places, base_places, call_places, expr_places, index_places, values_places}
 use Rattle.isp_typed.specs.declared.library.Library.{Library}
 use Rattle.isp_typed.specs.declared.variable.ArrayVariable.{ArrayVariable}
 use Rattle.isp_lower.specs.Emitted.{Appends, layout}
-use Rattle.isp_lower.specs.Layout.{mask_register, register}
-use Rattle.isp_lower.specs.Library.{library_code, library_rates, on_values}
-use Rattle.isp_lower.specs.Simple.{assign_code, assign_places, change_by_code, change_places, one_code, one_in, step_code, update_to}
+use Rattle.isp_lower_code.specs.Layout.{mask_register, register}
+use Rattle.isp_lower_code.specs.Library.{library_code, library_rates, on_values}
+use Rattle.isp_lower_code.specs.Simple.{assign_code, assign_places, change_by_code, change_places, one_code, one_in, step_code, update_to}
 use Rattle.isp_lower.specs.declared.library.Operands.{Operands}
 use Rattle.isp_lower.specs.declared.numbered.MaskNumber.{MaskNumber}
 use Rattle.isp_lower.specs.declared.numbered.RegisterNumber.{RegisterNumber}

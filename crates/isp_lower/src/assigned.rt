@@ -1,10 +1,10 @@
 //! Variables and elements that get a value.
 ghost use Rattle.std.specs.Prelude.{◌≡◌, OnOk};
 ghost use Rattle.isp_typed.specs.Views.{expr_of, place_of};
-ghost use Rattle.isp_lower.specs.Asks.{ArrayOf, assign_asks, operand_asks, variable_asks};
-ghost use Rattle.isp_lower.specs.Stays.{writes_last, writes_part};
+ghost use Rattle.isp_lower_code.specs.Asks.{ArrayOf, assign_asks, operand_asks, variable_asks};
+ghost use Rattle.isp_lower_code.specs.Stays.{writes_last, writes_part};
 ghost use Rattle.isp_lower.specs.Emitted.{Present, layout};
-ghost use Rattle.isp_lower.specs.Layout.{Layout};
+ghost use Rattle.isp_lower_code.specs.Layout.{Layout};
 ghost use Rattle.isp_lower.specs.Written.{Writes, assign_at, element_to_at, variable_at};
 
 use crate::elements::element_index;

@@ -2,7 +2,8 @@
 ghost use Rattle.std.specs.Prelude.{◌≡◌, ◌++◌, [], IfOk, OnOk};
 ghost use Rattle.isp_base.specs.declared.types.Rate.TheVariants.{Uniform, Varying};
 ghost use Rattle.isp_meaning.specs.Calls.{same_rate};
-ghost use Rattle.isp_lower.specs.Emitted.{array_row, array_rows, first_rows, name_of, result_rows, row_where, rows_of, value_row, value_rows};
+ghost use Rattle.isp_lower_code.specs.FirstRows.{array_row, array_rows, first_rows, result_rows, row_where, value_row, value_rows};
+ghost use Rattle.isp_lower.specs.Emitted.{name_of, rows_of};
 ghost use Rattle.isp_lower.specs.Lookup.{HasOwnType, IsAsked};
 
 use crate::register_rows::RegisterRows;

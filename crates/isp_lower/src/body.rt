@@ -2,7 +2,7 @@
 ghost use Rattle.std.specs.Prelude.{◌≡◌, ◌<◌, ◌∷◌, [], length, slice_set, IfOk, OnErr, OnOk};
 ghost use Rattle.isp_code.specs.declared.instr.Instr.TheVariants as instr;
 ghost use Rattle.isp_lower.specs.Emitted.{Appends, AppendsText, Unchanged, texts_of};
-ghost use Rattle.isp_lower.specs.Patched.{IsJump, instr_at, patched};
+ghost use Rattle.isp_lower_code.specs.Patched.{IsJump, instr_at, patched};
 
 use crate::line::Line;
 use crate::numbered::{PlaceNumber, TextNumber};

@@ -3,9 +3,9 @@ ghost use Rattle.std.specs.Prelude.{◌≡◌, ◌<◌, ◌+◌, [], IfOk, OnOk}
 ghost use Rattle.isp_base.specs.Ranks.{same_elem};
 ghost use Rattle.isp_typed.specs.Typed.{t_variable};
 ghost use Rattle.isp_typed.specs.Views.{expr_of, place_of};
-ghost use Rattle.isp_lower.specs.Asks.{ArrayOf, one_asks, operand_asks, spare_ask, step_asks, update_asks, work_asks};
+ghost use Rattle.isp_lower_code.specs.Asks.{ArrayOf, one_asks, operand_asks, spare_ask, step_asks, update_asks, work_asks};
 ghost use Rattle.isp_lower.specs.Emitted.{Appends, Present, layout};
-ghost use Rattle.isp_lower.specs.Simple.{one_code, one_in};
+ghost use Rattle.isp_lower_code.specs.Simple.{one_code, one_in};
 ghost use Rattle.isp_lower.specs.Written.{Writes, change_by_at, changed_at, element_by_at, element_step_at, step_at, update_at};
 
 use crate::elements::element_index;

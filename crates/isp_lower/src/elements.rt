@@ -2,8 +2,8 @@
 ghost use Rattle.std.specs.Prelude.{◌≡◌, [], true, IfOk, OnOk};
 ghost use Rattle.isp_typed.specs.Typed.{t_element, t_place};
 ghost use Rattle.isp_typed.specs.Views.{expr_of};
-ghost use Rattle.isp_lower.specs.Asks.{element_asks, expr_asks, is_lane, start_asks, target_asks};
-ghost use Rattle.isp_lower.specs.Elements.{counts, index_by, is_run, start_code, start_in};
+ghost use Rattle.isp_lower_code.specs.Asks.{element_asks, expr_asks, is_lane, start_asks, target_asks};
+ghost use Rattle.isp_lower_code.specs.Elements.{counts, index_by, is_run, start_code, start_in};
 ghost use Rattle.isp_lower.specs.Emitted.{Appends, Present, layout};
 ghost use Rattle.isp_lower.specs.Written.{Writes, element_index_at, node_at};
 

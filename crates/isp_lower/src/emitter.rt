@@ -2,11 +2,11 @@
 ghost use Rattle.std.specs.Prelude.{◌≡◌, ◌<◌, length, IfOk, OnErr, OnOk};
 ghost use Rattle.isp_typed.specs.Views.{function_of, program_of};
 ghost use Rattle.isp_lower.specs.Drafts.{CanBeWritten, HasAllNamed, HasNamed, IsBegun, begun, draft_of, finished, first_draft, with_instr, with_mask, with_place, with_register, with_target, with_text};
-ghost use Rattle.isp_lower.specs.Header.{HeadingFits};
-ghost use Rattle.isp_lower.specs.Layout.{mask_register, register};
-ghost use Rattle.isp_lower.specs.Named.{Unnamed};
-ghost use Rattle.isp_lower.specs.Patched.{IsJump, instr_at};
-ghost use Rattle.isp_lower.specs.Rows.{fresh_at, rows_at};
+ghost use Rattle.isp_lower_code.specs.Header.{HeadingFits};
+ghost use Rattle.isp_lower_code.specs.Layout.{mask_register, register};
+ghost use Rattle.isp_lower_code.specs.Named.{Unnamed};
+ghost use Rattle.isp_lower_code.specs.Patched.{IsJump, instr_at};
+ghost use Rattle.isp_lower_code.specs.Rows.{fresh_at, rows_at};
 
 use crate::beginning::{begin, no_registers};
 use crate::header::heading_of;

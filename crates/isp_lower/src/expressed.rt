@@ -1,11 +1,13 @@
 //! Code of one expression or assignment, for who owns an emitter.
 ghost use Rattle.std.specs.Prelude.{◌≡◌, ◌<◌, IfOk, OnErr, OnOk};
 ghost use Rattle.isp_typed.specs.Views.{expr_of, simple_of};
-ghost use Rattle.isp_lower.specs.Found.{found};
+ghost use Rattle.isp_lower_code.specs.Found.{found};
 ghost use Rattle.isp_lower.specs.Drafts.{HasAllNamed, IsBegun, draft_of};
-ghost use Rattle.isp_lower.specs.Asks.{expr_asks, simple_asks};
-ghost use Rattle.isp_lower.specs.Rated.{IsFineExpr, IsFineSimple, IsRated, SimpleRated};
-ghost use Rattle.isp_lower.specs.Reserved.{Has, HasNumbers, HasOwn, HasRoom, FewMore};
+ghost use Rattle.isp_lower_code.specs.Asks.{expr_asks, simple_asks};
+ghost use Rattle.isp_lower_code.specs.Rated.{IsFineExpr, IsFineSimple, IsRated, SimpleRated};
+ghost use Rattle.isp_lower_code.specs.Room.{HasNumbers, HasRoom, FewMore};
+ghost use Rattle.isp_lower_code.specs.Own.{HasOwn};
+ghost use Rattle.isp_lower.specs.Reserved.{Has};
 ghost use Rattle.isp_lower.specs.Adding.{Adds, expr_in, layout_in, simple_in};
 
 use crate::expression::expr;

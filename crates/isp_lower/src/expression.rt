@@ -3,14 +3,14 @@ ghost use Rattle.std.specs.Prelude.{◌≡◌, ◌<◌, ◌+◌, true, false, If
 ghost use Rattle.isp_base.specs.declared.types.Rate.TheVariants.{Uniform, Varying};
 ghost use Rattle.isp_typed.specs.Typed.{t_arguments, t_binary, t_choose, t_compare, t_convert, t_exprs, t_logic, t_place, t_unary, type_of};
 ghost use Rattle.isp_typed.specs.Views.{argument_of, arguments_of, call_of, expr_of, exprs_of, place_of};
-ghost use Rattle.isp_lower.specs.Asks.{argument_asks, arguments_asks, call_asks, expr_asks, index_asks, operand_asks, spare_ask, values_asks, whole_asks};
-ghost use Rattle.isp_lower.specs.Code.{argument_register, argument_registers, expr_code, value_registers};
-ghost use Rattle.isp_lower.specs.Found.{found, index, is_whole, operand, whole};
-ghost use Rattle.isp_lower.specs.Spans.{expr_places};
-ghost use Rattle.isp_lower.specs.Stays.{is_short};
+ghost use Rattle.isp_lower_code.specs.Asks.{argument_asks, arguments_asks, call_asks, expr_asks, index_asks, operand_asks, spare_ask, values_asks, whole_asks};
+ghost use Rattle.isp_lower_code.specs.Code.{argument_register, argument_registers, expr_code, value_registers};
+ghost use Rattle.isp_lower_code.specs.Found.{found, index, is_whole, operand, whole};
+ghost use Rattle.isp_lower_code.specs.Spans.{expr_places};
+ghost use Rattle.isp_lower_code.specs.Stays.{is_short};
 ghost use Rattle.isp_lower.specs.Emitted.{Appends, Present, layout};
-ghost use Rattle.isp_lower.specs.Layout.{register};
-ghost use Rattle.isp_lower.specs.Library.{library_rates};
+ghost use Rattle.isp_lower_code.specs.Layout.{register};
+ghost use Rattle.isp_lower_code.specs.Library.{library_rates};
 ghost use Rattle.isp_lower.specs.Written.{Writes, argument_at, arguments_at, by_jump_at, by_masks_at, call_at, chosen_at, convert_at, guarded_at, index_at, library_at, node_at, numbers, operand_at, short_at, side_at, skipped_at, to_at, value_at, values_at, whole_at};
 
 use crate::elements::element_to;

@@ -4,8 +4,8 @@ ghost use Rattle.isp_base.specs.Values.{number};
 ghost use Rattle.isp_base.specs.declared.types.Rate.TheVariants.{Uniform, Varying};
 ghost use Rattle.isp_code.specs.declared.instr.Instr.TheVariants as instr;
 ghost use Rattle.isp_code.specs.declared.instr.VectorInstr.TheVariants as instr_vector;
-ghost use Rattle.isp_lower.specs.Layout.{array_register, mask_register, register};
-ghost use Rattle.isp_lower.specs.Instructions.{compare, compute, constant, convert, copy, operate, packed_load, packed_store, read, read_by, select, the_others, unary, where_so, write, write_by};
+ghost use Rattle.isp_lower_code.specs.Layout.{array_register, mask_register, register};
+ghost use Rattle.isp_lower_code.specs.Instructions.{compare, compute, constant, convert, copy, operate, packed_load, packed_store, read, read_by, select, the_others, unary, where_so, write, write_by};
 ghost use Rattle.isp_lower.specs.Written.{division_at};
 
 use crate::line::Line;

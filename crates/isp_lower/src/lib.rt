@@ -1,4 +1,4 @@
-//! Code of expressions, declarations and assignments: what is emitted, and that it does what they mean.
+//! Writers of the code of expressions, declarations and assignments, and the emitter that owns what is written.
 #![tactic(auto)]
 
 mod apart;
@@ -13,7 +13,6 @@ mod emitter;
 mod expressed;
 mod expression;
 mod header;
-mod laws;
 mod leaves;
 mod library;
 mod line;
@@ -33,15 +32,11 @@ mod written;
 
 pub use expression::{expr, index, operand};
 pub use header::Heading;
-pub use laws::{
-    assignments_go_on, assignments_run, assignments_sound, declarations_run, declarations_sound,
-    expressions_go_on, expressions_run, expressions_sound, layouts_are_apart,
-};
 pub use leaves::{constant, copy, mask, scalar, splat, the_others, vector, where_so};
 pub use line::Line;
 pub use numbered::{MaskNumber, PlaceNumber, RegisterNumber, Slot, TextNumber};
 pub use register_rows::RegisterRows;
-pub use registers::{Constant, RegisterName, RegisterRow, Registers};
+pub use registers::{RegisterName, RegisterRow, Registers};
 pub use reserve::Reserve;
 pub use sites::Site;
 pub use statements::{declared, simple};

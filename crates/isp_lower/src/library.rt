@@ -1,8 +1,8 @@
 //! The library's functions on values: at which rate each takes its values, and its instructions.
 ghost use Rattle.std.specs.Prelude.{◌≡◌, drop, OnOk};
-ghost use Rattle.isp_lower.specs.Callees.{next_rate};
-ghost use Rattle.isp_lower.specs.Library as table;
-ghost use Rattle.isp_lower.specs.Library.{library_rates, rate_taken, register_at, works_at};
+ghost use Rattle.isp_lower_code.specs.Callees.{next_rate};
+ghost use Rattle.isp_lower_code.specs.Library as table;
+ghost use Rattle.isp_lower_code.specs.Library.{library_rates, rate_taken, register_at, works_at};
 ghost use Rattle.isp_lower.specs.Written.{Writes, made_at, numbers};
 
 use crate::leaves::{compute, mask, scalar, select, unary, vector};

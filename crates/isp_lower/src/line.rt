@@ -1,8 +1,8 @@
 //! Lines of code while it is written: an instruction, and beside it the number that it names, which may be any. It gets its 32 bits when
 //! the code is done, so no number is too great before.
 ghost use Rattle.std.specs.Prelude.{◌≡◌, ◌<◌};
-ghost use Rattle.isp_lower.specs.Patched.{IsJump, retargeted};
-ghost use Rattle.isp_lower.specs.Lines.{naming, number_named, scalar_naming, vector_naming};
+ghost use Rattle.isp_lower_code.specs.Patched.{IsJump, retargeted};
+ghost use Rattle.isp_lower_code.specs.Lines.{naming, number_named, scalar_naming, vector_naming};
 
 use isp_code::{Instr, ScalarInstr, VectorInstr};
 use std::marker::Model;
@@ -17,7 +17,7 @@ pub struct Line {
 
 impl Model for Line {
     ghost use Rattle.isp_code.specs.declared.instr.Instr.{Instr};
-    ghost use Rattle.isp_lower.specs.Lines.{CanName, naming_if};
+    ghost use Rattle.isp_lower_code.specs.Lines.{CanName, naming_if};
 
     ghost Value = { Instr };
 

@@ -3,8 +3,9 @@ ghost use Rattle.std.specs.Prelude.{◌≡◌, ◌≤◌, ◌+◌, ◌++◌, len
 ghost use Rattle.std.specs.List.{list_all};
 ghost use Rattle.isp_code.specs.Listing.{routine_of};
 ghost use Rattle.isp_code.specs.Writable.{has_byte, parts_fit, place_fits};
-ghost use Rattle.isp_lower.specs.Drafts.{has_small_numbers, routine_in};
-ghost use Rattle.isp_lower.specs.Lines.{has_small_number};
+ghost use Rattle.isp_lower_code.specs.Lines.{has_small_numbers};
+ghost use Rattle.isp_lower.specs.Drafts.{routine_in};
+ghost use Rattle.isp_lower_code.specs.Lines.{has_small_number};
 
 use crate::closing::Closed;
 use crate::line::Line;

@@ -2,11 +2,11 @@
 ghost use Rattle.std.specs.Prelude.{◌≡◌, ℕ, is_some, true, IfOk, IfSome, OnOk};
 ghost use Rattle.isp_typed.specs.Typed.{t_convert, type_of};
 ghost use Rattle.isp_typed.specs.Views.{expr_of};
-ghost use Rattle.isp_lower.specs.Asks.{Register, copy_asks, expr_asks, lift_asks, spare_ask};
-ghost use Rattle.isp_lower.specs.Found.{found, in_vector, is_copied, kept_found, lifted, variable_found, vector_of};
-ghost use Rattle.isp_lower.specs.Stays.{stays};
+ghost use Rattle.isp_lower_code.specs.Asks.{Register, copy_asks, expr_asks, lift_asks, spare_ask};
+ghost use Rattle.isp_lower_code.specs.Found.{found, in_vector, is_copied, kept_found, lifted, variable_found, vector_of};
+ghost use Rattle.isp_lower_code.specs.Stays.{stays};
 ghost use Rattle.isp_lower.specs.Emitted.{Present, layout};
-ghost use Rattle.isp_lower.specs.Rows.{Variable};
+ghost use Rattle.isp_lower_code.specs.Rows.{Variable};
 ghost use Rattle.isp_lower.specs.Written.{Writes, constant_at, lift_at, moved_at, variable_read_at};
 
 use crate::leaves::{constant, copy, splat};

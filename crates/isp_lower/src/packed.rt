@@ -2,8 +2,8 @@
 ghost use Rattle.std.specs.Prelude.{◌≡◌, IfOk, OnOk};
 ghost use Rattle.isp_typed.specs.Typed.{t_packed_load, t_packed_store};
 ghost use Rattle.isp_typed.specs.Views.{base_of, expr_of};
-ghost use Rattle.isp_lower.specs.Asks.{base_asks, expr_asks};
-ghost use Rattle.isp_lower.specs.Code.{base_register};
+ghost use Rattle.isp_lower_code.specs.Asks.{base_asks, expr_asks};
+ghost use Rattle.isp_lower_code.specs.Code.{base_register};
 ghost use Rattle.isp_lower.specs.Emitted.{Present, layout};
 ghost use Rattle.isp_lower.specs.Written.{Writes, base_at, node_at};
 

@@ -2,7 +2,7 @@
 ghost use Rattle.std.specs.Prelude.{◌≡◌, ◌<◌, ◌++◌, ◌∷◌, [], length, map, slice_get, Some, None, IfOk, IfSome, IfNone, OnOk, OnErr};
 ghost use Rattle.isp_base.specs.Ranks.{rank};
 ghost use Rattle.isp_lower.specs.Lookup.{HasOwnType, IsNamedAt, name_of, row_of};
-ghost use Rattle.isp_lower.specs.Rows.{Fresh, elem_in, name_number, number_in, with_fresh};
+ghost use Rattle.isp_lower_code.specs.Rows.{Fresh, elem_in, name_number, number_in, with_fresh};
 
 use crate::copies::push_all;
 use crate::numbered::RegisterNumber;

@@ -1,15 +1,17 @@
 //! The registers of the function in hand.
 ghost use Rattle.std.specs.Prelude.{◌≡◌, ◌<◌, ◌≤◌, ◌+◌, ℕ, length, map, Some, IfOk, OnErr, OnOk};
-ghost use Rattle.isp_lower.specs.Emitted.{Begins, Grows, HasLoaded, HasRow, Keeps, KeepsIn, name_of, row_of, rows_of};
+ghost use Rattle.isp_lower_code.specs.FirstRows.{Begins};
+ghost use Rattle.isp_lower.specs.Emitted.{Grows, HasLoaded, HasRow, Keeps, KeepsIn, name_of, row_of, rows_of};
 ghost use Rattle.isp_lower.specs.Lookup.{IsAsked, IsPlain, own_type};
 ghost use Rattle.isp_base.specs.declared.types.Elem.{Elem};
 ghost use Rattle.isp_base.specs.declared.types.Elem.TheVariants.{I64};
 ghost use Rattle.isp_base.specs.declared.types.Rate.TheVariants.{Uniform};
-ghost use Rattle.isp_lower.specs.Rows.{Place, Result, Spare, Variable as VariableName, elem_in, fresh_at, keeps, rows_at, with_fresh_at};
+ghost use Rattle.isp_lower_code.specs.Rows.{Place, Result, Spare, Variable as VariableName, elem_in, fresh_at, keeps, rows_at, with_fresh_at};
 
 use crate::numbered::{RegisterNumber, Slot};
 use crate::register_rows::RegisterRows;
 use isp_base::{Elem, Rate, Ty};
+use isp_lower_code::Constant;
 use isp_typed::ArrayVariable;
 use std::alloc::AllocError;
 
@@ -30,14 +32,6 @@ pub enum RegisterName {
 pub struct RegisterRow {
     pub name: RegisterName,
     pub elem: Elem,
-}
-
-/// A constant of a type, by its bits, at the rate at which it is wanted.
-#[derive(Clone, Copy)]
-pub struct Constant {
-    pub rate: Rate,
-    pub elem: Elem,
-    pub bits: u64,
 }
 
 /// The registers that a function has so far, by class: the number of one is that of the first row of its name. The variables that

@@ -5,10 +5,11 @@ ghost use Rattle.isp_base.specs.declared.types.Elem.TheVariants.{I64};
 ghost use Rattle.isp_base.specs.declared.types.Rate.TheVariants.{Uniform, Varying};
 ghost use Rattle.isp_typed.specs.Typed.{t_arguments, t_exprs, type_of};
 ghost use Rattle.isp_typed.specs.Views.{argument_of, arguments_of, base_of, call_of, expr_of, exprs_of, item_of, items_of, place_of, simple_of};
-ghost use Rattle.isp_lower.specs.Asks.{Both, Loads, MaskOf, Number, Register, argument_asks, arguments_asks, assign_asks, base_asks, call_asks, change_asks, copy_asks, element_asks, expr_asks, index_asks, item_asks, items_asks, lift_asks, one_asks, operand_asks, operands_asks, place_asks, read_asks, run_asks, sides_ask, spare_ask, start_asks, step_asks, target_asks, test_asks, update_asks, value_asks, values_asks, work_asks, zero_asks, beyond, first_slot, simple_asks};
-ghost use Rattle.isp_lower.specs.Library.{library_rates};
-ghost use Rattle.isp_lower.specs.Rows.{Place};
-ghost use Rattle.isp_lower.specs.Reserved.{Gives, HasNumbers, choice_asks, logic_asks, packed_load_asks, packed_store_asks};
+ghost use Rattle.isp_lower_code.specs.Asks.{Both, Loads, MaskOf, Number, Register, argument_asks, arguments_asks, assign_asks, base_asks, call_asks, change_asks, copy_asks, element_asks, expr_asks, index_asks, item_asks, items_asks, lift_asks, one_asks, operand_asks, operands_asks, place_asks, read_asks, run_asks, sides_ask, spare_ask, start_asks, step_asks, target_asks, test_asks, update_asks, value_asks, values_asks, work_asks, zero_asks, beyond, first_slot, simple_asks};
+ghost use Rattle.isp_lower_code.specs.Library.{library_rates};
+ghost use Rattle.isp_lower_code.specs.Rows.{Place};
+ghost use Rattle.isp_lower_code.specs.Room.{HasNumbers};
+ghost use Rattle.isp_lower.specs.Reserved.{Gives, choice_asks, logic_asks, packed_load_asks, packed_store_asks};
 
 use crate::library::value_rate;
 use crate::numbered::{MaskNumber, Slot};

@@ -1,13 +1,13 @@
 //! Registers are looked up; each that is asked for is there.
 ghost use Rattle.std.specs.Prelude.{◌≡◌, ◌≤◌, drop, is_some, length, map, take, IfSome, Some};
-ghost use Rattle.isp_lower.specs.Asks.{Ask as Asks, ArrayOf, Register as Ask};
-ghost use Rattle.isp_lower.specs.Layout.{outside, within};
-ghost use Rattle.isp_lower.specs.Callees.{next_rate, rate_held, rates_held};
-ghost use Rattle.isp_lower.specs.Found.{is_copied};
+ghost use Rattle.isp_lower_code.specs.Asks.{Ask as Asks, ArrayOf, Register as Ask};
+ghost use Rattle.isp_lower_code.specs.Layout.{outside, within};
+ghost use Rattle.isp_lower_code.specs.Callees.{next_rate, rate_held, rates_held};
+ghost use Rattle.isp_lower_code.specs.Found.{is_copied};
 ghost use Rattle.isp_lower.specs.Emitted.{Present, layout, name_of, row_of};
 ghost use Rattle.isp_base.specs.declared.types.Elem.TheVariants.{I64};
 ghost use Rattle.isp_base.specs.declared.types.Rate.TheVariants.{Uniform};
-ghost use Rattle.isp_lower.specs.Rows.{Kept, Place, Result, Spare, Variable, elem_in, keeps, number_in};
+ghost use Rattle.isp_lower_code.specs.Rows.{Kept, Place, Result, Spare, Variable, elem_in, keeps, number_in};
 
 use crate::numbered::{RegisterNumber, Slot};
 use crate::register_rows::RegisterRows;

@@ -1,10 +1,10 @@
 //! What stands before a semicolon, and declared variables and arrays.
 ghost use Rattle.std.specs.Prelude.{[], OnOk};
 ghost use Rattle.isp_typed.specs.Views.{item_of, items_of, simple_of};
-ghost use Rattle.isp_lower.specs.Asks.{item_asks, items_asks, simple_asks, zero_asks};
+ghost use Rattle.isp_lower_code.specs.Asks.{item_asks, items_asks, simple_asks, zero_asks};
 ghost use Rattle.isp_lower.specs.Emitted.{Appends, Present, layout};
-ghost use Rattle.isp_lower.specs.Items.{item_code, item_places, items_code, items_places, zero_code};
-ghost use Rattle.isp_lower.specs.Simple.{simple_code, simple_places};
+ghost use Rattle.isp_lower_code.specs.Items.{item_code, item_places, items_code, items_places, zero_code};
+ghost use Rattle.isp_lower_code.specs.Simple.{simple_code, simple_places};
 
 use crate::assigned::{assign, variable_to};
 use crate::changed::{change_by, step};

@@ -1,12 +1,12 @@
 //! Tests of trees that choose their code.
 ghost use Rattle.std.specs.Prelude.{◌≡◌, ◌&&◌};
 ghost use Rattle.isp_meaning.specs.Calls.{same_rate};
-ghost use Rattle.isp_lower.specs.Asks.{is_lane};
-ghost use Rattle.isp_lower.specs.Elements.{counts, is_counter, is_run};
-ghost use Rattle.isp_lower.specs.Found.{is_kept, is_whole};
-ghost use Rattle.isp_lower.specs.Known.{constant_of, known, known_as};
-ghost use Rattle.isp_lower.specs.Pieces.{decided};
-ghost use Rattle.isp_lower.specs.Stays.{is_short, stays, stays_at};
+ghost use Rattle.isp_lower_code.specs.Asks.{is_lane};
+ghost use Rattle.isp_lower_code.specs.Elements.{counts, is_counter, is_run};
+ghost use Rattle.isp_lower_code.specs.Found.{is_kept, is_whole};
+ghost use Rattle.isp_lower_code.specs.Known.{constant_of, known, known_as};
+ghost use Rattle.isp_lower_code.specs.Pieces.{decided};
+ghost use Rattle.isp_lower_code.specs.Stays.{is_short, stays, stays_at};
 ghost use Rattle.isp_lower.specs.Emitted.{layout};
 ghost use Rattle.isp_typed.specs.Typed.{type_of};
 ghost use Rattle.isp_typed.specs.Views.{expr_of};

@@ -1,9 +1,9 @@
 //! One instruction that names a place in the source, or two on masks.
 ghost use Rattle.std.specs.Prelude.{◌≡◌, [], length, true, IfOk, OnOk};
 ghost use Rattle.isp_base.specs.Values.{divides};
-ghost use Rattle.isp_lower.specs.Asks.{ArrayOf};
-ghost use Rattle.isp_lower.specs.Instructions.{operate_places};
-ghost use Rattle.isp_lower.specs.Pieces.{needing};
+ghost use Rattle.isp_lower_code.specs.Asks.{ArrayOf};
+ghost use Rattle.isp_lower_code.specs.Instructions.{operate_places};
+ghost use Rattle.isp_lower_code.specs.Pieces.{needing};
 ghost use Rattle.isp_lower.specs.Emitted.{Appends, Present};
 ghost use Rattle.isp_lower.specs.Written.{Writes, operate_at, packed_load_at, packed_store_at, read_at, write_at};
 

@@ -14,22 +14,25 @@ use Rattle.isp_typed.specs.Fine.{AreOperands, FineExpr, FinePlace, FineSimple}
 use Rattle.isp_typed.specs.Typed.{TExpr, TFunction, TSimple, t_place, t_variable}
 use Rattle.isp_typed.specs.declared.variable.Variable.{Variable}
 use Rattle.isp_lex.specs.Lexing.{limit}
-use Rattle.isp_lower.specs.Asks.{Ask, expr_asks, simple_asks, target_asks}
-use Rattle.isp_lower.specs.Code.{expr_code}
+use Rattle.isp_lower_code.specs.Asks.{Ask, expr_asks, simple_asks, target_asks}
+use Rattle.isp_lower_code.specs.Code.{expr_code}
 use Rattle.isp_lower.specs.Adding.{Adds, AddsCode, expr_in, layout_in, simple_in}
-use Rattle.isp_lower.specs.Drafts.{CanBeWritten, Draft, IsBegun, draft_of, has_small_numbers, routine_at_work, with_instr, with_target}
-use Rattle.isp_lower.specs.Emitted.{Begins, Grows, array_rows, first_rows}
-use Rattle.isp_lower.specs.Header.{AreSmall, HeadingFits, heading_of, locals_of, routine_with}
-use Rattle.isp_lower.specs.Layout.{Layout}
-use Rattle.isp_lower.specs.Lines.{has_small_number}
-use Rattle.isp_lower.specs.Patched.{IsJump, instr_at, patched}
-use Rattle.isp_lower.specs.Rated.{IsFineExpr, IsFineSimple, IsRated, SimpleRated}
-use Rattle.isp_lower.specs.Reserved.{FewMore, HasNumbers, HasOwn, HasRoom, registers_asked}
-use Rattle.isp_lower.specs.Rows.{Row, Rows, Variable as VariableName, elem_in, rows_at, with_fresh_at}
-use Rattle.isp_lower.specs.Simple.{simple_code, simple_places}
-use Rattle.isp_lower.specs.Spans.{expr_places}
+use Rattle.isp_lower_code.specs.Lines.{has_small_numbers}
+use Rattle.isp_lower.specs.Drafts.{CanBeWritten, Draft, IsBegun, draft_of, routine_at_work, with_instr, with_target}
+use Rattle.isp_lower_code.specs.FirstRows.{Begins, array_rows, first_rows}
+use Rattle.isp_lower.specs.Emitted.{Grows}
+use Rattle.isp_lower_code.specs.Header.{AreSmall, HeadingFits, heading_of, locals_of, routine_with}
+use Rattle.isp_lower_code.specs.Layout.{Layout}
+use Rattle.isp_lower_code.specs.Lines.{has_small_number}
+use Rattle.isp_lower_code.specs.Patched.{IsJump, instr_at, patched}
+use Rattle.isp_lower_code.specs.Rated.{IsFineExpr, IsFineSimple, IsRated, SimpleRated}
+use Rattle.isp_lower_code.specs.Room.{FewMore, HasNumbers, HasRoom, registers_asked}
+use Rattle.isp_lower_code.specs.Own.{HasOwn}
+use Rattle.isp_lower_code.specs.Rows.{Row, Rows, Variable as VariableName, elem_in, rows_at, with_fresh_at}
+use Rattle.isp_lower_code.specs.Simple.{simple_code, simple_places}
+use Rattle.isp_lower_code.specs.Spans.{expr_places}
 use Rattle.isp_lower.specs.declared.types.Emitter.{Emitter}
-use Rattle.isp_lower.proofs.Lemmas.{all_both, expr_placed, simple_placed}
+use Rattle.isp_lower_code.proofs.Lemmas.{all_both, expr_placed, simple_placed}
 use Rattle.isp_tests_lower.specs.Stages.{HasCode, HasFew, HasJump, NoneKept}
 use Rattle.isp_tests_lower.specs.Trees.{IsFunction, assignment, doubled, element, int, number, one_more, read, site, sum, value, variables, written}
 

@@ -9,10 +9,10 @@ use Rattle.isp_code.specs.declared.instr.Instr.{Instr}
 use Rattle.isp_code.specs.declared.instr.Instr.TheVariants as instr
 use Rattle.isp_typed.specs.Typed.{Program, TFunction}
 use Rattle.isp_lower.specs.Drafts.{Draft, begun, first_draft, with_instr, with_place, with_register, with_text}
-use Rattle.isp_lower.specs.Emitted.{Begins, array_rows}
-use Rattle.isp_lower.specs.Header.{heading_of}
-use Rattle.isp_lower.specs.Lines.{has_small_number}
-use Rattle.isp_lower.specs.Rows.{Rows, keeps}
+use Rattle.isp_lower_code.specs.FirstRows.{Begins, array_rows}
+use Rattle.isp_lower_code.specs.Header.{heading_of}
+use Rattle.isp_lower_code.specs.Lines.{has_small_number}
+use Rattle.isp_lower_code.specs.Rows.{Rows, keeps}
 
 abbrev pub place : Span
 place = record { start = 3; end = 5 }

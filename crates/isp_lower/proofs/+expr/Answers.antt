@@ -6,20 +6,20 @@ use Rattle.isp_code.specs.declared.instr.JumpTest.TheVariants as jump
 use Rattle.isp_typed.specs.Nodes.{arguments_nodes}
 use Rattle.isp_typed.specs.Typed.{t_arguments, t_exprs}
 use Rattle.isp_typed.specs.Views.{argument_of, arguments_of, expr_of, exprs_of}
-use Rattle.isp_lower.specs.Callees.{next_rate}
-use Rattle.isp_lower.specs.Code.{argument_code, argument_register, argument_registers, arguments_code, calling, expr_code, value_registers, values_code, variable_from}
-use Rattle.isp_lower.specs.Found.{operand, operand_of}
-use Rattle.isp_lower.specs.Instructions.{jump_off, jump_on}
-use Rattle.isp_lower.specs.Spans.{argument_places, arguments_places, expr_places, values_places}
-use Rattle.isp_lower.specs.Stays.{is_short}
+use Rattle.isp_lower_code.specs.Callees.{next_rate}
+use Rattle.isp_lower_code.specs.Code.{argument_code, argument_register, argument_registers, arguments_code, calling, expr_code, value_registers, values_code, variable_from}
+use Rattle.isp_lower_code.specs.Found.{operand, operand_of}
+use Rattle.isp_lower_code.specs.Instructions.{jump_off, jump_on}
+use Rattle.isp_lower_code.specs.Spans.{argument_places, arguments_places, expr_places, values_places}
+use Rattle.isp_lower_code.specs.Stays.{is_short}
 use Rattle.isp_code.specs.declared.register.Register.{Register}
 use Rattle.std.specs.Prelude.{List}
 use Rattle.isp_lower.specs.Emitted.{Appends, Present, layout}
-use Rattle.isp_lower.specs.Library.{library_rates}
+use Rattle.isp_lower_code.specs.Library.{library_rates}
 use Rattle.isp_lower.specs.Written.{numbers, side_at}
 use Rattle.isp_lower.specs.declared.numbered.RegisterNumber.{RegisterNumber}
 use Rattle.isp_lower.specs.declared.numbered.Slot.{Slot}
-use Rattle.isp_lower.specs.Asks.{arguments_asks, operand_asks, values_asks}
+use Rattle.isp_lower_code.specs.Asks.{arguments_asks, operand_asks, values_asks}
 use Rattle.isp_lower.proofs.Arguments.{argument_within, arguments_more, arguments_there, call_boxed, call_counts, call_done, called_behind, code_end, code_more, registers_end, registers_more, taken_at}
 use Rattle.isp_lower.proofs.LibraryValues as row
 use Rattle.isp_lower.proofs.LibraryValues.{value_within, values_more}

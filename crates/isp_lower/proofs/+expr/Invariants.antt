@@ -3,11 +3,11 @@ use Rattle.std.proofs.Common.{◌≡◌, ◌+◌, ◌-◌, ◌*◌, ◌++◌, dr
 use Rattle.isp_typed.specs.Nodes.{typed_nodes, place_nodes, base_nodes, call_nodes, argument_nodes, arguments_nodes, exprs_nodes}
 use Rattle.isp_typed.specs.Typed.{t_arguments, t_exprs}
 use Rattle.isp_typed.specs.Views.{argument_of, arguments_of, base_of, call_of, expr_of, exprs_of, place_of}
-use Rattle.isp_lower.specs.Asks.{arguments_asks, values_asks}
-use Rattle.isp_lower.specs.Code.{argument_registers, arguments_code, value_registers, values_code}
-use Rattle.isp_lower.specs.Spans.{arguments_places, values_places}
+use Rattle.isp_lower_code.specs.Asks.{arguments_asks, values_asks}
+use Rattle.isp_lower_code.specs.Code.{argument_registers, arguments_code, value_registers, values_code}
+use Rattle.isp_lower_code.specs.Spans.{arguments_places, values_places}
 use Rattle.isp_lower.specs.Emitted.{Appends, Present, layout}
-use Rattle.isp_lower.specs.Library.{library_rates}
+use Rattle.isp_lower_code.specs.Library.{library_rates}
 use Rattle.isp_lower.specs.Written.{numbers}
 use Rattle.isp_lower.specs.declared.types.Body.{Body}
 use Rattle.isp_lower.proofs.+expr.Given as goal

@@ -2,7 +2,7 @@ use Rattle.std.proofs.Common.{sym, ap, ◌∙◌}
 use Rattle.isp_base.specs.declared.types.Ty.{Ty}
 use Rattle.isp_typed.specs.Typed.{type_of}
 use Rattle.isp_typed.specs.Views.{expr_of}
-use Rattle.isp_lower.specs.Stays.{is_short, writes_last, writes_part}
+use Rattle.isp_lower_code.specs.Stays.{is_short, writes_last, writes_part}
 use Rattle.isp_lower.specs.Emitted.{layout}
 use Rattle.isp_lower.proofs.Views.{cast_view, choose_view}
 use Rattle.isp_lower.proofs.assigned.+writes_last.Goals as goal

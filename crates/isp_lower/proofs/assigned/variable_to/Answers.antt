@@ -2,9 +2,9 @@ use Rattle.std.proofs.Common.{◌≡◌, true, false, Bool, ℕ, sym, ap, subst,
 use Rattle.isp_base.specs.declared.types.Ty.{Ty}
 use Rattle.isp_typed.specs.Typed.{type_of}
 use Rattle.isp_typed.specs.Views.{expr_of}
-use Rattle.isp_lower.specs.Code.{variable_from}
-use Rattle.isp_lower.specs.Spans.{expr_places}
-use Rattle.isp_lower.specs.Stays.{writes_last, writes_part}
+use Rattle.isp_lower_code.specs.Code.{variable_from}
+use Rattle.isp_lower_code.specs.Spans.{expr_places}
+use Rattle.isp_lower_code.specs.Stays.{writes_last, writes_part}
 use Rattle.isp_lower.specs.Emitted.{Appends, layout}
 use Rattle.isp_lower.specs.Written.{Writes, value_at}
 use Rattle.isp_lower.specs.declared.sites.Target.{Target}

@@ -1,6 +1,7 @@
 use Rattle.std.proofs.Common.{◌≡◌, ◌++◌, drop}
 use Rattle.isp_base.specs.declared.types.Rate.TheVariants.{Uniform, Varying}
-use Rattle.isp_lower.specs.Emitted.{array_rows, rows_of, value_rows}
+use Rattle.isp_lower_code.specs.FirstRows.{array_rows, value_rows}
+use Rattle.isp_lower.specs.Emitted.{rows_of}
 use Rattle.isp_lower.proofs.beginning.add_variables.Given as goal
 
 abbrev pub invariant-loop-number : goal.invariant-loop-number

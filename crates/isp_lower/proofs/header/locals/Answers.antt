@@ -1,5 +1,5 @@
 use Rattle.std.proofs.Common.{subst}
-use Rattle.isp_lower.specs.Header.{IsSmall}
+use Rattle.isp_lower_code.specs.Header.{IsSmall}
 use Rattle.isp_lower.proofs.Headers.{small_at}
 use Rattle.isp_lower.proofs.header.locals.Goals as goal
 

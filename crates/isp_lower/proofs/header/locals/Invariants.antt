@@ -1,5 +1,5 @@
 use Rattle.std.proofs.Common.{◌≡◌, ◌++◌, drop}
-use Rattle.isp_lower.specs.Header.{locals_of}
+use Rattle.isp_lower_code.specs.Header.{locals_of}
 use Rattle.isp_lower.proofs.header.locals.Given as goal
 
 abbrev pub invariant-loop-variable : goal.invariant-loop-variable

@@ -1,5 +1,5 @@
 use Rattle.std.proofs.Common.{◌≡◌, ◌++◌, drop}
-use Rattle.isp_lower.specs.Header.{params_of}
+use Rattle.isp_lower_code.specs.Header.{params_of}
 use Rattle.isp_lower.proofs.header.params.Given as goal
 
 abbrev pub invariant-loop-place : goal.invariant-loop-place

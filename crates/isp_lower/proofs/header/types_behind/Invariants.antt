@@ -1,6 +1,6 @@
 use Rattle.std.proofs.Common.{◌≡◌, drop, take, map}
 use Rattle.isp_lower.specs.Emitted.{row_of}
-use Rattle.isp_lower.specs.Header.{types_of}
+use Rattle.isp_lower_code.specs.Header.{types_of}
 use Rattle.isp_lower.proofs.header.types_behind.Given as goal
 
 abbrev pub invariant-loop-place : goal.invariant-loop-place

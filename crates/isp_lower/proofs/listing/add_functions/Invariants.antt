@@ -1,7 +1,8 @@
 use Rattle.std.proofs.Common.{◌≡◌, ◌++◌, map, true}
 use Rattle.std.specs.List.{list_all}
 use Rattle.isp_code.specs.Writable.{parts_fit}
-use Rattle.isp_lower.specs.Drafts.{has_small_numbers, routine_in}
+use Rattle.isp_lower_code.specs.Lines.{has_small_numbers}
+use Rattle.isp_lower.specs.Drafts.{routine_in}
 use Rattle.isp_lower.proofs.listing.add_functions.Given as goal
 
 abbrev pub invariant-loop-f : goal.invariant-loop-f

@@ -3,7 +3,7 @@ use Rattle.std.proofs.lemmas.List.{length-map, length-take-le}
 use Rattle.std.proofs.lemmas.List.Folds.{list_all-map}
 use Rattle.isp_code.specs.Listing.{Listing}
 use Rattle.isp_code.specs.Writable.{has_byte}
-use Rattle.isp_lower.proofs.Writable.{all_at, no_room}
+use Rattle.isp_lower_code.proofs.Lemmas.{all_at, no_room}
 use Rattle.isp_lower.proofs.listing.add_texts.Goals as goal
 
 pub unreachable-requires : goal.unreachable-requires

@@ -1,7 +1,7 @@
 use Rattle.std.proofs.Common.{◌∙◌}
 use Rattle.isp_typed.specs.Views.{expr_of}
 use Rattle.isp_lower.specs.Emitted.{layout}
-use Rattle.isp_lower.proofs.Stayed.{stays_same}
+use Rattle.isp_lower_code.proofs.Lemmas.{stays_same}
 use Rattle.isp_lower.proofs.located.stayed.Goals as goal
 
 pub returns : goal.returns

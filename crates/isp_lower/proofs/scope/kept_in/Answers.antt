@@ -1,5 +1,5 @@
 use Rattle.std.proofs.Common.{arith}
-use Rattle.isp_lower.specs.Rows.{Kept}
+use Rattle.isp_lower_code.specs.Rows.{Kept}
 use Rattle.isp_lower.proofs.Lookup.{number_below}
 use Rattle.isp_lower.proofs.scope.kept_in.Goals as goal
 

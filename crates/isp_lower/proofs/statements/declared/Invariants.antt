@@ -1,8 +1,8 @@
 use Rattle.std.proofs.Common.{drop}
 use Rattle.isp_typed.specs.Views.{items_of}
-use Rattle.isp_lower.specs.Asks.{items_asks}
+use Rattle.isp_lower_code.specs.Asks.{items_asks}
 use Rattle.isp_lower.specs.Emitted.{Appends, Present, layout}
-use Rattle.isp_lower.specs.Items.{items_code, items_places}
+use Rattle.isp_lower_code.specs.Items.{items_code, items_places}
 use Rattle.isp_lower.specs.declared.types.Body.{Body}
 use Rattle.isp_lower.proofs.statements.declared.Given as goal
 

@@ -1,7 +1,7 @@
 use Rattle.std.proofs.Common.{sym, ap, ◌∙◌}
 use Rattle.std.specs.Prelude.{◌&&◌}
 use Rattle.isp_typed.specs.Views.{expr_of}
-use Rattle.isp_lower.specs.Stays.{stays_at}
+use Rattle.isp_lower_code.specs.Stays.{stays_at}
 use Rattle.isp_lower.specs.Emitted.{layout}
 use Rattle.isp_lower.proofs.truths.both_stay.Goals as goal
 

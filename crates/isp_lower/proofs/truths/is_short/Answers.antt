@@ -4,7 +4,7 @@ use Rattle.isp_base.specs.declared.types.Ty.{Ty}
 use Rattle.isp_typed.specs.Typed.{type_of}
 use Rattle.isp_typed.specs.Views.{expr_of}
 use Rattle.isp_meaning.specs.Calls.{same_rate}
-use Rattle.isp_lower.specs.Stays.{stays_at}
+use Rattle.isp_lower_code.specs.Stays.{stays_at}
 use Rattle.isp_lower.specs.Emitted.{layout}
 use Rattle.isp_lower.proofs.truths.is_short.Goals as goal
 

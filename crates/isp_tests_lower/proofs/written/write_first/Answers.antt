@@ -5,7 +5,7 @@ use Rattle.isp_base.specs.declared.types.Rate.TheVariants.{Uniform}
 use Rattle.isp_code.specs.declared.instr.Instr.TheVariants as instr
 use Rattle.isp_typed.specs.Views.{function_of}
 use Rattle.isp_lower.specs.Drafts.{Draft, begun, with_instr, with_place, with_register, with_text}
-use Rattle.isp_lower.specs.Rows.{rows_at}
+use Rattle.isp_lower_code.specs.Rows.{rows_at}
 use Rattle.isp_tests_lower.specs.Stages.{hi, place}
 use Rattle.isp_tests_lower.specs.Trees.{value}
 use Rattle.isp_tests_lower.proofs.Drafted.{begins_with_room, first_small, heading_fits}

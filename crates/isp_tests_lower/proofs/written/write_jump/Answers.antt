@@ -4,7 +4,7 @@ use Rattle.isp_base.specs.declared.types.Elem.TheVariants.{I64}
 use Rattle.isp_base.specs.declared.types.Rate.TheVariants.{Uniform}
 use Rattle.isp_typed.specs.Views.{function_of}
 use Rattle.isp_lower.specs.Drafts.{Draft, begun, with_instr, with_register}
-use Rattle.isp_lower.specs.Rows.{rows_at}
+use Rattle.isp_lower_code.specs.Rows.{rows_at}
 use Rattle.isp_tests_lower.specs.Trees.{variables}
 use Rattle.isp_tests_lower.proofs.Drafted.{begins_with_room, heading_fits, second_small}
 use Rattle.isp_tests_lower.proofs.written.write_jump.Goals as goal

@@ -4,7 +4,7 @@ use Rattle.std.specs.BTreeMap.{get}
 use Rattle.std.specs.Ordering.{nat_cmp}
 use Rattle.std.proofs.lemmas.Option.{slice_get-map}
 use Rattle.isp_lower.specs.Lookup.{name_of, row_of}
-use Rattle.isp_lower.specs.Rows.{name_number}
+use Rattle.isp_lower_code.specs.Rows.{name_number}
 use Rattle.isp_lower.proofs.Lookup.{found_number, found_elem, none_behind, none_other, own_found}
 use Rattle.isp_lower.proofs.register_rows.RegisterRows.find.Goals as goal
 

@@ -1,6 +1,6 @@
 use Rattle.std.proofs.Common.{◌≡◌, ◌∙◌, sym, ap, subst, length, map, ◌++◌, ◌∷◌, [], List}
 use Rattle.isp_lower.specs.Lookup.{row_of}
-use Rattle.isp_lower.specs.Rows.{Fresh, number_in}
+use Rattle.isp_lower_code.specs.Rows.{Fresh, number_in}
 use Rattle.isp_lower.specs.declared.registers.RegisterName.TheVariants as one
 use Rattle.isp_lower.specs.declared.registers.RegisterRow.{RegisterRow}
 use Rattle.isp_lower.proofs.Lookup.{fresh_number}

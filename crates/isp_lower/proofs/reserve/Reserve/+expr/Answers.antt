@@ -2,10 +2,11 @@ use Rattle.std.proofs.Common.{◌∙◌, ◌+◌, ap, sym, subst, arith, drop}
 use Rattle.isp_base.specs.declared.types.Rate.TheVariants.{Varying}
 use Rattle.isp_typed.specs.Typed.{t_arguments, t_exprs}
 use Rattle.isp_typed.specs.Views.{arguments_of, expr_of, exprs_of}
-use Rattle.isp_lower.specs.Asks.{arguments_asks, call_asks, first_slot, operand_asks, values_asks}
-use Rattle.isp_lower.specs.Reserved.{Gives, HasNumbers}
+use Rattle.isp_lower_code.specs.Asks.{arguments_asks, call_asks, first_slot, operand_asks, values_asks}
+use Rattle.isp_lower_code.specs.Room.{HasNumbers}
+use Rattle.isp_lower.specs.Reserved.{Gives}
 use Rattle.isp_lower.proofs.Arguments.{argument_within, arguments_end, arguments_more, call_view}
-use Rattle.isp_lower.specs.Library.{library_rates}
+use Rattle.isp_lower_code.specs.Library.{library_rates}
 use Rattle.isp_lower.proofs.LibraryValues.{value_within, values_end, values_more}
 use Rattle.isp_lower.proofs.Growing.{both_given, gives_none, number_given, second_is, variable_given}
 use Rattle.isp_lower.proofs.reserve.Reserve.+expr.Goals as goal

@@ -3,9 +3,10 @@ use Rattle.std.proofs.Common.{◌+◌, ◌-◌, ◌*◌, drop}
 use Rattle.isp_typed.specs.Nodes.{typed_nodes, place_nodes, base_nodes, call_nodes, argument_nodes, arguments_nodes, exprs_nodes}
 use Rattle.isp_typed.specs.Typed.{t_arguments, t_exprs}
 use Rattle.isp_typed.specs.Views.{argument_of, arguments_of, base_of, call_of, expr_of, exprs_of, place_of}
-use Rattle.isp_lower.specs.Asks.{arguments_asks, values_asks}
-use Rattle.isp_lower.specs.Library.{library_rates}
-use Rattle.isp_lower.specs.Reserved.{Gives, HasNumbers}
+use Rattle.isp_lower_code.specs.Asks.{arguments_asks, values_asks}
+use Rattle.isp_lower_code.specs.Library.{library_rates}
+use Rattle.isp_lower_code.specs.Room.{HasNumbers}
+use Rattle.isp_lower.specs.Reserved.{Gives}
 use Rattle.isp_lower.specs.declared.reserve.Reserve.{Reserve}
 use Rattle.isp_lower.proofs.reserve.Reserve.+expr.Given as goal
 

@@ -1,5 +1,6 @@
 use Rattle.std.proofs.Common.{sym, subst}
-use Rattle.isp_lower.specs.Reserved.{Gives, HasNumbers}
+use Rattle.isp_lower_code.specs.Room.{HasNumbers}
+use Rattle.isp_lower.specs.Reserved.{Gives}
 use Rattle.isp_lower.proofs.Growing.{items_more, items_end, both_given, gives_none}
 use Rattle.isp_lower.proofs.reserve.Reserve.items.Goals as goal
 

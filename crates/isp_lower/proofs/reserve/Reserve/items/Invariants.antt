@@ -1,7 +1,8 @@
 use Rattle.std.proofs.Common.{drop}
 use Rattle.isp_typed.specs.Views.{items_of}
-use Rattle.isp_lower.specs.Asks.{items_asks}
-use Rattle.isp_lower.specs.Reserved.{Gives, HasNumbers}
+use Rattle.isp_lower_code.specs.Asks.{items_asks}
+use Rattle.isp_lower_code.specs.Room.{HasNumbers}
+use Rattle.isp_lower.specs.Reserved.{Gives}
 use Rattle.isp_lower.specs.declared.reserve.Reserve.{Reserve}
 use Rattle.isp_lower.proofs.reserve.Reserve.items.Given as goal
 

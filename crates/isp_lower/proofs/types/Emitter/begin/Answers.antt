@@ -2,9 +2,10 @@ use Rattle.std.proofs.Common.{◌∙◌, ap, List, [], Some}
 use Rattle.isp_code.specs.declared.instr.Instr.{Instr}
 use Rattle.isp_typed.specs.Views.{function_of}
 use Rattle.isp_lower.specs.Drafts.{Draft, begun, draft_of, heading_in}
-use Rattle.isp_lower.specs.Emitted.{first_rows, rows_of}
-use Rattle.isp_lower.specs.Header.{Heading}
-use Rattle.isp_lower.specs.Rows.{Rows}
+use Rattle.isp_lower_code.specs.FirstRows.{first_rows}
+use Rattle.isp_lower.specs.Emitted.{rows_of}
+use Rattle.isp_lower_code.specs.Header.{Heading}
+use Rattle.isp_lower_code.specs.Rows.{Rows}
 use Rattle.isp_lower.proofs.types.Emitter.begin.Goals as goal
 
 pub returns-clause-begun : goal.returns-clause-begun

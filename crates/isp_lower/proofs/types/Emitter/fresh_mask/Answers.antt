@@ -1,8 +1,8 @@
 use Rattle.std.proofs.Common.{subst, sym}
 use Rattle.isp_lower.specs.Drafts.{draft_of}
 use Rattle.isp_lower.specs.Emitted.{rows_of}
-use Rattle.isp_lower.specs.Layout.{mask_register}
-use Rattle.isp_lower.specs.Named.{InCode, IsOf, Unnamed}
+use Rattle.isp_lower_code.specs.Layout.{mask_register}
+use Rattle.isp_lower_code.specs.Named.{InCode, IsOf, Unnamed}
 use Rattle.isp_lower.specs.declared.reserve.Reserve.{Reserve}
 use Rattle.isp_lower.proofs.Aparts.{fresh_mask_named}
 use Rattle.isp_lower.proofs.Naming.{next_mask_unnamed}

@@ -1,6 +1,6 @@
 use Rattle.std.proofs.Common.{subst, sym}
 use Rattle.isp_lower.specs.Drafts.{draft_of}
-use Rattle.isp_lower.specs.Named.{InCode, IsOf}
+use Rattle.isp_lower_code.specs.Named.{InCode, IsOf}
 use Rattle.isp_lower.proofs.Aparts.{patched_named}
 use Rattle.isp_lower.proofs.types.Emitter.patch.Goals as goal
 

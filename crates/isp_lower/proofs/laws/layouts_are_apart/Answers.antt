@@ -1,5 +1,0 @@
-use Rattle.isp_lower.proofs.Rows.{layout_apart}
-use Rattle.isp_lower.proofs.laws.layouts_are_apart.Goals as goal
-
-pub returns : goal.returns
-returns ctx = layout_apart

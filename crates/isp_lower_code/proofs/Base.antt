@@ -1,0 +1,89 @@
+-- Lists in a list, spare registers that stay, and steps of the machine.
+use Rattle.std.proofs.Common.{◌≡◌, ◌≢◌, ℕ, ◌+◌, ◌≤◌, List, [], ◌∷◌, ◌++◌, length, Option, Some, None, refl, ap, ◌∙◌, subst, arith, eq-eqb}
+use Rattle.std.specs.Prelude.{slice_get, nat_eq}
+use Rattle.std.proofs.lemmas.Bool.{ne_eqb, cond-true, cond-false}
+use Rattle.isp_base.specs.Maps.{put}
+use Rattle.isp_base.specs.declared.trap.Trap.{Trap}
+use Rattle.isp_base.specs.declared.trap.TrapKind.{TrapKind}
+use Rattle.isp_base.specs.declared.types.Span.{Span}
+use Rattle.isp_base.specs.Traps.{trap}
+use Rattle.isp_code.specs.Conf as machine
+use Rattle.isp_code.specs.Conf.{Conf, Move, Go, Fail}
+use Rattle.isp_code.specs.Lines.{act}
+use Rattle.isp_code.specs.Machine.{after, step, act_in, act_at, arrive}
+use Rattle.isp_code.proofs.Steps.{after-sum}
+use Rattle.isp_code.specs.declared.instr.Instr.{Instr}
+use Rattle.isp_lower_code.specs.Setting.{Setting, IsSettled, AreAt, At, Spares}
+use Rattle.isp_lower_code.specs.Runs.{Comes}
+
+pub are_front : {A : Type 0} (xs : List A) (n : ℕ) (a b : List A) → AreAt xs n (a ++ b) → AreAt xs n a
+are_front xs n [] b h = tt
+are_front xs n (i ∷ a) b h = (h.0, are_front xs (n + 1) a b h.1)
+
+pub are_back : {A : Type 0} (xs : List A) (n : ℕ) (a b : List A) → AreAt xs n (a ++ b) → AreAt xs (n + length a) b
+are_back xs n [] b h = let e : n ≡ n + 0 = omega arith in subst (λ m. AreAt xs m b) e h
+are_back xs n (i ∷ a) b h =
+    let e : n + 1 + length a ≡ n + length (i ∷ a) = omega arith in
+    subst (λ m. AreAt xs m b) e (are_back xs (n + 1) a b h.1)
+
+pub put_same : {A : Type 0} (f : ℕ → A) (d : ℕ) (x : A) → put f d x d ≡ x
+put_same f d x = cond-true (nat_eq d d) x (f d) (eq-eqb d d refl)
+
+pub put_other : {A : Type 0} (f : ℕ → A) (d : ℕ) (x : A) (r : ℕ) → r ≢ d → put f d x r ≡ f r
+put_other f d x r ne = cond-false (nat_eq r d) x (f r) (ne_eqb r d ne)
+
+-- ---- spare registers of lower slots
+
+module _ (w : Setting) where
+  pub spares_all : (n : ℕ) (c : Conf) → Spares w n c c
+  spares_all n c = record { scalars_stay = λ t j lt. refl; vectors_stay = λ t j lt. refl }
+
+  pub spares_less : (n m : ℕ) (c c' : Conf) → n ≤ m → Spares w m c c' → Spares w n c c'
+  spares_less n m c c' le k = record { scalars_stay = λ t j lt. k.scalars_stay t j (omega arith); vectors_stay = λ t j lt. k.vectors_stay t j (omega arith) }
+
+  pub spares_on : (n : ℕ) (c c1 c2 : Conf) → Spares w n c c1 → Spares w n c1 c2 → Spares w n c c2
+  spares_on n c c1 c2 k h = record { scalars_stay = λ t j lt. h.scalars_stay t j lt ∙ k.scalars_stay t j lt; vectors_stay = λ t j lt. h.vectors_stay t j lt ∙ k.vectors_stay t j lt }
+
+  -- ---- steps
+
+  pub comes_none : (c : Conf) → Comes w c 0 c
+  comes_none c = refl
+
+  after_more : (c c1 : Conf) (s t : ℕ) → Comes w c s c1 → after w.code (s + t) (machine.Runs c) ≡ after w.code t (machine.Runs c1)
+  after_more c c1 s t h =
+      let e : s + t ≡ t + s = omega arith in
+      ap (λ n. after w.code n (machine.Runs c)) e ∙ after-sum w.code t s (machine.Runs c) ∙ ap (after w.code t) h
+
+  pub comes_on : (c c1 c2 : Conf) (s t : ℕ) → Comes w c s c1 → Comes w c1 t c2 → Comes w c (s + t) c2
+  comes_on c c1 c2 s t h g = after_more c c1 s t h ∙ g
+
+  pub fails_on : (c c1 c2 : Conf) (s t : ℕ) (p : Trap) → Comes w c s c1 → after w.code t (machine.Runs c1) ≡ machine.Trapped p c2 → after w.code (s + t) (machine.Runs c) ≡ machine.Trapped p c2
+  fails_on c c1 c2 s t p h g = after_more c c1 s t h ∙ g
+
+  -- where the routine is the one that runs
+  pub step_by : (c : Conf) (pc : ℕ) (i : Instr) → slice_get w.code.routines w.home.fn ≡ Some w.routine → At w c pc → slice_get w.routine.code pc ≡ Some i → step w.code c ≡ act w.code w.routine c i
+  step_by c pc i found at has =
+      ap (λ h. act_in w.code c (slice_get w.code.routines h.fn)) at.home_is
+      ∙ ap (act_in w.code c) found
+      ∙ ap (λ p. act_at w.code w.routine c (slice_get w.routine.code p)) at.pc_is
+      ∙ ap (act_at w.code w.routine c) has
+
+  pub step_is : (c : Conf) (pc : ℕ) (i : Instr) → IsSettled w → At w c pc → slice_get w.routine.code pc ≡ Some i → step w.code c ≡ act w.code w.routine c i
+  step_is c pc i ready at has = step_by c pc i ready.found at has
+
+  pub step_go : (c : Conf) (pc : ℕ) (i : Instr) (c' : Conf) → IsSettled w → At w c pc → slice_get w.routine.code pc ≡ Some i → act w.code w.routine c i ≡ Go c' → Comes w c 1 (record c' { out = c.out })
+  step_go c pc i c' ready at has is = ap (λ m. arrive w.code m c) (step_is c pc i ready at has ∙ is)
+
+  pub step_fail : (c : Conf) (pc : ℕ) (i : Instr) (t : Trap) → IsSettled w → At w c pc → slice_get w.routine.code pc ≡ Some i → act w.code w.routine c i ≡ Fail t → after w.code 1 (machine.Runs c) ≡ machine.Trapped t c
+  step_fail c pc i t ready at has is = ap (λ m. arrive w.code m c) (step_is c pc i ready at has ∙ is)
+
+  pub next_at : (c c' : Conf) (pc : ℕ) → At w c pc → c'.home ≡ c.home → c'.waiting ≡ c.waiting → c'.pc ≡ c.pc + 1 → At w c' (pc + 1)
+  next_at c c' pc at h v p = record { home_is = h ∙ at.home_is; waiting_is = v ∙ at.waiting_is; pc_is = p ∙ ap (λ n. n + 1) at.pc_is }
+
+  pub at_to : (c : Conf) (pc pc' : ℕ) → At w c pc → pc ≡ pc' → At w c pc'
+  at_to c pc pc' at e = record { home_is = at.home_is; waiting_is = at.waiting_is; pc_is = at.pc_is ∙ e }
+
+-- an instruction that goes on, or traps where there is an offender
+abbrev pub moved_by : Option ℕ → TrapKind → Span → Conf → Move
+moved_by None kind sp c = Go c
+moved_by (Some p) kind sp c = Fail (trap kind sp p)

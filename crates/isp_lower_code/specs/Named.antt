@@ -1,0 +1,53 @@
+-- The registers that instructions name, and whether a function has them.
+use Rattle.std.specs.Prelude.{◌≢◌, ◌<◌, ℕ, List, [], ◌∷◌, length, Option, Some, None}
+use Rattle.isp_code.specs.Operands.{operands}
+use Rattle.isp_code.specs.declared.instr.Instr.{Instr}
+use Rattle.isp_code.specs.declared.operand.Operand.{Operand}
+use Rattle.isp_code.specs.declared.operand.Operand.TheVariants.{Any as AnyRegister, Scalar, Vector, Mask, Array, Number, Place, Text, Target, Back}
+use Rattle.isp_code.specs.declared.register.Class.{Class}
+use Rattle.isp_code.specs.declared.register.Class.TheVariants as class
+use Rattle.isp_code.specs.declared.register.Register.{Register}
+use Rattle.isp_lower_code.specs.Rows.{Rows}
+
+-- something holds of each register that is named
+module _ (P : Register → Type 0) where
+  abbrev pub InOption : Option Register → Type 0
+  InOption None = Unit {0}
+  InOption (Some x) = P x
+
+  abbrev pub InOperand : Operand → Type 0
+  InOperand (AnyRegister x) = P x
+  InOperand (Scalar x w) = P x
+  InOperand (Vector x w) = P x
+  InOperand (Mask x) = P x
+  InOperand (Array x k w) = P x
+  InOperand (Number z x) = Unit {0}
+  InOperand (Place q) = Unit {0}
+  InOperand (Text t) = Unit {0}
+  InOperand (Target to) = Unit {0}
+  InOperand (Back x) = InOption x
+
+  abbrev pub InOperands : List Operand → Type 0
+  InOperands [] = Unit {0}
+  InOperands (o ∷ os) = InOperand o × InOperands os
+
+  abbrev pub InInstr : Instr → Type 0
+  InInstr i = InOperands (operands i)
+
+  abbrev pub InCode : List Instr → Type 0
+  InCode [] = Unit {0}
+  InCode (i ∷ is) = InInstr i × InCode is
+
+-- how many registers of a class there are
+abbrev pub count_of : Rows → ℕ → Class → ℕ
+count_of rows masks class.Scalar = length rows.scalars
+count_of rows masks class.Vector = length rows.vectors
+count_of rows masks class.Array = length rows.arrays
+count_of rows masks class.Mask = masks
+
+abbrev pub IsOf : Rows → ℕ → Register → Type 0
+IsOf rows masks x = x.number < count_of rows masks x.class
+
+-- a register that is not named
+abbrev pub Unnamed : Register → List Instr → Type 0
+Unnamed x code = InCode (λ y. y ≢ x) code

@@ -1,0 +1,58 @@
+//! What holds of all code. No code is run here: each function carries a law in its contract.
+ghost use Rattle.isp_lower_code.specs.Laws.{ExprGoesOn, ExprRuns, ExprSound, ItemsRun, ItemsSound, LayoutsAreApart, SimpleGoesOn, SimpleRuns, SimpleSound};
+
+/// The code of an expression gives its value in the lanes of a mask, traps as it traps, and goes on
+/// where it is cut, within 32 instructions for each unit of work. Variables, and the registers that
+/// code before it uses, are as they were.
+pub fn expressions_run()
+    ensures { ExprRuns }
+{}
+
+/// The code of a value, of an assignment, and of `op=`, `++` and `--`, on variables and elements, writes
+/// its place for the lanes of a mask, after its index and the right side, or traps as the assignment
+/// traps; nothing is stored where an index is outside.
+pub fn assignments_run()
+    ensures { SimpleRuns }
+{}
+
+/// The code of declared variables and arrays sets each to its value, or to 0, for the lanes of a mask
+/// alone; an array that all lanes share is set whole.
+pub fn declarations_run()
+    ensures { ItemsRun }
+{}
+
+/// Where the value of an expression is cut for each number of turns that a loop may make, its code goes on
+/// without end: what each cut has written is the beginning of the output after some number of
+/// instructions, and the output after each number of instructions is the beginning of some cut's.
+pub fn expressions_go_on()
+    ensures { ExprGoesOn }
+{}
+
+/// The same of the code of a value, of an assignment, and of `op=`, `++` and `--`.
+pub fn assignments_go_on()
+    ensures { SimpleGoesOn }
+{}
+
+/// A layout from lists of rows, in which a register has the number of the first row of its name, gives
+/// each name a register of its own.
+pub fn layouts_are_apart()
+    ensures { LayoutsAreApart }
+{}
+
+/// Each instruction of the code of an expression has registers that are there and of their types, names
+/// a place that is there, and jumps to an instruction of the function, wherever the code stands and
+/// under whatever mask, if the registers that the expression asks for are there. So is the register of
+/// its value, with its type.
+pub fn expressions_sound()
+    ensures { ExprSound }
+{}
+
+/// The same of the code of a value, of an assignment, and of `op=`, `++` and `--`.
+pub fn assignments_sound()
+    ensures { SimpleSound }
+{}
+
+/// The same of the code of declared variables and arrays.
+pub fn declarations_sound()
+    ensures { ItemsSound }
+{}

@@ -1,0 +1,11 @@
+//! Which code expressions, declarations and assignments become, and that it does what they mean. Nothing is written here.
+#![tactic(auto)]
+
+mod constant;
+mod laws;
+
+pub use constant::Constant;
+pub use laws::{
+    assignments_go_on, assignments_run, assignments_sound, declarations_run, declarations_sound,
+    expressions_go_on, expressions_run, expressions_sound, layouts_are_apart,
+};
