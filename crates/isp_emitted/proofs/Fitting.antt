@@ -6,12 +6,12 @@ use Rattle.isp_base.specs.declared.types.Rate.TheVariants.{Uniform, Varying}
 use Rattle.isp_code.specs.Listing.{Routine}
 use Rattle.isp_typed.specs.declared.variable.Variable.{Variable as Declared}
 use Rattle.isp_lower_code.specs.Asks.{Ask, Nothing, Both, Register, ArrayOf, LocalOf, MaskOf, Number, Loads, expr_asks, simple_asks}
-use Rattle.isp_lower.specs.Emitted.{Grows, HasRow, rows_of}
-use Rattle.isp_lower.specs.Reserved.{Has}
+use Rattle.isp_registers.specs.Growth.{Grows, HasRow, rows_of}
+use Rattle.isp_registers.specs.Reserved.{Has}
 use Rattle.isp_lower_code.specs.Rows.{Name, Variable, layout_of}
 use Rattle.isp_lower_code.specs.Setting.{Setting}
 use Rattle.isp_lower_code.specs.Tables.{IsNamedIn, Table}
-use Rattle.isp_lower.specs.declared.reserve.Reserve.{Reserve}
+use Rattle.isp_registers.specs.declared.reserve.Reserve.{Reserve}
 use Rattle.isp_emitted.specs.Fitting.{WrittenFits}
 use Rattle.isp_emitted.specs.OfRows.{IsOfRows}
 use Rattle.isp_emitted.specs.Staying.{ReservedStays}

@@ -24,7 +24,7 @@ use Rattle.isp_lower_code.specs.Spans.{expr_places, index_places, read_places, b
 use Rattle.isp_lower_code.specs.Stays.{is_short}
 use Rattle.isp_lower_code.specs.Layout.{Layout, register, array_register, mask_register}
 use Rattle.isp_lower_code.specs.Library.{library_code, library_rates}
-use Rattle.isp_lower.specs.Reserved.{choice_asks}
+use Rattle.isp_registers.specs.Reserved.{choice_asks}
 use Rattle.isp_emitted.proofs.Same.{is_kept_same, Alike, SameIn, two_same, guard_same, choice_same, joined_same, pair_same, part_same, lift_to_same, convert_same, found_same, operand_same}
 use Rattle.isp_emitted.proofs.Same.{operand_of_same, argument_found, argument_of_same, index_same, index_of_same, by_of_same, read_same, short_same, sides_found}
 

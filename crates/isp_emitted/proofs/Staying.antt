@@ -6,12 +6,12 @@ use Rattle.isp_base.specs.declared.types.Rate.{Rate}
 use Rattle.isp_base.specs.declared.types.Rate.TheVariants.{Uniform, Varying}
 use Rattle.isp_lower_code.specs.Asks.{Ask, Nothing, Both, Register, ArrayOf, LocalOf, MaskOf, Number, Loads, expr_asks, simple_asks}
 use Rattle.isp_lower_code.specs.FirstRows.{Begins}
-use Rattle.isp_lower.specs.Emitted.{Grows, HasRow, rows_of}
+use Rattle.isp_registers.specs.Growth.{Grows, HasRow, rows_of}
 use Rattle.isp_lower_code.specs.Layout.{Layout}
-use Rattle.isp_lower.specs.Reserved.{Has}
+use Rattle.isp_registers.specs.Reserved.{Has}
 use Rattle.isp_lower_code.specs.Rows.{keeps as keeps_constant, Name, Variable, Fresh, Row, Rows, elem_in, number_in, rows_at, layout_of, with_fresh, with_fresh_at}
-use Rattle.isp_lower.specs.declared.registers.Registers.{Registers}
-use Rattle.isp_lower.specs.declared.reserve.Reserve.{Reserve}
+use Rattle.isp_registers.specs.declared.registers.Registers.{Registers}
+use Rattle.isp_registers.specs.declared.reserve.Reserve.{Reserve}
 use Rattle.isp_emitted.specs.Staying.{KeepsPlaces, RegistersGrow, CodeStays}
 use Rattle.isp_emitted.proofs.Rows.{fresh_keeps, kept_number, numbered_in, same_number}
 use Rattle.isp_emitted.proofs.Same.{Alike, SameIn, found_same}

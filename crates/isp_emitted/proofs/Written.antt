@@ -17,21 +17,21 @@ use Rattle.isp_lower_code.specs.Code.{expr_code}
 use Rattle.isp_lower_code.specs.Found.{found}
 use Rattle.isp_lower_code.specs.Spans.{expr_places}
 use Rattle.isp_lower.specs.Drafts.{draft_of}
-use Rattle.isp_lower.specs.Emitted.{rows_of}
+use Rattle.isp_registers.specs.Growth.{rows_of}
 use Rattle.isp_lower_code.specs.Fits.{ExprFits, SimpleFits}
 use Rattle.isp_lower_code.specs.Laws.{ExprRuns, SimpleRuns, ExprGoesOn, SimpleGoesOn, LayoutsAreApart}
 use Rattle.isp_lower_code.specs.Layout.{IsApart, Layout}
-use Rattle.isp_lower.specs.Reserved.{Has}
+use Rattle.isp_registers.specs.Reserved.{Has}
 use Rattle.isp_lower_code.specs.Rows.{Variable, elem_in, layout_of}
 use Rattle.isp_lower_code.specs.Runs.{DoneRuns, Runs, Enters}
 use Rattle.isp_lower_code.specs.Setting.{Setting, AreAt, calls_of, gang_of, Holds, IsSettled, with_turns}
 use Rattle.isp_lower_code.specs.Simple.{simple_code, simple_places}
 use Rattle.isp_lower.specs.Written.{Piece}
-use Rattle.isp_lower.specs.declared.reserve.Reserve.{Reserve}
+use Rattle.isp_registers.specs.declared.reserve.Reserve.{Reserve}
 use Rattle.isp_lower.specs.declared.sites.Site.{Site}
 use Rattle.isp_lower.specs.declared.types.Emitter.{Emitter}
 use Rattle.isp_emitted.specs.Written.{HasWritten, HasExpr, HasSimple, AcceptsExpr, AcceptsSimple, WrittenRuns, WrittenGoesOn}
-use Rattle.isp_lower.specs.declared.registers.Registers.{Registers}
+use Rattle.isp_registers.specs.declared.registers.Registers.{Registers}
 use Rattle.isp_emitted.specs.OfRows.{IsOfRows}
 use Rattle.isp_emitted.specs.Parts.{SamePart}
 use Rattle.isp_emitted.specs.Staying.{KeepsPlaces}

@@ -3,12 +3,12 @@ use Rattle.std.specs.Prelude.{ℕ}
 use Rattle.isp_typed.specs.Fine.{FineExpr, FineSimple}
 use Rattle.isp_typed.specs.Typed.{TExpr, TSimple}
 use Rattle.isp_lower_code.specs.Asks.{expr_asks, simple_asks}
-use Rattle.isp_lower.specs.Emitted.{rows_of}
+use Rattle.isp_registers.specs.Growth.{rows_of}
 use Rattle.isp_lower_code.specs.Fits.{ExprFits, SimpleFits}
 use Rattle.isp_lower_code.specs.Rated.{IsRated, SimpleRated}
-use Rattle.isp_lower.specs.Reserved.{Has}
+use Rattle.isp_registers.specs.Reserved.{Has}
 use Rattle.isp_lower_code.specs.Setting.{Setting}
-use Rattle.isp_lower.specs.declared.reserve.Reserve.{Reserve}
+use Rattle.isp_registers.specs.declared.reserve.Reserve.{Reserve}
 use Rattle.isp_emitted.specs.OfRows.{IsOfRows}
 
 -- In a call whose routine has the registers of a reserve: names, types and rates accept the tree, and the reserve has what its code

@@ -6,12 +6,12 @@ use Rattle.isp_typed.specs.Typed.{TExpr, TSimple}
 use Rattle.isp_lower_code.specs.Asks.{Ask, expr_asks, simple_asks}
 use Rattle.isp_lower_code.specs.Code.{expr_code}
 use Rattle.isp_lower_code.specs.Found.{found}
-use Rattle.isp_lower.specs.Emitted.{Grows, rows_of}
-use Rattle.isp_lower.specs.Reserved.{Has}
+use Rattle.isp_registers.specs.Growth.{Grows, rows_of}
+use Rattle.isp_registers.specs.Reserved.{Has}
 use Rattle.isp_lower_code.specs.Rows.{layout_of, with_fresh_at}
 use Rattle.isp_lower_code.specs.Simple.{simple_code}
-use Rattle.isp_lower.specs.declared.registers.Registers.{Registers}
-use Rattle.isp_lower.specs.declared.reserve.Reserve.{Reserve}
+use Rattle.isp_registers.specs.declared.registers.Registers.{Registers}
+use Rattle.isp_registers.specs.declared.reserve.Reserve.{Reserve}
 
 -- what is there stays there
 abbrev pub ReservedStays : Type 0

@@ -12,9 +12,9 @@ use Rattle.isp_lower.specs.Adding.{Adds, expr_in, layout_in, simple_in}
 use Rattle.isp_lower_code.specs.Asks.{Ask, expr_asks, simple_asks}
 use Rattle.isp_lower_code.specs.Found.{found}
 use Rattle.isp_lower.specs.Drafts.{draft_of}
-use Rattle.isp_lower.specs.Emitted.{Grows}
+use Rattle.isp_registers.specs.Growth.{Grows}
 use Rattle.isp_lower_code.specs.Rated.{IsRated, SimpleRated}
-use Rattle.isp_lower.specs.Reserved.{Has}
+use Rattle.isp_registers.specs.Reserved.{Has}
 use Rattle.isp_lower_code.specs.Runs.{DoneRuns, Enters, Runs}
 use Rattle.isp_lower_code.specs.Setting.{Setting, IsSettled, calls_of, gang_of, with_turns, Holds}
 use Rattle.isp_lower_code.specs.Steps.{GoesOn}

@@ -7,7 +7,9 @@ ghost use Rattle.isp_emitted.specs.Parts.{PartsStay, PatchedStays};
 ghost use Rattle.isp_emitted.specs.Staying.{CodeStays, RegistersGrow, ReservedStays};
 ghost use Rattle.isp_emitted.specs.Written.{WrittenGoesOn, WrittenRuns};
 
-use isp_lower_code::{assignments_go_on, assignments_run, expressions_go_on, expressions_run, layouts_are_apart};
+use isp_lower_code::{
+    assignments_go_on, assignments_run, expressions_go_on, expressions_run, layouts_are_apart,
+};
 
 /// A tree that names, types and rates accept is as the laws of expressions and assignments ask, in a call whose routine has
 /// the registers that an emitter reserved for it.

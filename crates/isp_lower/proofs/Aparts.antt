@@ -12,12 +12,13 @@ use Rattle.isp_code.specs.declared.register.Class.TheVariants as class
 use Rattle.isp_code.specs.declared.register.Register.{Register}
 use Rattle.isp_lower.specs.Drafts.{HasAllNamed, draft_of}
 use Rattle.isp_lower_code.specs.FirstRows.{Begins}
-use Rattle.isp_lower.specs.Emitted.{Appends, Grows, rows_of}
+use Rattle.isp_registers.specs.Growth.{Grows, rows_of}
+use Rattle.isp_lower.specs.Emitted.{Appends}
 use Rattle.isp_lower_code.specs.Named.{InCode, InInstr, IsOf, count_of}
 use Rattle.isp_lower_code.specs.Patched.{patched, retargeted}
 use Rattle.isp_lower_code.specs.Rows.{Fresh, Row, Rows, with_fresh, with_fresh_at}
 use Rattle.isp_lower.specs.Adding.{AddsCode}
-use Rattle.isp_lower.specs.declared.registers.Registers.{Registers}
+use Rattle.isp_registers.specs.declared.registers.Registers.{Registers}
 use Rattle.isp_lower.specs.declared.types.Body.{Body}
 use Rattle.isp_lower.specs.declared.types.Emitter.{Emitter}
 use Rattle.isp_lower.proofs.Naming.{code_both, code_weaker}

@@ -1,5 +1,5 @@
 -- Arguments of a call, one after the other: what is left of them begins with the next one.
-use Rattle.std.proofs.Common.{◌≡◌, ℕ, zero, suc, ◌<◌, ◌≤◌, ◌+◌, List, [], ◌∷◌, ◌++◌, length, drop, take, get_or, Option, Some, None, refl, sym, ap, subst, ◌∙◌, arith, add-one, append_assoc, append-nil}
+use Rattle.std.proofs.Common.{◌≡◌, ℕ, zero, suc, ◌<◌, ◌≤◌, ◌+◌, List, [], ◌∷◌, ◌++◌, length, drop, take, get_or, Option, Some, None, refl, sym, ap, subst, ◌∙◌, arith, append_assoc, append-nil}
 use Rattle.std.specs.Prelude.{option_map, slice_get}
 use Rattle.std.proofs.lemmas.List.{drop_more, drop_all}
 use Rattle.std.proofs.lemmas.Option.{slice_get-map}
@@ -13,13 +13,11 @@ use Rattle.isp_code.specs.declared.register.Register.{Register}
 use Rattle.isp_typed.specs.declared.expr.TypedArgument as rust_argument
 use Rattle.isp_typed.specs.declared.expr.TypedCall as rust_call
 use Rattle.isp_typed.specs.declared.function.TypedFunction as rust_function
-use Rattle.isp_typed.specs.declared.expr.TypedArgument.TheFolds.{fold_out-TypedCall}
 use Rattle.isp_typed.specs.declared.variable.Variable.{Variable}
-use Rattle.isp_typed.specs.Nodes.{argument_nodes, arguments_nodes, call_nodes}
-use Rattle.isp_typed.specs.Typed.{TExpr, TPlace, TBase, TArgument, TArguments, TCall, t_called, t_arguments}
-use Rattle.isp_typed.specs.Views.{argument_step, base_step, call_step, expr_step, place_step, argument_of, arguments_of, call_of, function_of, functions_of}
+use Rattle.isp_typed.specs.Typed.{TExpr, TArguments, t_arguments}
+use Rattle.isp_typed.specs.Views.{argument_of, arguments_of, call_of, function_of, functions_of}
 use Rattle.isp_lower_code.specs.Lines.{naming}
-use Rattle.isp_lower_code.specs.Asks.{Both, Nothing, Number, argument_asks, arguments_asks, call_asks, operand_asks}
+use Rattle.isp_lower_code.specs.Asks.{arguments_asks, call_asks, operand_asks}
 use Rattle.isp_lower_code.specs.Callees.{later, next_rate, rate_held, rates_held, rates_in, rates_of}
 use Rattle.isp_lower_code.specs.Code.{argument_code, argument_register, argument_registers, arguments_code, call_code, calling}
 use Rattle.isp_lower_code.specs.Spans.{argument_places, arguments_places, call_places}
@@ -29,44 +27,7 @@ use Rattle.isp_lower.specs.declared.types.Body.{Body}
 use Rattle.isp_lower.specs.declared.types.Scope.{Scope}
 use Rattle.isp_lower.proofs.Landing.{appends_self, appends_then}
 
-pub call_view : (c : rust_call.TypedCall) → call_of c ≡ t_called c.function (t_arguments (arguments_of c.arguments.items)) c.span
-call_view c = fold_out-TypedCall TArgument TBase TExpr TPlace TCall argument_step base_step expr_step place_step call_step c
-
--- ---- the recursion goes down
-
-pub call_counts : (c : rust_call.TypedCall) → call_nodes (call_of c) ≡ suc (arguments_nodes (t_arguments (arguments_of c.arguments.items)))
-call_counts c = ap call_nodes (call_view c)
-
-pub argument_within : (xs : List rust_argument.TypedArgument) (i : ℕ) (x : rust_argument.TypedArgument) → i < length xs → x ≡ get_or xs i x → argument_nodes (argument_of x) ≤ arguments_nodes (t_arguments (arguments_of xs))
-argument_within [] i x h e = absurd (omega (arith, h))
-argument_within (y ∷ ys) zero x h e =
-    let same : argument_nodes (argument_of x) ≡ argument_nodes (argument_of y) = ap (λ z. argument_nodes (argument_of z)) e in
-    omega (arith, same)
-argument_within (y ∷ ys) (suc i) x h e =
-    let rest = argument_within ys i x (omega (arith, h)) e in
-    omega (arith, rest)
-
--- ---- what is asked for
-
-pub arguments_more : (m : ℕ) (all : List rust_argument.TypedArgument) (i : ℕ) (x : rust_argument.TypedArgument) → i < length all → x ≡ get_or all i x
-    → arguments_asks (t_arguments (arguments_of (drop i all))) m ≡ Both (Number (m + 1)) (Both (argument_asks (argument_of x) m) (arguments_asks (t_arguments (arguments_of (drop (i + 1) all))) (m + 1)))
-arguments_more m all i x lt is =
-    ap (λ z. arguments_asks (t_arguments (arguments_of z)) m) (drop_more all i x lt)
-    ∙ ap (λ z. Both (Number (m + 1)) (Both (argument_asks (argument_of z) m) (arguments_asks (t_arguments (arguments_of (drop (i + 1) all))) (m + 1)))) (sym is)
-
-pub arguments_end : (m : ℕ) (all : List rust_argument.TypedArgument) (i : ℕ) → length all ≤ i → arguments_asks (t_arguments (arguments_of (drop i all))) m ≡ Nothing
-arguments_end m all i le = ap (λ z. arguments_asks (t_arguments (arguments_of z)) m) (drop_all i all le)
-
 -- ---- the rate of the parameter of a number, and of those behind it
-
-later_suc : (i : ℕ) (rs : List Rate) → later (drop i rs) ≡ drop (suc i) rs
-later_suc zero [] = refl
-later_suc zero (r ∷ rs) = refl
-later_suc (suc i) [] = refl
-later_suc (suc i) (r ∷ rs) = later_suc i rs
-
-pub later_drop : (i : ℕ) (rs : List Rate) → later (drop i rs) ≡ drop (i + 1) rs
-later_drop i rs = later_suc i rs ∙ ap (λ n. drop n rs) (sym (add-one i))
 
 no_rate : (j : ℕ) → next_rate (drop j []) ≡ Varying
 no_rate zero = refl

@@ -1,7 +1,6 @@
 -- A variable gets an operator on itself and a value: the value's code, then the operator's, as it is defined.
-use Rattle.std.proofs.Common.{◌≡◌, ℕ, ◌+◌, List, ◌++◌, length, sym, ap, ◌∙◌, subst, arith}
+use Rattle.std.proofs.Common.{◌≡◌, ℕ, ◌+◌, List, ◌++◌, length, ap, ◌∙◌, subst, arith}
 use Rattle.isp_base.specs.declared.types.Span.{Span}
-use Rattle.isp_base.specs.declared.types.Ty.{Ty}
 use Rattle.isp_code.specs.declared.instr.Instr.{Instr}
 use Rattle.isp_typed.specs.Typed.{TExpr, t_variable}
 use Rattle.isp_lower_code.specs.Code.{expr_code}
@@ -10,7 +9,7 @@ use Rattle.isp_lower_code.specs.Found.{operand, operand_of}
 use Rattle.isp_lower_code.specs.Instructions.{operate_places}
 use Rattle.isp_lower_code.specs.Spans.{expr_places}
 use Rattle.isp_lower.specs.Written.{Writes, behind, change_by_at, operand_at, update_at, update_code}
-use Rattle.isp_lower.specs.declared.numbered.RegisterNumber.{RegisterNumber}
+use Rattle.isp_registers.specs.declared.numbered.RegisterNumber.{RegisterNumber}
 use Rattle.isp_lower.specs.declared.sites.Home.{Home}
 use Rattle.isp_lower.specs.declared.sites.Operation.{Operation}
 use Rattle.isp_lower.specs.declared.sites.Site.{Site}

@@ -3,8 +3,8 @@ use Rattle.std.proofs.Common.{◌≡◌, ℕ, zero, suc, ◌+◌, ◌<◌, ◌�
 use Rattle.std.proofs.Math.Seq.{take-suc}
 use Rattle.std.proofs.lemmas.List.{drop-append-le, drop_all, length-take-le, length-append}
 use Rattle.isp_base.specs.declared.types.Elem.{Elem}
-use Rattle.isp_lower.specs.Emitted.{row_of}
-use Rattle.isp_lower.specs.declared.registers.RegisterRow.{RegisterRow}
+use Rattle.isp_registers.specs.Growth.{row_of}
+use Rattle.isp_registers.specs.declared.registers.RegisterRow.{RegisterRow}
 use Rattle.isp_typed.specs.declared.variable.Variable.{Variable}
 use Rattle.isp_lower_code.specs.Header.{AreSmall, IsSmall, types_of}
 

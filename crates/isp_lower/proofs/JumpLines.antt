@@ -1,8 +1,8 @@
 -- A jump is an instruction that names a number.
-use Rattle.std.proofs.Common.{◌≡◌, ℕ, Option, Some, None, refl}
+use Rattle.std.proofs.Common.{ℕ, Option, Some, None, refl}
 use Rattle.isp_code.specs.declared.instr.Instr.{Instr}
 use Rattle.isp_code.specs.declared.instr.Instr.TheVariants as instr
-use Rattle.isp_lower_code.specs.Lines.{CanName, naming, naming_if, number_named}
+use Rattle.isp_lower_code.specs.Lines.{CanName, naming_if}
 use Rattle.isp_lower_code.specs.Patched.{IsJump}
 
 pub jump_names : (o : Option ℕ) (i : Instr) (n : ℕ) → IsJump (naming_if o i) → CanName (Some n) i

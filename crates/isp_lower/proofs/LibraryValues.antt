@@ -1,28 +1,23 @@
 -- Values of a call of the library, one after the other: what is left of them begins with the next one.
-use Rattle.std.proofs.Common.{◌≡◌, ℕ, zero, suc, ◌<◌, ◌≤◌, ◌+◌, List, [], ◌∷◌, ◌++◌, length, drop, map, get_or, Option, Some, None, refl, sym, ap, subst, ◌∙◌, arith, append_assoc, append-nil}
+use Rattle.std.proofs.Common.{◌≡◌, ℕ, zero, suc, ◌<◌, ◌≤◌, ◌+◌, List, [], ◌∷◌, ◌++◌, length, drop, get_or, Some, None, refl, sym, ap, subst, ◌∙◌, append_assoc, append-nil}
 use Rattle.std.specs.Prelude.{option_map, slice_get}
 use Rattle.std.proofs.lemmas.List.{drop_more, drop_all, map-append}
 use Rattle.std.proofs.lemmas.Option.{get_or_from_slice_get, slice_get-map}
 use Rattle.isp_base.specs.declared.types.Rate.{Rate}
-use Rattle.isp_base.specs.declared.types.Rate.TheVariants.{Varying}
-use Rattle.isp_typed.specs.Library.{asks_uniform}
-use Rattle.isp_typed.specs.Nodes.{exprs_nodes, typed_nodes}
 use Rattle.isp_typed.specs.Typed.{t_exprs}
 use Rattle.isp_typed.specs.Views.{expr_of, exprs_of}
 use Rattle.isp_typed.specs.declared.expr.TypedExpr as rust
-use Rattle.isp_typed.specs.declared.library.Part.{Part}
-use Rattle.isp_lower_code.specs.Asks.{Both, Nothing, Number, operand_asks, values_asks}
 use Rattle.isp_lower_code.specs.Callees.{later, next_rate}
 use Rattle.isp_lower_code.specs.Code.{expr_code, value_registers, values_code}
 use Rattle.isp_lower_code.specs.Found.{operand, operand_of}
 use Rattle.isp_lower_code.specs.Spans.{expr_places, values_places}
 use Rattle.isp_lower.specs.Emitted.{Appends}
 use Rattle.isp_lower_code.specs.Layout.{Layout}
-use Rattle.isp_lower_code.specs.Library.{rate_taken, rates_taken, register_at}
+use Rattle.isp_lower_code.specs.Library.{register_at}
 use Rattle.isp_lower.specs.Written.{numbers}
-use Rattle.isp_lower.specs.declared.numbered.RegisterNumber.{RegisterNumber}
+use Rattle.isp_registers.specs.declared.numbered.RegisterNumber.{RegisterNumber}
 use Rattle.isp_lower.specs.declared.types.Body.{Body}
-use Rattle.isp_lower.proofs.Arguments.{later_drop}
+use Rattle.isp_registers.proofs.Lemmas.{later_drop}
 use Rattle.isp_lower.proofs.Landing.{appends_self, appends_then}
 
 -- ---- the register of a place, and the rate at which its value is taken
@@ -36,50 +31,10 @@ number_none [] (suc j) e = refl
 number_none (d ∷ ds) zero e = absurd (cc)
 number_none (d ∷ ds) (suc j) e = number_none ds j e
 
-pub rate_there : (r : Rate) (ps : List Part) (j : ℕ) (p : Part) → slice_get ps j ≡ Some p → next_rate (drop j (rates_taken r ps)) ≡ rate_taken r (asks_uniform p)
-rate_there r [] zero p e = absurd (cc)
-rate_there r [] (suc j) p e = absurd (cc)
-rate_there r (q ∷ ps) zero p e = ap (λ o. taken_or o) e
-  where
-    taken_or : Option Part → Rate
-    taken_or None = Varying
-    taken_or (Some u) = rate_taken r (asks_uniform u)
-rate_there r (q ∷ ps) (suc j) p e = rate_there r ps j p e
-
-pub rate_none : (r : Rate) (ps : List Part) (j : ℕ) → slice_get ps j ≡ None → next_rate (drop j (rates_taken r ps)) ≡ Varying
-rate_none r [] zero e = refl
-rate_none r [] (suc j) e = refl
-rate_none r (q ∷ ps) zero e = absurd (cc)
-rate_none r (q ∷ ps) (suc j) e = rate_none r ps j e
-
--- ---- the recursion goes down
-
-pub value_within : (xs : List rust.TypedExpr) (i : ℕ) (x : rust.TypedExpr) → i < length xs → x ≡ get_or xs i x → typed_nodes (expr_of x) ≤ exprs_nodes (t_exprs (exprs_of xs))
-value_within [] i x h e = absurd (omega (arith, h))
-value_within (y ∷ ys) zero x h e =
-    let same : typed_nodes (expr_of x) ≡ typed_nodes (expr_of y) = ap (λ z. typed_nodes (expr_of z)) e in
-    omega (arith, same)
-value_within (y ∷ ys) (suc i) x h e =
-    let rest = value_within ys i x (omega (arith, h)) e in
-    omega (arith, rest)
-
 next_of : (all : List rust.TypedExpr) (i : ℕ) (x : rust.TypedExpr) → i < length all → x ≡ get_or all i x → drop i all ≡ x ∷ drop (i + 1) all
 next_of all i x lt is = drop_more all i x lt ∙ ap (λ z. z ∷ drop (i + 1) all) (sym is)
 
 module _ (rs : List Rate) (all : List rust.TypedExpr) (i : ℕ) where
-  -- ---- what is asked for
-
-  pub values_more : (m : ℕ) (x : rust.TypedExpr) → i < length all → x ≡ get_or all i x
-      → values_asks (drop i rs) (t_exprs (exprs_of (drop i all))) m ≡ Both (Number (m + 1)) (Both (operand_asks (next_rate (drop i rs)) (expr_of x) m) (values_asks (drop (i + 1) rs) (t_exprs (exprs_of (drop (i + 1) all))) (m + 1)))
-  values_more m x lt is =
-      ap (λ z. values_asks (drop i rs) (t_exprs (exprs_of z)) m) (next_of all i x lt is)
-      ∙ ap (λ qs. Both (Number (m + 1)) (Both (operand_asks (next_rate (drop i rs)) (expr_of x) m) (values_asks qs (t_exprs (exprs_of (drop (i + 1) all))) (m + 1)))) (later_drop i rs)
-
-  pub values_end : (m : ℕ) → length all ≤ i → values_asks (drop i rs) (t_exprs (exprs_of (drop i all))) m ≡ Nothing
-  values_end m le = ap (λ z. values_asks (drop i rs) (t_exprs (exprs_of z)) m) (drop_all i all le)
-
-  -- ---- code and registers
-
   module _ (l : Layout) where
     pub code_more : (x : rust.TypedExpr) → i < length all → x ≡ get_or all i x → (a b h : Body) (k m : ℕ)
         → Appends a b (λ pc p. operand_of l (next_rate (drop i rs)) (expr_of x) k m (expr_code l (expr_of x) pc p k m)) (expr_places l (expr_of x))

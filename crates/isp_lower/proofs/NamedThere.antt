@@ -32,19 +32,19 @@ use Rattle.isp_typed.specs.declared.variable.ArrayVariable.{ArrayVariable}
 use Rattle.isp_lower_code.specs.Asks.{Ask, expr_asks, simple_asks}
 use Rattle.isp_lower_code.specs.Code.{expr_code}
 use Rattle.isp_lower_code.specs.Spans.{expr_places}
-use Rattle.isp_lower.specs.Emitted as emitted
-use Rattle.isp_lower.specs.Emitted.{rows_of}
+use Rattle.isp_registers.specs.Growth as emitted
+use Rattle.isp_registers.specs.Growth.{rows_of}
 use Rattle.isp_lower_code.specs.Callees.{rates_in}
 use Rattle.isp_lower_code.specs.Header.{elem_held, kind_of, returns_of, types_of}
 use Rattle.isp_lower_code.specs.Layout.{Layout, class_at}
 use Rattle.isp_lower_code.specs.Named.{InOption, InOperand, InOperands, InCode, IsOf, count_of}
-use Rattle.isp_lower.specs.Reserved.{Has}
+use Rattle.isp_registers.specs.Reserved.{Has}
 use Rattle.isp_lower_code.specs.Tables.{IsLoadedIn}
 use Rattle.isp_lower_code.specs.Rows.{Row, Rows, Variable, elem_in, layout_of, number_in, rows_at}
 use Rattle.isp_lower_code.specs.Simple.{simple_code, simple_places}
 use Rattle.isp_lower_code.specs.Sound.{AreHeld, AreSound, Granted, Links, HasArray, HasLocal, HasMask, HasRegister, IsShared}
 use Rattle.isp_lower_code.proofs.Lemmas.{ExprTree, SimpleTree, all_grow, kept_there, register_there, row_typed, value_sound, simple_sound}
-use Rattle.isp_lower.specs.declared.reserve.Reserve.{Reserve}
+use Rattle.isp_registers.specs.declared.reserve.Reserve.{Reserve}
 use Rattle.isp_lower.proofs.Naming.{code_weaker}
 
 -- ---- what is sound names what is there

@@ -9,7 +9,8 @@ use Rattle.isp_typed.specs.Typed.{TExpr, TSimple}
 use Rattle.isp_lower_code.specs.Code.{expr_code}
 use Rattle.isp_lower_code.specs.Spans.{expr_places}
 use Rattle.isp_lower.specs.Drafts.{draft_of}
-use Rattle.isp_lower.specs.Emitted.{Appends, Grows, rows_of}
+use Rattle.isp_registers.specs.Growth.{Grows, rows_of}
+use Rattle.isp_lower.specs.Emitted.{Appends}
 use Rattle.isp_lower_code.specs.Layout.{Layout}
 use Rattle.isp_lower_code.specs.Rows.{layout_of}
 use Rattle.isp_lower_code.specs.Simple.{simple_code, simple_places}

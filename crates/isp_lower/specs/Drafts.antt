@@ -11,7 +11,8 @@ use Rattle.isp_code.specs.declared.instr.Instr.{Instr}
 use Rattle.isp_typed.specs.Typed.{Program, TFunction}
 use Rattle.isp_typed.specs.Views.{functions_of}
 use Rattle.isp_lower_code.specs.FirstRows.{first_rows}
-use Rattle.isp_lower.specs.Emitted.{rows_of, texts_of}
+use Rattle.isp_registers.specs.Growth.{rows_of}
+use Rattle.isp_lower.specs.Emitted.{texts_of}
 use Rattle.isp_lower_code.specs.Header.{Heading, heading_of, routine_with}
 pub use Rattle.isp_lower.specs.Headings.{heading_in}
 use Rattle.isp_lower_code.specs.Lines.{has_small_numbers}

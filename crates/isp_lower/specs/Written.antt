@@ -29,8 +29,8 @@ use Rattle.isp_lower_code.specs.Layout.{mask_register, register}
 use Rattle.isp_lower_code.specs.Library.{library_code, library_rates, on_values}
 use Rattle.isp_lower_code.specs.Simple.{assign_code, assign_places, change_by_code, change_places, one_code, one_in, step_code, update_to}
 use Rattle.isp_lower.specs.declared.library.Operands.{Operands}
-use Rattle.isp_lower.specs.declared.numbered.MaskNumber.{MaskNumber}
-use Rattle.isp_lower.specs.declared.numbered.RegisterNumber.{RegisterNumber}
+use Rattle.isp_registers.specs.declared.numbered.MaskNumber.{MaskNumber}
+use Rattle.isp_registers.specs.declared.numbered.RegisterNumber.{RegisterNumber}
 use Rattle.isp_lower.specs.declared.sites.Element.{Element}
 use Rattle.isp_lower.specs.declared.sites.Held.{Held}
 use Rattle.isp_lower.specs.declared.sites.Home.{Home}

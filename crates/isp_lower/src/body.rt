@@ -5,10 +5,10 @@ ghost use Rattle.isp_lower.specs.Emitted.{Appends, AppendsText, Unchanged, texts
 ghost use Rattle.isp_lower_code.specs.Patched.{IsJump, instr_at, patched};
 
 use crate::line::Line;
-use crate::numbered::{PlaceNumber, TextNumber};
 use crate::types::Body;
 use isp_base::Span;
 use isp_code::{Instr, JumpTest, Register};
+use isp_registers::{PlaceNumber, TextNumber};
 use std::alloc::{AllocError, Global};
 use std::mem;
 

@@ -12,12 +12,12 @@ use crate::elements::element_index;
 use crate::expression::operand;
 use crate::leaves::{convert, read_by, write_by};
 use crate::located::{constant_to, in_vector, kept_found, lift};
-use crate::numbered::RegisterNumber;
 use crate::sites::{Element, Held, Home, Operation, Site, Target};
 use crate::truths::is_run;
 use crate::types::{Body, Scope};
 use crate::written::operate_to;
 use isp_base::{Elem, Rate, Ty, Value};
+use isp_registers::RegisterNumber;
 use isp_typed::{TypedExpr, TypedPlace};
 use std::alloc::AllocError;
 

@@ -1,7 +1,7 @@
 //! The function at work becomes a routine.
 ghost use Rattle.std.specs.Prelude.{◌≡◌, Some, None, OnErr, OnOk};
 ghost use Rattle.isp_lower.specs.Drafts.{closed, draft_of, heading_in, with_heading};
-ghost use Rattle.isp_lower.specs.Emitted.{rows_of};
+ghost use Rattle.isp_registers.specs.Growth.{rows_of};
 ghost use Rattle.isp_lower_code.specs.Header.{scalars_behind, vectors_behind};
 
 use crate::header::{Heading, Types, types_of};

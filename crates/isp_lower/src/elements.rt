@@ -9,12 +9,12 @@ ghost use Rattle.isp_lower.specs.Written.{Writes, element_index_at, node_at};
 
 use crate::expression::index;
 use crate::leaves::constant;
-use crate::numbered::RegisterNumber;
 use crate::sites::{Element, Site, Target};
 use crate::truths::{is_lane, is_run};
 use crate::types::{Body, Scope};
 use crate::written::read_to;
 use isp_base::{Elem, Rate};
+use isp_registers::RegisterNumber;
 use isp_typed::{ArrayVariable, TypedExpr};
 use std::alloc::AllocError;
 

@@ -8,16 +8,16 @@ ghost use Rattle.isp_lower_code.specs.Named.{Unnamed};
 ghost use Rattle.isp_lower_code.specs.Patched.{IsJump, instr_at};
 ghost use Rattle.isp_lower_code.specs.Rows.{fresh_at, rows_at};
 
-use crate::beginning::{begin, no_registers};
 use crate::header::heading_of;
 use crate::line::Line;
 use crate::listing::{add_functions, add_places, add_texts};
-use crate::numbered::{MaskNumber, PlaceNumber, RegisterNumber, TextNumber};
-use crate::reserve::Reserve;
 use crate::types::{Body, Emitter};
 use isp_base::{Elem, Rate, Span};
 use isp_code::Code;
 use isp_rates::Checked;
+use isp_registers::{
+    MaskNumber, PlaceNumber, RegisterNumber, Reserve, TextNumber, begin, no_registers,
+};
 use isp_typed::TypedFunction;
 use std::alloc::{AllocError, Global};
 

@@ -7,14 +7,14 @@ ghost use Rattle.isp_lower_code.specs.Asks.{expr_asks, simple_asks};
 ghost use Rattle.isp_lower_code.specs.Rated.{IsFineExpr, IsFineSimple, IsRated, SimpleRated};
 ghost use Rattle.isp_lower_code.specs.Room.{HasNumbers, HasRoom, FewMore};
 ghost use Rattle.isp_lower_code.specs.Own.{HasOwn};
-ghost use Rattle.isp_lower.specs.Reserved.{Has};
+ghost use Rattle.isp_registers.specs.Reserved.{Has};
 ghost use Rattle.isp_lower.specs.Adding.{Adds, expr_in, layout_in, simple_in};
 
 use crate::expression::expr;
-use crate::numbered::RegisterNumber;
 use crate::sites::Site;
 use crate::statements::simple;
 use crate::types::{Emitter, Scope};
+use isp_registers::RegisterNumber;
 use isp_typed::{TypedExpr, TypedSimple};
 use std::alloc::AllocError;
 

@@ -18,10 +18,9 @@ use crate::leaves::{
     array, compare, constant, convert, copy, index as lane_numbers, mask, of_rate, scalar, select,
     splat, the_others, unary, where_so,
 };
-use crate::library::{Operands, put_library, value_rate};
+use crate::library::{Operands, put_library};
 use crate::line::Line;
 use crate::located::{constant_to, found, in_vector, lift, moved, read_variable, stayed};
-use crate::numbered::{RegisterNumber, Slot};
 use crate::packed::{packed_load_to, packed_store_to};
 use crate::sites::{Held, Home, Site, Skip, Target};
 use crate::truths::{constant_of, decided, is_kept, is_short, is_whole, known};
@@ -29,6 +28,7 @@ use crate::types::{Body, Scope};
 use crate::written::{operate_to, put_needing};
 use isp_base::{BinOp, Compare, Elem, Rate, Ty, UnaryOp, convert as value_as};
 use isp_code::{Arguments, Call, CallBox, Instr, JumpTest, Register};
+use isp_registers::{RegisterNumber, Slot, value_rate};
 use isp_typed::{Library, Logic, TypedArgument, TypedCall, TypedExpr, TypedPlace};
 use smallvec::SmallVec;
 use std::alloc::AllocError;

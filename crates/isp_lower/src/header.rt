@@ -2,13 +2,13 @@
 ghost use Rattle.std.specs.Prelude.{◌≡◌, ◌≤◌, ◌<◌, drop, length, map, IfOk};
 ghost use Rattle.isp_code.specs.Registers.{class_of, param_elems, same_class};
 ghost use Rattle.isp_typed.specs.Views.{function_of};
-ghost use Rattle.isp_lower.specs.Emitted.{row_of, rows_of};
+ghost use Rattle.isp_registers.specs.Growth.{row_of, rows_of};
 ghost use Rattle.isp_lower_code.specs.Header.{AreSmall, HeadingFits, elem_held, heading_of, kind_of, local_of, locals_of, params_of, returns_of, scalars_behind, types_of, vectors_behind};
 ghost use Rattle.isp_lower.specs.Headings.{heading_in};
 
-use crate::registers::{RegisterRow, Registers};
 use isp_base::{Elem, Name, Parameter, Rate, Ty};
 use isp_code::{Class, Local, Param, ParamKind, Returns, Sharing};
+use isp_registers::{RegisterRow, Registers};
 use isp_typed::{Holds, TypedFunction, Variable};
 use std::alloc::{AllocError, Global};
 

@@ -9,10 +9,10 @@ ghost use Rattle.isp_lower_code.specs.Instructions.{compare, compute, constant, 
 ghost use Rattle.isp_lower.specs.Written.{division_at};
 
 use crate::line::Line;
-use crate::numbered::{MaskNumber, PlaceNumber, RegisterNumber};
 use crate::sites::{Element, Target};
 use isp_base::{BinOp, Compare, Elem, Rate, UnaryOp, number};
 use isp_code::{Division, Instr, MaskInstr, MaskOp, Plain, Register, ScalarInstr, VectorInstr};
+use isp_registers::{MaskNumber, PlaceNumber, RegisterNumber};
 
 /// A scalar register.
 pub fn scalar(x: RegisterNumber) -> Register

@@ -6,11 +6,11 @@ ghost use Rattle.isp_lower_code.specs.Library.{library_rates, rate_taken, regist
 ghost use Rattle.isp_lower.specs.Written.{Writes, made_at, numbers};
 
 use crate::leaves::{compute, mask, scalar, select, unary, vector};
-use crate::numbered::{MaskNumber, RegisterNumber};
 use crate::sites::Target;
 use crate::types::Body;
 use isp_base::{Rate, UnaryOp};
 use isp_code::{Exchange, Instr, Plain, Reduction, ScalarInstr, Scan, VectorInstr};
+use isp_registers::{MaskNumber, RegisterNumber};
 use isp_typed::Library;
 use std::alloc::AllocError;
 
@@ -45,52 +45,6 @@ impl Operands {
             second: register(registers, 1),
             third: register(registers, 2),
         }
-    }
-}
-
-// ---- rates
-
-/// The rate at which a function works that gives a value of a rate.
-fn works_at(function: Library, rate: Rate) -> Rate
-    ensures { result ≡ works_at function rate }
-{
-    match function {
-        Library::Min | Library::Max | Library::Clamp | Library::Abs | Library::Select => rate,
-        Library::ReduceAdd
-        | Library::ReduceMin
-        | Library::ReduceMax
-        | Library::ReduceEqual
-        | Library::Any
-        | Library::All
-        | Library::None
-        | Library::ScanAdd
-        | Library::ScanAnd
-        | Library::ScanOr
-        | Library::Broadcast
-        | Library::Rotate
-        | Library::Shift
-        | Library::Shuffle
-        | Library::ShuffleTwo
-        | Library::Extract
-        | Library::Insert => Rate::Varying,
-    }
-}
-
-/// The rate at which a value is taken: that of the work, but for one that is asked uniform.
-fn rate_taken(rate: Rate, uniform: bool) -> Rate
-    ensures { result ≡ rate_taken rate uniform }
-{
-    if uniform { Rate::Uniform } else { rate }
-}
-
-/// The rate at which a function that gives a value of a rate takes a value, by its place.
-#[tactic(auto, using(crate::proofs::LibraryValues::rate_there, crate::proofs::LibraryValues::rate_none))]
-pub(crate) fn value_rate(function: Library, rate: Rate, place: usize) -> Rate
-    ensures { result ≡ next_rate (drop place (library_rates function rate)) }
-{
-    match function.parts().get(place) {
-        Some(part) => rate_taken(works_at(function, rate), part.asks_uniform()),
-        None => Rate::Varying,
     }
 }
 

@@ -10,11 +10,11 @@ ghost use Rattle.isp_lower_code.specs.Rows.{Variable};
 ghost use Rattle.isp_lower.specs.Written.{Writes, constant_at, lift_at, moved_at, variable_read_at};
 
 use crate::leaves::{constant, copy, splat};
-use crate::numbered::{MaskNumber, RegisterNumber, Slot};
 use crate::sites::{Held, Home, Site};
 use crate::truths::constant_of;
 use crate::types::{Body, Scope};
 use isp_base::{Elem, Rate, Ty, Value, convert as value_as};
+use isp_registers::{MaskNumber, RegisterNumber, Slot};
 use isp_typed::{TypedExpr, TypedPlace};
 use std::alloc::AllocError;
 

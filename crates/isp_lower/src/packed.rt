@@ -9,11 +9,11 @@ ghost use Rattle.isp_lower.specs.Written.{Writes, base_at, node_at};
 
 use crate::expression::{index, operand};
 use crate::leaves::constant;
-use crate::numbered::RegisterNumber;
 use crate::sites::{Site, Target};
 use crate::types::{Body, Scope};
 use crate::written::{put_packed_load, put_packed_store};
 use isp_base::{Elem, Rate, Ty};
+use isp_registers::RegisterNumber;
 use isp_typed::{TypedBase, TypedExpr};
 use std::alloc::AllocError;
 

@@ -4,16 +4,15 @@ ghost use Rattle.isp_lower_code.specs.Asks.{Ask as Asks, ArrayOf, Register as As
 ghost use Rattle.isp_lower_code.specs.Layout.{outside, within};
 ghost use Rattle.isp_lower_code.specs.Callees.{next_rate, rate_held, rates_held};
 ghost use Rattle.isp_lower_code.specs.Found.{is_copied};
-ghost use Rattle.isp_lower.specs.Emitted.{Present, layout, name_of, row_of};
+ghost use Rattle.isp_registers.specs.Growth.{name_of, row_of};
+ghost use Rattle.isp_lower.specs.Emitted.{Present, layout};
 ghost use Rattle.isp_base.specs.declared.types.Elem.TheVariants.{I64};
 ghost use Rattle.isp_base.specs.declared.types.Rate.TheVariants.{Uniform};
 ghost use Rattle.isp_lower_code.specs.Rows.{Kept, Place, Result, Spare, Variable, elem_in, keeps, number_in};
 
-use crate::numbered::{RegisterNumber, Slot};
-use crate::register_rows::RegisterRows;
-use crate::registers::RegisterName;
 use crate::types::Scope;
 use isp_base::{Elem, Rate, Ty};
+use isp_registers::{RegisterName, RegisterNumber, RegisterRows, Slot};
 use isp_typed::{ArrayVariable, Holds};
 
 /// The register of a name that has one.

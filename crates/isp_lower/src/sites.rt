@@ -1,9 +1,9 @@
 //! Where code works, and what it works on.
 ghost use Rattle.std.specs.Prelude.{◌≡◌, ◌<◌, ◌+◌};
 
-use crate::numbered::{MaskNumber, RegisterNumber, Slot};
 use isp_base::{BinOp, Elem, Span, Ty};
 use isp_code::{JumpTest, Register};
+use isp_registers::{MaskNumber, RegisterNumber, Slot};
 use isp_typed::ArrayVariable;
 
 /// Where the code of an expression or an assignment works: for the lanes of a mask, in the slots from one on.

@@ -4,9 +4,8 @@ ghost use Rattle.std.specs.Prelude.{◌≤◌, length};
 use crate::closing::Closed;
 use crate::header::Heading;
 use crate::line::Line;
-use crate::registers::Registers;
-use crate::reserve::Reserve;
 use isp_base::{Gang, Span, Ty};
+use isp_registers::{Registers, Reserve};
 use isp_typed::TypedFunction;
 
 /// What does not change while the code of a function is written: the functions that it may call, by number, its registers,

@@ -8,10 +8,10 @@ ghost use Rattle.isp_lower.specs.Emitted.{Appends, Present};
 ghost use Rattle.isp_lower.specs.Written.{Writes, operate_at, packed_load_at, packed_store_at, read_at, write_at};
 
 use crate::leaves::{operate, packed_load, packed_store, read_by, the_others, where_so, write_by};
-use crate::numbered::{MaskNumber, PlaceNumber, RegisterNumber};
 use crate::sites::{Element, Target};
 use crate::types::{Body, Scope};
 use isp_base::{BinOp, Span};
+use isp_registers::{MaskNumber, PlaceNumber, RegisterNumber};
 use isp_typed::{ArrayVariable, Logic};
 use std::alloc::AllocError;
 

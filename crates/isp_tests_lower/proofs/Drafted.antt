@@ -20,7 +20,7 @@ use Rattle.isp_lower.specs.Adding.{Adds, AddsCode, expr_in, layout_in, simple_in
 use Rattle.isp_lower_code.specs.Lines.{has_small_numbers}
 use Rattle.isp_lower.specs.Drafts.{CanBeWritten, Draft, IsBegun, draft_of, routine_at_work, with_instr, with_target}
 use Rattle.isp_lower_code.specs.FirstRows.{Begins, array_rows, first_rows}
-use Rattle.isp_lower.specs.Emitted.{Grows}
+use Rattle.isp_registers.specs.Growth.{Grows}
 use Rattle.isp_lower_code.specs.Header.{AreSmall, HeadingFits, heading_of, locals_of, routine_with}
 use Rattle.isp_lower_code.specs.Layout.{Layout}
 use Rattle.isp_lower_code.specs.Lines.{has_small_number}

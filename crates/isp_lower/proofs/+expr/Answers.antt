@@ -17,12 +17,13 @@ use Rattle.std.specs.Prelude.{List}
 use Rattle.isp_lower.specs.Emitted.{Appends, Present, layout}
 use Rattle.isp_lower_code.specs.Library.{library_rates}
 use Rattle.isp_lower.specs.Written.{numbers, side_at}
-use Rattle.isp_lower.specs.declared.numbered.RegisterNumber.{RegisterNumber}
-use Rattle.isp_lower.specs.declared.numbered.Slot.{Slot}
+use Rattle.isp_registers.specs.declared.numbered.RegisterNumber.{RegisterNumber}
+use Rattle.isp_registers.specs.declared.numbered.Slot.{Slot}
 use Rattle.isp_lower_code.specs.Asks.{arguments_asks, operand_asks, values_asks}
-use Rattle.isp_lower.proofs.Arguments.{argument_within, arguments_more, arguments_there, call_boxed, call_counts, call_done, called_behind, code_end, code_more, registers_end, registers_more, taken_at}
+use Rattle.isp_registers.proofs.Lemmas.{argument_within, arguments_more, call_counts}
+use Rattle.isp_lower.proofs.Arguments.{arguments_there, call_boxed, call_done, called_behind, code_end, code_more, registers_end, registers_more, taken_at}
 use Rattle.isp_lower.proofs.LibraryValues as row
-use Rattle.isp_lower.proofs.LibraryValues.{value_within, values_more}
+use Rattle.isp_registers.proofs.Lemmas.{value_within, values_more}
 use Rattle.isp_lower.proofs.Landing.{chosen, landed, short_chosen, long_chosen}
 use Rattle.isp_lower.proofs.+expr.Goals as goal
 

@@ -1,5 +1,5 @@
 use Rattle.std.proofs.Common.{◌≡◌, drop, take, map}
-use Rattle.isp_lower.specs.Emitted.{row_of}
+use Rattle.isp_registers.specs.Growth.{row_of}
 use Rattle.isp_lower_code.specs.Header.{types_of}
 use Rattle.isp_lower.proofs.header.types_behind.Given as goal
 

@@ -1,6 +1,6 @@
 use Rattle.std.proofs.Common.{arith}
-use Rattle.isp_lower.specs.Emitted.{name_of}
-use Rattle.isp_lower.proofs.Lookup.{number_below}
+use Rattle.isp_registers.specs.Growth.{name_of}
+use Rattle.isp_registers.proofs.Lemmas.{number_below}
 use Rattle.isp_lower.proofs.scope.given.Goals as goal
 
 pub overflow_cast-result : goal.overflow_cast-result

@@ -1,6 +1,6 @@
 use Rattle.std.proofs.Common.{arith}
 use Rattle.isp_lower_code.specs.Rows.{Kept}
-use Rattle.isp_lower.proofs.Lookup.{number_below}
+use Rattle.isp_registers.proofs.Lemmas.{number_below}
 use Rattle.isp_lower.proofs.scope.kept_in.Goals as goal
 
 pub overflow_cast-result : goal.overflow_cast-result

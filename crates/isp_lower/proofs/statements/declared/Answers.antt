@@ -3,7 +3,7 @@ use Rattle.std.proofs.lemmas.List.{drop_all, drop_more}
 use Rattle.isp_typed.specs.Views.{item_of, items_of}
 use Rattle.isp_lower.specs.Emitted.{Appends, Present, layout}
 use Rattle.isp_lower_code.specs.Items.{item_code, item_places, items_code, items_places}
-use Rattle.isp_lower.proofs.Growing.{items_more}
+use Rattle.isp_registers.proofs.Lemmas.{items_more}
 use Rattle.isp_lower.proofs.Landing.{appends_self, appends_then}
 use Rattle.isp_lower.proofs.statements.declared.Goals as goal
 

@@ -3,7 +3,7 @@ use Rattle.isp_code.specs.declared.instr.Instr.{Instr}
 use Rattle.isp_typed.specs.Views.{function_of}
 use Rattle.isp_lower.specs.Drafts.{Draft, begun, draft_of, heading_in}
 use Rattle.isp_lower_code.specs.FirstRows.{first_rows}
-use Rattle.isp_lower.specs.Emitted.{rows_of}
+use Rattle.isp_registers.specs.Growth.{rows_of}
 use Rattle.isp_lower_code.specs.Header.{Heading}
 use Rattle.isp_lower_code.specs.Rows.{Rows}
 use Rattle.isp_lower.proofs.types.Emitter.begin.Goals as goal

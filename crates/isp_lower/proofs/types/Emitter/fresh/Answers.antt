@@ -1,11 +1,11 @@
 use Rattle.std.proofs.Common.{◌≡◌, length, subst, sym}
 use Rattle.std.proofs.lemmas.Result.{IfOk-weaker, on_ok_weaker}
 use Rattle.isp_lower.specs.Drafts.{draft_of}
-use Rattle.isp_lower.specs.Emitted.{rows_of}
+use Rattle.isp_registers.specs.Growth.{rows_of}
 use Rattle.isp_lower_code.specs.Layout.{register}
 use Rattle.isp_lower_code.specs.Named.{InCode, IsOf, Unnamed}
 use Rattle.isp_lower_code.specs.Rows.{rows_at, with_fresh_at}
-use Rattle.isp_lower.specs.declared.numbered.RegisterNumber.{RegisterNumber}
+use Rattle.isp_registers.specs.declared.numbered.RegisterNumber.{RegisterNumber}
 use Rattle.isp_lower.proofs.Aparts.{fresh_named}
 use Rattle.isp_lower.proofs.Naming.{next_unnamed}
 use Rattle.isp_lower.proofs.types.Emitter.fresh.Goals as goal

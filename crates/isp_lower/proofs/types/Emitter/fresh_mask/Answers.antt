@@ -1,9 +1,9 @@
 use Rattle.std.proofs.Common.{subst, sym}
 use Rattle.isp_lower.specs.Drafts.{draft_of}
-use Rattle.isp_lower.specs.Emitted.{rows_of}
+use Rattle.isp_registers.specs.Growth.{rows_of}
 use Rattle.isp_lower_code.specs.Layout.{mask_register}
 use Rattle.isp_lower_code.specs.Named.{InCode, IsOf, Unnamed}
-use Rattle.isp_lower.specs.declared.reserve.Reserve.{Reserve}
+use Rattle.isp_registers.specs.declared.reserve.Reserve.{Reserve}
 use Rattle.isp_lower.proofs.Aparts.{fresh_mask_named}
 use Rattle.isp_lower.proofs.Naming.{next_mask_unnamed}
 use Rattle.isp_lower.proofs.types.Emitter.fresh_mask.Goals as goal

@@ -2,11 +2,11 @@ use Rattle.std.proofs.Common.{◌≤◌, ◌<◌, ℕ, map, ap, subst, arith, Ve
 use Rattle.isp_typed.specs.Views.{simple_of}
 use Rattle.isp_lower_code.specs.Asks.{simple_asks}
 use Rattle.isp_lower.specs.Drafts.{draft_of}
-use Rattle.isp_lower.specs.Emitted.{Grows, rows_of}
+use Rattle.isp_registers.specs.Growth.{Grows, rows_of}
 use Rattle.isp_lower_code.specs.Room.{FewMore}
-use Rattle.isp_lower.specs.declared.reserve.Reserve.{Reserve}
+use Rattle.isp_registers.specs.declared.reserve.Reserve.{Reserve}
 use Rattle.isp_lower.proofs.Aparts.{all_named, apart_appends, apart_long}
-use Rattle.isp_lower.proofs.There.{all_joined}
+use Rattle.isp_registers.proofs.Lemmas.{all_joined}
 use Rattle.isp_lower_code.proofs.Lemmas.{simple_tree}
 use Rattle.isp_lower.proofs.NamedThere.{simple_named}
 use Rattle.isp_lower.proofs.types.Emitter.store.Goals as goal
