@@ -6,6 +6,7 @@ use Rattle.isp_code.specs.declared.instr.Instr.{Instr}
 use Rattle.isp_lower_code.specs.Asks.{Ask, All}
 use Rattle.isp_lower_code.specs.Layout.{Layout}
 use Rattle.isp_lower_code.specs.Rows.{layout_of}
+use Rattle.isp_registers.specs.Growth.{HasArray, HasLoaded, HasRow, rows_of}
 use Rattle.isp_typed.specs.Views.{functions_of}
 use Rattle.isp_lower_code.specs.Callees.{rates_in}
 use Rattle.isp_lower.specs.declared.types.Body.{Body}
