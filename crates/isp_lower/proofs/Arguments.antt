@@ -25,6 +25,7 @@ use Rattle.isp_lower.specs.Emitted.{Appends, Present}
 use Rattle.isp_lower_code.specs.Layout.{Layout, mask_register}
 use Rattle.isp_lower.specs.declared.types.Body.{Body}
 use Rattle.isp_lower.specs.declared.types.Scope.{Scope}
+use Rattle.isp_registers.proofs.Lemmas.{call_view, later_drop}
 use Rattle.isp_lower.proofs.Landing.{appends_self, appends_then}
 
 -- ---- the rate of the parameter of a number, and of those behind it
