@@ -18,7 +18,7 @@ use Rattle.isp_machine.specs.declared.stop.StartFault.{StartFault}
 use Rattle.isp_machine.specs.declared.stop.StartFault.TheVariants.{Memory as NoMemory, NoEntry}
 use Rattle.isp_machine.specs.declared.stop.Stop.{Stop}
 use Rattle.isp_machine.specs.declared.stop.Stop.TheVariants.{Running, Trapped, Ended, Memory}
-use Rattle.isp_masks.specs.Agreement.{Agrees}
+use Rattle.isp_masks_code.specs.Agreement.{Agrees}
 use Rattle.isp_meaning.specs.Entries as meaning
 use Rattle.isp_rates.specs.Program.{IsAccepted}
 use Rattle.isp_store.specs.Held.{shapes_of}

@@ -11,7 +11,7 @@ use Rattle.isp_machine.specs.Kept.{Kept, state}
 use Rattle.isp_machine.specs.Runs.{Made, RunGives, conf, IsTrapped, IsEnded}
 use Rattle.isp_machine.specs.declared.stop.Stop.{Stop}
 use Rattle.isp_machine.specs.declared.stop.Stop.TheVariants.{Running, Trapped, Ended, Memory}
-use Rattle.isp_masks.proofs.Endings.{grows}
+use Rattle.isp_masks_code.proofs.Lemmas.{grows}
 use Rattle.isp_engine.specs.Stops.{Adds, MadeSome, out_now}
 use Rattle.isp_engine.proofs.Written.{adds_nil, rest_is, took_both, took_later}
 use Rattle.std.proofs.lemmas.Grind.{common_steps}

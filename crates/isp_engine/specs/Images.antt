@@ -5,7 +5,7 @@ use Rattle.isp_asm.specs.Spelling.{text_of}
 use Rattle.isp_base.specs.declared.types.Gang.{Gang}
 use Rattle.isp_code.specs.Listing.{Listing}
 use Rattle.isp_typed.specs.Typed.{Program}
-use Rattle.isp_masks.specs.Agreement.{Agrees}
+use Rattle.isp_masks_code.specs.Agreement.{Agrees}
 use Rattle.isp_rates.specs.Program.{IsAccepted}
 use Rattle.isp_verify.specs.Faults.{code_fault}
 use Rattle.isp_engine.specs.declared.fault.CodeFault.{CodeFault}

@@ -10,8 +10,8 @@ use Rattle.isp_code.specs.Machine.{first_conf, outcome_after}
 use Rattle.isp_meaning.proofs.Grown.{prefix_self, prefix_on}
 use Rattle.isp_meaning.specs.Runs.{run_of}
 use Rattle.isp_typed.specs.Typed.{Program}
-use Rattle.isp_masks.specs.Agreement.{RunsAgree}
-use Rattle.isp_masks.proofs.Endings.{longer}
+use Rattle.isp_masks_code.specs.Agreement.{RunsAgree}
+use Rattle.isp_masks_code.proofs.Lemmas.{longer}
 use Rattle.isp_headline.specs.Headline.{NeverOver, HasWritten, DoesTheSame}
 
 module _ (program : Program) (image : Listing) (f : ℕ) (g : Routine) (xs : List Argument) (agree : RunsAgree program image f g xs) where

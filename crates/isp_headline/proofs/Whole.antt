@@ -10,7 +10,7 @@ use Rattle.isp_typed.specs.Typed.{Program, TFunction}
 use Rattle.isp_rates.specs.Program.{IsAccepted}
 use Rattle.isp_meaning.specs.Entries.{IsEntry, IsExport}
 use Rattle.isp_meaning.specs.Runs.{run_of}
-use Rattle.isp_masks.specs.Agreement.{Agrees}
+use Rattle.isp_masks_code.specs.Agreement.{Agrees}
 use Rattle.isp_engine.specs.declared.fault.RunFault.{RunFault}
 use Rattle.isp_engine.specs.declared.fault.RunFault.TheVariants.{Memory, NoEntry, Arguments, WriteFailed}
 use Rattle.isp_engine.specs.declared.report.Report.{Report}

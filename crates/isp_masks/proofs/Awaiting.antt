@@ -9,7 +9,8 @@ use Rattle.isp_lower.specs.Instructions.{jump_off}
 use Rattle.isp_lower.specs.Emitted.{Appends, texts_of}
 use Rattle.isp_lower.specs.declared.types.Body.{Body}
 use Rattle.isp_masks.specs.Awaited.{AreBelow, Awaits, Code, jump_where, set_all}
-use Rattle.isp_masks.specs.Spots.{Numbers, next_of}
+use Rattle.isp_masks_code.specs.Spots.{Numbers}
+use Rattle.isp_masks.specs.AtWork.{next_of}
 use Rattle.isp_masks.specs.Written.{Piece, Writes}
 use Rattle.isp_masks.proofs.Writing.{beyond, next_beyond, texts_still}
 

@@ -21,10 +21,11 @@ use Rattle.isp_lower.specs.Pieces.{two}
 use Rattle.isp_lower.specs.declared.types.Body.{Body}
 use Rattle.isp_lower.specs.declared.types.Scope.{Scope}
 use Rattle.isp_lower.proofs.Lemmas.{appends_self, appends_then, kept_same, longer_keeps, longer_self, longer_then, none_kept}
-use Rattle.isp_masks.specs.Keeping.{KeepsAll, KeepsThem, constants_asks, constants_code, keep_code, keep_steps, steps_at}
-use Rattle.isp_masks.specs.Rounds.{fill_mask}
-use Rattle.isp_masks.specs.Spots.{first_spot}
-use Rattle.isp_masks.specs.Statements.{block_code, block_places, block_texts, returned}
+use Rattle.isp_masks.specs.Kept.{KeepsAll}
+use Rattle.isp_masks_code.specs.Keeping.{KeepsThem, constants_asks, constants_code, keep_code, keep_steps, steps_at}
+use Rattle.isp_masks_code.specs.Rounds.{fill_mask}
+use Rattle.isp_masks_code.specs.Spots.{first_spot}
+use Rattle.isp_masks_code.specs.Statements.{block_code, block_places, block_texts, returned}
 use Rattle.isp_masks.specs.Written.{Writes, function_at}
 use Rattle.isp_masks.proofs.Writing.{writes_back, writes_front}
 

@@ -16,10 +16,11 @@ use Rattle.isp_lower.specs.Reserved.{registers_asked}
 use Rattle.isp_lower.specs.Rows.{Result, Row, Rows}
 use Rattle.isp_lower.specs.declared.registers.Constant.{Constant}
 use Rattle.isp_lower.specs.declared.registers.Registers.{Registers}
-use Rattle.isp_masks.specs.Asks.{block_asks}
-use Rattle.isp_masks.specs.Keeping.{constants_asks, keep_steps, steps_at}
-use Rattle.isp_masks.specs.Lowered.{GrowsBy, IsSmall}
-use Rattle.isp_masks.proofs.AskNumbers.{constants_registers}
+use Rattle.isp_masks_code.specs.Asks.{block_asks}
+use Rattle.isp_masks_code.specs.Keeping.{constants_asks, keep_steps, steps_at}
+use Rattle.isp_masks.specs.Added.{GrowsBy}
+use Rattle.isp_masks_code.specs.Lowered.{IsSmall}
+use Rattle.isp_masks_code.proofs.Lemmas.{constants_registers}
 
 -- ---- rows with which a function begins
 

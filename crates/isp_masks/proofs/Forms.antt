@@ -11,11 +11,11 @@ use Rattle.isp_typed.specs.Nodes.{stmt_nodes, stmts_nodes}
 use Rattle.isp_typed.specs.Typed.{t_stmts}
 use Rattle.isp_typed.specs.Views.{stmt_of, stmts_of}
 use Rattle.isp_typed.specs.declared.stmt.TypedStmt.{TypedStmt}
-use Rattle.isp_masks.specs.Asks.{stmt_asks, stmts_asks}
+use Rattle.isp_masks_code.specs.Asks.{stmt_asks, stmts_asks}
 use Rattle.isp_masks.specs.Awaited.{Awaits, Code, jump_where}
-use Rattle.isp_masks.specs.Exits.{all_go_on}
-use Rattle.isp_masks.specs.Spots.{Spot}
-use Rattle.isp_masks.specs.Statements.{stmt_code, stmt_places, stmt_texts, stmts_places, stmts_texts}
+use Rattle.isp_masks_code.specs.Exits.{all_go_on}
+use Rattle.isp_masks_code.specs.Spots.{Spot}
+use Rattle.isp_masks_code.specs.Statements.{stmt_code, stmt_places, stmt_texts, stmts_places, stmts_texts}
 use Rattle.isp_masks.specs.Written.{Writes}
 use Rattle.isp_masks.proofs.Awaiting.{awaits_so, awaits_then}
 use Rattle.isp_masks.proofs.Lists.{behind_all, flat, flat_last, left_after, left_last, places_last, texts_last}

@@ -9,10 +9,10 @@ use Rattle.isp_lower.specs.Emitted.{Appends, texts_of}
 use Rattle.isp_lower.specs.Layout.{Layout}
 use Rattle.isp_lower.specs.declared.types.Body.{Body}
 use Rattle.isp_lower.specs.declared.types.Scope.{Scope}
-use Rattle.isp_masks.specs.Exits.{all_go_on, only_jump, block_jump, leaving, leaving_of}
-use Rattle.isp_masks.specs.Statements.{left_code, stmt_places, block_places, stmt_texts, block_texts}
+use Rattle.isp_masks_code.specs.Exits.{all_go_on, only_jump, block_jump, leaving, leaving_of}
+use Rattle.isp_masks_code.specs.Statements.{left_code, stmt_places, block_places, stmt_texts, block_texts}
 use Rattle.isp_masks.specs.Written.{Writes, part_at}
-use Rattle.isp_masks.specs.declared.exits.Leaving.TheVariants.{Always}
+use Rattle.isp_masks_code.specs.declared.exits.Leaving.TheVariants.{Always}
 use Rattle.isp_masks.specs.declared.masks.Spot.{Spot}
 use Rattle.isp_masks.proofs.Writing.{texts_still}
 

@@ -15,7 +15,8 @@ use Rattle.isp_typed.specs.Nodes.{function_nodes}
 use Rattle.isp_typed.specs.Typed.{Program, TFunction}
 use Rattle.isp_typed.specs.Views.{function_of, functions_of}
 use Rattle.isp_typed.specs.declared.function.TypedFunction.{TypedFunction}
-use Rattle.isp_masks.specs.Lowered.{AddsLowered, AreLowered, GrowsTo, HasCode, IsLowered}
+use Rattle.isp_masks.specs.Added.{AddsLowered, AreLowered, GrowsTo}
+use Rattle.isp_masks_code.specs.Lowered.{HasCode, IsLowered}
 
 get_more : {A : Type 0} (xs zs : List A) (n : ℕ) (y : A) → slice_get xs n ≡ Some y → slice_get (xs ++ zs) n ≡ Some y
 get_more [] zs n y e = absurd (omega (arith, slice_get_within [] n y e))

@@ -6,9 +6,9 @@ use Rattle.isp_lower.specs.Instructions.{jump_off}
 use Rattle.isp_lower.specs.Layout.{Layout}
 use Rattle.isp_typed.specs.Typed.{TStmt, t_stmts}
 use Rattle.isp_masks.specs.Awaited.{jump_where}
-use Rattle.isp_masks.specs.Exits.{all_go_on}
-use Rattle.isp_masks.specs.Spots.{Numbers, Spot}
-use Rattle.isp_masks.specs.Statements.{behind, rest_code, stmt_code, stmt_places, stmt_texts, stmts_code, stmts_places, stmts_texts}
+use Rattle.isp_masks_code.specs.Exits.{all_go_on}
+use Rattle.isp_masks_code.specs.Spots.{Numbers, Spot}
+use Rattle.isp_masks_code.specs.Statements.{behind, rest_code, stmt_code, stmt_places, stmt_texts, stmts_code, stmts_places, stmts_texts}
 
 -- some may have left before what follows
 abbrev pub left_after : Bool → List TStmt → Bool

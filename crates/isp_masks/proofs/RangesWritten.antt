@@ -9,11 +9,9 @@ use Rattle.isp_base.specs.declared.types.Span.{Span}
 use Rattle.isp_code.specs.declared.instr.Instr.{Instr}
 use Rattle.isp_code.specs.declared.instr.Instr.TheVariants as instr
 use Rattle.isp_code.specs.declared.instr.JumpTest.TheVariants as jump
-use Rattle.isp_typed.specs.Nodes.{range_nodes}
 use Rattle.isp_typed.specs.Typed.{TRange, TStmt}
 use Rattle.isp_typed.specs.Views.{ranges_of}
 use Rattle.isp_typed.specs.declared.stmt.TypedRange.{TypedRange}
-use Rattle.isp_tree.specs.Nodes.{nodes_of_all}
 use Rattle.isp_lower.specs.Instructions.{compare, convert, jump_on, splat}
 use Rattle.isp_lower.specs.Pieces.{guard, two}
 use Rattle.isp_lower.specs.Emitted.{Appends, Present, layout}
@@ -21,9 +19,10 @@ use Rattle.isp_lower.specs.Layout.{Layout}
 use Rattle.isp_lower.specs.declared.types.Body.{Body}
 use Rattle.isp_lower.specs.declared.types.Scope.{Scope}
 use Rattle.isp_lower.proofs.Lemmas.{appends_then}
-use Rattle.isp_masks.specs.Ranges.{bounds_code, foreach_code, goes_on, measures_code, narrow, outer_index, places_slot, ranges_code, ranges_places, runs_slot, sweep_code, test, wide}
-use Rattle.isp_masks.specs.Spots.{Numbers, next_of, past}
-use Rattle.isp_masks.specs.Statements.{body_code, body_layout, stmt_places, stmt_texts}
+use Rattle.isp_masks_code.specs.Ranges.{bounds_code, foreach_code, goes_on, measures_code, narrow, outer_index, places_slot, ranges_code, ranges_places, runs_slot, sweep_code, test, wide}
+use Rattle.isp_masks_code.specs.Spots.{Numbers, past}
+use Rattle.isp_masks.specs.AtWork.{next_of}
+use Rattle.isp_masks_code.specs.Statements.{body_code, body_layout, stmt_places, stmt_texts}
 use Rattle.isp_masks.specs.Written.{Piece, Writes, index_codes, inner_sweep, last_asks, outer_turn_at, outer_turn_code, ranges_at, sweep_asks, sweeps_asks}
 use Rattle.isp_masks.specs.declared.ranges.OuterIndex.{OuterIndex}
 use Rattle.isp_masks.specs.declared.ranges.Sweep.{Sweep}
@@ -182,8 +181,3 @@ last_there on it r rs p = (p.1.1.0.0.0, (p.1.1.0.0.1.1.1.1.0, (p.0.1.0, (p.0.1.1
 pub ranges_count : (rs : List TypedRange) → length (ranges_of rs) ≡ length rs
 ranges_count [] = refl
 ranges_count (r ∷ rs) = ap suc (ranges_count rs)
-
--- a range is a node at least
-pub ranges_low : (rs : List TRange) → length rs ≤ nodes_of_all range_nodes rs
-ranges_low [] = omega arith
-ranges_low (r ∷ rs) = let n = ranges_low rs in omega (arith, n)

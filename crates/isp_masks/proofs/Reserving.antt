@@ -1,12 +1,14 @@
 -- What a walk is given without reserving it: a variable has its register from the beginning, and a number takes none.
-use Rattle.std.proofs.Common.{ℕ, ◌<◌, refl, arith}
+use Rattle.std.proofs.Common.{ℕ, ◌<◌, Option, Some, None, refl, arith}
 use Rattle.isp_base.specs.declared.types.Elem.{Elem}
 use Rattle.isp_base.specs.declared.types.Rate.{Rate}
+use Rattle.isp_base.specs.declared.types.Ty.{Ty}
 use Rattle.isp_lower.specs.Asks.{Number, Register}
-use Rattle.isp_lower.specs.Reserved.{Gives}
+use Rattle.isp_lower.specs.Reserved.{Gives, IsReserved}
 use Rattle.isp_lower.specs.Rows.{Variable}
 use Rattle.isp_lower.specs.declared.reserve.Reserve.{Reserve}
 use Rattle.isp_lower.proofs.Lemmas.{gives_none}
+use Rattle.isp_masks_code.specs.Asks.{result_asks}
 
 pub variable_reserved : (a : Reserve) (r : Rate) (v : ℕ) (t : Elem) → Gives a a (Register r (Variable v) t)
 variable_reserved a r v t =
@@ -17,3 +19,8 @@ pub number_reserved : (a : Reserve) (k : ℕ) → k < 4294967296 → Gives a a (
 number_reserved a k low =
     let none = gives_none a in
     record { rows = none.rows; masks = none.masks; has = low; few_scalars = omega arith; few_vectors = omega arith; same_arrays = refl }
+
+-- nor is the register of the result
+pub result_reserved : (r : Reserve) (answer : Option Ty) → IsReserved r (result_asks answer)
+result_reserved r None = tt
+result_reserved r (Some t) = tt

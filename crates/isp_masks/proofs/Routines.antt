@@ -32,14 +32,14 @@ use Rattle.isp_lower.specs.Drafts.{Draft, begun, routine_at_work}
 use Rattle.isp_lower.specs.Header.{heading_of, locals_of, param_of, params_of, returns_of, routine_with, types_of, value_kind}
 use Rattle.isp_lower.specs.Reserved.{Has}
 use Rattle.isp_lower.specs.declared.reserve.Reserve.{Reserve}
-use Rattle.isp_masks.specs.Lowered.{AddsLowered, IsLowered}
-use Rattle.isp_masks.specs.Asks.{block_asks}
-use Rattle.isp_masks.specs.Keeping.{KeepsThem, constants_asks}
-use Rattle.isp_masks.specs.Spots.{next_of}
-use Rattle.isp_masks.specs.Statements.{block_places, block_texts, function_code}
+use Rattle.isp_masks.specs.Added.{AddsLowered}
+use Rattle.isp_masks_code.specs.Lowered.{IsLowered}
+use Rattle.isp_masks_code.specs.Asks.{block_asks}
+use Rattle.isp_masks_code.specs.Keeping.{KeepsThem, constants_asks}
+use Rattle.isp_masks.specs.AtWork.{next_of}
+use Rattle.isp_masks_code.specs.Statements.{block_places, block_texts, function_code}
 use Rattle.isp_masks.specs.Written.{Piece, Writes}
-use Rattle.isp_masks.proofs.CodeLengths.{block_places_few, block_texts_few}
-use Rattle.isp_masks.proofs.Spans.{block_placed, block_told}
+use Rattle.isp_masks_code.proofs.Lemmas.{block_places_few, block_texts_few, block_placed, block_told}
 
 -- ---- registers: those of the parameters come first
 

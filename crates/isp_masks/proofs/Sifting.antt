@@ -12,11 +12,12 @@ use Rattle.isp_lower.specs.Emitted.{Appends, layout}
 use Rattle.isp_lower.specs.Layout.{Layout}
 use Rattle.isp_lower.specs.declared.types.Body.{Body}
 use Rattle.isp_lower.specs.declared.types.Scope.{Scope}
-use Rattle.isp_masks.specs.Exits.{nobody_leaves}
-use Rattle.isp_masks.specs.Fors.{first_code, first_places, step_places, test_places}
-use Rattle.isp_masks.specs.Loops.{sift_begin, sift_code, sift_jump}
-use Rattle.isp_masks.specs.Spots.{Numbers, Spot, next_of, past}
-use Rattle.isp_masks.specs.Statements.{stmt_code, stmt_places, stmt_texts, turns_code}
+use Rattle.isp_masks_code.specs.Exits.{nobody_leaves}
+use Rattle.isp_masks_code.specs.Fors.{first_code, first_places, step_places, test_places}
+use Rattle.isp_masks_code.specs.Loops.{sift_begin, sift_code, sift_jump}
+use Rattle.isp_masks_code.specs.Spots.{Numbers, Spot, past}
+use Rattle.isp_masks.specs.AtWork.{next_of}
+use Rattle.isp_masks_code.specs.Statements.{stmt_code, stmt_places, stmt_texts, turns_code}
 use Rattle.isp_masks.specs.Written.{Piece, Writes, next_at, turn_at, turning_at}
 use Rattle.isp_masks.specs.declared.looping.Loop.{Loop}
 use Rattle.isp_masks.proofs.Lists.{same_numbers}

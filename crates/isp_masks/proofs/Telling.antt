@@ -19,8 +19,8 @@ use Rattle.isp_lower.specs.Layout.{Layout}
 use Rattle.isp_lower.specs.declared.types.Body.{Body}
 use Rattle.isp_lower.proofs.Lemmas.{appends_self, appends_then}
 use Rattle.isp_masks.specs.Printed.{first_shown, first_word, rates_of, registers_of, told_at, words_at}
-use Rattle.isp_masks.specs.Prints.{Part, Words, Value, before, own_rates, parts, parts_code, print_code, print_places, print_texts, words_of}
-use Rattle.isp_masks.specs.Spots.{next_of}
+use Rattle.isp_masks_code.specs.Prints.{Part, Words, Value, before, own_rates, parts, parts_code, print_code, print_places, print_texts, words_of}
+use Rattle.isp_masks.specs.AtWork.{next_of}
 use Rattle.isp_masks.specs.Written.{Piece, Writes}
 use Rattle.isp_masks.specs.declared.printing.Shown.{Shown}
 use Rattle.isp_masks.proofs.Writing.{texts_still, writes_past, writes_then}

@@ -9,8 +9,9 @@ use Rattle.isp_lower.specs.Pieces.{guard}
 use Rattle.isp_lower.specs.Emitted.{Appends}
 use Rattle.isp_lower.specs.declared.types.Body.{Body}
 use Rattle.isp_lower.proofs.Lemmas.{appends_then, code_landed}
-use Rattle.isp_masks.specs.Loops.{copy_mask, jump_all}
-use Rattle.isp_masks.specs.Spots.{Numbers, next_of}
+use Rattle.isp_masks_code.specs.Loops.{copy_mask, jump_all}
+use Rattle.isp_masks_code.specs.Spots.{Numbers}
+use Rattle.isp_masks.specs.AtWork.{next_of}
 use Rattle.isp_masks.specs.Written.{Piece, Writes}
 use Rattle.isp_masks.proofs.Writing.{next_same, texts_still}
 

@@ -10,8 +10,9 @@ use Rattle.isp_lower.specs.Emitted.{Appends, texts_of}
 use Rattle.isp_lower.specs.Layout.{mask_register}
 use Rattle.isp_lower.specs.declared.types.Body.{Body}
 use Rattle.isp_lower.proofs.Lemmas.{code_chosen, code_landed}
-use Rattle.isp_masks.specs.Rounds.{rounds_code}
-use Rattle.isp_masks.specs.Spots.{Numbers, next_of, past}
+use Rattle.isp_masks_code.specs.Rounds.{rounds_code}
+use Rattle.isp_masks_code.specs.Spots.{Numbers, past}
+use Rattle.isp_masks.specs.AtWork.{next_of}
 use Rattle.isp_masks.specs.Written.{Piece, Writes}
 use Rattle.isp_masks.proofs.Lists.{same_numbers}
 

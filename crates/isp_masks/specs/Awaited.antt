@@ -5,7 +5,8 @@ use Rattle.isp_code.specs.declared.instr.Instr.{Instr}
 use Rattle.isp_lower.specs.Instructions.{jump_off}
 use Rattle.isp_lower.specs.Emitted.{texts_of}
 use Rattle.isp_lower.specs.declared.types.Body.{Body}
-use Rattle.isp_masks.specs.Spots.{Numbers, next_of}
+use Rattle.isp_masks_code.specs.Spots.{Numbers}
+use Rattle.isp_masks.specs.AtWork.{next_of}
 
 -- the instructions with these numbers are this one
 abbrev pub set_all : List Instr → List ℕ → Instr → List Instr

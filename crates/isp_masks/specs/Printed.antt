@@ -7,7 +7,7 @@ use Rattle.isp_code.specs.declared.instr.Instr.TheVariants as instr
 use Rattle.isp_typed.specs.Typed.{TExpr}
 use Rattle.isp_lower.specs.Emitted.{layout}
 use Rattle.isp_lower.specs.declared.types.Scope.{Scope}
-use Rattle.isp_masks.specs.Prints.{Part, parts_code, print_code, print_places, print_texts, show, words_of}
+use Rattle.isp_masks_code.specs.Prints.{Part, parts_code, print_code, print_places, print_texts, show, words_of}
 use Rattle.isp_masks.specs.Written.{Piece}
 use Rattle.isp_masks.specs.declared.printing.Shown.{Shown}
 

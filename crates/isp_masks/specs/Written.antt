@@ -28,17 +28,18 @@ use Rattle.isp_lower.specs.Layout.{Layout, within, outside}
 use Rattle.isp_lower.specs.Rows.{Variable, Place}
 use Rattle.isp_lower.specs.declared.numbered.Slot.{Slot}
 use Rattle.isp_lower.specs.declared.registers.Constant.{Constant}
-use Rattle.isp_masks.specs.Asks.{bounds_asks, loop_asks, measures_asks, places_asks}
-use Rattle.isp_masks.specs.Asserts.{assert_code, assert_places}
-use Rattle.isp_masks.specs.Exits.{exits_of, both_go_on, leaving_of}
-use Rattle.isp_masks.specs.Fors.{back_code, first_code, first_places, step_code, step_places, test_places}
-use Rattle.isp_masks.specs.Loops.{copy_mask, do_code, is_wide, jump_all, live_code, sift_code, turn_code}
-use Rattle.isp_masks.specs.Ranges.{foreach_code, goes_on, last_index, narrow, outer_index, places_slot, range_mask, ranges_code, ranges_places, run_back, run_place, run_step, runs_code, runs_slot, test, wide}
-use Rattle.isp_masks.specs.Rounds.{active_code, unique_code, unmasked_code, values_of}
-use Rattle.isp_masks.specs.Sets.{unite}
-use Rattle.isp_masks.specs.Spots.{Numbers, Spot as Where, body_spot, next_of, past, spot_of, widely}
-use Rattle.isp_masks.specs.Statements.{answer_code, behind, block_code, block_places, block_texts, body_code, function_code, if_code, if_else_code, stmt_code, stmt_places, stmt_texts, test_place, turning_code, turns_code, body_layout}
-use Rattle.isp_masks.specs.declared.exits.Leaving.{Leaving}
+use Rattle.isp_masks_code.specs.Asks.{bounds_asks, loop_asks, measures_asks, places_asks}
+use Rattle.isp_masks_code.specs.Asserts.{assert_code, assert_places}
+use Rattle.isp_masks_code.specs.Exits.{exits_of, both_go_on, leaving_of}
+use Rattle.isp_masks_code.specs.Fors.{back_code, first_code, first_places, step_code, step_places, test_places}
+use Rattle.isp_masks_code.specs.Loops.{copy_mask, do_code, is_wide, jump_all, live_code, sift_code, turn_code}
+use Rattle.isp_masks_code.specs.Ranges.{foreach_code, goes_on, last_index, narrow, outer_index, places_slot, range_mask, ranges_code, ranges_places, run_back, run_place, run_step, runs_code, runs_slot, test, wide}
+use Rattle.isp_masks_code.specs.Rounds.{active_code, unique_code, unmasked_code, values_of}
+use Rattle.isp_masks_code.specs.Sets.{unite}
+use Rattle.isp_masks_code.specs.Spots.{Numbers, Spot as Where, body_spot, past, widely}
+use Rattle.isp_masks.specs.AtWork.{next_of, spot_of}
+use Rattle.isp_masks_code.specs.Statements.{answer_code, behind, block_code, block_places, block_texts, body_code, function_code, if_code, if_else_code, stmt_code, stmt_places, stmt_texts, test_place, turning_code, turns_code, body_layout}
+use Rattle.isp_masks_code.specs.declared.exits.Leaving.{Leaving}
 use Rattle.isp_masks.specs.declared.looping.Loop.{Loop}
 use Rattle.isp_masks.specs.declared.looping.Test.{Test}
 use Rattle.isp_masks.specs.declared.looping.Turning.{Turning}

@@ -4,8 +4,8 @@ ghost use Rattle.isp_base.specs.declared.types.Rate.TheVariants.{Uniform, Varyin
 ghost use Rattle.isp_typed.specs.Views.{expr_of};
 ghost use Rattle.isp_lower.specs.Emitted.{Appends, Present};
 ghost use Rattle.isp_lower.specs.Written.{Writes as Adds};
-ghost use Rattle.isp_masks.specs.Asks.{assert_asks};
-ghost use Rattle.isp_masks.specs.Asserts.{fail, fails_code};
+ghost use Rattle.isp_masks_code.specs.Asks.{assert_asks};
+ghost use Rattle.isp_masks_code.specs.Asserts.{fail, fails_code};
 ghost use Rattle.isp_masks.specs.Written.{assert_at};
 
 use crate::looping::Test;

@@ -3,16 +3,15 @@
 ghost use Rattle.std.specs.Prelude.{◌<◌, ◌+◌, true, false, OnOk};
 ghost use Rattle.isp_base.specs.declared.types.Rate.TheVariants.{Uniform, Varying};
 ghost use Rattle.isp_tree.specs.declared.stmt.Form.TheVariants.{Plain, Coherent};
-ghost use Rattle.isp_masks.specs.declared.exits.Leaving.TheVariants.{Never, Maybe};
+ghost use Rattle.isp_masks_code.specs.declared.exits.Leaving.TheVariants.{Never, Maybe};
 ghost use Rattle.isp_typed.specs.Typed.{type_of};
 ghost use Rattle.isp_typed.specs.Views.{expr_of, stmt_of};
 ghost use Rattle.isp_lower.specs.Asks.{expr_asks};
 ghost use Rattle.isp_lower.specs.Emitted.{Present};
-ghost use Rattle.isp_masks.specs.Asks.{part_asks, part_slot, parts_asks, parts_slot, stmt_asks};
-ghost use Rattle.isp_masks.specs.Exits.{leaving_of, only_jump};
+ghost use Rattle.isp_masks_code.specs.Asks.{part_asks, part_slot, parts_asks, parts_slot, stmt_asks};
+ghost use Rattle.isp_masks_code.specs.Exits.{leaving_of, only_jump};
 ghost use Rattle.isp_masks.specs.Written.{Writes, both_parts_at, first_widely_at, guarded_at, if_at, if_else_at, others_at, part_at, parts_at};
 
-use crate::exits::Leaving;
 use crate::looping::{join_where, join_widely};
 use crate::masks::{Masks, Spot};
 use crate::part::Part;
@@ -21,6 +20,7 @@ use crate::statement::stmt;
 use isp_base::Rate;
 use isp_code::{Instr, JumpTest};
 use isp_lower::{Body, MaskNumber, RegisterNumber, Scope, Site, expr, mask, scalar, where_so};
+use isp_masks_code::Leaving;
 use isp_tree::Form;
 use isp_typed::TypedExpr;
 use std::alloc::AllocError;

@@ -4,7 +4,8 @@ ghost use Rattle.isp_base.specs.declared.types.Rate.TheVariants.{Uniform};
 ghost use Rattle.isp_lower.specs.Asks.{spare_ask};
 ghost use Rattle.isp_lower.specs.Emitted.{Appends, Present, layout};
 ghost use Rattle.isp_lower.specs.Reserved.{Gives, HasNumbers};
-ghost use Rattle.isp_masks.specs.Keeping.{Each, KeepsAll, constants_asks, constants_code, keep_at, keep_code};
+ghost use Rattle.isp_masks_code.specs.Keeping.{Each, constants_asks, constants_code, keep_at, keep_code};
+ghost use Rattle.isp_masks.specs.Kept.{KeepsAll};
 
 use crate::rounds::fill_mask;
 use isp_base::Rate;

@@ -1,12 +1,10 @@
-//! Code of statements and of functions: what is emitted, and that it does what they mean.
+//! What makes the code of statements, functions and programs.
 #![tactic(auto)]
 
 mod asserting;
 mod awaited;
 mod branches;
-mod exits;
 mod keeping;
-mod laws;
 mod listing;
 mod looping;
 mod lowering;
@@ -26,5 +24,4 @@ mod steps;
 mod unique;
 mod wanted;
 
-pub use laws::{loops_run, lowered_agrees, statements_run};
 pub use lowering::lower;

@@ -6,7 +6,8 @@ ghost use Rattle.isp_rates.specs.Program.{IsAccepted};
 ghost use Rattle.isp_tree.specs.Nodes.{nodes_of_all};
 ghost use Rattle.isp_typed.specs.Nodes.{function_nodes};
 ghost use Rattle.isp_typed.specs.Views.{functions_of, program_of};
-ghost use Rattle.isp_masks.specs.Lowered.{AreLowered, HasCode, IsFineFunction, IsSmall};
+ghost use Rattle.isp_masks.specs.Added.{AreLowered};
+ghost use Rattle.isp_masks_code.specs.Lowered.{HasCode, IsFineFunction, IsSmall};
 
 use crate::routine::function;
 use isp_code::Code;

@@ -7,10 +7,9 @@ ghost use Rattle.isp_typed.specs.Views.{expr_of};
 ghost use Rattle.isp_lower.specs.Pieces.{guard};
 ghost use Rattle.isp_lower.specs.Emitted.{Appends};
 ghost use Rattle.isp_lower.specs.Layout.{mask_register};
-ghost use Rattle.isp_masks.specs.Loops.{again_code, copy_mask, enter_code, if_needed, is_wide, is_wide_by, jump_all, loop_end_code, rejoin_code, sift_begin, sift_jump};
-ghost use Rattle.isp_masks.specs.Sets.{clear_mask, unite};
+ghost use Rattle.isp_masks_code.specs.Loops.{again_code, copy_mask, enter_code, if_needed, is_wide, is_wide_by, jump_all, loop_end_code, rejoin_code, sift_begin, sift_jump};
+ghost use Rattle.isp_masks_code.specs.Sets.{clear_mask, unite};
 
-use crate::exits::Exits;
 use crate::masks::Masks;
 use crate::sets::{clear_mask, unite};
 use isp_base::Rate;
@@ -18,6 +17,7 @@ use isp_code::{Instr, JumpTest, MaskInstr};
 use isp_lower::{
     Body, Line, MaskNumber, RegisterNumber, Site, Slot, mask, scalar, the_others, where_so,
 };
+use isp_masks_code::Exits;
 use isp_tree::Form;
 use isp_typed::{TypedExpr, TypedSimple};
 use std::alloc::AllocError;

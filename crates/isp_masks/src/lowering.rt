@@ -2,7 +2,7 @@
 ghost use Rattle.std.specs.Prelude.{◌≡◌, None, IfOk};
 ghost use Rattle.isp_typed.specs.Views.{program_of};
 ghost use Rattle.isp_verify.specs.Faults.{code_fault};
-ghost use Rattle.isp_masks.specs.Agreement.{Agrees};
+ghost use Rattle.isp_masks_code.specs.Agreement.{Agrees};
 
 use crate::listing::program;
 use isp_code::Code;

@@ -1,6 +1,6 @@
 //! Where the code of a statement works.
 ghost use Rattle.std.specs.Prelude.{◌≡◌, ◌<◌, ◌+◌};
-ghost use Rattle.isp_masks.specs.Spots.{own_spot};
+ghost use Rattle.isp_masks.specs.AtWork.{own_spot};
 
 use isp_lower::{MaskNumber, Site, Slot};
 

@@ -1,11 +1,11 @@
 //! Statements with what was seen of them.
 ghost use Rattle.std.specs.Prelude.{◌≡◌, ◌++◌, drop, length, take};
 ghost use Rattle.isp_typed.specs.Views.{stmt_of};
-ghost use Rattle.isp_masks.specs.Exits.{all_go_on, both_go_on, exits_of, leaving_of};
+ghost use Rattle.isp_masks_code.specs.Exits.{all_go_on, both_go_on, exits_of, leaving_of};
 ghost use Rattle.isp_masks.specs.reader.Seen.{parts_seen, seen_of};
 
-use crate::exits::{Exits, Leaving, only_jump};
 use crate::seen::Seen;
+use isp_masks_code::{Exits, Leaving, only_jump};
 use isp_typed::TypedStmt;
 
 /// A statement, and what was seen of it and of its parts.

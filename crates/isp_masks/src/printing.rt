@@ -7,7 +7,7 @@ ghost use Rattle.isp_lower.specs.Asks.{values_asks};
 ghost use Rattle.isp_lower.specs.Code.{value_registers};
 ghost use Rattle.isp_lower.specs.Emitted.{Appends, Present, layout};
 ghost use Rattle.isp_lower.specs.Written.{Writes as Adds, values_at};
-ghost use Rattle.isp_masks.specs.Prints.{own_rates, parts, show};
+ghost use Rattle.isp_masks_code.specs.Prints.{own_rates, parts, show};
 ghost use Rattle.isp_masks.specs.Printed.{first_shown, first_word, print_at, rates_of, registers_of, told_at, words_at};
 ghost use Rattle.isp_masks.specs.Written.{Writes};
 

@@ -12,8 +12,8 @@ ghost use Rattle.isp_lower.specs.Spans.{expr_places};
 ghost use Rattle.isp_lower.specs.Emitted.{Appends, Present, layout};
 ghost use Rattle.isp_lower.specs.Layout.{mask_register};
 ghost use Rattle.isp_lower.specs.Rows.{Variable};
-ghost use Rattle.isp_masks.specs.Asks.{bound_asks, bounds_asks, measures_asks};
-ghost use Rattle.isp_masks.specs.Ranges.{bound_code, bounds_code, goes_on, lane, lane_numbers, last_index, measures_code, narrow, range_mask, ranges_places, run_back, run_place, run_step, runs_slot, sum_lanes, test, wide};
+ghost use Rattle.isp_masks_code.specs.Asks.{bound_asks, bounds_asks, measures_asks};
+ghost use Rattle.isp_masks_code.specs.Ranges.{bound_code, bounds_code, goes_on, lane, lane_numbers, last_index, measures_code, narrow, range_mask, ranges_places, run_back, run_place, run_step, runs_slot, sum_lanes, test, wide};
 ghost use Rattle.isp_masks.specs.Written.{first_sweep, index_codes, inner_sweep, last_asks, place_test, range_begin, range_step, runs_begin, runs_next, sweep_asks};
 
 use crate::looping::where_some;

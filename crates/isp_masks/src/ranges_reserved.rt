@@ -2,7 +2,7 @@
 ghost use Rattle.std.specs.Prelude.{◌≡◌, ◌+◌, length, IfOk, OnOk};
 ghost use Rattle.isp_typed.specs.Views.{expr_of, range_of, ranges_of};
 ghost use Rattle.isp_lower.specs.Reserved.{Gives, HasNumbers};
-ghost use Rattle.isp_masks.specs.Asks.{bound_asks, bounds_asks, measures_asks, place_asks, places_asks};
+ghost use Rattle.isp_masks_code.specs.Asks.{bound_asks, bounds_asks, measures_asks, place_asks, places_asks};
 
 use isp_base::{Elem, Rate};
 use isp_lower::{Reserve, Slot};

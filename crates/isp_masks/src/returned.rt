@@ -3,7 +3,7 @@ ghost use Rattle.std.specs.Prelude.{option_map, OnOk};
 ghost use Rattle.isp_typed.specs.Typed.{t_return};
 ghost use Rattle.isp_typed.specs.Views.{expr_of};
 ghost use Rattle.isp_lower.specs.Emitted.{Present};
-ghost use Rattle.isp_masks.specs.Asks.{answer_asks, stmt_asks};
+ghost use Rattle.isp_masks_code.specs.Asks.{answer_asks, stmt_asks};
 ghost use Rattle.isp_lower.specs.Written.{Writes as Adds};
 ghost use Rattle.isp_masks.specs.Written.{Writes, answer_at, stmt_at};
 

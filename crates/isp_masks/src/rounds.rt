@@ -1,7 +1,7 @@
 //! What the code of statements has whose body runs over sets of its own, besides the body.
 ghost use Rattle.std.specs.Prelude.{◌≡◌, ◌<◌, ◌+◌, [], OnOk};
 ghost use Rattle.isp_lower.specs.Emitted.{Appends};
-ghost use Rattle.isp_masks.specs.Rounds.{fill_mask, lane_number, lowest_mask, take_code};
+ghost use Rattle.isp_masks_code.specs.Rounds.{fill_mask, lane_number, lowest_mask, take_code};
 
 use isp_code::{Instr, MaskInstr, ScalarInstr};
 use isp_lower::{Body, MaskNumber, RegisterNumber, Slot, mask, scalar, the_others};

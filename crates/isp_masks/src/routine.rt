@@ -5,10 +5,11 @@ ghost use Rattle.isp_lower.specs.Drafts.{draft_of};
 ghost use Rattle.isp_lower.specs.Emitted.{Grows, Present, first_rows, layout, rows_of};
 ghost use Rattle.isp_lower.specs.Reserved.{Has, HasNumbers, registers_asked};
 ghost use Rattle.isp_typed.specs.Views.{block_of, function_of};
-ghost use Rattle.isp_masks.specs.Asks.{block_asks, result_asks};
-ghost use Rattle.isp_masks.specs.Keeping.{Each, constants_asks};
-ghost use Rattle.isp_masks.specs.Lowered.{AddsLowered, BodyIsOwn, GrowsBy, IsFineFunction, IsSmall};
-ghost use Rattle.isp_masks.specs.Statements.{returned};
+ghost use Rattle.isp_masks_code.specs.Asks.{block_asks, result_asks};
+ghost use Rattle.isp_masks_code.specs.Keeping.{Each, constants_asks};
+ghost use Rattle.isp_masks.specs.Added.{AddsLowered, GrowsBy};
+ghost use Rattle.isp_masks_code.specs.Lowered.{BodyIsOwn, IsFineFunction, IsSmall};
+ghost use Rattle.isp_masks_code.specs.Statements.{returned};
 ghost use Rattle.isp_masks.specs.Written.{Writes, function_at};
 
 use crate::keeping::{self, keep};

@@ -1,10 +1,10 @@
 //! One look at each statement before its code is written: who leaves it.
 ghost use Rattle.std.specs.Prelude.{◌≡◌, ◌++◌, IfOk, OnOk};
 ghost use Rattle.isp_typed.specs.Views.{block_of, stmt_of};
-ghost use Rattle.isp_masks.specs.Exits.{block_exits, exits_of};
+ghost use Rattle.isp_masks_code.specs.Exits.{block_exits, exits_of};
 ghost use Rattle.isp_masks.specs.reader.Seen.{block_seen, parts_seen, seen_of};
 
-use crate::exits::{Exits, jump};
+use isp_masks_code::{Exits, jump};
 use isp_typed::{TypedBlock, TypedStmt};
 use std::alloc::{AllocError, Global};
 

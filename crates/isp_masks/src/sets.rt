@@ -4,9 +4,9 @@ ghost use Rattle.isp_code.specs.declared.instr.Instr.TheVariants as instr;
 ghost use Rattle.isp_lower.specs.Instructions.{the_others, where_so};
 ghost use Rattle.isp_lower.specs.Pieces.{guard};
 ghost use Rattle.isp_lower.specs.Emitted.{Appends};
-ghost use Rattle.isp_masks.specs.Loops.{copy_mask, jump_all};
-ghost use Rattle.isp_masks.specs.Sets.{clear_mask, jump_code, jumped_code, leave_code, unite};
-ghost use Rattle.isp_masks.specs.Statements.{left_code};
+ghost use Rattle.isp_masks_code.specs.Loops.{copy_mask, jump_all};
+ghost use Rattle.isp_masks_code.specs.Sets.{clear_mask, jump_code, jumped_code, leave_code, unite};
+ghost use Rattle.isp_masks_code.specs.Statements.{left_code};
 
 use crate::looping::copy_mask;
 use crate::masks::Masks;

@@ -7,8 +7,8 @@ ghost use Rattle.isp_typed.specs.Views.{block_of, expr_of, ranges_of, stmt_of};
 ghost use Rattle.isp_lower.specs.Asks.{Register as Ask, expr_asks};
 ghost use Rattle.isp_lower.specs.Emitted.{Present};
 ghost use Rattle.isp_lower.specs.Rows.{Variable};
-ghost use Rattle.isp_masks.specs.Asks.{block_asks, ranges_asks, step_asks, stmt_asks, test_part_asks, unique_asks};
-ghost use Rattle.isp_masks.specs.Ranges.{runs_slot};
+ghost use Rattle.isp_masks_code.specs.Asks.{block_asks, ranges_asks, step_asks, stmt_asks, test_part_asks, unique_asks};
+ghost use Rattle.isp_masks_code.specs.Ranges.{runs_slot};
 ghost use Rattle.isp_masks.specs.reader.Seen.{block_seen};
 ghost use Rattle.isp_masks.specs.Written.{Writes, active_at, block_at, do_at, entered_at, foreach_at, last_asks, last_range_at, outer_turn_at, passed_at, ranges_at, runs_at, step_in, stmt_at, sweep_asks, sweeps_asks, test_in, turn_at, turning_at, turns_at, unique_at, unmasked_at};
 

@@ -4,8 +4,8 @@ ghost use Rattle.isp_typed.specs.Views.{expr_of, first_of, simple_of};
 ghost use Rattle.isp_lower.specs.Asks.{expr_asks};
 ghost use Rattle.isp_lower.specs.Emitted.{Present};
 ghost use Rattle.isp_lower.specs.Written.{Writes as Adds};
-ghost use Rattle.isp_masks.specs.Asks.{first_asks, step_asks, test_part_asks};
-ghost use Rattle.isp_masks.specs.Exits.{nobody_leaves};
+ghost use Rattle.isp_masks_code.specs.Asks.{first_asks, step_asks, test_part_asks};
+ghost use Rattle.isp_masks_code.specs.Exits.{nobody_leaves};
 ghost use Rattle.isp_masks.specs.Written.{back_at, first_at, next_at, step_at, step_in, stepped_at, test_in};
 
 use crate::looping::{Loop, Test, Turning, again, inside};

@@ -9,8 +9,8 @@ ghost use Rattle.isp_lower.specs.Instructions.{compare};
 ghost use Rattle.isp_lower.specs.Emitted.{Appends, Present, layout};
 ghost use Rattle.isp_lower.specs.Library.{reduce};
 ghost use Rattle.isp_lower.specs.Written.{Writes as Adds};
-ghost use Rattle.isp_masks.specs.Asks.{unique_asks};
-ghost use Rattle.isp_masks.specs.Rounds.{value_code, values_of};
+ghost use Rattle.isp_masks_code.specs.Asks.{unique_asks};
+ghost use Rattle.isp_masks_code.specs.Rounds.{value_code, values_of};
 ghost use Rattle.isp_masks.specs.Written.{kept_at};
 
 use crate::looping::copy_mask;

@@ -2,7 +2,7 @@
 //!
 //! It is no matter of what the code does: any constants may be kept.
 ghost use Rattle.std.specs.Prelude.{◌≡◌, ◌+◌, ◌*◌, ◌≤◌, IfOk};
-ghost use Rattle.isp_masks.specs.Keeping.{keep_steps};
+ghost use Rattle.isp_masks_code.specs.Keeping.{keep_steps};
 
 use isp_base::{Rate, Ty, Value};
 use isp_lower::{Constant, known};

@@ -17,15 +17,15 @@ use Rattle.isp_tree.specs.Nodes.{nodes_of_all}
 use Rattle.std.proofs.lemmas.List.{drop_all, drop_more}
 use Rattle.std.proofs.lemmas.Result.{on_ok_weaker}
 use Rattle.isp_masks.specs.Awaited.{AreBelow, Awaits, set_all}
-use Rattle.isp_masks.specs.Exits.{all_go_on, nobody_leaves}
-use Rattle.isp_masks.specs.Fors.{first_code, first_places}
-use Rattle.isp_masks.specs.Loops.{copy_mask, jump_all, sift_jump}
-use Rattle.isp_masks.specs.Sets.{unite}
-use Rattle.isp_masks.specs.Rounds.{value_code, values_of}
-use Rattle.isp_masks.specs.Spots.{Numbers, next_of, own_spot, spot_of, widely}
-use Rattle.isp_masks.specs.Statements.{left_code, stmt_code, stmt_places, stmt_texts, stmts_code, stmts_places, stmts_texts, body_code, body_layout}
-use Rattle.isp_masks.specs.Written.{Piece, Writes, block_at, guarded_at, kept_at, next_at, step_in, stmt_at, test_in, turn_at, turning_at, turns_at, first_sweep}
-use Rattle.isp_masks.specs.Written.{index_codes, outer_turn_at, place_test, range_begin, range_step, ranges_at, runs_at, runs_begin, runs_next}
+use Rattle.isp_masks_code.specs.Exits.{all_go_on, nobody_leaves}
+use Rattle.isp_masks_code.specs.Fors.{first_code, first_places}
+use Rattle.isp_masks_code.specs.Loops.{copy_mask, jump_all, sift_jump}
+use Rattle.isp_masks_code.specs.Sets.{unite}
+use Rattle.isp_masks_code.specs.Rounds.{value_code, values_of}
+use Rattle.isp_masks_code.specs.Spots.{Numbers, widely}
+use Rattle.isp_masks.specs.AtWork.{next_of, own_spot, spot_of}
+use Rattle.isp_masks_code.specs.Statements.{left_code, stmt_code, stmt_places, stmt_texts, stmts_code, stmts_places, stmts_texts, body_code, body_layout}
+use Rattle.isp_masks.specs.Written.{Piece, Writes, block_at, guarded_at, kept_at, next_at, step_in, stmt_at, test_in, turn_at, turning_at, turns_at, first_sweep, index_codes, outer_turn_at, place_test, range_begin, range_step, ranges_at, runs_at, runs_begin, runs_next}
 use Rattle.isp_masks.proofs.Awaiting.{awaits_end}
 use Rattle.isp_masks.proofs.Forms.{list_step, nodes_low, stmts_more}
 use Rattle.isp_masks.proofs.JumpsWritten.{left_written}
@@ -33,13 +33,13 @@ use Rattle.isp_masks.proofs.WidelyWritten.{first_widely_written}
 use Rattle.isp_masks.proofs.Lists.{flat, flat_is}
 use Rattle.isp_masks.proofs.Splits.{seen_begins, seen_rest}
 use Rattle.isp_masks.proofs.Sifting.{for_written, sifted, turns_written}
-use Rattle.isp_masks.proofs.Views.{block_view, part_is}
+use Rattle.isp_masks_code.proofs.Lemmas.{block_view, part_is, ranges_low}
 use Rattle.isp_masks.proofs.Writing.{chosen_of, landed_over, rounds_written, writes_adding, writes_back, writes_past}
 use Rattle.isp_base.specs.declared.types.Rate.TheVariants.{Uniform}
 use Rattle.isp_code.specs.declared.instr.Instr.TheVariants as instr
-use Rattle.isp_masks.specs.Ranges.{bounds_code, last_index, measures_code, range_mask, ranges_places, run_place, runs_slot, test, wide}
-use Rattle.isp_masks.proofs.RangesWritten.{foreach_written, goes_on_codes, last_written, outer_written, ranges_count, ranges_low, ranges_outer, sweep_there, sweep_written}
-use Rattle.isp_masks.specs.Asks.{stmt_asks}
+use Rattle.isp_masks_code.specs.Ranges.{bounds_code, last_index, measures_code, range_mask, ranges_places, run_place, runs_slot, test, wide}
+use Rattle.isp_masks.proofs.RangesWritten.{foreach_written, goes_on_codes, last_written, outer_written, ranges_count, ranges_outer, sweep_there, sweep_written}
+use Rattle.isp_masks_code.specs.Asks.{stmt_asks}
 use Rattle.isp_lower.specs.Layout.{mask_register, register, within}
 use Rattle.isp_lower.specs.declared.numbered.MaskNumber.{MaskNumber}
 use Rattle.isp_lower.specs.declared.numbered.Slot.{Slot}

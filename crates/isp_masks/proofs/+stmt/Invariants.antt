@@ -5,10 +5,10 @@ use Rattle.isp_typed.specs.Nodes.{stmt_nodes, block_nodes}
 use Rattle.isp_typed.specs.Typed.{t_stmts}
 use Rattle.isp_typed.specs.Views.{block_of, stmt_of, stmts_of}
 use Rattle.isp_lower.specs.Emitted.{Present, layout}
-use Rattle.isp_masks.specs.Asks.{stmts_asks}
+use Rattle.isp_masks_code.specs.Asks.{stmts_asks}
 use Rattle.isp_masks.specs.Awaited.{Awaits}
-use Rattle.isp_masks.specs.Spots.{spot_of}
-use Rattle.isp_masks.specs.Statements.{stmts_places, stmts_texts}
+use Rattle.isp_masks.specs.AtWork.{spot_of}
+use Rattle.isp_masks_code.specs.Statements.{stmts_places, stmts_texts}
 use Rattle.isp_masks.proofs.Lists.{flat, left_after}
 use Rattle.isp_masks.specs.reader.Seen.{all_seen}
 use Rattle.isp_masks.proofs.+stmt.Given as goal

@@ -3,7 +3,7 @@
 use Rattle.std.specs.Prelude.{◌+◌, List, [], ◌∷◌, ◌++◌, length}
 use Rattle.isp_typed.specs.Typed.{TStmt, t_block, t_declare, t_simple, t_if, t_if_else, t_while, t_do, t_for, t_foreach, t_foreach_active, t_foreach_unique}
 use Rattle.isp_typed.specs.Typed.{t_unmasked, t_jump, t_return, t_print, t_assert, TBlock, t_braces, TStmts, t_no_stmts, t_stmt_then}
-use Rattle.isp_masks.specs.Exits.{exits_of}
+use Rattle.isp_masks_code.specs.Exits.{exits_of}
 use Rattle.isp_masks.specs.declared.seen.Seen.{Seen}
 
 -- a statement, told what was seen of its parts

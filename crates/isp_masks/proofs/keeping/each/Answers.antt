@@ -1,7 +1,7 @@
 use Rattle.std.proofs.Common.{◌≡◌, ◌+◌, [], drop, sym, subst, true}
 use Rattle.isp_lower.specs.Emitted.{Appends, Present, layout}
 use Rattle.isp_lower.proofs.Lemmas.{appends_self, appends_then}
-use Rattle.isp_masks.specs.Keeping.{Each, constants_asks, keep_code}
+use Rattle.isp_masks_code.specs.Keeping.{Each, constants_asks, keep_code}
 use Rattle.isp_masks.proofs.ConstantRows.{left_none, left_one, some_constant}
 use Rattle.isp_masks.proofs.keeping.each.Goals as goal
 

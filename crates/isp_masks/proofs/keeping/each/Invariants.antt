@@ -2,7 +2,7 @@
 use Rattle.std.proofs.Common.{◌≡◌, [], drop, true}
 use Rattle.isp_lower.specs.Emitted.{Appends, Present, layout}
 use Rattle.isp_lower.specs.declared.types.Body.{Body}
-use Rattle.isp_masks.specs.Keeping.{Each, constants_asks, keep_code}
+use Rattle.isp_masks_code.specs.Keeping.{Each, constants_asks, keep_code}
 use Rattle.isp_masks.proofs.keeping.each.Given as goal
 
 abbrev pub invariant-loop-x : goal.invariant-loop-x

@@ -1,5 +1,5 @@
 use Rattle.std.proofs.Common.{◌+◌, drop, sym, subst}
-use Rattle.isp_masks.specs.Keeping.{KeepsAll}
+use Rattle.isp_masks.specs.Kept.{KeepsAll}
 use Rattle.isp_masks.proofs.ConstantRows.{left_none, left_one, none_more, one_more}
 use Rattle.isp_masks.proofs.keeping.keep.Goals as goal
 

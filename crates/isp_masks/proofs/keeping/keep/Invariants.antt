@@ -1,7 +1,7 @@
 -- Who keeps the constants that are left, keeps all.
 use Rattle.std.proofs.Common.{drop}
 use Rattle.isp_lower.specs.declared.registers.Registers.{Registers}
-use Rattle.isp_masks.specs.Keeping.{KeepsAll}
+use Rattle.isp_masks.specs.Kept.{KeepsAll}
 use Rattle.isp_masks.proofs.keeping.keep.Given as goal
 
 abbrev pub invariant-loop-x : goal.invariant-loop-x

@@ -2,7 +2,7 @@
 use Rattle.std.proofs.Common.{drop}
 use Rattle.isp_lower.specs.Reserved.{Gives, HasNumbers}
 use Rattle.isp_lower.specs.declared.reserve.Reserve.{Reserve}
-use Rattle.isp_masks.specs.Keeping.{constants_asks}
+use Rattle.isp_masks_code.specs.Keeping.{constants_asks}
 use Rattle.isp_masks.proofs.keeping.reserved.Given as goal
 
 abbrev pub invariant-loop-x : goal.invariant-loop-x

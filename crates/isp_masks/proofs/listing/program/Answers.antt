@@ -6,10 +6,10 @@ use Rattle.isp_tree.specs.Nodes.{nodes_of_all}
 use Rattle.isp_typed.specs.Nodes.{function_nodes}
 use Rattle.isp_typed.specs.Views.{functions_of, program_of}
 use Rattle.isp_typed.specs.declared.function.Program.{Program}
-use Rattle.isp_masks.specs.Lowered.{AreLowered, HasCode, IsFineFunction, IsSmall}
+use Rattle.isp_masks.specs.Added.{AreLowered}
+use Rattle.isp_masks_code.specs.Lowered.{HasCode, IsFineFunction, IsSmall}
 use Rattle.isp_masks.proofs.Listings.{has_finished}
-use Rattle.isp_masks.proofs.Lowers.{numbers_fit, routines_fit}
-use Rattle.isp_masks.proofs.SmallFunctions.{functions_small}
+use Rattle.isp_masks_code.proofs.Lemmas.{numbers_fit, routines_fit, functions_small}
 use Rattle.isp_masks.proofs.listing.program.Goals as goal
 
 pub routines-requires : goal.routines-requires

@@ -1,6 +1,7 @@
 use Rattle.std.proofs.Common.{◌∙◌, [], refl, sym, subst}
 use Rattle.isp_lower.specs.Drafts.{draft_of}
-use Rattle.isp_masks.specs.Lowered.{AreLowered, IsFineFunction, IsSmall}
+use Rattle.isp_masks.specs.Added.{AreLowered}
+use Rattle.isp_masks_code.specs.Lowered.{IsFineFunction, IsSmall}
 use Rattle.isp_masks.proofs.Listings.{all_at, none_few, routine_more, tables_more, tables_named}
 use Rattle.isp_masks.proofs.listing.routines.Goals as goal
 

@@ -1,7 +1,7 @@
 use Rattle.std.proofs.Common.{◌≡◌, take}
 use Rattle.isp_lower.specs.Drafts.{all_routines, draft_of}
 use Rattle.isp_typed.specs.Views.{functions_of}
-use Rattle.isp_masks.specs.Lowered.{AreLowered}
+use Rattle.isp_masks.specs.Added.{AreLowered}
 use Rattle.isp_masks.proofs.Listings.{AreFew}
 use Rattle.isp_masks.proofs.listing.routines.Given as goal
 

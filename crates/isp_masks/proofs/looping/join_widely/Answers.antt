@@ -1,7 +1,7 @@
 use Rattle.std.proofs.Common.{◌∷◌, [], ◌∙◌}
 use Rattle.isp_lower.proofs.Lemmas.{landed}
-use Rattle.isp_masks.specs.Loops.{if_needed, jump_all}
-use Rattle.isp_masks.specs.Sets.{unite}
+use Rattle.isp_masks_code.specs.Loops.{if_needed, jump_all}
+use Rattle.isp_masks_code.specs.Sets.{unite}
 use Rattle.isp_masks.proofs.looping.join_widely.Goals as goal
 
 pub returns : goal.returns

@@ -2,9 +2,9 @@ use Rattle.std.proofs.Common.{◌≡◌, None}
 use Rattle.std.proofs.lemmas.Result.{IfOk-weaker}
 use Rattle.isp_typed.specs.Views.{program_of}
 use Rattle.isp_verify.specs.Faults.{code_fault}
-use Rattle.isp_masks.specs.Agreement.{Agrees}
-use Rattle.isp_masks.specs.Lowered.{HasCode}
-use Rattle.isp_masks.proofs.Lowers.{lowered_agrees}
+use Rattle.isp_masks_code.specs.Agreement.{Agrees}
+use Rattle.isp_masks_code.specs.Lowered.{HasCode}
+use Rattle.isp_masks_code.proofs.Lemmas.{lowered_agrees}
 use Rattle.isp_masks.proofs.lowering.lower.Goals as goal
 
 pub returns-clause-agrees : goal.returns-clause-agrees

@@ -2,7 +2,7 @@
 use Rattle.std.proofs.Common.{◌≡◌, ◌≤◌, drop, length}
 use Rattle.isp_lower.specs.declared.types.Body.{Body}
 use Rattle.isp_masks.specs.Printed.{first_word, told_at}
-use Rattle.isp_masks.specs.Prints.{parts}
+use Rattle.isp_masks_code.specs.Prints.{parts}
 use Rattle.isp_masks.specs.Written.{Writes}
 use Rattle.isp_masks.proofs.printing.tell.Given as goal
 

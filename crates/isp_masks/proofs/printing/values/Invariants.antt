@@ -5,7 +5,7 @@ use Rattle.isp_typed.specs.Views.{exprs_of}
 use Rattle.isp_lower.specs.Emitted.{Appends, Present, layout}
 use Rattle.isp_lower.specs.declared.types.Body.{Body}
 use Rattle.isp_masks.specs.Printed.{rates_of, registers_of}
-use Rattle.isp_masks.specs.Prints.{own_rates}
+use Rattle.isp_masks_code.specs.Prints.{own_rates}
 use Rattle.isp_masks.proofs.Telling.{asked, code_of, places_of, registers}
 use Rattle.isp_masks.proofs.printing.values.Given as goal
 

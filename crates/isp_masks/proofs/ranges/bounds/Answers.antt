@@ -4,8 +4,8 @@ use Rattle.isp_lower.specs.Spans.{expr_places}
 use Rattle.isp_lower.specs.Emitted.{Appends, Present, layout}
 use Rattle.isp_lower.specs.declared.numbered.Slot.{Slot}
 use Rattle.isp_lower.proofs.Lemmas.{appends_then}
-use Rattle.isp_masks.specs.Asks.{bounds_asks}
-use Rattle.isp_masks.specs.Ranges.{bound_code, bounds_code, ranges_places}
+use Rattle.isp_masks_code.specs.Asks.{bounds_asks}
+use Rattle.isp_masks_code.specs.Ranges.{bound_code, bounds_code, ranges_places}
 use Rattle.isp_masks.proofs.RangesAsked.{ranges_end, ranges_more}
 use Rattle.isp_masks.proofs.ranges.bounds.Goals as goal
 

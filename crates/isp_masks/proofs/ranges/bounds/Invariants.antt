@@ -3,8 +3,8 @@ use Rattle.std.proofs.Common.{drop}
 use Rattle.isp_typed.specs.Views.{ranges_of}
 use Rattle.isp_lower.specs.Emitted.{Appends, Present, layout}
 use Rattle.isp_lower.specs.declared.types.Body.{Body}
-use Rattle.isp_masks.specs.Asks.{bounds_asks}
-use Rattle.isp_masks.specs.Ranges.{bounds_code, ranges_places}
+use Rattle.isp_masks_code.specs.Asks.{bounds_asks}
+use Rattle.isp_masks_code.specs.Ranges.{bounds_code, ranges_places}
 use Rattle.isp_masks.proofs.ranges.bounds.Given as goal
 
 abbrev pub invariant-loop-x : goal.invariant-loop-x

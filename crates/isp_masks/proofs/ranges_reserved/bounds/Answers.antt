@@ -3,7 +3,7 @@ use Rattle.isp_typed.specs.Views.{range_of, ranges_of}
 use Rattle.isp_lower.specs.Asks.{Number}
 use Rattle.isp_lower.specs.Reserved.{Gives, HasNumbers}
 use Rattle.isp_lower.proofs.Lemmas.{both_given, gives_none}
-use Rattle.isp_masks.specs.Asks.{bound_asks, bounds_asks}
+use Rattle.isp_masks_code.specs.Asks.{bound_asks, bounds_asks}
 use Rattle.isp_masks.proofs.RangesAsked.{numbers_more, ranges_end, ranges_more}
 use Rattle.isp_masks.proofs.ranges_reserved.bounds.Goals as goal
 

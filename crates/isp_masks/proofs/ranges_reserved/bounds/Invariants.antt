@@ -3,7 +3,7 @@ use Rattle.std.proofs.Common.{◌≡◌, ◌+◌, drop, length}
 use Rattle.isp_typed.specs.Views.{ranges_of}
 use Rattle.isp_lower.specs.Reserved.{Gives, HasNumbers}
 use Rattle.isp_lower.specs.declared.reserve.Reserve.{Reserve}
-use Rattle.isp_masks.specs.Asks.{bounds_asks}
+use Rattle.isp_masks_code.specs.Asks.{bounds_asks}
 use Rattle.isp_masks.proofs.ranges_reserved.bounds.Given as goal
 
 abbrev pub invariant-loop-x : goal.invariant-loop-x

@@ -10,9 +10,9 @@ use Rattle.isp_base.specs.declared.types.Rate.TheVariants.{Uniform}
 use Rattle.isp_lower.specs.Reserved.{Gives, HasNumbers}
 use Rattle.isp_lower.proofs.Lemmas.{both_given, gives_none}
 use Rattle.isp_masks.proofs.Reserving.{variable_reserved}
-use Rattle.isp_masks.specs.Asks.{block_asks, stmt_asks, stmts_asks}
+use Rattle.isp_masks_code.specs.Asks.{block_asks, stmt_asks, stmts_asks}
 use Rattle.isp_masks.proofs.Forms.{nodes_low, stmts_more, stmts_end}
-use Rattle.isp_masks.proofs.Views.{block_view}
+use Rattle.isp_masks_code.proofs.Lemmas.{block_view}
 use Rattle.isp_masks.proofs.reserved.+stmt.Goals as goal
 
 pub one_side-returns : goal.one_side-returns

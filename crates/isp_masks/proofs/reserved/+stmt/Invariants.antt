@@ -6,7 +6,7 @@ use Rattle.isp_typed.specs.Typed.{t_stmts}
 use Rattle.isp_typed.specs.Views.{block_of, stmt_of, stmts_of}
 use Rattle.isp_lower.specs.Reserved.{Gives, HasNumbers}
 use Rattle.isp_lower.specs.declared.reserve.Reserve.{Reserve}
-use Rattle.isp_masks.specs.Asks.{stmts_asks}
+use Rattle.isp_masks_code.specs.Asks.{stmts_asks}
 use Rattle.isp_masks.proofs.reserved.+stmt.Given as goal
 
 abbrev pub decreases-stmt : goal.decreases-stmt

@@ -3,11 +3,11 @@ use Rattle.isp_lower.specs.Drafts.{Draft, draft_of}
 use Rattle.isp_typed.specs.Views.{function_of}
 use Rattle.isp_lower.specs.Asks.{Both}
 use Rattle.isp_lower.proofs.Lemmas.{longer_has, longer_then}
-use Rattle.isp_masks.specs.Asks.{block_asks, result_asks}
-use Rattle.isp_masks.specs.Keeping.{constants_asks, keep_steps}
+use Rattle.isp_masks_code.specs.Asks.{block_asks, result_asks}
+use Rattle.isp_masks_code.specs.Keeping.{constants_asks, keep_steps}
 use Rattle.isp_masks.proofs.ConstantRows.{keeps_them, longer_grown}
 use Rattle.isp_masks.proofs.FewRows.{few_registers}
-use Rattle.isp_masks.proofs.Own.{body_own, heading_fits}
+use Rattle.isp_masks_code.proofs.Lemmas.{body_own, heading_fits}
 use Rattle.isp_masks.proofs.Routines.{adds}
 use Rattle.isp_masks.proofs.routine.function.Goals as goal
 

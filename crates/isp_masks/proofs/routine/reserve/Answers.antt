@@ -3,11 +3,11 @@ use Rattle.std.proofs.lemmas.Result.{on_ok_weaker}
 use Rattle.isp_typed.specs.Views.{function_of}
 use Rattle.isp_lower.specs.Asks.{Both}
 use Rattle.isp_lower.proofs.Lemmas.{all_there, both_given}
-use Rattle.isp_masks.specs.Asks.{block_asks, result_asks}
-use Rattle.isp_masks.specs.Keeping.{constants_asks}
-use Rattle.isp_masks.proofs.AskNumbers.{constants_numbers}
+use Rattle.isp_masks_code.specs.Asks.{block_asks, result_asks}
+use Rattle.isp_masks_code.specs.Keeping.{constants_asks}
+use Rattle.isp_masks_code.proofs.Lemmas.{constants_numbers, result_own}
 use Rattle.isp_masks.proofs.ConstantRows.{constants_own}
-use Rattle.isp_masks.proofs.Own.{result_own, result_reserved}
+use Rattle.isp_masks.proofs.Reserving.{result_reserved}
 use Rattle.isp_masks.proofs.routine.reserve.Goals as goal
 
 pub returns-clause-rows : goal.returns-clause-rows

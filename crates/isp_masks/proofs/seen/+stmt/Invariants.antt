@@ -3,7 +3,7 @@ use Rattle.std.proofs.Common.{◌≡◌, ◌*◌, ◌-◌, ◌++◌, drop}
 use Rattle.isp_typed.specs.Nodes.{block_nodes, stmt_nodes}
 use Rattle.isp_typed.specs.Typed.{t_stmts}
 use Rattle.isp_typed.specs.Views.{block_of, stmt_of, stmts_of}
-use Rattle.isp_masks.specs.Exits.{all_exits, either_leaves}
+use Rattle.isp_masks_code.specs.Exits.{all_exits, either_leaves}
 use Rattle.isp_masks.specs.reader.Seen.{all_seen}
 use Rattle.isp_masks.proofs.seen.+stmt.Given as goal
 

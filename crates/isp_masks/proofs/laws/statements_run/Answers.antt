@@ -1,7 +1,0 @@
-use Rattle.isp_masks.proofs.Fitting.{stmt_parts}
-use Rattle.isp_masks.proofs.Stmts.{stmt_runs}
-use Rattle.isp_masks.proofs.laws.statements_run.Goals as goal
-
-pub returns : goal.returns
-returns c = λ w ready x pc z spot q a s c1 fit has names three b.
-    stmt_runs x w ready pc z spot q a s c1 (stmt_parts w x spot.slot (λ i e. (ready.counter i e).constant) fit) has names three b

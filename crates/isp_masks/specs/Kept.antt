@@ -1,0 +1,18 @@
+-- What becomes of a function's registers when constants are kept.
+use Rattle.std.specs.Prelude.{◌≡◌, ◌≤◌, ◌⊎◌, ℕ, ◌+◌, List, length, true}
+use Rattle.isp_base.specs.declared.types.Elem.{Elem}
+use Rattle.isp_base.specs.declared.types.Rate.{Rate}
+use Rattle.isp_lower.specs.Emitted.{Longer, rows_of}
+use Rattle.isp_lower.specs.Rows.{keeps, rows_at}
+use Rattle.isp_lower.specs.declared.registers.Constant.{Constant}
+use Rattle.isp_lower.specs.declared.registers.Registers.{Registers}
+use Rattle.isp_masks_code.specs.Keeping.{Each, IsIn}
+
+-- registers keep these too
+pub record KeepsAll (old new : Registers) (ks : List Constant) : Type 0 where
+  pub rows : Longer old new
+  pub all : Each (λ x. keeps (rows_at (rows_of new) x.rate) x.elem x.bits ≡ true) ks
+  pub few_scalars : length (rows_of new).scalars ≤ length (rows_of old).scalars + length ks
+  pub few_vectors : length (rows_of new).vectors ≤ length (rows_of old).vectors + length ks
+  pub same_arrays : (rows_of new).arrays ≡ (rows_of old).arrays
+  pub only : (r : Rate) (t : Elem) (b : ℕ) → keeps (rows_at (rows_of new) r) t b ≡ true → (keeps (rows_at (rows_of old) r) t b ≡ true) ⊎ IsIn ks (record { rate = r; elem = t; bits = b })

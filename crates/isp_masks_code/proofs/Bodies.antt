@@ -1,0 +1,254 @@
+-- The settings of bodies: of an `unmasked`, and of a `foreach`, whose last index may count the lanes of each run.
+use Rattle.std.proofs.Common.{◌≡◌, ℕ, ◌+◌, ◌*◌, ◌<◌, ◌≤◌, List, [], ◌∷◌, length, Option, Some, None, Bool, true, false, refl, sym, ap, ◌∙◌, subst, arith}
+use Rattle.std.specs.Prelude.{slice_get}
+use Rattle.isp_base.specs.Sets.{Mask, any}
+use Rattle.isp_base.specs.declared.types.Elem.TheVariants.{I32}
+use Rattle.isp_base.specs.declared.types.Rate.{Rate}
+use Rattle.isp_base.specs.declared.types.Rate.TheVariants.{Uniform, Varying}
+use Rattle.isp_code.specs.Conf.{Conf}
+use Rattle.isp_code.specs.declared.instr.Instr.{Instr}
+use Rattle.isp_typed.specs.Fine.{foreach_index}
+use Rattle.isp_typed.specs.Typed.{TStmt, TRange}
+use Rattle.isp_typed.specs.declared.variable.ArrayVariable.{ArrayVariable}
+use Rattle.isp_meaning.specs.Outcomes.{Res, Went, Trapped, Cut}
+use Rattle.isp_meaning.specs.State.{State}
+use Rattle.isp_meaning.specs.Statements.{run}
+use Rattle.isp_lower.specs.Consecutive.{RunHolds}
+use Rattle.isp_lower.specs.Layout.{Layout, IsApart, outside, run_in, within}
+use Rattle.isp_lower.specs.Setting.{ArrayFitsAt, AreAt, At, IsCounter, IsSettled, Setting, Spares, Stands, calls_of, gang_of}
+use Rattle.isp_lower.specs.Tables.{IsTyped}
+use Rattle.isp_lower.proofs.Lemmas.{none_holds}
+use Rattle.isp_masks_code.specs.Free.{last_index_of}
+use Rattle.isp_masks_code.specs.Named.{AreNamed}
+use Rattle.isp_masks_code.specs.Spots.{Numbers, Spot, body_spot}
+use Rattle.isp_masks_code.specs.Statements.{body_layout, stmt_code, stmt_places, stmt_texts}
+use Rattle.isp_masks_code.specs.StmtRuns.{EntersAt, StmtRuns}
+
+-- the same call by another layout, with the members of a run and its place
+abbrev pub with_layout : Setting → Layout → Mask → ℕ → Setting
+with_layout w l m b = record w { layout = l; members = m; start = b }
+
+-- which variable counts, and whether code is for members alone, is no matter to registers
+abbrev pub run_as : Layout → Option ℕ → Bool → Layout
+run_as l o d = record l { run = o; in_run = d }
+
+apart_same : (l : Layout) (o : Option ℕ) (d : Bool) → IsApart l → IsApart (run_as l o d)
+apart_same l o d a = record {
+  variables = a.variables;
+  spares = a.spares;
+  variable_spare = a.variable_spare;
+  result_variable = a.result_variable;
+  result_spare = a.result_spare;
+  place_variable = a.place_variable;
+  place_result = a.place_result;
+  place_spare = a.place_spare;
+  freshes = a.freshes;
+  variable_fresh = a.variable_fresh;
+  result_fresh = a.result_fresh;
+  spare_fresh = a.spare_fresh;
+  arrays = a.arrays;
+  constants = a.constants;
+  kept_variable = a.kept_variable;
+  kept_result = a.kept_result;
+  kept_spare = a.kept_spare;
+  kept_place = a.kept_place;
+}
+
+module _ (w : Setting) (o : Option ℕ) (d : Bool) (m : Mask) (b : ℕ) where
+  abbrev there : Setting
+  there = with_layout w (run_as w.layout o d) m b
+
+  array_same : (r : Rate) (y : ArrayVariable) → ArrayFitsAt w r y → ArrayFitsAt there r y
+  array_same Uniform y f = f
+  array_same Varying y f = f
+
+  pub settled_same : IsSettled w → ((i : ℕ) → o ≡ Some i → IsCounter there i) → IsSettled there
+  settled_same ready counter = record {
+    gang = ready.gang;
+    found = ready.found;
+    apart = apart_same w.layout o d ready.apart;
+    rates = ready.rates;
+    deep = ready.deep;
+    answer = ready.answer;
+    opened = ready.opened;
+    sizes = ready.sizes;
+    arrays = λ y h. let f = ready.arrays y h in record { is = array_same y.ty.rate y f.is; below = f.below; few = f.few };
+    calls = λ k g pc q sp a ps s c is. ready.calls k g pc q sp a ps s c
+        (record {
+          function = is.function;
+          here = is.here;
+          place = is.place;
+          at = is.at;
+          mask = is.mask;
+          some = is.some;
+          inside = is.inside;
+          hands =
+              is.hands;
+          result = is.result;
+          arrays_are = is.arrays_are;
+          out_is = is.out_is;
+          used = is.used;
+        });
+    counter = counter;
+    constants = ready.constants;
+  }
+
+  pub stands_there : (s : State) (c : Conf) → Stands w s c → RunHolds o b m (c.scalars (w.layout.place Uniform)) s.varying → Stands there s c
+  stands_there s c st h = record { uniforms = st.uniforms; varying = st.varying; result = st.result; results = st.results; own_arrays = st.own_arrays; arrays_are = st.arrays_are; out_is = st.out_is; run = h; constants = st.constants }
+
+  stands_back : (s : State) (c : Conf) → Stands there s c → RunHolds w.layout.run w.start w.members (c.scalars (w.layout.place Uniform)) s.varying → Stands w s c
+  stands_back s c st h = record { uniforms = st.uniforms; varying = st.varying; result = st.result; results = st.results; own_arrays = st.own_arrays; arrays_are = st.arrays_are; out_is = st.out_is; run = h; constants = st.constants }
+
+  pub runs_back : (turns : ℕ) (c : Conf) (pc : ℕ) (spot : Spot) (q : ℕ) (v : Res)
+      → ((s : State) (c1 : Conf) → Stands there s c1 → RunHolds w.layout.run w.start w.members (c1.scalars (w.layout.place Uniform)) s.varying)
+      → StmtRuns there turns c pc spot q v → StmtRuns w turns c pc spot q v
+  runs_back turns c pc spot q (Went s g u ct rt) keep r = record {
+    conf = r.conf;
+    steps = r.steps;
+    comes = r.comes;
+    at = r.at;
+    stands = stands_back s r.conf r.stands (keep s r.conf r.stands);
+    spares = record { scalars_stay = r.spares.scalars_stay; vectors_stay = r.spares.vectors_stay };
+    went = r.went;
+    continued = r.continued;
+    returned = r.returned;
+    masks = r.masks;
+    bound = r.bound;
+  }
+  runs_back turns c pc spot q (Trapped t s) keep r = r
+  runs_back turns c pc spot q (Cut s) keep r = r
+
+-- ---- the body of a `foreach`
+
+-- the same call in the body of a `foreach` with index i, for a run whose members these are, and whose place has these bits
+abbrev pub in_run : Setting → ℕ → Mask → ℕ → Setting
+in_run w i m b = with_layout w (within w.layout i) m b
+
+-- what is so where it begins: the members are on, and where the index counts them, it does so from the place on
+pub record RunEnters (w : Setting) (i pc h : ℕ) (a : Mask) (s : State) (c : Conf) (q : ℕ) : Type 0 where
+  pub at : At w c pc
+  pub mask : c.masks h ≡ a
+  pub some : any (gang_of w) a ≡ true
+  pub inside : (p : ℕ) → a p ≡ true → p < gang_of w
+  pub stands : Stands w s c
+  pub used : q ≤ 32 * s.work
+  pub counts : RunHolds (within w.layout i).run (c.scalars (w.layout.place Uniform)) a (c.scalars (w.layout.place Uniform)) s.varying
+
+abbrev pub RunBodyRuns : Setting → ℕ → ℕ → (ℕ → List Instr) → (Mask → State → Res) → Type 0
+RunBodyRuns w i h code v =
+    (a : Mask) (s : State) (c : Conf) (pc q : ℕ) → AreAt w.routine.code pc (code pc) → RunEnters w i pc h a s c q → StmtRuns (in_run w i a (c.scalars (w.layout.place Uniform))) w.turns c (pc + length (code pc)) (body_spot h) q (v a s)
+
+last_layout : (l : Layout) (rs : List TRange) (i : ℕ) → last_index_of rs ≡ Some i → body_layout l rs ≡ within l i
+last_layout l [] i e = absurd (cc)
+last_layout l (r ∷ []) i e = let same : r.index ≡ i = cc in ap (within l) same
+last_layout l (r ∷ q ∷ rs) i e = last_layout l (q ∷ rs) i e
+
+within_as : (Q : Layout → Type 0) (l : Layout) (i : ℕ) → ((o : Option ℕ) (d : Bool) → Q (run_as l o d)) → Q (within l i)
+within_as Q l i f = go (l.loaded i) l.run
+  where
+    go : (d : Bool) (o : Option ℕ) → Q (run_in d o l i)
+    go false None = f (Some i) true
+    go false (Some j) = f l.run false
+    go true o = f l.run false
+
+pub body_as : (Q : Layout → Type 0) (l : Layout) (rs : List TRange) → Q l → ((o : Option ℕ) (d : Bool) → Q (run_as l o d)) → Q (body_layout l rs)
+body_as Q l [] q f = q
+body_as Q l (r ∷ []) q f = within_as Q l r.index f
+body_as Q l (r ∷ q ∷ rs) p f = body_as Q l (q ∷ rs) p f
+
+-- its run is none, or by the last index
+pub body_run : (P : Option ℕ → Type 0) (l : Layout) (rs : List TRange) → l.run ≡ None → P None → P (last_index_of rs) → P (body_layout l rs).run
+body_run P l [] e p q = subst P (sym e) p
+body_run P l (r ∷ []) e p q = go (l.loaded r.index) l.run e
+  where
+    go : (d : Bool) (o : Option ℕ) → o ≡ None → P (run_in d o l r.index).run
+    go false None eo = q
+    go false (Some j) eo = absurd (cc)
+    go true o eo = subst P (sym e) p
+body_run P l (r ∷ s ∷ rs) e p q = body_run P l (s ∷ rs) e p q
+
+-- what is shown of a statement, in any setting
+abbrev pub InBodySpot : TStmt → Setting → ℕ → Numbers → Type 0
+InBodySpot x w h z =
+    (a : Mask) (s : State) (c : Conf) (pc q : ℕ) → AreAt w.routine.code pc (stmt_code w.layout w.frame.answer x pc z (body_spot h))
+    → AreNamed w.code z (stmt_places w.layout x) (stmt_texts x) → EntersAt w pc (body_spot h) a s c q
+    → StmtRuns w w.turns c (pc + length (stmt_code w.layout w.frame.answer x pc z (body_spot h))) (body_spot h) q
+    (run (gang_of w) w.frame (calls_of w) w.turns x a s)
+
+module _ (w : Setting) (ready : IsSettled w) (none : w.layout.run ≡ None) where
+  forgets : (o : Option ℕ) (d : Bool) (m : Mask) (b : ℕ) (s : State) (c : Conf) → Stands (with_layout w (run_as w.layout o d) m b) s c → RunHolds w.layout.run w.start w.members (c.scalars (w.layout.place Uniform)) s.varying
+  forgets o d m b s c st = none_holds w.layout.run w.start w.members (c.scalars (w.layout.place Uniform)) s.varying none
+
+  -- what the layout of a body is, by whether a packed load writes its index
+  pub within_is : (i : ℕ) (d : Bool) → w.layout.loaded i ≡ d → within w.layout i ≡ run_in d None w.layout i
+  within_is i d ed = ap (λ k. run_in k w.layout.run w.layout i) ed ∙ ap (λ o. run_in d o w.layout i) none
+
+  -- behind the body
+  pub run_stands : (i : ℕ) (m : Mask) (b : ℕ) (s : State) (c : Conf) → Stands (in_run w i m b) s c → Stands w s c
+  run_stands i m b s c = within_as (λ l. Stands (with_layout w l m b) s c → Stands w s c) w.layout i (λ o d st. stands_back w o d m b s c st (forgets o d m b s c st))
+
+  pub run_spares : (i : ℕ) (m : Mask) (b n : ℕ) (c c1 : Conf) → Spares (in_run w i m b) n c c1 → Spares w n c c1
+  run_spares i m b n c c1 =
+      within_as (λ l. Spares (with_layout w l m b) n c c1 → Spares w n c c1) w.layout i (λ o d sp. record { scalars_stay = sp.scalars_stay; vectors_stay = sp.vectors_stay })
+
+  pub foreach_body : (rs : List TRange) (i : ℕ) (x : TStmt) (h : ℕ) (z : Numbers) → last_index_of rs ≡ Some i
+      → IsTyped w Varying (w.layout.variable Varying i) I32 → slice_get w.function.variables i ≡ Some foreach_index
+      → AreNamed w.code z (stmt_places (body_layout w.layout rs) x) (stmt_texts x)
+      → ((m : Mask) (b : ℕ) → IsSettled (with_layout w (body_layout w.layout rs) m b) → InBodySpot x (with_layout w (body_layout w.layout rs) m b) h z)
+      → RunBodyRuns w i h (λ pc. stmt_code (body_layout w.layout rs) w.frame.answer x pc z (body_spot h)) (run (gang_of w) w.frame (calls_of w) w.turns x)
+  foreach_body rs i x h z last typed constant named law a s c pc q has e =
+      subst (λ l. StmtRuns (with_layout w l a b) w.turns c (pc + length (stmt_code (body_layout w.layout rs) w.frame.answer x pc z (body_spot h))) (body_spot h) q (run (gang_of w) w.frame (calls_of w) w.turns x a s)) same
+      (go (w.layout.loaded i) refl)
+    where
+      b : ℕ
+      b = c.scalars (w.layout.place Uniform)
+
+      same : body_layout w.layout rs ≡ within w.layout i
+      same = last_layout w.layout rs i last
+
+      -- by the layout that the body has
+      Body : Layout → Type 0
+      Body l =
+          AreAt w.routine.code pc (stmt_code l w.frame.answer x pc z (body_spot h)) → AreNamed w.code z (stmt_places l x) (stmt_texts x)
+          → ((m : Mask) (k : ℕ) → IsSettled (with_layout w l m k) → InBodySpot x (with_layout w l m k) h z) → RunHolds l.run b a b s.varying
+          → StmtRuns (with_layout w l a b) w.turns c (pc + length (stmt_code l w.frame.answer x pc z (body_spot h))) (body_spot h) q (run (gang_of w) w.frame (calls_of w) w.turns x a s)
+
+      is : (d : Bool) → w.layout.loaded i ≡ d → body_layout w.layout rs ≡ run_in d None w.layout i
+      is d ed = same ∙ within_is i d ed
+
+      counted : w.layout.loaded i ≡ false → Body (run_as w.layout (Some i) true)
+      counted unloaded at names f holds =
+          let w1 = with_layout w (run_as w.layout (Some i) true) a b in
+          let counter = λ (j : ℕ) (ej : Some i ≡ Some j). let same : i ≡ j = cc in subst (IsCounter w1) same (record { typed = typed; constant = constant; unloaded = unloaded }) in
+          f a b (settled_same w (Some i) true a b ready counter) a s c pc q at names
+          (record { at = e.at; mask = e.mask; some = e.some; inside = λ p k. (e.inside p k, λ _. k); stands = stands_there w (Some i) true a b s c e.stands holds; used = e.used; low = omega arith })
+
+      plain : Body (run_as w.layout None false)
+      plain at names f holds =
+          f a b (settled_same w None false a b ready (λ j ej. absurd (cc))) a s c pc q at names
+          (record { at = e.at; mask = e.mask; some = e.some; inside = λ p k. (e.inside p k, λ no. absurd (cc)); stands = stands_there w None false a b s c e.stands tt; used = e.used; low = omega arith })
+
+      kept : run_as w.layout None false ≡ outside w.layout
+      kept = ap (λ o. run_as w.layout o false) (sym none)
+
+      holds : RunHolds (body_layout w.layout rs).run b a b s.varying
+      holds = subst (λ l. RunHolds l.run b a b s.varying) (sym same) e.counts
+
+      go : (d : Bool) → w.layout.loaded i ≡ d → StmtRuns (with_layout w (body_layout w.layout rs) a b) w.turns c
+          (pc + length (stmt_code (body_layout w.layout rs) w.frame.answer x pc z (body_spot h))) (body_spot h) q
+          (run (gang_of w) w.frame (calls_of w) w.turns x a s)
+      go false ed = subst Body (sym (is false ed)) (counted ed) has named law holds
+      go true ed = subst Body (sym (is true ed)) (subst Body kept plain) has named law holds
+
+-- ---- the body of an `unmasked`
+
+module _ (w : Setting) (ready : IsSettled w) where
+  pub outside_settled : IsSettled (with_layout w (outside w.layout) w.members w.start)
+  outside_settled =
+      settled_same w w.layout.run false w.members w.start ready (λ i e. let k = ready.counter i e in record { typed = k.typed; constant = k.constant; unloaded = k.unloaded })
+
+  pub outside_back : (turns : ℕ) (c : Conf) (pc : ℕ) (spot : Spot) (q : ℕ) (v : Res) → StmtRuns (with_layout w (outside w.layout) w.members w.start) turns c pc spot q v → StmtRuns w turns c pc spot q v
+  outside_back turns c pc spot q v r = runs_back w w.layout.run false w.members w.start turns c pc spot q v (λ s c1 st. st.run) r
+
+  pub outside_stands : (s : State) (c : Conf) → Stands w s c → Stands (with_layout w (outside w.layout) w.members w.start) s c
+  outside_stands s c st = stands_there w w.layout.run false w.members w.start s c st st.run
