@@ -5,7 +5,7 @@ use Rattle.std.proofs.lemmas.List.{set-append_left, length-set}
 use Rattle.std.proofs.Math.Seq.{set-append_seam}
 use Rattle.isp_base.specs.declared.types.Span.{Span}
 use Rattle.isp_code.specs.declared.instr.Instr.{Instr}
-use Rattle.isp_lower.specs.Instructions.{jump_off}
+use Rattle.isp_lower_code.specs.Instructions.{jump_off}
 use Rattle.isp_lower.specs.Emitted.{Appends, texts_of}
 use Rattle.isp_lower.specs.declared.types.Body.{Body}
 use Rattle.isp_masks.specs.Awaited.{AreBelow, Awaits, Code, jump_where, set_all}

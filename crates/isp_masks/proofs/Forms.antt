@@ -4,8 +4,8 @@ use Rattle.std.proofs.Math.Seq.{take-suc}
 use Rattle.std.proofs.lemmas.List.{drop_more, drop_all, map-append}
 use Rattle.isp_base.specs.declared.types.Span.{Span}
 use Rattle.isp_base.specs.declared.types.Ty.{Ty}
-use Rattle.isp_lower.specs.Asks.{Nothing, Both}
-use Rattle.isp_lower.specs.Layout.{Layout}
+use Rattle.isp_lower_code.specs.Asks.{Nothing, Both}
+use Rattle.isp_lower_code.specs.Layout.{Layout}
 use Rattle.isp_lower.specs.declared.types.Body.{Body}
 use Rattle.isp_typed.specs.Nodes.{stmt_nodes, stmts_nodes}
 use Rattle.isp_typed.specs.Typed.{t_stmts}

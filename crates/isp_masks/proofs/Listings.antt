@@ -8,8 +8,8 @@ use Rattle.isp_base.specs.declared.types.Span.{Span}
 use Rattle.isp_code.specs.Listing.{Routine}
 use Rattle.isp_code.specs.Writable.{has_byte, place_fits}
 use Rattle.isp_lower.specs.Drafts.{Draft, TablesCanBeWritten, all_routines, finished}
-use Rattle.isp_lower.specs.Setting.{AreAt}
-use Rattle.isp_lower.proofs.Lemmas.{all_both}
+use Rattle.isp_lower_code.specs.Setting.{AreAt}
+use Rattle.isp_lower_code.proofs.Lemmas.{all_both}
 use Rattle.isp_tree.specs.Nodes.{nodes_of_all}
 use Rattle.isp_typed.specs.Nodes.{function_nodes}
 use Rattle.isp_typed.specs.Typed.{Program, TFunction}

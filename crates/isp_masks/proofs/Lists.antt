@@ -2,8 +2,8 @@
 use Rattle.std.proofs.Common.{◌≡◌, ℕ, ◌+◌, List, [], ◌∷◌, ◌++◌, length, refl, sym, ap, ◌∙◌, arith, append_assoc, append-nil, length-append, true, false, Bool, not, Option}
 use Rattle.isp_base.specs.declared.types.Ty.{Ty}
 use Rattle.isp_code.specs.declared.instr.Instr.{Instr}
-use Rattle.isp_lower.specs.Instructions.{jump_off}
-use Rattle.isp_lower.specs.Layout.{Layout}
+use Rattle.isp_lower_code.specs.Instructions.{jump_off}
+use Rattle.isp_lower_code.specs.Layout.{Layout}
 use Rattle.isp_typed.specs.Typed.{TStmt, t_stmts}
 use Rattle.isp_masks.specs.Awaited.{jump_where}
 use Rattle.isp_masks_code.specs.Exits.{all_go_on}

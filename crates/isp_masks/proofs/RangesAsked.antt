@@ -5,8 +5,8 @@ use Rattle.isp_typed.specs.Views.{range_of, ranges_of}
 use Rattle.isp_typed.specs.declared.stmt.TypedRange.{TypedRange}
 use Rattle.std.specs.Prelude.{[], ◌∷◌}
 use Rattle.isp_typed.specs.Typed.{TRange}
-use Rattle.isp_lower.specs.Asks.{Ask}
-use Rattle.isp_lower.specs.Reserved.{HasNumbers}
+use Rattle.isp_lower_code.specs.Asks.{Ask}
+use Rattle.isp_lower_code.specs.Room.{HasNumbers}
 
 -- those that are left begin with the next one, and at the end none is left
 pub ranges_more : (all : List TypedRange) (i : ℕ) (x : TypedRange) → i < length all → x ≡ get_or all i x → ranges_of (drop i all) ≡ range_of x ∷ ranges_of (drop (i + 1) all)

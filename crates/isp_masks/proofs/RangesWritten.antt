@@ -12,10 +12,10 @@ use Rattle.isp_code.specs.declared.instr.JumpTest.TheVariants as jump
 use Rattle.isp_typed.specs.Typed.{TRange, TStmt}
 use Rattle.isp_typed.specs.Views.{ranges_of}
 use Rattle.isp_typed.specs.declared.stmt.TypedRange.{TypedRange}
-use Rattle.isp_lower.specs.Instructions.{compare, convert, jump_on, splat}
-use Rattle.isp_lower.specs.Pieces.{guard, two}
+use Rattle.isp_lower_code.specs.Instructions.{compare, convert, jump_on, splat}
+use Rattle.isp_lower_code.specs.Pieces.{guard, two}
 use Rattle.isp_lower.specs.Emitted.{Appends, Present, layout}
-use Rattle.isp_lower.specs.Layout.{Layout}
+use Rattle.isp_lower_code.specs.Layout.{Layout}
 use Rattle.isp_lower.specs.declared.types.Body.{Body}
 use Rattle.isp_lower.specs.declared.types.Scope.{Scope}
 use Rattle.isp_lower.proofs.Lemmas.{appends_then}

@@ -3,9 +3,9 @@ use Rattle.std.proofs.Common.{ℕ, ◌<◌, Option, Some, None, refl, arith}
 use Rattle.isp_base.specs.declared.types.Elem.{Elem}
 use Rattle.isp_base.specs.declared.types.Rate.{Rate}
 use Rattle.isp_base.specs.declared.types.Ty.{Ty}
-use Rattle.isp_lower.specs.Asks.{Number, Register}
+use Rattle.isp_lower_code.specs.Asks.{Number, Register}
 use Rattle.isp_lower.specs.Reserved.{Gives, IsReserved}
-use Rattle.isp_lower.specs.Rows.{Variable}
+use Rattle.isp_lower_code.specs.Rows.{Variable}
 use Rattle.isp_lower.specs.declared.reserve.Reserve.{Reserve}
 use Rattle.isp_lower.proofs.Lemmas.{gives_none}
 use Rattle.isp_masks_code.specs.Asks.{result_asks}

@@ -7,9 +7,9 @@ use Rattle.isp_base.specs.declared.types.Span.{Span}
 use Rattle.isp_base.specs.declared.types.Ty.{Ty}
 use Rattle.isp_tree.specs.declared.stmt.Form.{Form}
 use Rattle.isp_typed.specs.Typed.{TExpr, TSimple, TFirst, TStmt, t_for}
-use Rattle.isp_lower.specs.Pieces.{guard, two}
+use Rattle.isp_lower_code.specs.Pieces.{guard, two}
 use Rattle.isp_lower.specs.Emitted.{Appends, layout}
-use Rattle.isp_lower.specs.Layout.{Layout}
+use Rattle.isp_lower_code.specs.Layout.{Layout}
 use Rattle.isp_lower.specs.declared.types.Body.{Body}
 use Rattle.isp_lower.specs.declared.types.Scope.{Scope}
 use Rattle.isp_masks_code.specs.Exits.{nobody_leaves}

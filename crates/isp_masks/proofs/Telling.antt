@@ -10,12 +10,12 @@ use Rattle.isp_code.specs.declared.instr.Instr.TheVariants as instr
 use Rattle.isp_typed.specs.Typed.{TExpr, t_exprs, type_of}
 use Rattle.isp_typed.specs.Views.{expr_of, exprs_of}
 use Rattle.isp_typed.specs.declared.expr.TypedExpr as rust
-use Rattle.isp_lower.specs.Asks.{Ask, Both, Nothing, Number, operand_asks, values_asks}
-use Rattle.isp_lower.specs.Code.{expr_code, value_registers, values_code}
-use Rattle.isp_lower.specs.Found.{operand, operand_of}
-use Rattle.isp_lower.specs.Spans.{expr_places, values_places}
+use Rattle.isp_lower_code.specs.Asks.{Ask, Both, Nothing, Number, operand_asks, values_asks}
+use Rattle.isp_lower_code.specs.Code.{expr_code, value_registers, values_code}
+use Rattle.isp_lower_code.specs.Found.{operand, operand_of}
+use Rattle.isp_lower_code.specs.Spans.{expr_places, values_places}
 use Rattle.isp_lower.specs.Emitted.{Appends, AppendsText, texts_of}
-use Rattle.isp_lower.specs.Layout.{Layout}
+use Rattle.isp_lower_code.specs.Layout.{Layout}
 use Rattle.isp_lower.specs.declared.types.Body.{Body}
 use Rattle.isp_lower.proofs.Lemmas.{appends_self, appends_then}
 use Rattle.isp_masks.specs.Printed.{first_shown, first_word, rates_of, registers_of, told_at, words_at}

@@ -4,8 +4,8 @@ use Rattle.std.specs.Prelude.{slice_set}
 use Rattle.isp_base.specs.declared.types.Span.{Span}
 use Rattle.isp_code.specs.declared.instr.Instr.{Instr}
 use Rattle.isp_code.specs.declared.instr.Instr.TheVariants as instr
-use Rattle.isp_lower.specs.Instructions.{jump_off, the_others, where_so}
-use Rattle.isp_lower.specs.Pieces.{guard}
+use Rattle.isp_lower_code.specs.Instructions.{jump_off, the_others, where_so}
+use Rattle.isp_lower_code.specs.Pieces.{guard}
 use Rattle.isp_lower.specs.Emitted.{Appends}
 use Rattle.isp_lower.specs.declared.types.Body.{Body}
 use Rattle.isp_lower.proofs.Lemmas.{appends_then, code_landed}

@@ -5,9 +5,9 @@ use Rattle.isp_base.specs.declared.types.Span.{Span}
 use Rattle.isp_code.specs.declared.instr.Instr.{Instr}
 use Rattle.isp_code.specs.declared.instr.Instr.TheVariants as instr
 use Rattle.isp_code.specs.declared.instr.JumpTest.TheVariants as jump
-use Rattle.isp_lower.specs.Pieces.{choice, guard, two}
+use Rattle.isp_lower_code.specs.Pieces.{choice, guard, two}
 use Rattle.isp_lower.specs.Emitted.{Appends, texts_of}
-use Rattle.isp_lower.specs.Layout.{mask_register}
+use Rattle.isp_lower_code.specs.Layout.{mask_register}
 use Rattle.isp_lower.specs.declared.types.Body.{Body}
 use Rattle.isp_lower.proofs.Lemmas.{code_chosen, code_landed}
 use Rattle.isp_masks_code.specs.Rounds.{rounds_code}

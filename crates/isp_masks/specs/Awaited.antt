@@ -2,7 +2,7 @@
 use Rattle.std.specs.Prelude.{◌≡◌, ◌<◌, ℕ, List, [], ◌∷◌, ◌++◌, length, slice_set, Bool, true, false}
 use Rattle.isp_base.specs.declared.types.Span.{Span}
 use Rattle.isp_code.specs.declared.instr.Instr.{Instr}
-use Rattle.isp_lower.specs.Instructions.{jump_off}
+use Rattle.isp_lower_code.specs.Instructions.{jump_off}
 use Rattle.isp_lower.specs.Emitted.{texts_of}
 use Rattle.isp_lower.specs.declared.types.Body.{Body}
 use Rattle.isp_masks_code.specs.Spots.{Numbers}

@@ -13,21 +13,21 @@ use Rattle.isp_typed.specs.Typed.{TExpr, type_of, elem_of, TSimple, TFirst, TStm
 use Rattle.isp_typed.specs.Views.{expr_of, simple_of}
 use Rattle.isp_typed.specs.declared.expr.TypedExpr.{TypedExpr}
 use Rattle.isp_typed.specs.declared.stmt.TypedSimple.{TypedSimple}
-use Rattle.isp_lower.specs.Code.{expr_code}
-use Rattle.isp_lower.specs.Spans.{expr_places}
-use Rattle.isp_lower.specs.Found.{found, operand, operand_of}
-use Rattle.isp_lower.specs.Instructions.{jump_off, compare, compute, convert, copy, splat, the_others, where_so}
-use Rattle.isp_lower.specs.Pieces.{guard, two}
+use Rattle.isp_lower_code.specs.Code.{expr_code}
+use Rattle.isp_lower_code.specs.Spans.{expr_places}
+use Rattle.isp_lower_code.specs.Found.{found, operand, operand_of}
+use Rattle.isp_lower_code.specs.Instructions.{jump_off, compare, compute, convert, copy, splat, the_others, where_so}
+use Rattle.isp_lower_code.specs.Pieces.{guard, two}
 use Rattle.isp_lower.specs.Emitted.{layout, texts_of}
 use Rattle.isp_lower.specs.declared.types.Body.{Body}
 use Rattle.isp_lower.specs.declared.types.Scope.{Scope}
 use Rattle.isp_lower.specs.Written.{Piece as Silent}
 use Rattle.isp_code.specs.declared.instr.Plain.TheVariants as plain
-use Rattle.isp_lower.specs.Asks.{Ask, Both, Register, Number, spare_ask}
-use Rattle.isp_lower.specs.Layout.{Layout, within, outside}
-use Rattle.isp_lower.specs.Rows.{Variable, Place}
+use Rattle.isp_lower_code.specs.Asks.{Ask, Both, Register, Number, spare_ask}
+use Rattle.isp_lower_code.specs.Layout.{Layout, within, outside}
+use Rattle.isp_lower_code.specs.Rows.{Variable, Place}
 use Rattle.isp_lower.specs.declared.numbered.Slot.{Slot}
-use Rattle.isp_lower.specs.declared.registers.Constant.{Constant}
+use Rattle.isp_lower_code.specs.declared.constant.Constant.{Constant}
 use Rattle.isp_masks_code.specs.Asks.{bounds_asks, loop_asks, measures_asks, places_asks}
 use Rattle.isp_masks_code.specs.Asserts.{assert_code, assert_places}
 use Rattle.isp_masks_code.specs.Exits.{exits_of, both_go_on, leaving_of}

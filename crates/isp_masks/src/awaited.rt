@@ -1,6 +1,6 @@
 //! Jumps to the end of a block, which are written once the end is known.
 ghost use Rattle.std.specs.Prelude.{◌≡◌, length, OnOk};
-ghost use Rattle.isp_lower.specs.Instructions.{jump_off};
+ghost use Rattle.isp_lower_code.specs.Instructions.{jump_off};
 ghost use Rattle.isp_masks.specs.Awaited.{AreBelow, LeavesRoom, set_all};
 
 use isp_code::{Instr, JumpTest};

@@ -6,7 +6,7 @@ ghost use Rattle.isp_tree.specs.declared.stmt.Form.TheVariants.{Plain, Coherent}
 ghost use Rattle.isp_masks_code.specs.declared.exits.Leaving.TheVariants.{Never, Maybe};
 ghost use Rattle.isp_typed.specs.Typed.{type_of};
 ghost use Rattle.isp_typed.specs.Views.{expr_of, stmt_of};
-ghost use Rattle.isp_lower.specs.Asks.{expr_asks};
+ghost use Rattle.isp_lower_code.specs.Asks.{expr_asks};
 ghost use Rattle.isp_lower.specs.Emitted.{Present};
 ghost use Rattle.isp_masks_code.specs.Asks.{part_asks, part_slot, parts_asks, parts_slot, stmt_asks};
 ghost use Rattle.isp_masks_code.specs.Exits.{leaving_of, only_jump};

@@ -4,9 +4,9 @@ ghost use Rattle.std.specs.Prelude.{◌≡◌, ◌<◌, ◌+◌, ◌∷◌, [], 
 ghost use Rattle.isp_code.specs.declared.instr.Instr.TheVariants as instr;
 ghost use Rattle.isp_code.specs.declared.instr.JumpTest.TheVariants as jump;
 ghost use Rattle.isp_typed.specs.Views.{expr_of};
-ghost use Rattle.isp_lower.specs.Pieces.{guard};
+ghost use Rattle.isp_lower_code.specs.Pieces.{guard};
 ghost use Rattle.isp_lower.specs.Emitted.{Appends};
-ghost use Rattle.isp_lower.specs.Layout.{mask_register};
+ghost use Rattle.isp_lower_code.specs.Layout.{mask_register};
 ghost use Rattle.isp_masks_code.specs.Loops.{again_code, copy_mask, enter_code, if_needed, is_wide, is_wide_by, jump_all, loop_end_code, rejoin_code, sift_begin, sift_jump};
 ghost use Rattle.isp_masks_code.specs.Sets.{clear_mask, unite};
 

@@ -3,8 +3,8 @@
 ghost use Rattle.std.specs.Prelude.{◌≡◌, ◌≤◌, [], length, drop, IfOk, OnOk};
 ghost use Rattle.isp_typed.specs.Typed.{t_exprs};
 ghost use Rattle.isp_typed.specs.Views.{exprs_of};
-ghost use Rattle.isp_lower.specs.Asks.{values_asks};
-ghost use Rattle.isp_lower.specs.Code.{value_registers};
+ghost use Rattle.isp_lower_code.specs.Asks.{values_asks};
+ghost use Rattle.isp_lower_code.specs.Code.{value_registers};
 ghost use Rattle.isp_lower.specs.Emitted.{Appends, Present, layout};
 ghost use Rattle.isp_lower.specs.Written.{Writes as Adds, values_at};
 ghost use Rattle.isp_masks_code.specs.Prints.{own_rates, parts, show};

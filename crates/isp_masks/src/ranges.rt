@@ -6,12 +6,12 @@ ghost use Rattle.isp_base.specs.declared.types.Rate.TheVariants.{Uniform, Varyin
 ghost use Rattle.isp_code.specs.declared.instr.Instr.TheVariants as instr;
 ghost use Rattle.isp_code.specs.declared.instr.Plain.TheVariants as plain;
 ghost use Rattle.isp_typed.specs.Views.{expr_of, ranges_of};
-ghost use Rattle.isp_lower.specs.Asks.{Register as Ask, spare_ask};
-ghost use Rattle.isp_lower.specs.Instructions.{compare, compute, constant, convert, copy, splat};
-ghost use Rattle.isp_lower.specs.Spans.{expr_places};
+ghost use Rattle.isp_lower_code.specs.Asks.{Register as Ask, spare_ask};
+ghost use Rattle.isp_lower_code.specs.Instructions.{compare, compute, constant, convert, copy, splat};
+ghost use Rattle.isp_lower_code.specs.Spans.{expr_places};
 ghost use Rattle.isp_lower.specs.Emitted.{Appends, Present, layout};
-ghost use Rattle.isp_lower.specs.Layout.{mask_register};
-ghost use Rattle.isp_lower.specs.Rows.{Variable};
+ghost use Rattle.isp_lower_code.specs.Layout.{mask_register};
+ghost use Rattle.isp_lower_code.specs.Rows.{Variable};
 ghost use Rattle.isp_masks_code.specs.Asks.{bound_asks, bounds_asks, measures_asks};
 ghost use Rattle.isp_masks_code.specs.Ranges.{bound_code, bounds_code, goes_on, lane, lane_numbers, last_index, measures_code, narrow, range_mask, ranges_places, run_back, run_place, run_step, runs_slot, sum_lanes, test, wide};
 ghost use Rattle.isp_masks.specs.Written.{first_sweep, index_codes, inner_sweep, last_asks, place_test, range_begin, range_step, runs_begin, runs_next, sweep_asks};

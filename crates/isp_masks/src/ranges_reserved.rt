@@ -1,7 +1,8 @@
 //! What the code of `foreach` asks for besides its body: what all runs use, the bounds, and the places.
 ghost use Rattle.std.specs.Prelude.{◌≡◌, ◌+◌, length, IfOk, OnOk};
 ghost use Rattle.isp_typed.specs.Views.{expr_of, range_of, ranges_of};
-ghost use Rattle.isp_lower.specs.Reserved.{Gives, HasNumbers};
+ghost use Rattle.isp_lower_code.specs.Room.{HasNumbers};
+ghost use Rattle.isp_lower.specs.Reserved.{Gives};
 ghost use Rattle.isp_masks_code.specs.Asks.{bound_asks, bounds_asks, measures_asks, place_asks, places_asks};
 
 use isp_base::{Elem, Rate};

@@ -2,8 +2,9 @@
 ghost use Rattle.std.specs.Prelude.{◌≡◌, ◌+◌, option_map, OnOk, IfOk};
 ghost use Rattle.isp_typed.specs.Typed.{t_exprs};
 ghost use Rattle.isp_typed.specs.Views.{block_of, expr_of, exprs_of, first_of, simple_of, stmt_of, ranges_of};
-ghost use Rattle.isp_lower.specs.Asks.{Both, expr_asks, values_asks};
-ghost use Rattle.isp_lower.specs.Reserved.{Gives, HasNumbers};
+ghost use Rattle.isp_lower_code.specs.Asks.{Both, expr_asks, values_asks};
+ghost use Rattle.isp_lower_code.specs.Room.{HasNumbers};
+ghost use Rattle.isp_lower.specs.Reserved.{Gives};
 ghost use Rattle.isp_masks_code.specs.Asks.{answer_asks, assert_asks, block_asks, first_asks, if_asks, if_else_asks, loop_asks, mask_asks, part_asks, part_slot, step_asks, stmt_asks, test_part_asks, turn_asks, turns_asks, ranges_asks, unique_asks};
 ghost use Rattle.isp_masks_code.specs.Prints.{own_rates};
 ghost use Rattle.isp_masks_code.specs.Ranges.{runs_slot};

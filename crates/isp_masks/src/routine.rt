@@ -1,9 +1,11 @@
 //! The code of functions.
 ghost use Rattle.std.specs.Prelude.{◌≡◌, ◌≤◌, true, OnOk};
-ghost use Rattle.isp_lower.specs.Asks.{Both};
+ghost use Rattle.isp_lower_code.specs.Asks.{Both};
 ghost use Rattle.isp_lower.specs.Drafts.{draft_of};
-ghost use Rattle.isp_lower.specs.Emitted.{Grows, Present, first_rows, layout, rows_of};
-ghost use Rattle.isp_lower.specs.Reserved.{Has, HasNumbers, registers_asked};
+ghost use Rattle.isp_lower_code.specs.FirstRows.{first_rows};
+ghost use Rattle.isp_lower.specs.Emitted.{Grows, Present, layout, rows_of};
+ghost use Rattle.isp_lower_code.specs.Room.{HasNumbers, registers_asked};
+ghost use Rattle.isp_lower.specs.Reserved.{Has};
 ghost use Rattle.isp_typed.specs.Views.{block_of, function_of};
 ghost use Rattle.isp_masks_code.specs.Asks.{block_asks, result_asks};
 ghost use Rattle.isp_masks_code.specs.Keeping.{Each, constants_asks};
@@ -20,7 +22,8 @@ use crate::statement::block;
 use crate::wanted::constants;
 use isp_base::Rate;
 use isp_code::{Instr, Register};
-use isp_lower::{Body, Constant, Emitter, MaskNumber, Reserve, Scope, Slot, scalar, vector};
+use isp_lower::{Body, Emitter, MaskNumber, Reserve, Scope, Slot, scalar, vector};
+use isp_lower_code::Constant;
 use isp_typed::{TypedBlock, TypedFunction};
 use std::alloc::AllocError;
 

@@ -1,8 +1,8 @@
 //! Instructions on sets of lanes, and statements that lanes leave by.
 ghost use Rattle.std.specs.Prelude.{◌≡◌, ◌+◌, ◌∷◌, [], length, IfOk, OnOk};
 ghost use Rattle.isp_code.specs.declared.instr.Instr.TheVariants as instr;
-ghost use Rattle.isp_lower.specs.Instructions.{the_others, where_so};
-ghost use Rattle.isp_lower.specs.Pieces.{guard};
+ghost use Rattle.isp_lower_code.specs.Instructions.{the_others, where_so};
+ghost use Rattle.isp_lower_code.specs.Pieces.{guard};
 ghost use Rattle.isp_lower.specs.Emitted.{Appends};
 ghost use Rattle.isp_masks_code.specs.Loops.{copy_mask, jump_all};
 ghost use Rattle.isp_masks_code.specs.Sets.{clear_mask, jump_code, jumped_code, leave_code, unite};

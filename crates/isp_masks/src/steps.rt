@@ -1,7 +1,7 @@
 //! The code of a `for`'s first part, and what stands behind a turn of a loop: the step, the test and the jump back.
 ghost use Rattle.std.specs.Prelude.{◌<◌, ◌+◌, option_map, Some, false, OnOk};
 ghost use Rattle.isp_typed.specs.Views.{expr_of, first_of, simple_of};
-ghost use Rattle.isp_lower.specs.Asks.{expr_asks};
+ghost use Rattle.isp_lower_code.specs.Asks.{expr_asks};
 ghost use Rattle.isp_lower.specs.Emitted.{Present};
 ghost use Rattle.isp_lower.specs.Written.{Writes as Adds};
 ghost use Rattle.isp_masks_code.specs.Asks.{first_asks, step_asks, test_part_asks};

@@ -5,7 +5,8 @@ ghost use Rattle.std.specs.Prelude.{◌≡◌, ◌+◌, ◌*◌, ◌≤◌, IfOk
 ghost use Rattle.isp_masks_code.specs.Keeping.{keep_steps};
 
 use isp_base::{Rate, Ty, Value};
-use isp_lower::{Constant, known};
+use isp_lower::known;
+use isp_lower_code::Constant;
 use isp_typed::{
     TypedArgument, TypedBase, TypedBlock, TypedCall, TypedExpr, TypedFirst, TypedItem, TypedPlace,
     TypedSimple, TypedStmt,

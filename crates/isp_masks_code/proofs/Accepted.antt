@@ -7,7 +7,7 @@ use Rattle.isp_code.specs.declared.instr.Instr.{Instr}
 use Rattle.isp_code.specs.declared.instr.Instr.TheVariants as instr
 use Rattle.isp_verify.specs.Faults.{stays, last, header_fits, code_fault}
 use Rattle.isp_verify.proofs.AcceptedLaws.{fine_accepted}
-use Rattle.isp_lower.specs.Sound.{IsSound, AreSound}
+use Rattle.isp_lower_code.specs.Sound.{IsSound, AreSound}
 use Rattle.isp_masks_code.specs.Accepted.{IsBodyCode}
 use Rattle.isp_masks_code.specs.Keeping.{constants_code}
 use Rattle.isp_masks_code.specs.Spots.{first_spot}

@@ -16,11 +16,11 @@ use Rattle.isp_meaning.specs.Places.{written}
 use Rattle.isp_meaning.specs.Rounds.{members, rounds, round_of_one, active_rounds}
 use Rattle.isp_meaning.specs.State.{State, tick}
 use Rattle.isp_meaning.proofs.Members.{any_at, lowest_below, lowest_first, lowest_in, lowest_is, no_lowest, no_member, none_all, none_listed}
-use Rattle.isp_lower.specs.Layout.{mask_register}
-use Rattle.isp_lower.specs.Runs.{Comes}
-use Rattle.isp_lower.specs.Setting.{Setting, IsSettled, gang_of, AreAt, At, Stands, Allowed}
-use Rattle.isp_lower.proofs.Lemmas.{are_front, are_back, put_same, put_other, comes_on, comes_none, step_go, at_to, spares_all, spares_less, jumped, jump_comes, jump_at}
-use Rattle.isp_lower.proofs.Lemmas.{masked, masked_at, others_comes, set_at, set_comes, set_goes, variable_spares, written_stands}
+use Rattle.isp_lower_code.specs.Layout.{mask_register}
+use Rattle.isp_lower_code.specs.Runs.{Comes}
+use Rattle.isp_lower_code.specs.Setting.{Setting, IsSettled, gang_of, AreAt, At, Stands, Allowed}
+use Rattle.isp_lower_code.proofs.Lemmas.{are_front, are_back, put_same, put_other, comes_on, comes_none, step_go, at_to, spares_all, spares_less, jumped, jump_comes, jump_at}
+use Rattle.isp_lower_code.proofs.Lemmas.{masked, masked_at, others_comes, set_at, set_comes, set_goes, variable_spares, written_stands}
 use Rattle.isp_masks_code.specs.LoopRuns.{BodyRuns}
 use Rattle.isp_masks_code.specs.Loops.{copy_mask}
 use Rattle.isp_masks_code.specs.Rounds.{lowest_mask, lane_number, take_code, one_code, active_code}

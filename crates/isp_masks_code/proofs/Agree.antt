@@ -33,10 +33,10 @@ use Rattle.isp_meaning.specs.Runs.{handed, first_frame, first_state, meaning, gi
 use Rattle.isp_meaning.specs.State.{State, below}
 use Rattle.isp_meaning.specs.Statements.{block}
 use Rattle.isp_meaning.proofs.Grown.{prefix_self}
-use Rattle.isp_lower.specs.Layout.{Layout, register}
-use Rattle.isp_lower.specs.Pieces.{two}
-use Rattle.isp_lower.specs.Setting.{Setting, IsSettled}
-use Rattle.isp_lower.proofs.Lemmas.{are_front, are_back, put_same, step_is}
+use Rattle.isp_lower_code.specs.Layout.{Layout, register}
+use Rattle.isp_lower_code.specs.Pieces.{two}
+use Rattle.isp_lower_code.specs.Setting.{Setting, IsSettled}
+use Rattle.isp_lower_code.proofs.Lemmas.{are_front, are_back, put_same, step_is}
 use Rattle.isp_code.proofs.Steps.{after-sum}
 use Rattle.isp_masks_code.specs.Agreement.{RunsAgree}
 use Rattle.isp_masks_code.specs.Compiled.{entry_state, entry_setting, ResultFits, IsCompiled, IsEntry, AreCompiled}

@@ -27,13 +27,13 @@ use Rattle.isp_meaning.specs.State.{Frame, extent_at}
 use Rattle.isp_typed.specs.Fine.{array_type, HoldsArray}
 use Rattle.isp_typed.specs.Typed.{ty_of, Program, TFunction}
 use Rattle.isp_typed.specs.declared.variable.ArrayVariable.{ArrayVariable}
-use Rattle.isp_lower.specs.Layout.{Layout, array_register}
-use Rattle.isp_lower.specs.Setting.{ArrayFitsAt, ArrayFits, Setting}
+use Rattle.isp_lower_code.specs.Layout.{Layout, array_register}
+use Rattle.isp_lower_code.specs.Setting.{ArrayFitsAt, ArrayFits, Setting}
 use Rattle.isp_masks_code.specs.Compiled.{call_setting, entry_setting}
 use Rattle.isp_typed.specs.declared.variable.Holds.{Holds}
 use Rattle.isp_typed.specs.declared.variable.Holds.TheVariants as holds
 use Rattle.isp_typed.specs.declared.variable.Variable.{Variable}
-use Rattle.isp_lower.specs.Header.{sharing_of, local_of, local_then, locals_of}
+use Rattle.isp_lower_code.specs.Header.{sharing_of, local_of, local_then, locals_of}
 use Rattle.isp_masks_code.specs.Arrays.{array_then, array_count, count_then, local_count, ArraysStand}
 use Rattle.isp_masks_code.proofs.Begins.{not_so, handed_none}
 use Rattle.isp_masks_code.proofs.Unions.{both_so}

@@ -24,16 +24,16 @@ use Rattle.isp_typed.specs.declared.variable.ArrayVariable.{ArrayVariable}
 use Rattle.isp_typed.specs.declared.variable.Holds.{Holds}
 use Rattle.isp_typed.specs.declared.variable.Holds.TheVariants as holds
 use Rattle.isp_typed.specs.declared.variable.Variable.{Variable}
-use Rattle.isp_lower.specs.Layout.{Layout, array_register}
-use Rattle.isp_lower.specs.Sound.{IsShared, HasMask, HasRegister, HasArray, HasLocal, Granted}
-use Rattle.isp_lower.specs.Tables.{AnyMask, AnyArray, IsLoadedIn, IsNamedIn, Table}
-use Rattle.isp_lower.specs.Header.{sharing_of, local_of}
+use Rattle.isp_lower_code.specs.Layout.{Layout, array_register}
+use Rattle.isp_lower_code.specs.Sound.{IsShared, HasMask, HasRegister, HasArray, HasLocal, Granted}
+use Rattle.isp_lower_code.specs.Tables.{AnyMask, AnyArray, IsLoadedIn, IsNamedIn, Table}
+use Rattle.isp_lower_code.specs.Header.{sharing_of, local_of}
 use Rattle.isp_masks_code.specs.Arrays.{array_then, array_count, local_count, ArraysStand, HoldsLocal}
 use Rattle.isp_masks_code.proofs.Arrays.{local_at}
 use Rattle.isp_masks_code.proofs.Own.{block_own}
 use Rattle.isp_masks_code.specs.Asks.{block_asks}
-use Rattle.isp_lower.proofs.Lemmas.{all_grow, all_held}
-use Rattle.isp_lower.specs.Asks.{All}
+use Rattle.isp_lower_code.proofs.Lemmas.{all_grow, all_held}
+use Rattle.isp_lower_code.specs.Asks.{All}
 
 -- ---- lists
 

@@ -16,11 +16,11 @@ use Rattle.isp_typed.specs.Nodes.{typed_nodes, exprs_nodes, item_nodes, first_no
 use Rattle.isp_typed.specs.Typed.{TFunction, TExpr, t_exprs, type_of, TItem, TSimple, TFirst, t_first_declare, t_first_simple, TRange, TStmt, t_block, t_declare, t_simple, t_if, t_if_else, t_while, t_do, t_for, t_foreach}
 use Rattle.isp_typed.specs.Typed.{t_foreach_active, t_foreach_unique, t_unmasked, t_jump, t_return, t_print, t_assert, TBlock, t_braces, TStmts, t_no_stmts, t_stmt_then}
 use Rattle.isp_typed.specs.declared.variable.Variable.{Variable}
-use Rattle.isp_lower.specs.Asks.{items_asks}
-use Rattle.isp_lower.specs.Reserved.{HasNumbers, registers_asked}
-use Rattle.isp_lower.specs.declared.registers.Constant.{Constant}
-use Rattle.isp_lower.proofs.Lemmas.{expr_some, test_numbers, expr_numbers, operand_numbers, index_numbers, shown_numbers, simple_numbers, item_numbers}
-use Rattle.isp_lower.proofs.Lemmas.{test_none, expr_registers, operand_registers, index_registers, values_registers, simple_registers, item_registers}
+use Rattle.isp_lower_code.specs.Asks.{items_asks}
+use Rattle.isp_lower_code.specs.Room.{HasNumbers, registers_asked}
+use Rattle.isp_lower_code.specs.declared.constant.Constant.{Constant}
+use Rattle.isp_lower_code.proofs.Lemmas.{expr_some, test_numbers, expr_numbers, operand_numbers, index_numbers, shown_numbers, simple_numbers, item_numbers}
+use Rattle.isp_lower_code.proofs.Lemmas.{test_none, expr_registers, operand_registers, index_registers, values_registers, simple_registers, item_registers}
 use Rattle.isp_masks_code.specs.Asks.{answer_asks, assert_asks, block_asks, stmt_asks, stmts_asks, loop_asks, part_asks, part_slot, parts_slot, bounds_asks, first_asks, measures_asks, places_asks, ranges_asks, step_asks, test_part_asks, turn_asks, unique_asks}
 use Rattle.isp_masks_code.specs.Keeping.{constants_asks, keep_steps, steps_at}
 use Rattle.isp_masks_code.specs.Prints.{own_rates}

@@ -15,11 +15,11 @@ use Rattle.isp_code.specs.declared.instr.JumpTest.TheVariants as jump
 use Rattle.isp_meaning.specs.Outcomes.{Val, Gives, Fails, Stops, Done, checked}
 use Rattle.isp_meaning.specs.Payloads.{Payload, One, Each, is_true, is_false, kept_by, offender, if_fails}
 use Rattle.isp_meaning.specs.State.{State}
-use Rattle.isp_lower.specs.Layout.{register}
-use Rattle.isp_lower.specs.Runs.{Comes, DoneRuns}
-use Rattle.isp_lower.specs.Setting.{Setting, IsSettled, gang_of, AreAt, At, Stands, Holds, Spares}
-use Rattle.isp_lower.proofs.Lemmas.{put_same, put_other, comes_none, comes_on, step_go, step_fail, next_at, at_to, spares_all, spares_on, failed_after, stopped_after}
-use Rattle.isp_lower.proofs.Lemmas.{jumped, jump_comes, jump_at, masked, where_comes, others_comes, masked_at, at_kept, place_named}
+use Rattle.isp_lower_code.specs.Layout.{register}
+use Rattle.isp_lower_code.specs.Runs.{Comes, DoneRuns}
+use Rattle.isp_lower_code.specs.Setting.{Setting, IsSettled, gang_of, AreAt, At, Stands, Holds, Spares}
+use Rattle.isp_lower_code.proofs.Lemmas.{put_same, put_other, comes_none, comes_on, step_go, step_fail, next_at, at_to, spares_all, spares_on, failed_after, stopped_after}
+use Rattle.isp_lower_code.proofs.Lemmas.{jumped, jump_comes, jump_at, masked, where_comes, others_comes, masked_at, at_kept, place_named}
 use Rattle.isp_masks_code.specs.Asserts.{fail, fails_code}
 
 -- ---- the lowest for which a test is true

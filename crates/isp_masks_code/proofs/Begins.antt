@@ -20,13 +20,13 @@ use Rattle.isp_typed.specs.declared.variable.Holds.TheVariants as holds
 use Rattle.isp_typed.specs.declared.variable.Variable.{Variable}
 use Rattle.isp_meaning.specs.Calls.{is_value, same_rate, one_passed}
 use Rattle.isp_meaning.specs.Runs.{handed}
-use Rattle.isp_lower.specs.Layout.{Layout}
+use Rattle.isp_lower_code.specs.Layout.{Layout}
 use Rattle.isp_masks_code.specs.Compiled.{entry_state, entry_setting, AreOne, IsOne}
 use Rattle.isp_masks_code.specs.Passing.{count_if, count_value, value_count, HasRate, PassedFirst, Passes}
 use Rattle.isp_masks_code.proofs.ConstantsRun.{Bare}
 use Rattle.isp_masks_code.proofs.Passing.{same_true, ones_begin, each_begin}
 use Rattle.isp_masks_code.proofs.Unions.{both_so}
-use Rattle.isp_lower.proofs.Lemmas.{none_holds}
+use Rattle.isp_lower_code.proofs.Lemmas.{none_holds}
 
 pub not_so : (a : Bool) → not a ≡ true → a ≡ false
 not_so true e = absurd (cc)

@@ -13,11 +13,11 @@ use Rattle.isp_typed.specs.declared.variable.ArrayVariable.{ArrayVariable}
 use Rattle.isp_meaning.specs.Outcomes.{Res, Went, Trapped, Cut}
 use Rattle.isp_meaning.specs.State.{State}
 use Rattle.isp_meaning.specs.Statements.{run}
-use Rattle.isp_lower.specs.Consecutive.{RunHolds}
-use Rattle.isp_lower.specs.Layout.{Layout, IsApart, outside, run_in, within}
-use Rattle.isp_lower.specs.Setting.{ArrayFitsAt, AreAt, At, IsCounter, IsSettled, Setting, Spares, Stands, calls_of, gang_of}
-use Rattle.isp_lower.specs.Tables.{IsTyped}
-use Rattle.isp_lower.proofs.Lemmas.{none_holds}
+use Rattle.isp_lower_code.specs.Consecutive.{RunHolds}
+use Rattle.isp_lower_code.specs.Layout.{Layout, IsApart, outside, run_in, within}
+use Rattle.isp_lower_code.specs.Setting.{ArrayFitsAt, AreAt, At, IsCounter, IsSettled, Setting, Spares, Stands, calls_of, gang_of}
+use Rattle.isp_lower_code.specs.Tables.{IsTyped}
+use Rattle.isp_lower_code.proofs.Lemmas.{none_holds}
 use Rattle.isp_masks_code.specs.Free.{last_index_of}
 use Rattle.isp_masks_code.specs.Named.{AreNamed}
 use Rattle.isp_masks_code.specs.Spots.{Numbers, Spot, body_spot}

@@ -26,20 +26,20 @@ use Rattle.isp_meaning.specs.Payloads.{Payload, One, Each, converted, sole}
 use Rattle.isp_meaning.specs.Rounds.{Range}
 use Rattle.isp_meaning.specs.State.{State, tick}
 use Rattle.isp_meaning.specs.Statements.{ranges}
-use Rattle.isp_lower.specs.Code.{expr_code}
-use Rattle.isp_lower.specs.Found.{convert_to, is_whole, found, whole_of}
-use Rattle.isp_lower.specs.Instructions.{constant, convert, splat}
-use Rattle.isp_lower.specs.Known.{constant_of}
-use Rattle.isp_lower.specs.Spans.{expr_places}
-use Rattle.isp_lower.specs.Layout.{Layout}
+use Rattle.isp_lower_code.specs.Code.{expr_code}
+use Rattle.isp_lower_code.specs.Found.{convert_to, is_whole, found, whole_of}
+use Rattle.isp_lower_code.specs.Instructions.{constant, convert, splat}
+use Rattle.isp_lower_code.specs.Known.{constant_of}
+use Rattle.isp_lower_code.specs.Spans.{expr_places}
+use Rattle.isp_lower_code.specs.Layout.{Layout}
 use Rattle.isp_base.specs.Values.{width}
 use Rattle.isp_base.specs.declared.types.Span.{Span}
 use Rattle.isp_base.specs.declared.types.Value.{Value}
-use Rattle.isp_lower.specs.Runs.{Comes, Enters, Failed, Runs, Stopped}
-use Rattle.isp_lower.specs.Setting.{Setting, IsSettled, gang_of, calls_of, AreAt, At, Spares, Stands, Holds, at_rate, held_at}
-use Rattle.isp_lower.specs.Tables.{IsTyped}
-use Rattle.isp_lower.proofs.Lemmas.{are_front, are_back, put_same, put_other, comes_none, comes_on, step_go, at_to, spares_all, spares_less, spares_on, failed_less, stopped_less, masked}
-use Rattle.isp_lower.proofs.Lemmas.{masked_at, set_at, set_comes, set_goes, set_spares, set_stands, bind_runs, runs_after, expr_runs, few, found_typed}
+use Rattle.isp_lower_code.specs.Runs.{Comes, Enters, Failed, Runs, Stopped}
+use Rattle.isp_lower_code.specs.Setting.{Setting, IsSettled, gang_of, calls_of, AreAt, At, Spares, Stands, Holds, at_rate, held_at}
+use Rattle.isp_lower_code.specs.Tables.{IsTyped}
+use Rattle.isp_lower_code.proofs.Lemmas.{are_front, are_back, put_same, put_other, comes_none, comes_on, step_go, at_to, spares_all, spares_less, spares_on, failed_less, stopped_less, masked}
+use Rattle.isp_lower_code.proofs.Lemmas.{masked_at, set_at, set_comes, set_goes, set_spares, set_stands, bind_runs, runs_after, expr_runs, few, found_typed}
 use Rattle.isp_masks_code.specs.Ranges.{wide, narrow, lane, sum_lanes, lane_numbers, measures_code, bound_code, bounds_code, ranges_places}
 use Rattle.isp_masks_code.specs.Rounds.{fill_mask}
 use Rattle.isp_masks_code.proofs.Numbered.{small_number}

@@ -38,12 +38,12 @@ use Rattle.isp_meaning.specs.Outcomes.{Res, Went, Trapped, Cut}
 use Rattle.isp_meaning.specs.Payloads.{One, Each}
 use Rattle.isp_meaning.specs.State.{State, Frame}
 use Rattle.isp_meaning.specs.Statements.{block}
-use Rattle.isp_lower.specs.Calls.{Takes, given_in, given_back, CallRuns}
-use Rattle.isp_lower.specs.Layout.{Layout, class_at, register}
-use Rattle.isp_lower.specs.Pieces.{two}
-use Rattle.isp_lower.specs.Setting.{Setting, IsSettled, IsCalling, CallsRun}
-use Rattle.isp_lower.specs.Steps.{ComesIn, FailedIn, StoppedIn}
-use Rattle.isp_lower.proofs.Lemmas.{are_front, are_back, put_same, comes_on, step_by, step_is, failed_after, stopped_after, place_named, none_holds}
+use Rattle.isp_lower_code.specs.Calls.{Takes, given_in, given_back, CallRuns}
+use Rattle.isp_lower_code.specs.Layout.{Layout, class_at, register}
+use Rattle.isp_lower_code.specs.Pieces.{two}
+use Rattle.isp_lower_code.specs.Setting.{Setting, IsSettled, IsCalling, CallsRun}
+use Rattle.isp_lower_code.specs.Steps.{ComesIn, FailedIn, StoppedIn}
+use Rattle.isp_lower_code.proofs.Lemmas.{are_front, are_back, put_same, comes_on, step_by, step_is, failed_after, stopped_after, place_named, none_holds}
 use Rattle.isp_masks_code.specs.Compiled.{call_setting, IsFunctionCode, AreCompiled}
 use Rattle.isp_masks_code.specs.Spots.{first_spot}
 use Rattle.isp_masks_code.specs.Statements.{block_code, returned}

@@ -25,14 +25,14 @@ use Rattle.isp_rates.specs.declared.exits.Within.{Within}
 use Rattle.isp_rates.specs.Breaches.{OfAny, OfEach}
 use Rattle.isp_rates.specs.Rates as rates
 use Rattle.isp_rates.specs.Rates.{goes_to, variables_of, DemandBreach, ExprBreach, PlaceBreach, BaseBreach, CallBreach, ArgumentsBreach, ArgumentBreach, ValuesBreach, part_rate}
-use Rattle.isp_lower.specs.Callees.{rate_held, rates_held, rates_in}
+use Rattle.isp_lower_code.specs.Callees.{rate_held, rates_held, rates_in}
 use Rattle.isp_rates.specs.Exits.{at_start, in_loop, in_foreach, in_turns, in_unmasked, ItemBreach, SimpleBreach, FirstBreach, RangeBreach, StmtBreach, BlockBreach, StmtsBreach}
 use Rattle.isp_rates.specs.Program.{ParametersBreach, ResultBreach, FunctionBreach, IsAccepted}
 use Rattle.isp_typed.specs.Library.{asks_uniform, parts}
 use Rattle.isp_typed.specs.declared.library.Part.{Part}
 use Rattle.isp_typed.specs.declared.library.Part.TheVariants as part
-use Rattle.isp_lower.specs.Library.{rate_taken, rates_taken}
-use Rattle.isp_lower.specs.Rated.{Reaches, IsRated, PlaceRated, BaseRated, CallRated, ArgumentsRated, ArgumentRated, ValuesRated, RatedAt, SimpleRated, ItemsRated}
+use Rattle.isp_lower_code.specs.Library.{rate_taken, rates_taken}
+use Rattle.isp_lower_code.specs.Rated.{Reaches, IsRated, PlaceRated, BaseRated, CallRated, ArgumentsRated, ArgumentRated, ValuesRated, RatedAt, SimpleRated, ItemsRated}
 use Rattle.isp_masks_code.specs.Compiled.{AreOne, IsOne}
 use Rattle.isp_masks_code.specs.Rated.{AllRated, AnswerRated, FirstRated, TestRated, StepRated, StmtRated, BlockRated, StmtsRated, RangesRated}
 use Rattle.isp_masks_code.specs.Free.{BlockFree}

@@ -16,13 +16,13 @@ use Rattle.isp_meaning.specs.State.{State}
 use Rattle.isp_meaning.specs.Payloads.{Payload, is_true, kept_by}
 use Rattle.isp_meaning.specs.Outcomes.{Res, Went, Trapped, Cut, go_on, went_all, both_sides, unless_empty, if_so}
 use Rattle.isp_meaning.specs.Statements.{branches}
-use Rattle.isp_lower.specs.Instructions.{jump_off}
-use Rattle.isp_lower.specs.Pieces.{guard}
-use Rattle.isp_lower.specs.Layout.{register, mask_register}
-use Rattle.isp_lower.specs.Runs.{Comes}
-use Rattle.isp_lower.specs.Setting.{Setting, IsSettled, gang_of, AreAt, At, Stands, Holds, Allowed}
-use Rattle.isp_lower.proofs.Lemmas.{are_front, are_back, put_same, put_other, comes_none, comes_on, step_go, at_to, spares_all, spares_less, spares_on, failed_after, stopped_after, failed_less}
-use Rattle.isp_lower.proofs.Lemmas.{stopped_less, jumped, jump_comes, jump_at, masked, where_comes, others_comes, masked_at, any_nobody, where_inside, at_kept}
+use Rattle.isp_lower_code.specs.Instructions.{jump_off}
+use Rattle.isp_lower_code.specs.Pieces.{guard}
+use Rattle.isp_lower_code.specs.Layout.{register, mask_register}
+use Rattle.isp_lower_code.specs.Runs.{Comes}
+use Rattle.isp_lower_code.specs.Setting.{Setting, IsSettled, gang_of, AreAt, At, Stands, Holds, Allowed}
+use Rattle.isp_lower_code.proofs.Lemmas.{are_front, are_back, put_same, put_other, comes_none, comes_on, step_go, at_to, spares_all, spares_less, spares_on, failed_after, stopped_after, failed_less}
+use Rattle.isp_lower_code.proofs.Lemmas.{stopped_less, jumped, jump_comes, jump_at, masked, where_comes, others_comes, masked_at, any_nobody, where_inside, at_kept}
 use Rattle.isp_masks_code.specs.Loops.{copy_mask, jump_all}
 use Rattle.isp_masks_code.specs.Sets.{unite}
 use Rattle.isp_masks_code.specs.Statements.{parted_code, wide_code, if_code, if_else_code}

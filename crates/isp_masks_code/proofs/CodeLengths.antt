@@ -16,13 +16,13 @@ use Rattle.isp_typed.specs.Typed.{TPlace, t_variable, t_element, t_called, t_exp
 use Rattle.isp_typed.specs.Typed.{TStmt, t_block, t_declare, t_simple, t_if, t_if_else, t_while, t_do, t_for, t_foreach, t_foreach_active, t_foreach_unique, t_unmasked, t_jump}
 use Rattle.isp_typed.specs.Typed.{t_return, t_print, t_assert, TBlock, t_braces, TStmts, t_no_stmts, t_stmt_then}
 use Rattle.isp_typed.specs.declared.variable.Variable.{Variable}
-use Rattle.isp_lower.specs.Code.{expr_code, value_registers, values_code}
-use Rattle.isp_lower.specs.Found.{found, operand, operand_of}
-use Rattle.isp_lower.specs.Instructions.{copy}
-use Rattle.isp_lower.specs.Layout.{Layout, outside}
-use Rattle.isp_lower.specs.Spans.{expr_places}
-use Rattle.isp_lower.specs.declared.registers.Constant.{Constant}
-use Rattle.isp_lower.proofs.Lemmas.{expr_long, operand_long, index_long, values_long, simple_long, items_long, expr_places_few, values_places_few, simple_places_few, items_places_few}
+use Rattle.isp_lower_code.specs.Code.{expr_code, value_registers, values_code}
+use Rattle.isp_lower_code.specs.Found.{found, operand, operand_of}
+use Rattle.isp_lower_code.specs.Instructions.{copy}
+use Rattle.isp_lower_code.specs.Layout.{Layout, outside}
+use Rattle.isp_lower_code.specs.Spans.{expr_places}
+use Rattle.isp_lower_code.specs.declared.constant.Constant.{Constant}
+use Rattle.isp_lower_code.proofs.Lemmas.{expr_long, operand_long, index_long, values_long, simple_long, items_long, expr_places_few, values_places_few, simple_places_few, items_places_few}
 use Rattle.isp_masks_code.specs.Asserts.{fails_code}
 use Rattle.isp_masks_code.specs.Exits.{all_go_on, both_go_on, exits_of, leaving_of}
 use Rattle.isp_masks_code.specs.Fors.{first_code, step_code, first_places, test_places, step_places}

@@ -12,12 +12,12 @@ use Rattle.isp_tree.specs.declared.stmt.Form.{Form}
 use Rattle.isp_meaning.specs.State.{State}
 use Rattle.isp_meaning.specs.Outcomes.{Val, Gives, Fails, Stops, Done, Res, Went, Trapped, Cut, with_value, go_on, went_all, unless_empty, if_so}
 use Rattle.isp_meaning.specs.Statements.{all_go}
-use Rattle.isp_lower.specs.Instructions.{jump_off}
-use Rattle.isp_lower.specs.Pieces.{guard}
-use Rattle.isp_lower.specs.Layout.{mask_register}
-use Rattle.isp_lower.specs.Runs.{Comes, Ok, Runs, DoneRuns}
-use Rattle.isp_lower.specs.Setting.{Setting, IsSettled, gang_of, AreAt, At, Stands, Spares}
-use Rattle.isp_lower.proofs.Lemmas.{comes_none, comes_on, step_go, at_to, spares_all, spares_on, failed_after, stopped_after, failed_less, stopped_less, jumped, jump_comes, jump_at}
+use Rattle.isp_lower_code.specs.Instructions.{jump_off}
+use Rattle.isp_lower_code.specs.Pieces.{guard}
+use Rattle.isp_lower_code.specs.Layout.{mask_register}
+use Rattle.isp_lower_code.specs.Runs.{Comes, Ok, Runs, DoneRuns}
+use Rattle.isp_lower_code.specs.Setting.{Setting, IsSettled, gang_of, AreAt, At, Stands, Spares}
+use Rattle.isp_lower_code.proofs.Lemmas.{comes_none, comes_on, step_go, at_to, spares_all, spares_on, failed_after, stopped_after, failed_less, stopped_less, jumped, jump_comes, jump_at}
 use Rattle.isp_masks_code.specs.Asks.{part_slot}
 use Rattle.isp_masks_code.specs.Spots.{Spot}
 use Rattle.isp_masks_code.specs.StmtRuns.{AreThree, EntersAt, Inside, StmtOk, StmtRuns}

@@ -9,12 +9,12 @@ use Rattle.isp_code.specs.declared.instr.Instr.{Instr}
 use Rattle.isp_typed.specs.Typed.{TBlock, t_braces}
 use Rattle.isp_meaning.specs.State.{State, tick}
 use Rattle.isp_meaning.specs.Statements.{block, run_all}
-use Rattle.isp_lower.specs.Pieces.{two}
-use Rattle.isp_lower.specs.Layout.{Layout}
-use Rattle.isp_lower.specs.Tables.{IsTyped}
-use Rattle.isp_lower.specs.Setting.{Setting, IsSettled, gang_of, calls_of, AreAt, At}
-use Rattle.isp_lower.proofs.Lemmas.{are_front, are_back}
-use Rattle.isp_lower.specs.declared.registers.Constant.{Constant}
+use Rattle.isp_lower_code.specs.Pieces.{two}
+use Rattle.isp_lower_code.specs.Layout.{Layout}
+use Rattle.isp_lower_code.specs.Tables.{IsTyped}
+use Rattle.isp_lower_code.specs.Setting.{Setting, IsSettled, gang_of, calls_of, AreAt, At}
+use Rattle.isp_lower_code.proofs.Lemmas.{are_front, are_back}
+use Rattle.isp_lower_code.specs.declared.constant.Constant.{Constant}
 use Rattle.isp_masks_code.specs.Keeping.{Each, KeepsThem, constants_code, keep_at, keep_code, keep_steps, steps_at}
 use Rattle.isp_masks_code.specs.Named.{BlockNamed}
 use Rattle.isp_masks_code.specs.Spots.{Numbers, first_spot}

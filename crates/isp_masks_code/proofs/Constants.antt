@@ -25,8 +25,8 @@ use Rattle.isp_typed.specs.Typed.{TFunction}
 use Rattle.isp_typed.specs.declared.variable.Holds.{Holds}
 use Rattle.isp_typed.specs.declared.variable.Holds.TheVariants as holds
 use Rattle.isp_typed.specs.declared.variable.Variable.{Variable}
-use Rattle.isp_lower.specs.Header.{local_of, local_then, locals_of, params_of}
-use Rattle.isp_lower.specs.Sound.{IsSound, AreSound}
+use Rattle.isp_lower_code.specs.Header.{local_of, local_then, locals_of, params_of}
+use Rattle.isp_lower_code.specs.Sound.{IsSound, AreSound}
 
 none : false ≡ true → ⊥
 none e = absurd (cc)

@@ -11,13 +11,13 @@ use Rattle.isp_base.specs.declared.types.Rate.TheVariants.{Uniform, Varying}
 use Rattle.isp_code.specs.Conf.{Conf, Go}
 use Rattle.isp_meaning.specs.Payloads.{Payload, One, Each, spread}
 use Rattle.isp_meaning.specs.State.{State}
-use Rattle.isp_lower.specs.Held.{HasBits, everywhere}
-use Rattle.isp_lower.specs.Instructions.{constant, splat}
-use Rattle.isp_lower.specs.Runs.{Comes}
-use Rattle.isp_lower.specs.Setting.{Setting, IsSettled, StandsFor, Stands, gang_of, AreAt, At, Spares}
-use Rattle.isp_lower.specs.Tables.{IsTyped}
-use Rattle.isp_lower.proofs.Lemmas.{are_front, are_back, at_to, comes_none, comes_on, masked, masked_at, put_other, put_same, run_place, set_at, set_comes, spares_all, spares_on, set_goes, step_go, wrap_bits}
-use Rattle.isp_lower.specs.declared.registers.Constant.{Constant}
+use Rattle.isp_lower_code.specs.Held.{HasBits, everywhere}
+use Rattle.isp_lower_code.specs.Instructions.{constant, splat}
+use Rattle.isp_lower_code.specs.Runs.{Comes}
+use Rattle.isp_lower_code.specs.Setting.{Setting, IsSettled, StandsFor, Stands, gang_of, AreAt, At, Spares}
+use Rattle.isp_lower_code.specs.Tables.{IsTyped}
+use Rattle.isp_lower_code.proofs.Lemmas.{are_front, are_back, at_to, comes_none, comes_on, masked, masked_at, put_other, put_same, run_place, set_at, set_comes, spares_all, spares_on, set_goes, step_go, wrap_bits}
+use Rattle.isp_lower_code.specs.declared.constant.Constant.{Constant}
 use Rattle.isp_masks_code.specs.Keeping.{IsIn, constants_code, keep_at, keep_code}
 use Rattle.isp_masks_code.specs.Rounds.{fill_mask}
 

@@ -4,12 +4,12 @@ use Rattle.isp_base.specs.declared.types.Elem.{Elem}
 use Rattle.isp_base.specs.declared.types.Rate.{Rate}
 use Rattle.isp_base.specs.declared.types.Rate.TheVariants.{Uniform, Varying}
 use Rattle.isp_code.specs.Listing.{Listing, Routine}
-use Rattle.isp_lower.specs.Layout.{Layout}
-use Rattle.isp_lower.specs.Asks.{All}
-use Rattle.isp_lower.specs.Sound.{AreSound, HasKept, HasMask, HasRegister, IsRegister}
-use Rattle.isp_lower.specs.Tables.{AnyArray, IsLoadedIn}
-use Rattle.isp_lower.proofs.Lemmas.{constant_sound, sound_both, splat_sound}
-use Rattle.isp_lower.specs.declared.registers.Constant.{Constant}
+use Rattle.isp_lower_code.specs.Layout.{Layout}
+use Rattle.isp_lower_code.specs.Asks.{All}
+use Rattle.isp_lower_code.specs.Sound.{AreSound, HasKept, HasMask, HasRegister, IsRegister}
+use Rattle.isp_lower_code.specs.Tables.{AnyArray, IsLoadedIn}
+use Rattle.isp_lower_code.proofs.Lemmas.{constant_sound, sound_both, splat_sound}
+use Rattle.isp_lower_code.specs.declared.constant.Constant.{Constant}
 use Rattle.isp_masks_code.specs.Keeping.{Each, constants_asks, constants_code, keep_at, keep_code}
 
 module _ (code : Listing) (h : Routine) (l : Layout) (n : ℕ) (constants : HasKept h l) where

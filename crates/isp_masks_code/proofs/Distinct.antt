@@ -31,16 +31,16 @@ use Rattle.isp_meaning.specs.Rounds.{Round, have, holders, rounds, round_of_valu
 use Rattle.isp_meaning.specs.State.{State, tick}
 use Rattle.isp_meaning.proofs.Distinct.{unique_first, unique_none}
 use Rattle.isp_meaning.proofs.Members.{any_at, lowest_below, lowest_in, no_lowest}
-use Rattle.isp_lower.specs.Code.{expr_code}
-use Rattle.isp_lower.specs.Found.{operand, operand_of}
-use Rattle.isp_lower.specs.Instructions.{compare, convert, copy, splat}
-use Rattle.isp_lower.specs.Spans.{expr_places}
-use Rattle.isp_lower.specs.Layout.{mask_register, register}
-use Rattle.isp_lower.specs.Library.{reduce}
-use Rattle.isp_lower.specs.Runs.{Comes, Ok}
-use Rattle.isp_lower.specs.Setting.{Setting, IsSettled, gang_of, calls_of, AreAt, At, Stands, Spares, Allowed, Holds, held_at}
-use Rattle.isp_lower.proofs.Lemmas.{are_front, are_back, put_same, put_other, comes_on, comes_none, step_go, at_to, spares_all, spares_less, spares_on, jumped, jump_comes, jump_at, masked, masked_at, where_comes}
-use Rattle.isp_lower.proofs.Lemmas.{others_comes, set_at, set_comes, set_goes, set_spares, set_stands, variable_spares, written_stands, expr_runs, few, enters_part, operand_runs}
+use Rattle.isp_lower_code.specs.Code.{expr_code}
+use Rattle.isp_lower_code.specs.Found.{operand, operand_of}
+use Rattle.isp_lower_code.specs.Instructions.{compare, convert, copy, splat}
+use Rattle.isp_lower_code.specs.Spans.{expr_places}
+use Rattle.isp_lower_code.specs.Layout.{mask_register, register}
+use Rattle.isp_lower_code.specs.Library.{reduce}
+use Rattle.isp_lower_code.specs.Runs.{Comes, Ok}
+use Rattle.isp_lower_code.specs.Setting.{Setting, IsSettled, gang_of, calls_of, AreAt, At, Stands, Spares, Allowed, Holds, held_at}
+use Rattle.isp_lower_code.proofs.Lemmas.{are_front, are_back, put_same, put_other, comes_on, comes_none, step_go, at_to, spares_all, spares_less, spares_on, jumped, jump_comes, jump_at, masked, masked_at, where_comes}
+use Rattle.isp_lower_code.proofs.Lemmas.{others_comes, set_at, set_comes, set_goes, set_spares, set_stands, variable_spares, written_stands, expr_runs, few, enters_part, operand_runs}
 use Rattle.isp_masks_code.specs.LoopRuns.{BodyRuns}
 use Rattle.isp_masks_code.specs.Loops.{copy_mask}
 use Rattle.isp_masks_code.specs.Rounds.{Values, lowest_mask, rounds_code, unique_code, value_code, values_of}

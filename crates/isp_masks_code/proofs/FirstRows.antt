@@ -12,10 +12,10 @@ use Rattle.isp_typed.specs.Typed.{ty_of}
 use Rattle.isp_typed.specs.declared.variable.Holds.{Holds}
 use Rattle.isp_typed.specs.declared.variable.Holds.TheVariants as holds
 use Rattle.isp_typed.specs.declared.variable.Variable.{Variable as Declared}
-use Rattle.isp_lower.specs.Emitted.{Begins, first_rows}
-use Rattle.isp_lower.specs.Rows.{Result, Rows, elem_in, rows_at}
-use Rattle.isp_lower.proofs.Lemmas.{result_at}
-use Rattle.isp_lower.specs.Header.{value_kind, kind_of, elem_held, param_of, params_of}
+use Rattle.isp_lower_code.specs.FirstRows.{Begins, first_rows}
+use Rattle.isp_lower_code.specs.Rows.{Result, Rows, elem_in, rows_at}
+use Rattle.isp_lower_code.proofs.Lemmas.{result_at}
+use Rattle.isp_lower_code.specs.Header.{value_kind, kind_of, elem_held, param_of, params_of}
 use Rattle.isp_masks_code.specs.Made.{ResultRow}
 
 -- ---- the header's parameters are the function's

@@ -9,11 +9,11 @@ use Rattle.isp_typed.specs.declared.variable.Variable as variable
 use Rattle.isp_typed.specs.Typed.{TExpr, t_exprs, type_of, elem_of, TSimple, TFirst, t_first_declare, t_first_simple, TRange, TStmt, t_block, t_declare, t_simple, t_if}
 use Rattle.isp_typed.specs.Typed.{t_if_else, t_while, t_do, t_for, t_foreach, t_foreach_active, t_foreach_unique, t_unmasked, t_jump, t_return, t_print, t_assert, TBlock}
 use Rattle.isp_typed.specs.Typed.{t_braces, TStmts, t_no_stmts, t_stmt_then, TItem, t_plain, t_with_value, t_with_size}
-use Rattle.isp_lower.specs.Asks.{Ask}
-use Rattle.isp_lower.specs.Fits.{InTable, ItemsOther}
-use Rattle.isp_lower.specs.Rated.{Reaches}
-use Rattle.isp_lower.specs.Setting.{Setting, OtherAt}
-use Rattle.isp_lower.proofs.Lemmas.{ExprTree, OperandTree, expr_fits, operand_fits, values_fit, simple_fits, items_fit, RunConstant, all_grow, simple_other}
+use Rattle.isp_lower_code.specs.Asks.{Ask}
+use Rattle.isp_lower_code.specs.Fits.{InTable, ItemsOther}
+use Rattle.isp_lower_code.specs.Rated.{Reaches}
+use Rattle.isp_lower_code.specs.Setting.{Setting, OtherAt}
+use Rattle.isp_lower_code.proofs.Lemmas.{ExprTree, OperandTree, expr_fits, operand_fits, values_fit, simple_fits, items_fit, RunConstant, all_grow, simple_other}
 use Rattle.isp_masks_code.specs.Prints.{own_rates}
 use Rattle.isp_masks_code.specs.Asks.{answer_asks, unique_asks, bound_asks, bounds_asks, places_asks, ranges_asks, part_slot, parts_slot, first_asks, test_part_asks, step_asks, stmt_asks, block_asks, stmts_asks}
 use Rattle.isp_masks_code.specs.Ranges.{places_slot, runs_slot}
@@ -24,9 +24,9 @@ use Rattle.isp_masks_code.proofs.Trees.{AnswerTree, RangesTree, FirstTree, TestT
 use Rattle.isp_masks_code.proofs.Bodies.{body_as, body_run, run_as, with_layout}
 use Rattle.isp_masks_code.specs.Free.{BlockFree, FirstFree, IsApartFrom, ItemsFree, NoneYet, StmtFree, StmtsFree, last_index_of}
 use Rattle.isp_masks_code.specs.Statements.{body_layout}
-use Rattle.isp_lower.specs.Layout.{Layout, outside}
-use Rattle.isp_lower.specs.Rows.{Name, Variable, Result, Spare, Place, Fresh, Kept}
-use Rattle.isp_lower.specs.Tables.{AnyMask, IsLoadedIn, IsNamedIn, Table}
+use Rattle.isp_lower_code.specs.Layout.{Layout, outside}
+use Rattle.isp_lower_code.specs.Rows.{Name, Variable, Result, Spare, Place, Fresh, Kept}
+use Rattle.isp_lower_code.specs.Tables.{AnyMask, IsLoadedIn, IsNamedIn, Table}
 use Rattle.isp_typed.specs.Fine.{FineBlock, FineFirst, FineRange, FineSimple, FineStmt, FineStmts, HoldsArray, foreach_index}
 use Rattle.isp_tree.specs.Sound.{IfAny}
 use Rattle.isp_code.specs.Listing.{Routine}

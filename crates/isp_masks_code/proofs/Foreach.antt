@@ -8,9 +8,9 @@ use Rattle.isp_meaning.specs.Outcomes.{Res, with_value}
 use Rattle.isp_meaning.specs.Rounds.{Range, Round, rounds, foreach_rounds, counted}
 use Rattle.isp_meaning.specs.State.{State, tick}
 use Rattle.isp_meaning.specs.Statements.{ranges}
-use Rattle.isp_lower.specs.Runs.{Ok}
-use Rattle.isp_lower.specs.Setting.{Setting, IsSettled, gang_of, calls_of, AreAt}
-use Rattle.isp_lower.proofs.Lemmas.{are_front, are_back, spares_less}
+use Rattle.isp_lower_code.specs.Runs.{Ok}
+use Rattle.isp_lower_code.specs.Setting.{Setting, IsSettled, gang_of, calls_of, AreAt}
+use Rattle.isp_lower_code.proofs.Lemmas.{are_front, are_back, spares_less}
 use Rattle.isp_masks_code.specs.Ranges.{places_slot, runs_slot, measures_code, bounds_code, ranges_code, ranges_places, foreach_code}
 use Rattle.isp_masks_code.specs.Spots.{Spot}
 use Rattle.isp_masks_code.specs.StmtRuns.{AreThree, EntersAt, StmtRuns}

@@ -22,9 +22,9 @@ use Rattle.isp_meaning.specs.Calls.{one_passed, each_passed, is_value, same_rate
 use Rattle.isp_meaning.specs.Expressions.{Passed, Values, Store}
 use Rattle.isp_meaning.specs.Payloads.{Payload, One, Each, sole, spread}
 use Rattle.isp_meaning.specs.State.{Frame}
-use Rattle.isp_lower.specs.Calls.{IsHanded, AreHanded}
-use Rattle.isp_lower.specs.Held.{Holds}
-use Rattle.isp_lower.specs.Layout.{Layout, class_at}
+use Rattle.isp_lower_code.specs.Calls.{IsHanded, AreHanded}
+use Rattle.isp_lower_code.specs.Held.{Holds}
+use Rattle.isp_lower_code.specs.Layout.{Layout, class_at}
 use Rattle.isp_masks_code.specs.Arrays.{array_then, array_count, ArraysStand}
 use Rattle.isp_masks_code.specs.Passing.{count_if, count_value, value_count, HasRate, Passes}
 use Rattle.isp_masks_code.proofs.Arrays.{Opens}

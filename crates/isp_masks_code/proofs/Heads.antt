@@ -22,7 +22,7 @@ use Rattle.isp_typed.specs.declared.variable.Holds.TheVariants as holds
 use Rattle.isp_typed.specs.declared.variable.Variable.{Variable as Declared}
 use Rattle.isp_verify.specs.Faults.{is_named, names_differ, is_vector, gives_vector, can_export, export_fits, is_function, header_fits}
 use Rattle.isp_masks_code.specs.Compiled.{AreOne, IsOne}
-use Rattle.isp_lower.specs.Header.{value_kind, param_of, params_of, value_returned, returns_of}
+use Rattle.isp_lower_code.specs.Header.{value_kind, param_of, params_of, value_returned, returns_of}
 use Rattle.isp_masks_code.specs.Made.{GivesUniform}
 use Rattle.isp_masks_code.proofs.Begins.{not_so}
 use Rattle.isp_masks_code.proofs.Unions.{both_so}

@@ -8,8 +8,8 @@ use Rattle.isp_meaning.specs.Expressions.{Calls}
 use Rattle.isp_meaning.specs.Outcomes.{Res, Went, go_on, went_all, then_run, unless_empty, if_so}
 use Rattle.isp_meaning.specs.State.{State, Frame, tick}
 use Rattle.isp_meaning.specs.Statements.{jumped, run, block, run_all}
-use Rattle.isp_lower.specs.Setting.{Setting, IsSettled, gang_of, calls_of}
-use Rattle.isp_lower.proofs.Lemmas.{any_nobody}
+use Rattle.isp_lower_code.specs.Setting.{Setting, IsSettled, gang_of, calls_of}
+use Rattle.isp_lower_code.proofs.Lemmas.{any_nobody}
 use Rattle.isp_masks_code.specs.Exits.{all_go_on, both_go_on, only_jump, block_jump, leaving, leaving_of}
 use Rattle.isp_masks_code.specs.declared.exits.Leaving.{Leaving}
 use Rattle.isp_masks_code.specs.declared.exits.Leaving.TheVariants.{Never, Always, Maybe}

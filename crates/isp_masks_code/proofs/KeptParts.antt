@@ -12,11 +12,11 @@ use Rattle.isp_meaning.specs.State.{State}
 use Rattle.isp_meaning.specs.Payloads.{Payload, is_true, kept_by}
 use Rattle.isp_meaning.specs.Outcomes.{Res, Went, Trapped, Cut, go_on, went_all, both_sides, unless_empty}
 use Rattle.isp_meaning.specs.Statements.{branches, jumped as all_jump}
-use Rattle.isp_lower.specs.Instructions.{jump_off}
-use Rattle.isp_lower.specs.Pieces.{guard}
-use Rattle.isp_lower.specs.Runs.{Comes}
-use Rattle.isp_lower.specs.Setting.{Setting, IsSettled, gang_of, AreAt, At, Stands, Holds, Allowed}
-use Rattle.isp_lower.proofs.Lemmas.{are_front, are_back, put_same, put_other, comes_on, step_go, at_to, spares_all, spares_less, spares_on, failed_after, stopped_after, masked, where_comes, others_comes, masked_at, where_inside, at_kept}
+use Rattle.isp_lower_code.specs.Instructions.{jump_off}
+use Rattle.isp_lower_code.specs.Pieces.{guard}
+use Rattle.isp_lower_code.specs.Runs.{Comes}
+use Rattle.isp_lower_code.specs.Setting.{Setting, IsSettled, gang_of, AreAt, At, Stands, Holds, Allowed}
+use Rattle.isp_lower_code.proofs.Lemmas.{are_front, are_back, put_same, put_other, comes_on, step_go, at_to, spares_all, spares_less, spares_on, failed_after, stopped_after, masked, where_comes, others_comes, masked_at, where_inside, at_kept}
 use Rattle.isp_masks_code.specs.Sets.{unite}
 use Rattle.isp_masks_code.specs.Statements.{kept_code, both_kept_code, left_code}
 use Rattle.isp_masks_code.specs.Spots.{Spot, under, widely}

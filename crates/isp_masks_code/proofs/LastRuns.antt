@@ -26,15 +26,15 @@ use Rattle.isp_meaning.specs.Payloads.{Payload, One, Each, sole}
 use Rattle.isp_meaning.specs.Places.{written}
 use Rattle.isp_meaning.specs.Rounds.{Range, Round, rounds, from_on, last_run}
 use Rattle.isp_meaning.specs.State.{State}
-use Rattle.isp_lower.specs.Instructions.{compute, convert, copy, jump_off, splat}
-use Rattle.isp_lower.specs.Pieces.{two}
-use Rattle.isp_lower.specs.Consecutive.{CountsFrom, RunHolds}
-use Rattle.isp_lower.specs.Layout.{Layout, mask_register, within}
-use Rattle.isp_lower.specs.Runs.{Comes, DoneOk}
-use Rattle.isp_lower.specs.Setting.{Setting, IsSettled, gang_of, AreAt, At, Stands, Spares, IsOther}
-use Rattle.isp_lower.specs.Tables.{IsTyped}
-use Rattle.isp_lower.proofs.Lemmas.{scalar_put, are_front, are_back, put_same, put_other, comes_on, comes_none, step_go, at_to, spares_all, spares_less, spares_on, failed_less, stopped_less, jumped}
-use Rattle.isp_lower.proofs.Lemmas.{jump_comes, jump_at, masked, masked_at, set_at, set_comes, set_goes, set_spares, set_stands, variable_spares, written_stands, none_holds}
+use Rattle.isp_lower_code.specs.Instructions.{compute, convert, copy, jump_off, splat}
+use Rattle.isp_lower_code.specs.Pieces.{two}
+use Rattle.isp_lower_code.specs.Consecutive.{CountsFrom, RunHolds}
+use Rattle.isp_lower_code.specs.Layout.{Layout, mask_register, within}
+use Rattle.isp_lower_code.specs.Runs.{Comes, DoneOk}
+use Rattle.isp_lower_code.specs.Setting.{Setting, IsSettled, gang_of, AreAt, At, Stands, Spares, IsOther}
+use Rattle.isp_lower_code.specs.Tables.{IsTyped}
+use Rattle.isp_lower_code.proofs.Lemmas.{scalar_put, are_front, are_back, put_same, put_other, comes_on, comes_none, step_go, at_to, spares_all, spares_less, spares_on, failed_less, stopped_less, jumped}
+use Rattle.isp_lower_code.proofs.Lemmas.{jump_comes, jump_at, masked, masked_at, set_at, set_comes, set_goes, set_spares, set_stands, variable_spares, written_stands, none_holds}
 use Rattle.isp_masks_code.specs.Ranges.{goes_on, wide, narrow, lane, range_mask, last_index, next_index, run_back, run_place, run_step}
 use Rattle.isp_masks_code.specs.Spots.{body_spot}
 use Rattle.isp_masks_code.specs.StmtRuns.{StmtRuns}

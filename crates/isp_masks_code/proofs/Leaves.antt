@@ -15,14 +15,14 @@ use Rattle.isp_meaning.specs.Payloads.{Payload, sole, spread}
 use Rattle.isp_meaning.specs.Outcomes.{Went, with_value}
 use Rattle.isp_meaning.specs.Expressions.{value}
 use Rattle.isp_meaning.specs.Statements.{answered, answered_at, jumped}
-use Rattle.isp_lower.specs.Code.{expr_code}
-use Rattle.isp_lower.specs.Found.{found, operand, operand_of}
-use Rattle.isp_lower.specs.Instructions.{copy}
-use Rattle.isp_lower.specs.Spans.{expr_places}
-use Rattle.isp_lower.specs.Runs.{Comes}
-use Rattle.isp_lower.specs.Setting.{Setting, IsSettled, gang_of, calls_of, AreAt, At, Stands, Spares, at_rate, held_at, Holds}
-use Rattle.isp_lower.proofs.Lemmas.{are_front, are_back, put_same, put_other, comes_on, step_go, at_to, spares_all, spares_on, set_comes, set_goes, set_masks, few, masked}
-use Rattle.isp_lower.proofs.Lemmas.{masked_at, set_at, copy_line, enters_part, operand_runs, expr_runs, run_place, scalar_put, vector_put}
+use Rattle.isp_lower_code.specs.Code.{expr_code}
+use Rattle.isp_lower_code.specs.Found.{found, operand, operand_of}
+use Rattle.isp_lower_code.specs.Instructions.{copy}
+use Rattle.isp_lower_code.specs.Spans.{expr_places}
+use Rattle.isp_lower_code.specs.Runs.{Comes}
+use Rattle.isp_lower_code.specs.Setting.{Setting, IsSettled, gang_of, calls_of, AreAt, At, Stands, Spares, at_rate, held_at, Holds}
+use Rattle.isp_lower_code.proofs.Lemmas.{are_front, are_back, put_same, put_other, comes_on, step_go, at_to, spares_all, spares_on, set_comes, set_goes, set_masks, few, masked}
+use Rattle.isp_lower_code.proofs.Lemmas.{masked_at, set_at, copy_line, enters_part, operand_runs, expr_runs, run_place, scalar_put, vector_put}
 use Rattle.isp_masks_code.specs.Sets.{unite, clear_mask, leave_code, jump_code}
 use Rattle.isp_masks_code.specs.Statements.{answer_code}
 use Rattle.isp_masks_code.specs.Spots.{Spot}

@@ -7,12 +7,12 @@ use Rattle.isp_code.specs.declared.instr.Instr.{Instr}
 use Rattle.isp_code.specs.declared.instr.JumpTest.TheVariants as jump
 use Rattle.isp_meaning.specs.Outcomes.{Res, Went, Trapped, Cut}
 use Rattle.isp_meaning.specs.State.{State}
-use Rattle.isp_lower.specs.Instructions.{the_others}
-use Rattle.isp_lower.specs.Layout.{mask_register}
-use Rattle.isp_lower.specs.Runs.{Comes, Enters, DoneOk, Stopped}
-use Rattle.isp_lower.specs.Setting.{Setting, IsSettled, gang_of, AreAt, At, Stands, Spares}
-use Rattle.isp_lower.proofs.Lemmas.{put_same, put_other, comes_none, comes_on, step_go, at_to, spares_all, failed_after}
-use Rattle.isp_lower.proofs.Lemmas.{jumped, jump_comes, jump_at, masked, others_comes, masked_at}
+use Rattle.isp_lower_code.specs.Instructions.{the_others}
+use Rattle.isp_lower_code.specs.Layout.{mask_register}
+use Rattle.isp_lower_code.specs.Runs.{Comes, Enters, DoneOk, Stopped}
+use Rattle.isp_lower_code.specs.Setting.{Setting, IsSettled, gang_of, AreAt, At, Stands, Spares}
+use Rattle.isp_lower_code.proofs.Lemmas.{put_same, put_other, comes_none, comes_on, step_go, at_to, spares_all, failed_after}
+use Rattle.isp_lower_code.proofs.Lemmas.{jumped, jump_comes, jump_at, masked, others_comes, masked_at}
 use Rattle.isp_masks_code.specs.Loops.{copy_mask, if_needed, enter_code, loop_end_code, rejoin_code}
 use Rattle.isp_masks_code.specs.Sets.{unite, clear_mask}
 use Rattle.isp_masks_code.specs.Spots.{Spot}

@@ -16,13 +16,13 @@ use Rattle.isp_meaning.specs.Simple.{first_part, step_part}
 use Rattle.isp_meaning.specs.State.{State, tick}
 use Rattle.isp_meaning.specs.Statements.{run, test_part}
 use Rattle.isp_meaning.proofs.Parts.{four_sets}
-use Rattle.isp_lower.specs.Code.{expr_code}
-use Rattle.isp_lower.specs.Spans.{expr_places}
-use Rattle.isp_lower.specs.Found.{found}
-use Rattle.isp_lower.specs.Pieces.{two}
-use Rattle.isp_lower.specs.Runs.{Failed, Stopped, DoneRuns, Enters}
-use Rattle.isp_lower.specs.Setting.{Setting, IsSettled, gang_of, calls_of, AreAt}
-use Rattle.isp_lower.proofs.Lemmas.{are_front, are_back, failed_less, stopped_less, expr_runs, few, items_run, enters_part, simple_runs, ExprParts}
+use Rattle.isp_lower_code.specs.Code.{expr_code}
+use Rattle.isp_lower_code.specs.Spans.{expr_places}
+use Rattle.isp_lower_code.specs.Found.{found}
+use Rattle.isp_lower_code.specs.Pieces.{two}
+use Rattle.isp_lower_code.specs.Runs.{Failed, Stopped, DoneRuns, Enters}
+use Rattle.isp_lower_code.specs.Setting.{Setting, IsSettled, gang_of, calls_of, AreAt}
+use Rattle.isp_lower_code.proofs.Lemmas.{are_front, are_back, failed_less, stopped_less, expr_runs, few, items_run, enters_part, simple_runs, ExprParts}
 use Rattle.isp_masks_code.specs.Exits.{exits_of, all_go_on, nobody_leaves, only_returns}
 use Rattle.isp_masks_code.specs.Fors.{first_code, step_code, first_places, step_places}
 use Rattle.isp_masks_code.specs.LoopRuns.{TestRuns, BodyRuns, StepRuns, IsBody, LoopsRun}

@@ -12,11 +12,11 @@ use Rattle.isp_code.specs.declared.instr.JumpTest.TheVariants as jump
 use Rattle.isp_meaning.specs.Outcomes.{Val, Gives, Fails, Stops, Res, Went, with_value, if_so}
 use Rattle.isp_meaning.specs.Payloads.{Payload, is_true, kept_by}
 use Rattle.isp_meaning.specs.State.{State}
-use Rattle.isp_lower.specs.Layout.{register, mask_register}
-use Rattle.isp_lower.specs.Runs.{Runs}
-use Rattle.isp_lower.specs.Setting.{Setting, IsSettled, gang_of, AreAt, At, Holds, Allowed}
-use Rattle.isp_lower.proofs.Lemmas.{put_same, put_other, comes_on, at_to, spares_all, spares_less, failed_less}
-use Rattle.isp_lower.proofs.Lemmas.{stopped_less, jumped, jump_comes, jump_at, masked, where_comes, masked_at, any_nobody, where_inside, at_kept}
+use Rattle.isp_lower_code.specs.Layout.{register, mask_register}
+use Rattle.isp_lower_code.specs.Runs.{Runs}
+use Rattle.isp_lower_code.specs.Setting.{Setting, IsSettled, gang_of, AreAt, At, Holds, Allowed}
+use Rattle.isp_lower_code.proofs.Lemmas.{put_same, put_other, comes_on, at_to, spares_all, spares_less, failed_less}
+use Rattle.isp_lower_code.proofs.Lemmas.{stopped_less, jumped, jump_comes, jump_at, masked, where_comes, masked_at, any_nobody, where_inside, at_kept}
 use Rattle.isp_masks_code.specs.LoopRuns.{TestRuns}
 use Rattle.isp_masks_code.specs.Loops.{loop_end_code, sift_code}
 use Rattle.isp_masks_code.specs.Spots.{Spot}

@@ -10,9 +10,9 @@ use Rattle.isp_meaning.specs.Outcomes.{Val, Gives, Done, Res, if_so}
 use Rattle.isp_meaning.specs.Payloads.{Payload, One}
 use Rattle.isp_meaning.specs.Simple.{no_step}
 use Rattle.isp_meaning.specs.State.{State, tick}
-use Rattle.isp_lower.specs.Pieces.{two}
-use Rattle.isp_lower.specs.Setting.{Setting, IsSettled, gang_of, AreAt}
-use Rattle.isp_lower.proofs.Lemmas.{are_front, are_back, enters_part}
+use Rattle.isp_lower_code.specs.Pieces.{two}
+use Rattle.isp_lower_code.specs.Setting.{Setting, IsSettled, gang_of, AreAt}
+use Rattle.isp_lower_code.proofs.Lemmas.{are_front, are_back, enters_part}
 use Rattle.isp_masks_code.specs.LoopRuns.{TestRuns, BodyRuns, StepRuns, IsBody, AllLoopsRun}
 use Rattle.isp_masks_code.specs.Loops.{enter_code, loop_end_code, turn_code, next_code, sift_code, again_code, loop_code, tested_code, no_code, for_code, endless_code}
 use Rattle.isp_masks_code.specs.Spots.{Spot}

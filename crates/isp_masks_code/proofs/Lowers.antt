@@ -19,16 +19,16 @@ use Rattle.isp_typed.specs.Typed.{Program, TFunction}
 use Rattle.isp_verify.specs.Faults.{header_fits, code_fault}
 use Rattle.isp_base.specs.declared.signature.Parameter.{Parameter}
 use Rattle.isp_typed.specs.declared.variable.Variable.{Variable}
-use Rattle.isp_lower.specs.Callees.{rates_in}
-use Rattle.isp_lower.specs.Drafts.{has_small_numbers}
-use Rattle.isp_lower.specs.Header as header
-use Rattle.isp_lower.specs.Sound.{AreHeld, HasHeader}
-use Rattle.isp_lower.specs.Layout.{class_at}
-use Rattle.isp_lower.specs.Rows.{rows_at, layout_of}
+use Rattle.isp_lower_code.specs.Callees.{rates_in}
+use Rattle.isp_lower_code.specs.Lines.{has_small_numbers}
+use Rattle.isp_lower_code.specs.Header as header
+use Rattle.isp_lower_code.specs.Sound.{AreHeld, HasHeader}
+use Rattle.isp_lower_code.specs.Layout.{class_at}
+use Rattle.isp_lower_code.specs.Rows.{rows_at, layout_of}
 use Rattle.isp_masks_code.specs.Accepted.{IsBodyCode}
 use Rattle.isp_masks_code.specs.Agreed.{LoweredAgrees}
 use Rattle.isp_masks_code.specs.Compiled.{IsEntry, IsFunctionCode, IsProgramCode}
-use Rattle.isp_lower.specs.Header.{returns_of, types_of, value_returned}
+use Rattle.isp_lower_code.specs.Header.{returns_of, types_of, value_returned}
 use Rattle.isp_masks_code.specs.Lowered.{IsLowered, HasCode}
 use Rattle.isp_masks_code.specs.Made.{IsMade, GivesUniform}
 use Rattle.isp_masks_code.proofs.Accepted.{body_sound, code_accepted}

@@ -12,19 +12,19 @@ use Rattle.isp_code.specs.Listing.{Listing, Routine}
 use Rattle.isp_code.specs.Registers.{elem_of}
 use Rattle.isp_typed.specs.Fine.{FineFunction}
 use Rattle.isp_typed.specs.Typed.{Program, TFunction}
-use Rattle.isp_lower.specs.Asks.{All}
-use Rattle.isp_lower.specs.Callees.{rates_in}
-use Rattle.isp_lower.specs.Layout.{register}
-use Rattle.isp_lower.specs.Emitted.{Begins, first_rows}
-use Rattle.isp_lower.specs.Rows.{Rows, Result, HasRow, IsLoaded, layout_of}
-use Rattle.isp_lower.specs.Setting.{AreAt}
-use Rattle.isp_lower.specs.Sound.{HasMask, HasHeader, HasRegister}
-use Rattle.isp_lower.specs.Tables.{AnyArray, IsLoadedIn}
-use Rattle.isp_lower.proofs.Lemmas.{kept_there, layout_apart, register_there, all_grow}
-use Rattle.isp_lower.specs.declared.registers.Constant.{Constant}
+use Rattle.isp_lower_code.specs.Asks.{All}
+use Rattle.isp_lower_code.specs.Callees.{rates_in}
+use Rattle.isp_lower_code.specs.Layout.{register}
+use Rattle.isp_lower_code.specs.FirstRows.{Begins, first_rows}
+use Rattle.isp_lower_code.specs.Rows.{Rows, Result, HasRow, IsLoaded, layout_of}
+use Rattle.isp_lower_code.specs.Setting.{AreAt}
+use Rattle.isp_lower_code.specs.Sound.{HasMask, HasHeader, HasRegister}
+use Rattle.isp_lower_code.specs.Tables.{AnyArray, IsLoadedIn}
+use Rattle.isp_lower_code.proofs.Lemmas.{kept_there, layout_apart, register_there, all_grow}
+use Rattle.isp_lower_code.specs.declared.constant.Constant.{Constant}
 use Rattle.isp_masks_code.specs.Accepted.{IsBodyCode}
 use Rattle.isp_masks_code.specs.Compiled.{ResultFits, IsCompiled, IsEntry}
-use Rattle.isp_lower.specs.Header.{value_returned, returns_of}
+use Rattle.isp_lower_code.specs.Header.{value_returned, returns_of}
 use Rattle.isp_masks_code.specs.Made.{ResultRow, IsMade, IsUniform, GivesUniform}
 use Rattle.isp_masks_code.specs.Spots.{Numbers}
 use Rattle.isp_masks_code.specs.Statements.{block_places, block_texts, returned, function_code}

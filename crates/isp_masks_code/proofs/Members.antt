@@ -11,7 +11,7 @@ use Rattle.isp_meaning.specs.Payloads.{bit}
 use Rattle.isp_meaning.specs.State.{State}
 use Rattle.isp_meaning.specs.Statements.{run}
 use Rattle.isp_meaning.proofs.Parts.{four_sets}
-use Rattle.isp_lower.specs.Setting.{Setting, IsSettled, gang_of, calls_of}
+use Rattle.isp_lower_code.specs.Setting.{Setting, IsSettled, gang_of, calls_of}
 use Rattle.isp_masks_code.specs.Exits.{exits_of, nobody_leaves, all_go_on, Leave}
 use Rattle.isp_masks_code.specs.StmtRuns.{Inside}
 use Rattle.isp_masks_code.specs.declared.exits.Exits.{Exits}

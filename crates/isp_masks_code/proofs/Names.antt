@@ -2,7 +2,7 @@
 use Rattle.std.proofs.Common.{◌+◌, List, ◌++◌, length, ℕ}
 use Rattle.isp_base.specs.declared.types.Span.{Span}
 use Rattle.isp_code.specs.Listing.{Listing}
-use Rattle.isp_lower.proofs.Lemmas.{are_front, are_back}
+use Rattle.isp_lower_code.proofs.Lemmas.{are_front, are_back}
 use Rattle.isp_masks_code.specs.Named.{AreNamed}
 use Rattle.isp_masks_code.specs.Spots.{Numbers, past}
 

@@ -17,10 +17,10 @@ use Rattle.isp_base.specs.declared.signature.Parameter.{Parameter}
 use Rattle.isp_typed.specs.declared.variable.Holds.{Holds}
 use Rattle.isp_typed.specs.declared.variable.Holds.TheVariants as holds
 use Rattle.isp_typed.specs.declared.variable.Variable.{Variable}
-use Rattle.isp_lower.specs.Header.{AreSmall, HeadingFits, IsSmall}
-use Rattle.isp_lower.specs.Asks.{items_asks, test_asks, values_asks}
-use Rattle.isp_lower.specs.Reserved.{IsOwn}
-use Rattle.isp_lower.proofs.Lemmas.{expr_own, operand_own, simple_own, item_own}
+use Rattle.isp_lower_code.specs.Header.{AreSmall, HeadingFits, IsSmall}
+use Rattle.isp_lower_code.specs.Asks.{items_asks, test_asks, values_asks}
+use Rattle.isp_lower_code.specs.Own.{IsOwn}
+use Rattle.isp_lower_code.proofs.Lemmas.{expr_own, operand_own, simple_own, item_own}
 use Rattle.isp_masks_code.specs.Asks.{answer_asks, unique_asks, bound_asks, bounds_asks, places_asks, ranges_asks, part_asks, part_slot, parts_slot, loop_asks, first_asks, test_part_asks, step_asks, stmt_asks, block_asks, stmts_asks, result_asks}
 use Rattle.isp_masks_code.specs.Lowered.{BodyIsOwn}
 use Rattle.isp_masks_code.specs.Prints.{own_rates}

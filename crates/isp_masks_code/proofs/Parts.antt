@@ -9,15 +9,15 @@ use Rattle.isp_base.specs.declared.types.Rate.TheVariants.{Uniform, Varying}
 use Rattle.isp_base.specs.declared.types.Ty.{Ty}
 use Rattle.isp_typed.specs.Typed.{TExpr, t_exprs, type_of, elem_of, TSimple, TFirst, t_first_declare, t_first_simple, TRange, TStmt, t_block, t_declare, t_simple, t_if, t_if_else, t_while, t_do, t_for, t_foreach}
 use Rattle.isp_typed.specs.Typed.{t_foreach_active, t_foreach_unique, t_unmasked, t_jump, t_return, t_print, t_assert, TBlock, t_braces, TStmts, t_no_stmts, t_stmt_then}
-use Rattle.isp_lower.specs.Setting.{Setting}
-use Rattle.isp_lower.specs.Tables.{IsTyped}
-use Rattle.isp_lower.proofs.Lemmas.{OperandFits, ExprParts, ValuesParts, SimpleParts, ItemsParts}
+use Rattle.isp_lower_code.specs.Setting.{Setting}
+use Rattle.isp_lower_code.specs.Tables.{IsTyped}
+use Rattle.isp_lower_code.proofs.Lemmas.{OperandFits, ExprParts, ValuesParts, SimpleParts, ItemsParts}
 use Rattle.isp_masks_code.specs.Asks.{part_slot, parts_slot}
 use Rattle.isp_masks_code.specs.Prints.{own_rates}
 use Rattle.isp_masks_code.specs.Ranges.{wide, narrow, lane, places_slot, runs_slot}
 use Rattle.isp_masks_code.proofs.Bodies.{with_layout}
 use Rattle.isp_masks_code.specs.Statements.{body_layout}
-use Rattle.isp_lower.specs.Layout.{outside}
+use Rattle.isp_lower_code.specs.Layout.{outside}
 use Rattle.isp_base.specs.Sets.{Mask}
 use Rattle.isp_typed.specs.Fine.{foreach_index}
 

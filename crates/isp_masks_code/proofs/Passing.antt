@@ -17,9 +17,9 @@ use Rattle.isp_typed.specs.declared.variable.Variable.{Variable as Declared}
 use Rattle.isp_meaning.specs.Calls.{is_value, one_passed, each_passed, same_rate}
 use Rattle.isp_meaning.specs.Expressions.{Passed, Values, Store}
 use Rattle.isp_meaning.specs.Payloads.{Payload, sole, spread}
-use Rattle.isp_lower.specs.Emitted.{Begins, row_at, row_where, value_row, value_rows, result_rows, first_rows}
-use Rattle.isp_lower.specs.Layout.{Layout}
-use Rattle.isp_lower.specs.Rows.{Name, Variable, Result, Kept, Row, Rows, name_number, number_in, rows_at, layout_of}
+use Rattle.isp_lower_code.specs.FirstRows.{Begins, row_at, row_where, value_row, value_rows, result_rows, first_rows}
+use Rattle.isp_lower_code.specs.Layout.{Layout}
+use Rattle.isp_lower_code.specs.Rows.{Name, Variable, Result, Kept, Row, Rows, name_number, number_in, rows_at, layout_of}
 use Rattle.isp_masks_code.specs.Passing.{count_if, count_value, value_count, HasRate, PassedFirst, Passes}
 
 -- ---- rates

@@ -11,9 +11,9 @@ use Rattle.isp_tree.specs.declared.stmt.Form.TheVariants.{Plain, Coherent}
 use Rattle.isp_tree.specs.declared.stmt.Jump.{Jump}
 use Rattle.isp_tree.specs.declared.stmt.Jump.TheVariants.{Break, Continue}
 use Rattle.isp_typed.specs.Typed.{TRange}
-use Rattle.isp_lower.specs.Instructions.{compute, convert, copy, jump_off, the_others}
-use Rattle.isp_lower.specs.Layout.{Layout, mask_register}
-use Rattle.isp_lower.specs.Pieces.{guard, two}
+use Rattle.isp_lower_code.specs.Instructions.{compute, convert, copy, jump_off, the_others}
+use Rattle.isp_lower_code.specs.Layout.{Layout, mask_register}
+use Rattle.isp_lower_code.specs.Pieces.{guard, two}
 use Rattle.isp_masks_code.specs.Asserts.{fails_code}
 use Rattle.isp_masks_code.specs.Exits.{nobody_leaves}
 use Rattle.isp_masks_code.specs.Loops.{copy_mask, if_needed, enter_code, loop_end_code, jump_all, rejoin_code, turn_code, sift_code, live_code, again_code, next_code, loop_code, tested_code, no_code, do_code, for_code, endless_code}

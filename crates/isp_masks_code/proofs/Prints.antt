@@ -21,13 +21,13 @@ use Rattle.isp_meaning.specs.Outcomes.{Val, Gives, Fails, Stops, went_all, with_
 use Rattle.isp_meaning.specs.Payloads.{Payload, sole, spread}
 use Rattle.isp_meaning.specs.Printing.{shown_at, shown_all}
 use Rattle.isp_meaning.specs.State.{State, tick}
-use Rattle.isp_lower.specs.Callees.{later}
-use Rattle.isp_lower.specs.Code.{value_registers, values_code}
-use Rattle.isp_lower.specs.Found.{operand}
-use Rattle.isp_lower.specs.Runs.{Comes}
-use Rattle.isp_lower.specs.Setting.{Setting, IsSettled, gang_of, calls_of, AreAt, At, Holds}
-use Rattle.isp_lower.specs.Tables.{IsTyped}
-use Rattle.isp_lower.proofs.Lemmas.{AllHold, RunsLeaving, ValuesParts, are_front, are_back, comes_none, comes_on, step_is, count_of, enters_part, failed_less, operand_typed, stopped_less, values_leave}
+use Rattle.isp_lower_code.specs.Callees.{later}
+use Rattle.isp_lower_code.specs.Code.{value_registers, values_code}
+use Rattle.isp_lower_code.specs.Found.{operand}
+use Rattle.isp_lower_code.specs.Runs.{Comes}
+use Rattle.isp_lower_code.specs.Setting.{Setting, IsSettled, gang_of, calls_of, AreAt, At, Holds}
+use Rattle.isp_lower_code.specs.Tables.{IsTyped}
+use Rattle.isp_lower_code.proofs.Lemmas.{AllHold, RunsLeaving, ValuesParts, are_front, are_back, comes_none, comes_on, step_is, count_of, enters_part, failed_less, operand_typed, stopped_less, values_leave}
 use Rattle.isp_masks_code.specs.Prints.{Part, Words, Value, before, parts, words_of, print_texts, show, own_rates, parts_code, print_places, print_code}
 use Rattle.isp_masks_code.specs.Spots.{Numbers, Spot}
 use Rattle.isp_masks_code.specs.StmtRuns.{AreThree, EntersAt, StmtRuns}

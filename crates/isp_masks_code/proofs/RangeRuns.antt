@@ -19,12 +19,12 @@ use Rattle.isp_meaning.specs.Outcomes.{Res}
 use Rattle.isp_meaning.specs.Payloads.{One, is_true}
 use Rattle.isp_meaning.specs.Rounds.{Range, Run, Round, rounds, length_of, runs_for, from_on, last_run, with_outer, joined_lists, runs_of, counted}
 use Rattle.isp_meaning.specs.State.{State}
-use Rattle.isp_lower.specs.Instructions.{compare, compute, convert, copy, jump_off}
-use Rattle.isp_lower.specs.Pieces.{two}
-use Rattle.isp_lower.specs.Layout.{register}
-use Rattle.isp_lower.specs.Runs.{Comes}
-use Rattle.isp_lower.specs.Setting.{Setting, IsSettled, AreAt, At, Stands, IsOther}
-use Rattle.isp_lower.proofs.Lemmas.{are_front, put_same, put_other, comes_on, jumped, jump_comes, jump_at, set_at, set_comes, set_goes, set_spares, set_stands}
+use Rattle.isp_lower_code.specs.Instructions.{compare, compute, convert, copy, jump_off}
+use Rattle.isp_lower_code.specs.Pieces.{two}
+use Rattle.isp_lower_code.specs.Layout.{register}
+use Rattle.isp_lower_code.specs.Runs.{Comes}
+use Rattle.isp_lower_code.specs.Setting.{Setting, IsSettled, AreAt, At, Stands, IsOther}
+use Rattle.isp_lower_code.proofs.Lemmas.{are_front, put_same, put_other, comes_on, jumped, jump_comes, jump_at, set_at, set_comes, set_goes, set_spares, set_stands}
 use Rattle.isp_masks_code.specs.Free.{last_index_of}
 use Rattle.isp_masks_code.specs.Ranges.{goes_on, wide, narrow, test, outer_index, last_index, ranges_code, run_back, run_place, run_step}
 use Rattle.isp_masks_code.proofs.Bodies.{RunBodyRuns}

@@ -13,9 +13,9 @@ use Rattle.isp_meaning.specs.Payloads.{Each}
 use Rattle.isp_meaning.specs.Places.{written}
 use Rattle.isp_meaning.specs.Rounds.{Range, Run, Round, set_indices}
 use Rattle.isp_meaning.specs.State.{State}
-use Rattle.isp_lower.specs.Runs.{Comes}
-use Rattle.isp_lower.specs.Setting.{Setting, IsSettled, gang_of, AreAt, At, Stands, Spares, IsOther}
-use Rattle.isp_lower.proofs.Lemmas.{are_front, are_back, comes_on, comes_none, at_to, spares_all, spares_on, set_at, set_comes, set_goes, variable_spares, written_stands}
+use Rattle.isp_lower_code.specs.Runs.{Comes}
+use Rattle.isp_lower_code.specs.Setting.{Setting, IsSettled, gang_of, AreAt, At, Stands, Spares, IsOther}
+use Rattle.isp_lower_code.proofs.Lemmas.{are_front, are_back, comes_on, comes_none, at_to, spares_all, spares_on, set_at, set_comes, set_goes, variable_spares, written_stands}
 use Rattle.isp_masks_code.specs.Ranges.{wide, narrow, lane, outer_index}
 use Rattle.isp_masks_code.proofs.Sweeps.{Low, low_on, low_less, IsNotLess}
 

@@ -11,8 +11,8 @@ use Rattle.isp_typed.specs.Fine.{FineExpr, FineValue, FineSimple, FineFirst, Fin
 use Rattle.isp_typed.specs.Typed.{TFunction, TExpr, t_exprs, type_of, TSimple, TFirst, t_first_declare, t_first_simple, TRange, TStmt, t_block, t_declare, t_simple, t_if, t_if_else, t_while, t_do, t_for}
 use Rattle.isp_typed.specs.Typed.{t_foreach, t_foreach_active, t_foreach_unique, t_unmasked, t_jump, t_return, t_print, t_assert, TBlock, t_braces, TStmts, t_no_stmts, t_stmt_then}
 use Rattle.isp_typed.specs.declared.variable.Variable.{Variable}
-use Rattle.isp_lower.specs.Rated.{Reaches}
-use Rattle.isp_lower.proofs.Lemmas.{ValuesTree, expr_tree, operand_tree, simple_tree, items_tree}
+use Rattle.isp_lower_code.specs.Rated.{Reaches}
+use Rattle.isp_lower_code.proofs.Lemmas.{ValuesTree, expr_tree, operand_tree, simple_tree, items_tree}
 use Rattle.isp_masks_code.specs.Prints.{own_rates}
 use Rattle.isp_masks_code.specs.Rated.{AllRated, AnswerRated, RangesRated, FirstRated, TestRated, StepRated, StmtRated, BlockRated, StmtsRated}
 use Rattle.isp_masks_code.proofs.Trees.{AnswerTree, RangesTree, FirstTree, TestTree, StepTree, StmtTree, BlockTree, StmtsTree}

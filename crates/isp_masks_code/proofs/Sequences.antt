@@ -7,9 +7,9 @@ use Rattle.isp_typed.specs.Typed.{TStmts, t_no_stmts, t_stmt_then}
 use Rattle.isp_meaning.specs.State.{State}
 use Rattle.isp_meaning.specs.Outcomes.{Res, Went, Trapped, Cut, go_on, went_all, then_run, unless_empty, if_so}
 use Rattle.isp_meaning.specs.Statements.{run_all}
-use Rattle.isp_lower.specs.Pieces.{two}
-use Rattle.isp_lower.specs.Setting.{Setting, IsSettled, gang_of, calls_of, AreAt, At, Stands}
-use Rattle.isp_lower.proofs.Lemmas.{comes_none, comes_on, at_to, spares_all, spares_on, failed_after, stopped_after}
+use Rattle.isp_lower_code.specs.Pieces.{two}
+use Rattle.isp_lower_code.specs.Setting.{Setting, IsSettled, gang_of, calls_of, AreAt, At, Stands}
+use Rattle.isp_lower_code.proofs.Lemmas.{comes_none, comes_on, at_to, spares_all, spares_on, failed_after, stopped_after}
 use Rattle.isp_masks_code.specs.Statements.{rest_code}
 use Rattle.isp_masks_code.specs.Spots.{Spot}
 use Rattle.isp_masks_code.specs.StmtRuns.{AreThree, aside, EntersAt, Inside, StmtOk, StmtRuns}

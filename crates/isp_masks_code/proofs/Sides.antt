@@ -6,7 +6,7 @@ use Rattle.isp_meaning.specs.State.{State}
 use Rattle.isp_meaning.specs.Payloads.{Payload, One, Each, is_true, kept_by}
 use Rattle.isp_meaning.specs.Outcomes.{Res, Went, Trapped, Cut, go_on, went_all, both_sides, unless_empty, if_so}
 use Rattle.isp_meaning.specs.Statements.{branches}
-use Rattle.isp_lower.proofs.Lemmas.{any_nobody}
+use Rattle.isp_lower_code.proofs.Lemmas.{any_nobody}
 use Rattle.isp_masks_code.proofs.Unions.{union_nobody, without_nobody, without_self}
 
 -- with nobody in one of the parts

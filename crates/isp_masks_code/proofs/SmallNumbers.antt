@@ -14,8 +14,8 @@ use Rattle.isp_code.specs.declared.instr.VectorInstr.TheVariants as vector
 use Rattle.isp_code.specs.declared.operand.Operand.{Operand}
 use Rattle.isp_code.specs.declared.operand.Operand.TheVariants.{Any as AnyRegister, Place}
 use Rattle.isp_code.specs.declared.register.Register.{Register}
-use Rattle.isp_lower.specs.Lines.{has_small_number, named_by_scalar, named_by_vector}
-use Rattle.isp_lower.specs.Sound.{AreSound, IsSound}
+use Rattle.isp_lower_code.specs.Lines.{has_small_number, named_by_scalar, named_by_vector}
+use Rattle.isp_lower_code.specs.Sound.{AreSound, IsSound}
 
 below : (n m : ℕ) → n < m → m ≤ 4294967295 → nat_lt n (2 ^ 32) ≡ true
 below n m lt le = lt-ltb n (2 ^ 32) (omega (arith, lt, le))

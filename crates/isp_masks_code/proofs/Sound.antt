@@ -16,12 +16,12 @@ use Rattle.isp_tree.specs.declared.stmt.Jump.{Jump}
 use Rattle.isp_tree.specs.declared.stmt.Jump.TheVariants.{Break, Continue}
 use Rattle.isp_typed.specs.Typed.{TExpr, type_of, elem_of as type_elem, TSimple, TFirst, t_first_declare, t_first_simple, TStmt, t_block, t_declare, t_simple, t_if, t_if_else, t_while, t_do, t_for, t_foreach}
 use Rattle.isp_typed.specs.Typed.{t_foreach_active, t_foreach_unique, t_unmasked, t_jump, t_return, t_print, t_assert, TBlock, t_braces, TStmts, t_no_stmts, t_stmt_then, TFunction}
-use Rattle.isp_lower.specs.Code.{expr_code}
-use Rattle.isp_lower.specs.Found.{found, operand, operand_of}
-use Rattle.isp_lower.specs.Instructions.{jump_off, copy}
-use Rattle.isp_lower.specs.Pieces.{guard}
-use Rattle.isp_lower.specs.Spans.{expr_places}
-use Rattle.isp_lower.specs.Layout.{Layout, class_at, register, outside}
+use Rattle.isp_lower_code.specs.Code.{expr_code}
+use Rattle.isp_lower_code.specs.Found.{found, operand, operand_of}
+use Rattle.isp_lower_code.specs.Instructions.{jump_off, copy}
+use Rattle.isp_lower_code.specs.Pieces.{guard}
+use Rattle.isp_lower_code.specs.Spans.{expr_places}
+use Rattle.isp_lower_code.specs.Layout.{Layout, class_at, register, outside}
 use Rattle.isp_masks_code.specs.Exits.{exits_of, all_go_on, both_go_on, leaving_of}
 use Rattle.isp_masks_code.specs.Fors.{first_code, step_code, first_places, step_places}
 use Rattle.isp_masks_code.specs.Loops.{endless_code, for_code, is_wide, jump_all, no_code}
@@ -33,8 +33,8 @@ use Rattle.isp_masks_code.specs.declared.exits.Leaving.TheVariants.{Never, Alway
 use Rattle.isp_masks_code.specs.Spots.{Numbers, Spot, body_spot, first_spot, past, under, widely}
 use Rattle.isp_masks_code.specs.Statements.{behind, rest_code, parted_code, kept_code, both_kept_code, left_code, wide_code, if_code, if_else_code, answer_code, returned, stmt_places, block_places, stmts_places, stmt_texts, block_texts, stmts_texts, stmt_code, block_code, stmts_code, function_code, body_layout, test_place}
 use Rattle.isp_masks_code.specs.Asks.{unique_asks, part_asks, first_asks, step_asks, answer_asks, block_asks, stmt_asks, stmts_asks}
-use Rattle.isp_lower.specs.Sound.{AreSound, Links, PartSound, IsRegister, Granted, ExprPresent, HasRegister, HasArray, HasLocal, HasMask}
-use Rattle.isp_lower.proofs.Lemmas.{found_there, operand_there, sound_both, copy_sound, here_then, value_sound, part_sound, simple_sound, items_sound, ExprTree, OperandTree, all_grow}
+use Rattle.isp_lower_code.specs.Sound.{AreSound, Links, PartSound, IsRegister, Granted, ExprPresent, HasRegister, HasArray, HasLocal, HasMask}
+use Rattle.isp_lower_code.proofs.Lemmas.{found_there, operand_there, sound_both, copy_sound, here_then, value_sound, part_sound, simple_sound, items_sound, ExprTree, OperandTree, all_grow}
 use Rattle.isp_masks_code.proofs.Combine.{part_spot}
 use Rattle.isp_masks_code.proofs.SoundRanges.{foreach_sound}
 use Rattle.isp_masks_code.proofs.SoundLoops.{HereSound, ValuesThere, whole, active_sound, unique_sound, unmasked_sound, guard_sound, two_sound, for_sound, endless_sound, turned_sound}
@@ -44,10 +44,10 @@ use Rattle.isp_masks_code.proofs.SoundAsserts.{assert_sound}
 use Rattle.isp_masks_code.proofs.SoundPrints.{print_sound}
 use Rattle.isp_masks_code.proofs.Trees.{AnswerTree, BlockTree, FirstTree, StepTree, StmtTree, StmtsTree}
 use Rattle.isp_masks_code.proofs.Bodies.{body_as, run_as}
-use Rattle.isp_lower.specs.Rows.{Name, Variable, Result, Spare, Place, Fresh, Kept}
-use Rattle.isp_lower.specs.Tables.{AnyArray, IsLoadedIn}
-use Rattle.isp_lower.specs.Asks.{All, Ask}
-use Rattle.isp_lower.specs.declared.registers.Constant.{Constant}
+use Rattle.isp_lower_code.specs.Rows.{Name, Variable, Result, Spare, Place, Fresh, Kept}
+use Rattle.isp_lower_code.specs.Tables.{AnyArray, IsLoadedIn}
+use Rattle.isp_lower_code.specs.Asks.{All, Ask}
+use Rattle.isp_lower_code.specs.declared.constant.Constant.{Constant}
 use Rattle.isp_base.specs.declared.types.Elem.{Elem}
 
 module _ (code : Listing) (h : Routine) where

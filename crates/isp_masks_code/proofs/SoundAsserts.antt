@@ -6,13 +6,13 @@ use Rattle.isp_base.specs.declared.types.Rate.TheVariants.{Uniform, Varying}
 use Rattle.isp_base.specs.declared.types.Span.{Span}
 use Rattle.isp_code.specs.Listing.{Listing, Routine}
 use Rattle.isp_typed.specs.Typed.{TExpr, type_of, TFunction}
-use Rattle.isp_lower.specs.Asks.{test_asks}
-use Rattle.isp_lower.specs.Code.{expr_code}
-use Rattle.isp_lower.specs.Found.{found}
-use Rattle.isp_lower.specs.Spans.{expr_places}
-use Rattle.isp_lower.specs.Layout.{Layout}
-use Rattle.isp_lower.specs.Sound.{AreSound, Granted, IsRegister, Links}
-use Rattle.isp_lower.proofs.Lemmas.{ExprTree, found_there, sound_both, value_sound}
+use Rattle.isp_lower_code.specs.Asks.{test_asks}
+use Rattle.isp_lower_code.specs.Code.{expr_code}
+use Rattle.isp_lower_code.specs.Found.{found}
+use Rattle.isp_lower_code.specs.Spans.{expr_places}
+use Rattle.isp_lower_code.specs.Layout.{Layout}
+use Rattle.isp_lower_code.specs.Sound.{AreSound, Granted, IsRegister, Links}
+use Rattle.isp_lower_code.proofs.Lemmas.{ExprTree, found_there, sound_both, value_sound}
 use Rattle.isp_masks_code.specs.Asks.{assert_asks}
 use Rattle.isp_masks_code.specs.Asserts.{assert_code, assert_places, fails_code}
 

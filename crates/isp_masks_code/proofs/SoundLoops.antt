@@ -13,12 +13,12 @@ use Rattle.isp_code.specs.declared.instr.Instr.{Instr}
 use Rattle.isp_code.specs.declared.instr.Instr.TheVariants as instr
 use Rattle.isp_code.specs.declared.instr.JumpTest.TheVariants as jump
 use Rattle.isp_code.specs.declared.instr.Reduction.TheVariants as reduction
-use Rattle.isp_lower.specs.Instructions.{copy, where_so, the_others, jump_off}
-use Rattle.isp_lower.specs.Pieces.{two, guard}
-use Rattle.isp_lower.specs.Layout.{class_at, register, mask_register}
-use Rattle.isp_lower.specs.Library.{reduce}
-use Rattle.isp_lower.specs.Sound.{AreSound, IsRegister, IsSound}
-use Rattle.isp_lower.proofs.Lemmas.{sound_both, compare_sound, convert_sound, copy_sound, splat_sound}
+use Rattle.isp_lower_code.specs.Instructions.{copy, where_so, the_others, jump_off}
+use Rattle.isp_lower_code.specs.Pieces.{two, guard}
+use Rattle.isp_lower_code.specs.Layout.{class_at, register, mask_register}
+use Rattle.isp_lower_code.specs.Library.{reduce}
+use Rattle.isp_lower_code.specs.Sound.{AreSound, IsRegister, IsSound}
+use Rattle.isp_lower_code.proofs.Lemmas.{sound_both, compare_sound, convert_sound, copy_sound, splat_sound}
 use Rattle.isp_masks_code.specs.Exits.{nobody_leaves}
 use Rattle.isp_masks_code.specs.Loops.{copy_mask, if_needed, enter_code, loop_end_code, rejoin_code, turn_code, sift_code, live_code, again_code, next_code, loop_code, tested_code, for_code, endless_code}
 use Rattle.isp_masks_code.specs.Rounds.{unmasked_code, active_code, Values, value_code, rounds_code, unique_code}

@@ -5,12 +5,12 @@ use Rattle.isp_base.specs.declared.types.Rate.{Rate}
 use Rattle.isp_base.specs.declared.types.Rate.TheVariants.{Uniform, Varying}
 use Rattle.isp_code.specs.Listing.{Listing, Routine}
 use Rattle.isp_typed.specs.Typed.{TExpr, t_exprs, type_of, TFunction}
-use Rattle.isp_lower.specs.Asks.{values_asks}
-use Rattle.isp_lower.specs.Code.{value_registers, values_code}
-use Rattle.isp_lower.specs.Found.{operand}
-use Rattle.isp_lower.specs.Layout.{Layout}
-use Rattle.isp_lower.specs.Sound.{AreSound, Granted, IsRegister, IsSound, Links}
-use Rattle.isp_lower.proofs.Lemmas.{ValuesTree, operand_there, sound_both, values_sound}
+use Rattle.isp_lower_code.specs.Asks.{values_asks}
+use Rattle.isp_lower_code.specs.Code.{value_registers, values_code}
+use Rattle.isp_lower_code.specs.Found.{operand}
+use Rattle.isp_lower_code.specs.Layout.{Layout}
+use Rattle.isp_lower_code.specs.Sound.{AreSound, Granted, IsRegister, IsSound, Links}
+use Rattle.isp_lower_code.proofs.Lemmas.{ValuesTree, operand_there, sound_both, values_sound}
 use Rattle.isp_masks_code.specs.Prints.{Part, Words, Value, own_rates, parts, parts_code, print_code, print_places, print_texts, show, words_of}
 
 module _ (code : Listing) (h : Routine) where

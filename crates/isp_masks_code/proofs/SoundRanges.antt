@@ -14,16 +14,16 @@ use Rattle.isp_code.specs.declared.instr.Plain.TheVariants as plain
 use Rattle.isp_typed.specs.Typed.{TExpr, TRange, TFunction, type_of}
 use Rattle.isp_base.specs.declared.types.Value.{Value}
 use Rattle.isp_meaning.specs.Payloads.{converted}
-use Rattle.isp_lower.specs.Code.{expr_code}
-use Rattle.isp_lower.specs.Found.{convert_to, found}
-use Rattle.isp_lower.specs.Instructions.{compare, compute, constant, convert, splat, jump_on}
-use Rattle.isp_lower.specs.Known.{constant_of}
-use Rattle.isp_lower.specs.Pieces.{two}
-use Rattle.isp_lower.specs.Spans.{expr_places}
-use Rattle.isp_lower.specs.Layout.{Layout, mask_register}
-use Rattle.isp_lower.specs.Rated.{Reaches}
-use Rattle.isp_lower.specs.Sound.{AreSound, Granted, IsRegister, IsSound, Links}
-use Rattle.isp_lower.proofs.Lemmas.{sound_both, compare_sound, constant_sound, convert_sound, copy_sound, splat_sound, found_there, value_sound, ExprTree, OperandTree}
+use Rattle.isp_lower_code.specs.Code.{expr_code}
+use Rattle.isp_lower_code.specs.Found.{convert_to, found}
+use Rattle.isp_lower_code.specs.Instructions.{compare, compute, constant, convert, splat, jump_on}
+use Rattle.isp_lower_code.specs.Known.{constant_of}
+use Rattle.isp_lower_code.specs.Pieces.{two}
+use Rattle.isp_lower_code.specs.Spans.{expr_places}
+use Rattle.isp_lower_code.specs.Layout.{Layout, mask_register}
+use Rattle.isp_lower_code.specs.Rated.{Reaches}
+use Rattle.isp_lower_code.specs.Sound.{AreSound, Granted, IsRegister, IsSound, Links}
+use Rattle.isp_lower_code.proofs.Lemmas.{sound_both, compare_sound, constant_sound, convert_sound, copy_sound, splat_sound, found_there, value_sound, ExprTree, OperandTree}
 use Rattle.isp_masks_code.specs.Asks.{bound_asks, bounds_asks, measures_asks, place_asks, places_asks}
 use Rattle.isp_masks_code.specs.Ranges.{goes_on, wide, narrow, test, lane, lane_numbers, sum_lanes, range_mask, places_slot, runs_slot, measures_code, bound_code, bounds_code, ranges_places, sweep_code, outer_index, last_index, run_back, run_place, run_step, runs_code, ranges_code, foreach_code}
 use Rattle.isp_masks_code.proofs.Bounds.{bound_is}

@@ -12,9 +12,9 @@ use Rattle.isp_typed.specs.Fine.{FineValue, FineSimple, FineFirst, FineRange, Fi
 use Rattle.isp_typed.specs.Typed.{TFunction, TExpr, TSimple, TFirst, t_first_declare, t_first_simple, TRange, TStmt, t_block, t_declare, t_simple, t_if, t_if_else, t_while, t_do, t_for, t_foreach}
 use Rattle.isp_typed.specs.Typed.{t_foreach_active, t_foreach_unique, t_unmasked, t_jump, t_return, t_print, t_assert, TBlock, t_braces, TStmts, t_no_stmts, t_stmt_then}
 use Rattle.isp_typed.specs.declared.variable.Variable.{Variable}
-use Rattle.isp_lower.specs.Spans.{expr_places}
-use Rattle.isp_lower.specs.Layout.{Layout, outside}
-use Rattle.isp_lower.proofs.Lemmas.{Placed, placed_both, placed_one, expr_placed, shown_placed, simple_placed, items_placed, all_both}
+use Rattle.isp_lower_code.specs.Spans.{expr_places}
+use Rattle.isp_lower_code.specs.Layout.{Layout, outside}
+use Rattle.isp_lower_code.proofs.Lemmas.{Placed, placed_both, placed_one, expr_placed, shown_placed, simple_placed, items_placed, all_both}
 use Rattle.isp_masks_code.specs.Fors.{first_places, test_places, step_places}
 use Rattle.isp_masks_code.specs.Prints.{Part, Words, Value, before, parts, words_of}
 use Rattle.isp_masks_code.specs.Ranges.{ranges_places}

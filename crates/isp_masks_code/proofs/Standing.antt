@@ -20,9 +20,9 @@ use Rattle.isp_typed.specs.Typed.{TFunction}
 use Rattle.isp_typed.specs.declared.variable.Holds.{Holds}
 use Rattle.isp_typed.specs.declared.variable.Holds.TheVariants as holds
 use Rattle.isp_typed.specs.declared.variable.Variable.{Variable as Declared}
-use Rattle.isp_lower.specs.Emitted.{Begins, row_at, array_row, array_rows}
-use Rattle.isp_lower.specs.Rows.{Variable, Row, Rows, name_number, number_in, layout_of}
-use Rattle.isp_lower.specs.Header.{locals_of}
+use Rattle.isp_lower_code.specs.FirstRows.{Begins, row_at, array_row, array_rows}
+use Rattle.isp_lower_code.specs.Rows.{Variable, Row, Rows, name_number, number_in, layout_of}
+use Rattle.isp_lower_code.specs.Header.{locals_of}
 use Rattle.isp_masks_code.specs.Arrays.{array_then, array_count, count_then, local_count, ArraysStand}
 
 -- ---- how many are passed

@@ -14,12 +14,12 @@ use Rattle.isp_meaning.specs.Payloads.{Payload, is_false, offender}
 use Rattle.isp_meaning.specs.Outcomes.{Res, checked, went_all, with_value, unless_empty}
 use Rattle.isp_meaning.specs.Expressions.{value}
 use Rattle.isp_meaning.specs.Statements.{all_go, branches, run, block, run_all}
-use Rattle.isp_lower.specs.Code.{expr_code}
-use Rattle.isp_lower.specs.Found.{found}
-use Rattle.isp_lower.specs.Spans.{expr_places}
-use Rattle.isp_lower.specs.Runs.{Ok}
-use Rattle.isp_lower.specs.Setting.{Setting, IsSettled, gang_of, calls_of, AreAt, Holds}
-use Rattle.isp_lower.proofs.Lemmas.{are_front, are_back, comes_none, at_to, spares_all, expr_runs, few, enters_less, enters_part, items_run, simple_runs, ExprParts}
+use Rattle.isp_lower_code.specs.Code.{expr_code}
+use Rattle.isp_lower_code.specs.Found.{found}
+use Rattle.isp_lower_code.specs.Spans.{expr_places}
+use Rattle.isp_lower_code.specs.Runs.{Ok}
+use Rattle.isp_lower_code.specs.Setting.{Setting, IsSettled, gang_of, calls_of, AreAt, Holds}
+use Rattle.isp_lower_code.proofs.Lemmas.{are_front, are_back, comes_none, at_to, spares_all, expr_runs, few, enters_less, enters_part, items_run, simple_runs, ExprParts}
 use Rattle.isp_masks_code.specs.Asserts.{fails_code}
 use Rattle.isp_masks_code.specs.Named.{AllNamed, BlockNamed, Named}
 use Rattle.isp_masks_code.specs.Ranges.{ranges_places, runs_slot, places_slot}
@@ -44,8 +44,8 @@ use Rattle.isp_masks_code.proofs.Prints.{print_runs}
 use Rattle.isp_masks_code.proofs.Parts.{BlockParts, StmtParts, StmtsParts, RangesTyped}
 use Rattle.isp_masks_code.proofs.Bodies.{foreach_body, outside_back, outside_settled, outside_stands, with_layout}
 use Rattle.isp_masks_code.specs.Free.{last_index_of}
-use Rattle.isp_lower.specs.Layout.{outside}
-use Rattle.isp_lower.specs.Tables.{IsTyped}
+use Rattle.isp_lower_code.specs.Layout.{outside}
+use Rattle.isp_lower_code.specs.Tables.{IsTyped}
 use Rattle.isp_base.specs.declared.types.Rate.TheVariants.{Varying}
 use Rattle.isp_base.specs.declared.types.Elem.TheVariants.{I32}
 use Rattle.isp_masks_code.proofs.Fitting.{last_constant}

@@ -21,11 +21,11 @@ use Rattle.isp_meaning.specs.Outcomes.{Res, Went, Trapped, Cut, go_on, went_all}
 use Rattle.isp_meaning.specs.Payloads.{One}
 use Rattle.isp_meaning.specs.Rounds.{Round, rounds, from_on, joined_lists}
 use Rattle.isp_meaning.specs.State.{State}
-use Rattle.isp_lower.specs.Instructions.{compute}
-use Rattle.isp_lower.specs.Runs.{Comes, DoneOk, Failed, Stopped}
-use Rattle.isp_lower.specs.Setting.{Setting, IsSettled, AreAt, At, Stands, Spares}
-use Rattle.isp_lower.specs.Tables.{IsTyped}
-use Rattle.isp_lower.proofs.Lemmas.{are_back, put_same, comes_on, comes_none, step_go, at_to, spares_all, spares_less, spares_on, failed_after, stopped_after, failed_less, stopped_less, set_at, set_comes, set_goes, set_spares, set_stands}
+use Rattle.isp_lower_code.specs.Instructions.{compute}
+use Rattle.isp_lower_code.specs.Runs.{Comes, DoneOk, Failed, Stopped}
+use Rattle.isp_lower_code.specs.Setting.{Setting, IsSettled, AreAt, At, Stands, Spares}
+use Rattle.isp_lower_code.specs.Tables.{IsTyped}
+use Rattle.isp_lower_code.proofs.Lemmas.{are_back, put_same, comes_on, comes_none, step_go, at_to, spares_all, spares_less, spares_on, failed_after, stopped_after, failed_less, stopped_less, set_at, set_comes, set_goes, set_spares, set_stands}
 use Rattle.isp_masks_code.specs.Ranges.{wide}
 use Rattle.isp_masks_code.specs.Spots.{Spot, body_spot}
 use Rattle.isp_masks_code.specs.StmtRuns.{AreThree, StmtRuns}

@@ -9,7 +9,7 @@ use Rattle.isp_base.specs.declared.types.Rate.TheVariants.{Uniform, Varying}
 use Rattle.isp_base.specs.declared.types.Ty.{Ty}
 use Rattle.isp_typed.specs.Typed.{TExpr, t_exprs, type_of, TSimple, TFirst, t_first_declare, t_first_simple, TRange, TStmt, t_block, t_declare, t_simple, t_if, t_if_else, t_while, t_do, t_for, t_foreach}
 use Rattle.isp_typed.specs.Typed.{t_foreach_active, t_foreach_unique, t_unmasked, t_jump, t_return, t_print, t_assert, TBlock, t_braces, TStmts, t_no_stmts, t_stmt_then, TFunction}
-use Rattle.isp_lower.proofs.Lemmas.{OperandTree, ExprTree, ValuesTree, SimpleTree, ItemsTree}
+use Rattle.isp_lower_code.proofs.Lemmas.{OperandTree, ExprTree, ValuesTree, SimpleTree, ItemsTree}
 use Rattle.isp_masks_code.specs.Prints.{own_rates}
 
 -- in a program of these functions

@@ -16,12 +16,12 @@ use Rattle.isp_meaning.specs.Loops.{loop_end, stepped, turns}
 use Rattle.isp_meaning.specs.Outcomes.{Val, Gives, Fails, Stops, Done, Res, Went, Trapped, Cut, go_on, with_value, if_so}
 use Rattle.isp_meaning.specs.Payloads.{Payload, is_true, kept_by, bit}
 use Rattle.isp_meaning.specs.State.{State, tick}
-use Rattle.isp_lower.specs.Pieces.{two}
-use Rattle.isp_lower.specs.Layout.{register, mask_register}
-use Rattle.isp_lower.specs.Runs.{Comes, Runs, DoneRuns}
-use Rattle.isp_lower.specs.Setting.{Setting, IsSettled, gang_of, AreAt, At, Holds, Allowed}
-use Rattle.isp_lower.proofs.Lemmas.{are_front, are_back, put_same, put_other, comes_none, comes_on, step_go, at_to, spares_all, spares_less, spares_on, failed_after, stopped_after, failed_less}
-use Rattle.isp_lower.proofs.Lemmas.{stopped_less, jumped, jump_comes, jump_at, masked, where_comes, masked_at, any_nobody, where_inside, at_kept}
+use Rattle.isp_lower_code.specs.Pieces.{two}
+use Rattle.isp_lower_code.specs.Layout.{register, mask_register}
+use Rattle.isp_lower_code.specs.Runs.{Comes, Runs, DoneRuns}
+use Rattle.isp_lower_code.specs.Setting.{Setting, IsSettled, gang_of, AreAt, At, Holds, Allowed}
+use Rattle.isp_lower_code.proofs.Lemmas.{are_front, are_back, put_same, put_other, comes_none, comes_on, step_go, at_to, spares_all, spares_less, spares_on, failed_after, stopped_after, failed_less}
+use Rattle.isp_lower_code.proofs.Lemmas.{stopped_less, jumped, jump_comes, jump_at, masked, where_comes, masked_at, any_nobody, where_inside, at_kept}
 use Rattle.isp_masks_code.specs.LoopRuns.{TestRuns, BodyRuns, StepRuns}
 use Rattle.isp_masks_code.specs.Loops.{if_needed, enter_code, loop_end_code, rejoin_code, turn_code, live_code, again_code, next_code}
 use Rattle.isp_masks_code.specs.Sets.{clear_mask}

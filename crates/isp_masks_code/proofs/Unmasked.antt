@@ -8,8 +8,8 @@ use Rattle.isp_code.specs.Conf.{Conf}
 use Rattle.isp_code.specs.declared.instr.Instr.{Instr}
 use Rattle.isp_meaning.specs.Outcomes.{Res, went_all, go_on}
 use Rattle.isp_meaning.specs.State.{State, tick}
-use Rattle.isp_lower.specs.Setting.{Setting, IsSettled, gang_of, AreAt, At, Stands}
-use Rattle.isp_lower.proofs.Lemmas.{put_same, put_other, step_go, at_to, spares_all, spares_less, masked, masked_at}
+use Rattle.isp_lower_code.specs.Setting.{Setting, IsSettled, gang_of, AreAt, At, Stands}
+use Rattle.isp_lower_code.proofs.Lemmas.{put_same, put_other, step_go, at_to, spares_all, spares_less, masked, masked_at}
 use Rattle.isp_masks_code.specs.Rounds.{fill_mask, unmasked_code}
 use Rattle.isp_masks_code.specs.Spots.{Spot, body_spot}
 use Rattle.isp_masks_code.specs.StmtRuns.{AreThree, EntersAt, StmtOk, StmtRuns}

@@ -7,11 +7,11 @@ use Rattle.isp_code.specs.Listing.{Listing, Routine}
 use Rattle.isp_typed.specs.Fine.{FineBlock}
 use Rattle.isp_typed.specs.Typed.{TBlock, TFunction}
 use Rattle.isp_typed.specs.declared.variable.Variable.{Variable}
-use Rattle.isp_lower.specs.Sound.{Granted, HasMask, HasRegister, Links}
-use Rattle.isp_lower.specs.Asks.{All}
-use Rattle.isp_lower.specs.Layout.{Layout}
-use Rattle.isp_lower.specs.Tables.{AnyArray, IsLoadedIn}
-use Rattle.isp_lower.specs.declared.registers.Constant.{Constant}
+use Rattle.isp_lower_code.specs.Sound.{Granted, HasMask, HasRegister, Links}
+use Rattle.isp_lower_code.specs.Asks.{All}
+use Rattle.isp_lower_code.specs.Layout.{Layout}
+use Rattle.isp_lower_code.specs.Tables.{AnyArray, IsLoadedIn}
+use Rattle.isp_lower_code.specs.declared.constant.Constant.{Constant}
 use Rattle.isp_masks_code.specs.Rated.{BlockRated}
 use Rattle.isp_masks_code.specs.Asks.{block_asks}
 use Rattle.isp_masks_code.specs.Keeping.{Each, constants_asks}

@@ -9,9 +9,9 @@ use Rattle.isp_typed.specs.Typed.{TFunction}
 use Rattle.isp_typed.specs.declared.variable.Holds.{Holds}
 use Rattle.isp_typed.specs.declared.variable.Holds.TheVariants as holds
 use Rattle.isp_typed.specs.declared.variable.Variable.{Variable}
-use Rattle.isp_lower.specs.Header.{locals_of}
-use Rattle.isp_lower.specs.Layout.{Layout}
-pub use Rattle.isp_lower.specs.Reserved.{HoldsLocal}
+use Rattle.isp_lower_code.specs.Header.{locals_of}
+use Rattle.isp_lower_code.specs.Layout.{Layout}
+pub use Rattle.isp_lower_code.specs.Own.{HoldsLocal}
 
 -- how many of the parameters are arrays
 abbrev pub array_then : Bool → ℕ → ℕ

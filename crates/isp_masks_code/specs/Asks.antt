@@ -10,8 +10,8 @@ use Rattle.isp_tree.specs.declared.stmt.Form.{Form}
 use Rattle.isp_tree.specs.declared.stmt.Form.TheVariants.{Plain, Coherent}
 use Rattle.isp_typed.specs.Typed.{TExpr, t_exprs, type_of, elem_of, TSimple, TFirst, t_first_declare, t_first_simple, TRange, TStmt, t_block, t_declare, t_simple, t_if, t_if_else, t_while, t_do, t_for, t_foreach}
 use Rattle.isp_typed.specs.Typed.{t_foreach_active, t_foreach_unique, t_unmasked, t_jump, t_return, t_print, t_assert, TBlock, t_braces, TStmts, t_no_stmts, t_stmt_then}
-use Rattle.isp_lower.specs.Asks.{Ask, Nothing, Both, Register, MaskOf, Number, expr_asks, index_asks, operand_asks, simple_asks, spare_ask, items_asks, test_asks, values_asks}
-use Rattle.isp_lower.specs.Rows.{Result, Variable, Place}
+use Rattle.isp_lower_code.specs.Asks.{Ask, Nothing, Both, Register, MaskOf, Number, expr_asks, index_asks, operand_asks, simple_asks, spare_ask, items_asks, test_asks, values_asks}
+use Rattle.isp_lower_code.specs.Rows.{Result, Variable, Place}
 use Rattle.isp_masks_code.specs.Prints.{own_rates}
 use Rattle.isp_masks_code.specs.Ranges.{places_slot, runs_slot}
 

@@ -7,12 +7,12 @@ use Rattle.isp_code.specs.declared.instr.Instr.{Instr}
 use Rattle.isp_code.specs.declared.instr.Instr.TheVariants as instr
 use Rattle.isp_code.specs.declared.instr.JumpTest.TheVariants as jump
 use Rattle.isp_typed.specs.Typed.{TExpr, type_of}
-use Rattle.isp_lower.specs.Code.{expr_code}
-use Rattle.isp_lower.specs.Found.{found}
-use Rattle.isp_lower.specs.Instructions.{jump_on, the_others, where_so}
-use Rattle.isp_lower.specs.Pieces.{guard, two}
-use Rattle.isp_lower.specs.Spans.{expr_places}
-use Rattle.isp_lower.specs.Layout.{Layout, mask_register}
+use Rattle.isp_lower_code.specs.Code.{expr_code}
+use Rattle.isp_lower_code.specs.Found.{found}
+use Rattle.isp_lower_code.specs.Instructions.{jump_on, the_others, where_so}
+use Rattle.isp_lower_code.specs.Pieces.{guard, two}
+use Rattle.isp_lower_code.specs.Spans.{expr_places}
+use Rattle.isp_lower_code.specs.Layout.{Layout, mask_register}
 
 -- a trap where mask k has a lane; it names its place
 abbrev pub fail : ℕ → ℕ → Instr

@@ -21,11 +21,11 @@ use Rattle.isp_meaning.specs.Calls.{frame_of, begun}
 use Rattle.isp_meaning.specs.Runs.{handed, first_frame, first_state}
 use Rattle.isp_meaning.specs.Expressions.{Passed}
 use Rattle.isp_meaning.specs.State.{State, Frame}
-use Rattle.isp_lower.specs.Callees.{rates_in}
-use Rattle.isp_lower.specs.Layout.{Layout, IsApart, register}
-use Rattle.isp_lower.specs.Setting.{Setting, AreAt}
-use Rattle.isp_lower.specs.Tables.{Table}
-use Rattle.isp_lower.specs.declared.registers.Constant.{Constant}
+use Rattle.isp_lower_code.specs.Callees.{rates_in}
+use Rattle.isp_lower_code.specs.Layout.{Layout, IsApart, register}
+use Rattle.isp_lower_code.specs.Setting.{Setting, AreAt}
+use Rattle.isp_lower_code.specs.Tables.{Table}
+use Rattle.isp_lower_code.specs.declared.constant.Constant.{Constant}
 use Rattle.isp_masks_code.specs.Arrays.{ArraysStand}
 use Rattle.isp_masks_code.specs.Asks.{block_asks}
 use Rattle.isp_masks_code.specs.Rated.{BlockRated}

@@ -3,8 +3,8 @@
 use Rattle.std.specs.Prelude.{ℕ}
 use Rattle.isp_typed.specs.Fine.{FineStmt, FineBlock}
 use Rattle.isp_typed.specs.Typed.{TStmt, TBlock}
-use Rattle.isp_lower.specs.Fits.{InTable}
-use Rattle.isp_lower.specs.Setting.{Setting}
+use Rattle.isp_lower_code.specs.Fits.{InTable}
+use Rattle.isp_lower_code.specs.Setting.{Setting}
 use Rattle.isp_masks_code.specs.Asks.{stmt_asks, block_asks}
 use Rattle.isp_masks_code.specs.Free.{StmtFree, BlockFree}
 use Rattle.isp_masks_code.specs.Rated.{StmtRated, BlockRated}

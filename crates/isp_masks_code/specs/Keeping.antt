@@ -5,10 +5,10 @@ use Rattle.isp_base.specs.declared.types.Elem.{Elem}
 use Rattle.isp_base.specs.declared.types.Rate.{Rate}
 use Rattle.isp_base.specs.declared.types.Rate.TheVariants.{Uniform, Varying}
 use Rattle.isp_code.specs.declared.instr.Instr.{Instr}
-use Rattle.isp_lower.specs.Asks.{Ask, Nothing, Both, MaskOf, spare_ask}
-use Rattle.isp_lower.specs.Instructions.{constant, splat}
-use Rattle.isp_lower.specs.Layout.{Layout}
-use Rattle.isp_lower.specs.declared.registers.Constant.{Constant}
+use Rattle.isp_lower_code.specs.Asks.{Ask, Nothing, Both, MaskOf, spare_ask}
+use Rattle.isp_lower_code.specs.Instructions.{constant, splat}
+use Rattle.isp_lower_code.specs.Layout.{Layout}
+use Rattle.isp_lower_code.specs.declared.constant.Constant.{Constant}
 use Rattle.isp_masks_code.specs.Rounds.{fill_mask}
 
 -- ---- the code

@@ -5,7 +5,7 @@ use Rattle.isp_code.specs.Conf.{Conf}
 use Rattle.isp_typed.specs.Typed.{TStmt}
 use Rattle.isp_meaning.specs.State.{State}
 use Rattle.isp_meaning.specs.Statements.{run}
-use Rattle.isp_lower.specs.Setting.{Setting, IsSettled, gang_of, calls_of, AreAt}
+use Rattle.isp_lower_code.specs.Setting.{Setting, IsSettled, gang_of, calls_of, AreAt}
 use Rattle.isp_masks_code.specs.Exits.{all_go_on}
 use Rattle.isp_masks_code.specs.Fits.{StmtFits}
 use Rattle.isp_masks_code.specs.Named.{Named}

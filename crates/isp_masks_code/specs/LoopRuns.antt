@@ -10,8 +10,8 @@ use Rattle.isp_meaning.specs.Outcomes.{Val, Gives, Done, Res}
 use Rattle.isp_meaning.specs.Payloads.{Payload, One}
 use Rattle.isp_meaning.specs.Simple.{no_step}
 use Rattle.isp_meaning.specs.State.{State, tick}
-use Rattle.isp_lower.specs.Runs.{Enters, Runs, DoneRuns}
-use Rattle.isp_lower.specs.Setting.{Setting, IsSettled, gang_of, AreAt, Holds}
+use Rattle.isp_lower_code.specs.Runs.{Enters, Runs, DoneRuns}
+use Rattle.isp_lower_code.specs.Setting.{Setting, IsSettled, gang_of, AreAt, Holds}
 use Rattle.isp_masks_code.specs.Exits.{Leave}
 use Rattle.isp_masks_code.specs.Loops.{while_code, for_code, endless_code, do_code}
 use Rattle.isp_masks_code.specs.Spots.{Spot, body_spot}

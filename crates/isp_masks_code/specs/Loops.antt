@@ -11,9 +11,9 @@ use Rattle.isp_code.specs.declared.instr.MaskInstr.TheVariants as mask
 use Rattle.isp_tree.specs.declared.stmt.Form.{Form}
 use Rattle.isp_tree.specs.declared.stmt.Form.TheVariants.{Plain, Coherent}
 use Rattle.isp_typed.specs.Typed.{TExpr, type_of}
-use Rattle.isp_lower.specs.Layout.{mask_register}
-use Rattle.isp_lower.specs.Instructions.{where_so, the_others, jump_off, jump_on}
-use Rattle.isp_lower.specs.Pieces.{two, guard}
+use Rattle.isp_lower_code.specs.Layout.{mask_register}
+use Rattle.isp_lower_code.specs.Instructions.{where_so, the_others, jump_off, jump_on}
+use Rattle.isp_lower_code.specs.Pieces.{two, guard}
 use Rattle.isp_masks_code.specs.Exits.{nobody_leaves}
 use Rattle.isp_masks_code.specs.Sets.{unite, clear_mask}
 use Rattle.isp_masks_code.specs.Spots.{Spot}

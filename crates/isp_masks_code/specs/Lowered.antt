@@ -5,16 +5,17 @@ use Rattle.isp_code.specs.Listing.{Listing, Routine}
 use Rattle.isp_code.specs.Registers.{scalars_of, vectors_of}
 use Rattle.isp_typed.specs.Fine.{FineFunction}
 use Rattle.isp_typed.specs.Typed.{Program, TFunction}
-use Rattle.isp_lower.specs.Asks.{All}
-use Rattle.isp_lower.specs.Callees.{rates_in}
-use Rattle.isp_lower.specs.Emitted.{Begins, first_rows}
-use Rattle.isp_lower.specs.Header.{locals_of, params_of, returns_of, types_of}
-use Rattle.isp_lower.specs.Reserved.{HasNumbers, IsOwn, registers_asked}
-use Rattle.isp_lower.specs.Rows.{Rows, HasRow, IsLoaded, layout_of}
-use Rattle.isp_lower.specs.Setting.{AreAt}
-use Rattle.isp_lower.specs.Sound.{HasMask}
-use Rattle.isp_lower.specs.Tables.{AnyArray}
-use Rattle.isp_lower.specs.declared.registers.Constant.{Constant}
+use Rattle.isp_lower_code.specs.Asks.{All}
+use Rattle.isp_lower_code.specs.Callees.{rates_in}
+use Rattle.isp_lower_code.specs.FirstRows.{Begins, first_rows}
+use Rattle.isp_lower_code.specs.Header.{locals_of, params_of, returns_of, types_of}
+use Rattle.isp_lower_code.specs.Room.{HasNumbers, registers_asked}
+use Rattle.isp_lower_code.specs.Own.{IsOwn}
+use Rattle.isp_lower_code.specs.Rows.{Rows, HasRow, IsLoaded, layout_of}
+use Rattle.isp_lower_code.specs.Setting.{AreAt}
+use Rattle.isp_lower_code.specs.Sound.{HasMask}
+use Rattle.isp_lower_code.specs.Tables.{AnyArray}
+use Rattle.isp_lower_code.specs.declared.constant.Constant.{Constant}
 use Rattle.isp_masks_code.specs.Asks.{block_asks}
 use Rattle.isp_masks_code.specs.Keeping.{KeepsThem, constants_asks}
 use Rattle.isp_masks_code.specs.Spots.{Numbers}

@@ -9,16 +9,16 @@ use Rattle.isp_code.specs.Listing.{Listing, Routine}
 use Rattle.isp_code.specs.Registers.{table_of, types_in}
 use Rattle.isp_typed.specs.Fine.{params_of}
 use Rattle.isp_typed.specs.Typed.{TFunction}
-use Rattle.isp_lower.specs.Asks.{All}
-use Rattle.isp_lower.specs.Callees.{rates_in}
-use Rattle.isp_lower.specs.Layout.{class_at}
-use Rattle.isp_lower.specs.Rows.{Rows, Result, rows_at, HasRow, IsLoaded, layout_of}
-use Rattle.isp_lower.specs.Sound.{HasMask}
-use Rattle.isp_lower.specs.Tables.{AnyArray}
-use Rattle.isp_lower.specs.declared.registers.Constant.{Constant}
+use Rattle.isp_lower_code.specs.Asks.{All}
+use Rattle.isp_lower_code.specs.Callees.{rates_in}
+use Rattle.isp_lower_code.specs.Layout.{class_at}
+use Rattle.isp_lower_code.specs.Rows.{Rows, Result, rows_at, HasRow, IsLoaded, layout_of}
+use Rattle.isp_lower_code.specs.Sound.{HasMask}
+use Rattle.isp_lower_code.specs.Tables.{AnyArray}
+use Rattle.isp_lower_code.specs.declared.constant.Constant.{Constant}
 use Rattle.isp_masks_code.specs.Arrays.{ArraysStand}
 use Rattle.isp_masks_code.specs.Compiled.{AreOne}
-use Rattle.isp_lower.specs.Header.{returns_of, types_of}
+use Rattle.isp_lower_code.specs.Header.{returns_of, types_of}
 use Rattle.isp_masks_code.specs.Asks.{block_asks}
 use Rattle.isp_masks_code.specs.Keeping.{KeepsThem, constants_asks}
 use Rattle.isp_masks_code.specs.Named.{AreNamed}

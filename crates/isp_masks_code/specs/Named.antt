@@ -3,7 +3,7 @@ use Rattle.std.specs.Prelude.{ℕ, List}
 use Rattle.isp_base.specs.declared.types.Span.{Span}
 use Rattle.isp_code.specs.Listing.{Listing}
 use Rattle.isp_typed.specs.Typed.{TStmt, TBlock, TStmts}
-use Rattle.isp_lower.specs.Setting.{Setting, AreAt}
+use Rattle.isp_lower_code.specs.Setting.{Setting, AreAt}
 use Rattle.isp_masks_code.specs.Spots.{Numbers}
 use Rattle.isp_masks_code.specs.Statements.{stmt_places, block_places, stmts_places, stmt_texts, block_texts, stmts_texts}
 

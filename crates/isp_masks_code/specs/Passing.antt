@@ -13,7 +13,7 @@ use Rattle.isp_typed.specs.declared.variable.Holds.TheVariants as holds
 use Rattle.isp_typed.specs.declared.variable.Variable.{Variable}
 use Rattle.isp_meaning.specs.Calls.{one_passed, each_passed, same_rate}
 use Rattle.isp_meaning.specs.Expressions.{Passed}
-use Rattle.isp_lower.specs.Layout.{Layout}
+use Rattle.isp_lower_code.specs.Layout.{Layout}
 
 -- how many of some variables are values of a rate
 abbrev pub count_if : Bool → ℕ → ℕ

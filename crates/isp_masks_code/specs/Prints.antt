@@ -7,10 +7,10 @@ use Rattle.isp_base.specs.declared.types.Span.{Span}
 use Rattle.isp_code.specs.declared.instr.Instr.{Instr}
 use Rattle.isp_code.specs.declared.instr.Instr.TheVariants as instr
 use Rattle.isp_typed.specs.Typed.{TExpr, t_exprs, type_of}
-use Rattle.isp_lower.specs.Callees.{next_rate, later}
-use Rattle.isp_lower.specs.Code.{value_registers, values_code}
-use Rattle.isp_lower.specs.Spans.{values_places}
-use Rattle.isp_lower.specs.Layout.{Layout, mask_register, register}
+use Rattle.isp_lower_code.specs.Callees.{next_rate, later}
+use Rattle.isp_lower_code.specs.Code.{value_registers, values_code}
+use Rattle.isp_lower_code.specs.Spans.{values_places}
+use Rattle.isp_lower_code.specs.Layout.{Layout, mask_register, register}
 
 -- ---- the parts of a text: its pieces that are not empty, and a value for each `%`
 

@@ -14,12 +14,12 @@ use Rattle.isp_code.specs.declared.instr.Reduction.TheVariants as reduction
 use Rattle.isp_code.specs.declared.instr.ScalarInstr.TheVariants as scalar
 use Rattle.isp_code.specs.declared.instr.VectorInstr.TheVariants as vector
 use Rattle.isp_typed.specs.Typed.{TExpr, TRange}
-use Rattle.isp_lower.specs.Code.{expr_code}
-use Rattle.isp_lower.specs.Found.{index_of}
-use Rattle.isp_lower.specs.Instructions.{compare, compute, constant, convert, copy, splat, jump_off, jump_on}
-use Rattle.isp_lower.specs.Pieces.{two, guard}
-use Rattle.isp_lower.specs.Spans.{expr_places}
-use Rattle.isp_lower.specs.Layout.{Layout, mask_register, register}
+use Rattle.isp_lower_code.specs.Code.{expr_code}
+use Rattle.isp_lower_code.specs.Found.{index_of}
+use Rattle.isp_lower_code.specs.Instructions.{compare, compute, constant, convert, copy, splat, jump_off, jump_on}
+use Rattle.isp_lower_code.specs.Pieces.{two, guard}
+use Rattle.isp_lower_code.specs.Spans.{expr_places}
+use Rattle.isp_lower_code.specs.Layout.{Layout, mask_register, register}
 use Rattle.isp_masks_code.specs.Rounds.{fill_mask}
 
 -- the slot of the first range's place, and the slot behind the last's

@@ -4,7 +4,7 @@ use Rattle.isp_base.specs.declared.types.Rate.TheVariants.{Uniform, Varying}
 use Rattle.isp_base.specs.declared.types.Ty.{Ty}
 use Rattle.isp_typed.specs.Typed.{TExpr, TSimple, TFirst, t_first_declare, t_first_simple, TRange, TStmt, t_block, t_declare, t_simple, t_if, t_if_else, t_while, t_do, t_for, t_foreach, t_foreach_active}
 use Rattle.isp_typed.specs.Typed.{t_foreach_unique, t_unmasked, t_jump, t_return, t_print, t_assert, TBlock, t_braces, TStmts, t_no_stmts, t_stmt_then, TFunction}
-use Rattle.isp_lower.specs.Rated.{IsRated, RatedAt, SimpleRated, ItemsRated}
+use Rattle.isp_lower_code.specs.Rated.{IsRated, RatedAt, SimpleRated, ItemsRated}
 
 -- in a program of these functions
 module _ (fs : List TFunction) where

@@ -12,10 +12,10 @@ use Rattle.isp_code.specs.declared.instr.JumpTest.TheVariants as jump
 use Rattle.isp_code.specs.declared.instr.MaskInstr.TheVariants as mask
 use Rattle.isp_code.specs.declared.instr.Reduction.TheVariants as reduction
 use Rattle.isp_code.specs.declared.instr.ScalarInstr.TheVariants as scalar
-use Rattle.isp_lower.specs.Instructions.{compare, convert, copy, splat, the_others, where_so}
-use Rattle.isp_lower.specs.Pieces.{two}
-use Rattle.isp_lower.specs.Layout.{Layout, mask_register, register}
-use Rattle.isp_lower.specs.Library.{reduce}
+use Rattle.isp_lower_code.specs.Instructions.{compare, convert, copy, splat, the_others, where_so}
+use Rattle.isp_lower_code.specs.Pieces.{two}
+use Rattle.isp_lower_code.specs.Layout.{Layout, mask_register, register}
+use Rattle.isp_lower_code.specs.Library.{reduce}
 use Rattle.isp_masks_code.specs.Loops.{copy_mask}
 
 -- mask d gets all lanes; the lowest lane of mask x alone

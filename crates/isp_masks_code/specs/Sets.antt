@@ -6,7 +6,7 @@ use Rattle.isp_code.specs.declared.instr.MaskInstr.TheVariants as mask
 use Rattle.isp_code.specs.declared.instr.MaskOp.TheVariants as mask_op
 use Rattle.isp_tree.specs.declared.stmt.Jump.{Jump}
 use Rattle.isp_tree.specs.declared.stmt.Jump.TheVariants.{Break, Continue}
-use Rattle.isp_lower.specs.Layout.{mask_register}
+use Rattle.isp_lower_code.specs.Layout.{mask_register}
 
 -- mask d gets those of two masks; mask d gets nobody
 abbrev pub unite : ℕ → ℕ → ℕ → Instr

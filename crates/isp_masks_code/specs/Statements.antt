@@ -14,15 +14,15 @@ use Rattle.isp_tree.specs.declared.stmt.Form.TheVariants.{Plain, Coherent}
 use Rattle.isp_tree.specs.declared.stmt.Jump.{Jump}
 use Rattle.isp_typed.specs.Typed.{TExpr, type_of, elem_of, TRange, TSimple, TStmt, t_block, t_declare, t_simple, t_if, t_if_else, t_while, t_do, t_for, t_foreach, t_foreach_active}
 use Rattle.isp_typed.specs.Typed.{t_foreach_unique, t_unmasked, t_jump, t_return, t_print, t_assert, TBlock, t_braces, TStmts, t_no_stmts, t_stmt_then}
-use Rattle.isp_lower.specs.Layout.{Layout, register, outside, within}
-use Rattle.isp_lower.specs.Code.{expr_code}
-use Rattle.isp_lower.specs.Found.{found, operand, operand_of}
-use Rattle.isp_lower.specs.Instructions.{copy, where_so, the_others, jump_off, jump_on}
-use Rattle.isp_lower.specs.Pieces.{two, guard, choice}
-use Rattle.isp_lower.specs.Spans.{expr_places}
-use Rattle.isp_lower.specs.Items.{items_code, items_places}
-use Rattle.isp_lower.specs.Simple.{simple_code, simple_places}
-use Rattle.isp_lower.specs.declared.registers.Constant.{Constant}
+use Rattle.isp_lower_code.specs.Layout.{Layout, register, outside, within}
+use Rattle.isp_lower_code.specs.Code.{expr_code}
+use Rattle.isp_lower_code.specs.Found.{found, operand, operand_of}
+use Rattle.isp_lower_code.specs.Instructions.{copy, where_so, the_others, jump_off, jump_on}
+use Rattle.isp_lower_code.specs.Pieces.{two, guard, choice}
+use Rattle.isp_lower_code.specs.Spans.{expr_places}
+use Rattle.isp_lower_code.specs.Items.{items_code, items_places}
+use Rattle.isp_lower_code.specs.Simple.{simple_code, simple_places}
+use Rattle.isp_lower_code.specs.declared.constant.Constant.{Constant}
 use Rattle.isp_masks_code.specs.Asserts.{assert_code, assert_places}
 use Rattle.isp_masks_code.specs.Exits.{exits_of, all_go_on, both_go_on, leaving_of}
 use Rattle.isp_masks_code.specs.Fors.{back_code, first_code, step_code, first_places, test_places, step_places}

@@ -5,8 +5,8 @@ use Rattle.isp_base.specs.Sets.{Mask, union}
 use Rattle.isp_code.specs.Conf.{Conf}
 use Rattle.isp_meaning.specs.State.{State}
 use Rattle.isp_meaning.specs.Outcomes.{Res, Went, Trapped, Cut}
-use Rattle.isp_lower.specs.Setting.{Setting, At, Stands, Spares, Allowed}
-use Rattle.isp_lower.specs.Runs.{Comes, Enters, Failed, Stopped}
+use Rattle.isp_lower_code.specs.Setting.{Setting, At, Stands, Spares, Allowed}
+use Rattle.isp_lower_code.specs.Runs.{Comes, Enters, Failed, Stopped}
 use Rattle.isp_masks_code.specs.Spots.{Spot}
 
 -- three mask registers below the free slots

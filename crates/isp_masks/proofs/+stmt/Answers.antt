@@ -2,8 +2,8 @@ use Rattle.std.proofs.Common.{◌≡◌, ◌≤◌, List, [], ◌∷◌, ◌++�
 use Rattle.std.specs.Prelude.{option_map, slice_set}
 use Rattle.isp_code.specs.declared.instr.Instr.{Instr}
 use Rattle.isp_code.specs.declared.instr.JumpTest.TheVariants as jump
-use Rattle.isp_lower.specs.Instructions.{copy, jump_off, jump_on, the_others, where_so}
-use Rattle.isp_lower.specs.Pieces.{guard, two}
+use Rattle.isp_lower_code.specs.Instructions.{copy, jump_off, jump_on, the_others, where_so}
+use Rattle.isp_lower_code.specs.Pieces.{guard, two}
 use Rattle.isp_lower.specs.Emitted.{Appends, Present, layout}
 use Rattle.isp_lower.specs.declared.sites.Site.{Site}
 use Rattle.isp_typed.specs.Nodes.{block_nodes, stmts_nodes, range_nodes, stmt_nodes, typed_nodes}
@@ -40,7 +40,7 @@ use Rattle.isp_code.specs.declared.instr.Instr.TheVariants as instr
 use Rattle.isp_masks_code.specs.Ranges.{bounds_code, last_index, measures_code, range_mask, ranges_places, run_place, runs_slot, test, wide}
 use Rattle.isp_masks.proofs.RangesWritten.{foreach_written, goes_on_codes, last_written, outer_written, ranges_count, ranges_outer, sweep_there, sweep_written}
 use Rattle.isp_masks_code.specs.Asks.{stmt_asks}
-use Rattle.isp_lower.specs.Layout.{mask_register, register, within}
+use Rattle.isp_lower_code.specs.Layout.{mask_register, register, within}
 use Rattle.isp_lower.specs.declared.numbered.MaskNumber.{MaskNumber}
 use Rattle.isp_lower.specs.declared.numbered.Slot.{Slot}
 use Rattle.isp_masks.specs.declared.ranges.OuterIndex.{OuterIndex}

@@ -1,6 +1,6 @@
 use Rattle.std.proofs.Common.{[], ◌∷◌, ◌∙◌}
 use Rattle.isp_code.specs.declared.instr.JumpTest.TheVariants as jump
-use Rattle.isp_lower.specs.Instructions.{jump_on}
+use Rattle.isp_lower_code.specs.Instructions.{jump_on}
 use Rattle.isp_lower.proofs.Lemmas.{landed}
 use Rattle.isp_masks_code.specs.Asserts.{fail}
 use Rattle.isp_masks.proofs.asserting.fails_for_all.Goals as goal

@@ -1,5 +1,5 @@
 use Rattle.std.proofs.Common.{◌≡◌, drop, length}
-use Rattle.isp_lower.specs.Instructions.{jump_off}
+use Rattle.isp_lower_code.specs.Instructions.{jump_off}
 use Rattle.isp_masks.specs.Awaited.{set_all}
 use Rattle.isp_masks.proofs.awaited.land_all.Given as goal
 

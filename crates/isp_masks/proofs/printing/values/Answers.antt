@@ -2,10 +2,10 @@ use Rattle.std.proofs.Common.{◌≡◌, ◌+◌, ◌∙◌, List, [], ◌∷◌
 use Rattle.isp_base.specs.declared.types.Ty.{Ty}
 use Rattle.isp_typed.specs.Typed.{type_of}
 use Rattle.isp_typed.specs.Views.{expr_of, exprs_of}
-use Rattle.isp_lower.specs.Asks.{operand_asks}
-use Rattle.isp_lower.specs.Code.{expr_code}
-use Rattle.isp_lower.specs.Found.{operand, operand_of}
-use Rattle.isp_lower.specs.Spans.{expr_places}
+use Rattle.isp_lower_code.specs.Asks.{operand_asks}
+use Rattle.isp_lower_code.specs.Code.{expr_code}
+use Rattle.isp_lower_code.specs.Found.{operand, operand_of}
+use Rattle.isp_lower_code.specs.Spans.{expr_places}
 use Rattle.isp_lower.specs.Emitted.{Appends, Present, layout}
 use Rattle.isp_lower.specs.declared.numbered.Slot.{Slot}
 use Rattle.isp_masks.specs.Printed.{rates_of, registers_of}

@@ -1,6 +1,6 @@
 use Rattle.std.proofs.Common.{◌≡◌, ◌+◌, ◌++◌, ◌∙◌, length, drop, ap, refl, sym, subst, append-nil}
 use Rattle.isp_typed.specs.Views.{expr_of, ranges_of}
-use Rattle.isp_lower.specs.Spans.{expr_places}
+use Rattle.isp_lower_code.specs.Spans.{expr_places}
 use Rattle.isp_lower.specs.Emitted.{Appends, Present, layout}
 use Rattle.isp_lower.specs.declared.numbered.Slot.{Slot}
 use Rattle.isp_lower.proofs.Lemmas.{appends_then}

@@ -1,7 +1,8 @@
 use Rattle.std.proofs.Common.{◌∙◌, ◌+◌, ap, drop, sym, subst, arith, length}
 use Rattle.isp_typed.specs.Views.{ranges_of}
-use Rattle.isp_lower.specs.Asks.{Number}
-use Rattle.isp_lower.specs.Reserved.{Gives, HasNumbers}
+use Rattle.isp_lower_code.specs.Asks.{Number}
+use Rattle.isp_lower_code.specs.Room.{HasNumbers}
+use Rattle.isp_lower.specs.Reserved.{Gives}
 use Rattle.isp_lower.proofs.Lemmas.{both_given, gives_none}
 use Rattle.isp_masks_code.specs.Asks.{places_asks}
 use Rattle.isp_masks.proofs.RangesAsked.{numbers_more, ranges_end, ranges_more}

@@ -1,7 +1,8 @@
 -- Who is given what the ranges that are left ask for, is given what all ask for; the slots that are left are theirs, and their numbers can be had.
 use Rattle.std.proofs.Common.{◌≡◌, ◌+◌, drop, length}
 use Rattle.isp_typed.specs.Views.{ranges_of}
-use Rattle.isp_lower.specs.Reserved.{Gives, HasNumbers}
+use Rattle.isp_lower_code.specs.Room.{HasNumbers}
+use Rattle.isp_lower.specs.Reserved.{Gives}
 use Rattle.isp_lower.specs.declared.reserve.Reserve.{Reserve}
 use Rattle.isp_masks_code.specs.Asks.{places_asks}
 use Rattle.isp_masks.proofs.ranges_reserved.places.Given as goal

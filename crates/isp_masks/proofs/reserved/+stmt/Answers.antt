@@ -7,7 +7,8 @@ use Rattle.isp_typed.proofs.StmtViews.{for_view}
 use Rattle.isp_typed.specs.Views.{block_of, expr_of, first_of, simple_of, stmt_of, stmts_of}
 use Rattle.isp_base.specs.declared.types.Elem.TheVariants.{I64}
 use Rattle.isp_base.specs.declared.types.Rate.TheVariants.{Uniform}
-use Rattle.isp_lower.specs.Reserved.{Gives, HasNumbers}
+use Rattle.isp_lower_code.specs.Room.{HasNumbers}
+use Rattle.isp_lower.specs.Reserved.{Gives}
 use Rattle.isp_lower.proofs.Lemmas.{both_given, gives_none}
 use Rattle.isp_masks.proofs.Reserving.{variable_reserved}
 use Rattle.isp_masks_code.specs.Asks.{block_asks, stmt_asks, stmts_asks}

@@ -4,7 +4,8 @@ use Rattle.std.proofs.Common.{◌+◌, ◌-◌, ◌*◌, drop}
 use Rattle.isp_typed.specs.Nodes.{stmt_nodes, block_nodes}
 use Rattle.isp_typed.specs.Typed.{t_stmts}
 use Rattle.isp_typed.specs.Views.{block_of, stmt_of, stmts_of}
-use Rattle.isp_lower.specs.Reserved.{Gives, HasNumbers}
+use Rattle.isp_lower_code.specs.Room.{HasNumbers}
+use Rattle.isp_lower.specs.Reserved.{Gives}
 use Rattle.isp_lower.specs.declared.reserve.Reserve.{Reserve}
 use Rattle.isp_masks_code.specs.Asks.{stmts_asks}
 use Rattle.isp_masks.proofs.reserved.+stmt.Given as goal

@@ -1,4 +1,4 @@
-use Rattle.isp_lower.specs.Asks.{MaskOf}
+use Rattle.isp_lower_code.specs.Asks.{MaskOf}
 use Rattle.isp_lower.specs.Reserved.{Gives}
 use Rattle.isp_lower.specs.declared.numbered.Slot.{Slot}
 use Rattle.isp_lower.proofs.Lemmas.{both_given}

@@ -1,8 +1,9 @@
 use Rattle.std.proofs.Common.{◌+◌, drop, sym, subst}
 use Rattle.isp_base.specs.declared.types.Ty.{Ty}
 use Rattle.isp_typed.specs.Views.{expr_of}
-use Rattle.isp_lower.specs.Asks.{operand_asks}
-use Rattle.isp_lower.specs.Reserved.{Gives, HasNumbers}
+use Rattle.isp_lower_code.specs.Asks.{operand_asks}
+use Rattle.isp_lower_code.specs.Room.{HasNumbers}
+use Rattle.isp_lower.specs.Reserved.{Gives}
 use Rattle.isp_lower.proofs.Lemmas.{both_given, gives_none}
 use Rattle.isp_masks.proofs.Telling.{asked, asked_end, asked_more}
 use Rattle.isp_masks.proofs.reserved.printed.Goals as goal

@@ -1,6 +1,7 @@
 -- Who is given what the values that are left ask for, is given what all ask for; and their numbers can be had.
 use Rattle.std.proofs.Common.{drop}
-use Rattle.isp_lower.specs.Reserved.{Gives, HasNumbers}
+use Rattle.isp_lower_code.specs.Room.{HasNumbers}
+use Rattle.isp_lower.specs.Reserved.{Gives}
 use Rattle.isp_lower.specs.declared.reserve.Reserve.{Reserve}
 use Rattle.isp_masks.proofs.Telling.{asked}
 use Rattle.isp_masks.proofs.reserved.printed.Given as goal

@@ -1,6 +1,6 @@
 use Rattle.std.proofs.Common.{◌∷◌, [], ◌∙◌}
 use Rattle.isp_code.specs.declared.instr.Instr.TheVariants as instr
-use Rattle.isp_lower.specs.Instructions.{the_others}
+use Rattle.isp_lower_code.specs.Instructions.{the_others}
 use Rattle.isp_lower.proofs.Lemmas.{landed}
 use Rattle.isp_masks_code.specs.Loops.{copy_mask, jump_all}
 use Rattle.isp_masks.proofs.sets.set_apart_unless_all.Goals as goal
