@@ -52,19 +52,3 @@ list_step answer spot l o a r b js hs f g items i x low is y left room w gone =
           (sym (places_last l ys one)) (sym (texts_last ys one)),
       gone ∙ sym (left_last false ys one),
     )
-
--- an element has at most the nodes of all
-pub nodes_low : (items : List TypedStmt) (i : ℕ) (x : TypedStmt) → i < length items → x ≡ get_or items i x → stmt_nodes (stmt_of x) ≤ stmts_nodes (t_stmts (stmts_of items))
-nodes_low [] i x low is = absurd (omega (arith, low))
-nodes_low (y ∷ ys) zero x low is = subst (λ z. stmt_nodes (stmt_of z) ≤ stmt_nodes (stmt_of y) + stmts_nodes (t_stmts (stmts_of ys))) (sym is) (omega arith)
-nodes_low (y ∷ ys) (suc i) x low is = let n = nodes_low ys i x (omega (arith, low)) is in omega (arith, n)
-
--- what the statements that are left ask for
-pub stmts_more : (answer : Option Ty) (n : ℕ) (all : List TypedStmt) (i : ℕ) (x : TypedStmt) → i < length all → x ≡ get_or all i x
-    → stmts_asks answer (t_stmts (stmts_of (drop i all))) n ≡ Both (stmt_asks answer (stmt_of x) n) (stmts_asks answer (t_stmts (stmts_of (drop (i + 1) all))) n)
-stmts_more answer n all i x lt is =
-    ap (λ z. stmts_asks answer (t_stmts (stmts_of z)) n) (drop_more all i x lt)
-    ∙ ap (λ z. Both (stmt_asks answer (stmt_of z) n) (stmts_asks answer (t_stmts (stmts_of (drop (i + 1) all))) n)) (sym is)
-
-pub stmts_end : (answer : Option Ty) (n : ℕ) (all : List TypedStmt) (i : ℕ) → length all ≤ i → stmts_asks answer (t_stmts (stmts_of (drop i all))) n ≡ Nothing
-stmts_end answer n all i le = ap (λ z. stmts_asks answer (t_stmts (stmts_of z)) n) (drop_all i all le)

@@ -8,9 +8,7 @@ mod Sifting
 mod JumpsWritten
 mod WidelyWritten
 mod Telling
-mod RangesAsked
 mod RangesWritten
 mod Routines
 mod Listings
-mod Reserving
 mod FewRows

@@ -1,7 +1,8 @@
 -- A routine from its parts.
-use Rattle.std.proofs.Common.{◌≡◌, ℕ, suc, ◌+◌, ◌<◌, ◌≤◌, List, [], ◌∷◌, ◌++◌, length, refl, sym, ap, subst, ◌∙◌, arith, append_assoc, append-nil, length-append, drop, Some, slice_get}
+use Rattle.std.proofs.Common.{◌≡◌, ℕ, suc, ◌+◌, ◌<◌, ◌≤◌, List, [], ◌∷◌, ◌++◌, length, refl, sym, ap, subst, ◌∙◌, arith, append_assoc, append-nil, length-append, drop, Option, Some, None, slice_get}
 use Rattle.std.proofs.Math.Seq.{drop-append_seam}
 use Rattle.std.proofs.lemmas.List.{map-append}
+use Rattle.isp_base.specs.declared.types.Ty.{Ty}
 use Rattle.isp_base.specs.declared.signature.Parameter.{Parameter}
 use Rattle.isp_base.specs.declared.types.Elem.{Elem}
 use Rattle.isp_base.specs.declared.types.Rate.{Rate}
@@ -31,11 +32,11 @@ use Rattle.isp_typed.specs.declared.variable.Holds.TheVariants as holds
 use Rattle.isp_typed.specs.declared.variable.Variable.{Variable as Declared}
 use Rattle.isp_lower.specs.Drafts.{Draft, begun, routine_at_work}
 use Rattle.isp_lower_code.specs.Header.{heading_of, locals_of, param_of, params_of, returns_of, routine_with, types_of, value_kind}
-use Rattle.isp_lower.specs.Reserved.{Has}
+use Rattle.isp_lower.specs.Reserved.{Has, IsReserved}
 use Rattle.isp_lower.specs.declared.reserve.Reserve.{Reserve}
 use Rattle.isp_masks.specs.Added.{AddsLowered}
 use Rattle.isp_masks_code.specs.Lowered.{IsLowered}
-use Rattle.isp_masks_code.specs.Asks.{block_asks}
+use Rattle.isp_masks_code.specs.Asks.{block_asks, result_asks}
 use Rattle.isp_masks_code.specs.Keeping.{KeepsThem, constants_asks}
 use Rattle.isp_masks.specs.AtWork.{next_of}
 use Rattle.isp_masks_code.specs.Statements.{block_places, block_texts, function_code}
@@ -166,3 +167,8 @@ adds h ks old d z r a b is code places texts rows masks grows more keeps has y f
           z.registers r.registers a b (code ∙ ap (λ (x : Draft). x.code) is)
           (rows ∙ ap (λ (x : Draft). x.rows) is) grows keeps y refl refl refl refl refl refl refl has three refl);
     }
+
+-- the register of the result is there from the beginning
+pub result_reserved : (r : Reserve) (answer : Option Ty) → IsReserved r (result_asks answer)
+result_reserved r None = tt
+result_reserved r (Some t) = tt

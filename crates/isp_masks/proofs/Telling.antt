@@ -18,6 +18,7 @@ use Rattle.isp_lower.specs.Emitted.{Appends, AppendsText, texts_of}
 use Rattle.isp_lower_code.specs.Layout.{Layout}
 use Rattle.isp_lower.specs.declared.types.Body.{Body}
 use Rattle.isp_lower.proofs.Lemmas.{appends_self, appends_then}
+use Rattle.isp_masks_code.proofs.Lemmas.{left_of}
 use Rattle.isp_masks.specs.Printed.{first_shown, first_word, rates_of, registers_of, told_at, words_at}
 use Rattle.isp_masks_code.specs.Prints.{Part, Words, Value, before, own_rates, parts, parts_code, print_code, print_places, print_texts, words_of}
 use Rattle.isp_masks.specs.AtWork.{next_of}
@@ -138,19 +139,6 @@ said a b c (w ∷ ws) n lt e f g =
     }
 
 -- ---- the values
-
-abbrev pub asked : List rust.TypedExpr → ℕ → Ask
-asked xs n = values_asks (own_rates (exprs_of xs)) (t_exprs (exprs_of xs)) n
-
-left_of : (all : List rust.TypedExpr) (i : ℕ) (x : rust.TypedExpr) → i < length all → x ≡ get_or all i x → drop i all ≡ x ∷ drop (i + 1) all
-left_of all i x lt is = drop_more all i x lt ∙ ap (λ z. z ∷ drop (i + 1) all) (sym is)
-
-pub asked_more : (all : List rust.TypedExpr) (i n : ℕ) (x : rust.TypedExpr) → i < length all → x ≡ get_or all i x
-    → asked (drop i all) n ≡ Both (Number (n + 1)) (Both (operand_asks (type_of (expr_of x)).rate (expr_of x) n) (asked (drop (i + 1) all) (n + 1)))
-asked_more all i n x lt is = ap (λ zs. asked zs n) (left_of all i x lt is)
-
-pub asked_end : (all : List rust.TypedExpr) (i n : ℕ) → length all ≤ i → asked (drop i all) n ≡ Nothing
-asked_end all i n le = ap (λ zs. asked zs n) (drop_all i all le)
 
 pub rates_more : (all : List rust.TypedExpr) (i : ℕ) (x : rust.TypedExpr) (shown : List Shown) (s : Shown) (total : List Rate) → i < length all → x ≡ get_or all i x → s.rate ≡ (type_of (expr_of x)).rate
     → rates_of shown ++ own_rates (exprs_of (drop i all)) ≡ total → rates_of (shown ++ s ∷ []) ++ own_rates (exprs_of (drop (i + 1) all)) ≡ total

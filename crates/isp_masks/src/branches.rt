@@ -21,16 +21,10 @@ use isp_base::Rate;
 use isp_code::{Instr, JumpTest};
 use isp_lower::{Body, MaskNumber, RegisterNumber, Scope, Site, expr, mask, scalar, where_so};
 use isp_masks_code::Leaving;
+use isp_masks_reserve::Condition;
 use isp_tree::Form;
 use isp_typed::TypedExpr;
 use std::alloc::AllocError;
-
-/// The form of an `if`, and its test.
-#[derive(Clone, Copy)]
-pub(crate) struct Condition<'a> {
-    pub form: Form,
-    pub test: &'a TypedExpr,
-}
 
 /// The form of an `if`, and the rate and the register of its test.
 #[derive(Clone, Copy)]

@@ -12,8 +12,6 @@ mod masks;
 mod part;
 mod printing;
 mod ranges;
-mod ranges_reserved;
-mod reserved;
 mod returned;
 mod rounds;
 mod routine;

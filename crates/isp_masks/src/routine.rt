@@ -16,7 +16,6 @@ ghost use Rattle.isp_masks.specs.Written.{Writes, function_at};
 
 use crate::keeping::{self, keep};
 use crate::masks::{Masks, Spot};
-use crate::reserved;
 use crate::seen::block_seen;
 use crate::statement::block;
 use crate::wanted::constants;
@@ -80,7 +79,7 @@ fn reserve(asked: &mut Reserve, kept: &[Constant], f: &TypedFunction) -> Result<
 {
     let slot = Slot { number: 3 };
     keeping::reserved(asked, kept, slot)?;
-    reserved::block(asked, &f.body, f.result, slot)
+    isp_masks_reserve::block(asked, &f.body, f.result, slot)
 }
 
 /// Adds the routine of a function, which is at work afterwards, and the places in the source and the texts that its code

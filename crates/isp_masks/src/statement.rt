@@ -14,7 +14,7 @@ ghost use Rattle.isp_masks.specs.Written.{Writes, active_at, block_at, do_at, en
 
 use crate::asserting::asserts;
 use crate::awaited::{land_all, leave_room};
-use crate::branches::{Condition, if_alone, if_else};
+use crate::branches::{if_alone, if_else};
 use crate::looping::{
     Loop, Test, Turning, clear_where, copy_mask, enter, inside, is_wide, is_wide_by, land_sift,
     leave_loop, next, rejoin, sift, where_some,
@@ -31,10 +31,11 @@ use crate::rounds::{fill_mask, take_lane};
 use crate::seen::Seen;
 use crate::sets::jump;
 use crate::steps::{first_part, next_turn};
-use crate::unique::{Unique, keep_values, take_value};
+use crate::unique::{keep_values, take_value};
 use isp_base::{Elem, Rate, Ty};
 use isp_code::{Instr, JumpTest};
 use isp_lower::{Body, Scope, Site, declared, expr, mask, scalar, simple};
+use isp_masks_reserve::{Condition, Unique};
 use isp_tree::Form;
 use isp_typed::{TypedBlock, TypedExpr, TypedRange, TypedStmt};
 use std::alloc::AllocError;

@@ -23,16 +23,9 @@ use isp_lower::{
     Body, MaskNumber, RegisterNumber, Scope, Slot, copy, mask, operand, scalar, the_others, vector,
     where_so,
 };
+use isp_masks_reserve::Unique;
 use isp_typed::TypedExpr;
 use std::alloc::AllocError;
-
-/// A `foreach_unique` without its body: its index, the element type of that, and its value.
-#[derive(Clone, Copy)]
-pub(crate) struct Unique<'a> {
-    pub index: usize,
-    pub elem: Elem,
-    pub value: &'a TypedExpr,
-}
 
 /// A scalar gets the least of what the lanes have.
 fn least(to: RegisterNumber, from: RegisterNumber, k: MaskNumber) -> Instr

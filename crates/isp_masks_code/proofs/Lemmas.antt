@@ -10,6 +10,7 @@ pub use Rattle.isp_masks_code.proofs.CodeLengths.{block_places_few, block_texts_
 pub use Rattle.isp_masks_code.proofs.Own.{body_own, heading_fits, result_own}
 pub use Rattle.isp_masks_code.proofs.AskNumbers.{constants_numbers, constants_registers}
 pub use Rattle.isp_masks_code.proofs.FewVariables.{ranges_low}
+pub use Rattle.isp_masks_code.proofs.ListsAsked.{asked, asked_end, asked_more, left_of, nodes_low, numbers_more, ranges_end, ranges_more, stmts_end, stmts_more}
 pub use Rattle.isp_masks_code.proofs.SmallFunctions.{functions_small}
 -- ---- the views of trees at a node
 

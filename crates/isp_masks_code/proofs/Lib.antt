@@ -67,6 +67,7 @@ mod Lowers
 mod Free
 mod Bodies
 mod AskNumbers
+mod ListsAsked
 mod FewVariables
 mod SmallNumbers
 mod SmallFunctions

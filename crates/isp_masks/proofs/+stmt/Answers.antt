@@ -27,13 +27,13 @@ use Rattle.isp_masks.specs.AtWork.{next_of, own_spot, spot_of}
 use Rattle.isp_masks_code.specs.Statements.{left_code, stmt_code, stmt_places, stmt_texts, stmts_code, stmts_places, stmts_texts, body_code, body_layout}
 use Rattle.isp_masks.specs.Written.{Piece, Writes, block_at, guarded_at, kept_at, next_at, step_in, stmt_at, test_in, turn_at, turning_at, turns_at, first_sweep, index_codes, outer_turn_at, place_test, range_begin, range_step, ranges_at, runs_at, runs_begin, runs_next}
 use Rattle.isp_masks.proofs.Awaiting.{awaits_end}
-use Rattle.isp_masks.proofs.Forms.{list_step, nodes_low, stmts_more}
+use Rattle.isp_masks.proofs.Forms.{list_step}
 use Rattle.isp_masks.proofs.JumpsWritten.{left_written}
 use Rattle.isp_masks.proofs.WidelyWritten.{first_widely_written}
 use Rattle.isp_masks.proofs.Lists.{flat, flat_is}
 use Rattle.isp_masks.proofs.Splits.{seen_begins, seen_rest}
 use Rattle.isp_masks.proofs.Sifting.{for_written, sifted, turns_written}
-use Rattle.isp_masks_code.proofs.Lemmas.{block_view, part_is, ranges_low}
+use Rattle.isp_masks_code.proofs.Lemmas.{block_view, part_is, ranges_low, nodes_low, stmts_more}
 use Rattle.isp_masks.proofs.Writing.{chosen_of, landed_over, rounds_written, writes_adding, writes_back, writes_past}
 use Rattle.isp_base.specs.declared.types.Rate.TheVariants.{Uniform}
 use Rattle.isp_code.specs.declared.instr.Instr.TheVariants as instr

@@ -10,8 +10,9 @@ use Rattle.isp_lower.specs.Emitted.{Appends, Present, layout}
 use Rattle.isp_lower.specs.declared.numbered.Slot.{Slot}
 use Rattle.isp_masks.specs.Printed.{rates_of, registers_of}
 use Rattle.isp_masks_code.specs.Prints.{own_rates}
+use Rattle.isp_masks_code.proofs.Lemmas.{asked, asked_more}
 use Rattle.isp_masks.specs.declared.printing.Shown.{Shown}
-use Rattle.isp_masks.proofs.Telling.{asked, asked_more, code_end, code_more, code_of, places_of, rates_end, rates_more, registers, registers_end, registers_more}
+use Rattle.isp_masks.proofs.Telling.{code_end, code_more, code_of, places_of, rates_end, rates_more, registers, registers_end, registers_more}
 use Rattle.isp_masks.proofs.printing.values.Goals as goal
 
 pub loop-x-preserved : goal.loop-x-preserved

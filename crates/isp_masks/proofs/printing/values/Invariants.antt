@@ -6,7 +6,8 @@ use Rattle.isp_lower.specs.Emitted.{Appends, Present, layout}
 use Rattle.isp_lower.specs.declared.types.Body.{Body}
 use Rattle.isp_masks.specs.Printed.{rates_of, registers_of}
 use Rattle.isp_masks_code.specs.Prints.{own_rates}
-use Rattle.isp_masks.proofs.Telling.{asked, code_of, places_of, registers}
+use Rattle.isp_masks_code.proofs.Lemmas.{asked}
+use Rattle.isp_masks.proofs.Telling.{code_of, places_of, registers}
 use Rattle.isp_masks.proofs.printing.values.Given as goal
 
 abbrev pub invariant-loop-x : goal.invariant-loop-x

@@ -6,7 +6,7 @@ use Rattle.isp_lower.specs.declared.numbered.Slot.{Slot}
 use Rattle.isp_lower.proofs.Lemmas.{appends_then}
 use Rattle.isp_masks_code.specs.Asks.{bounds_asks}
 use Rattle.isp_masks_code.specs.Ranges.{bound_code, bounds_code, ranges_places}
-use Rattle.isp_masks.proofs.RangesAsked.{ranges_end, ranges_more}
+use Rattle.isp_masks_code.proofs.Lemmas.{ranges_end, ranges_more}
 use Rattle.isp_masks.proofs.ranges.bounds.Goals as goal
 
 pub loop-x-preserved : goal.loop-x-preserved

@@ -7,7 +7,7 @@ use Rattle.isp_masks_code.specs.Asks.{block_asks, result_asks}
 use Rattle.isp_masks_code.specs.Keeping.{constants_asks}
 use Rattle.isp_masks_code.proofs.Lemmas.{constants_numbers, result_own}
 use Rattle.isp_masks.proofs.ConstantRows.{constants_own}
-use Rattle.isp_masks.proofs.Reserving.{result_reserved}
+use Rattle.isp_masks.proofs.Routines.{result_reserved}
 use Rattle.isp_masks.proofs.routine.reserve.Goals as goal
 
 pub returns-clause-rows : goal.returns-clause-rows

@@ -6,9 +6,8 @@ use Rattle.isp_typed.specs.Views.{block_of, stmt_of, stmts_of}
 use Rattle.isp_masks_code.specs.Exits.{exits_of}
 use Rattle.isp_masks.specs.declared.seen.Seen.{Seen}
 use Rattle.isp_masks.specs.reader.Seen.{parts_seen}
-use Rattle.isp_masks.proofs.Forms.{nodes_low}
 use Rattle.isp_masks.proofs.Splits.{filled}
-use Rattle.isp_masks_code.proofs.Lemmas.{block_view}
+use Rattle.isp_masks_code.proofs.Lemmas.{block_view, nodes_low}
 use Rattle.isp_masks.proofs.seen.+stmt.Goals as goal
 
 pub block-stmt-requires : goal.block-stmt-requires

@@ -1,5 +1,0 @@
-use Rattle.isp_lower.proofs.Lemmas.{both_given, gives_none}
-use Rattle.isp_masks.proofs.ranges_reserved.bound.Goals as goal
-
-pub returns : goal.returns
-returns c = both_given _ _ _ _ _ c.in_ok-spare.ensures (both_given _ _ _ _ _ (gives_none _) (both_given _ _ _ _ _ (rw c.ty.ensures at c.in_ok-spare-2.ensures) c.in_ok-expr.ensures))
