@@ -10,19 +10,21 @@ use Rattle.isp_base.specs.declared.types.Ty.{Ty}
 use Rattle.std.specs.Prelude.{Option, ◌==◌}
 use Rattle.isp_typed.specs.declared.variable.Variable.{Variable}
 use Rattle.isp_lower_code.specs.FirstRows.{first_rows}
-use Rattle.isp_lower.specs.Emitted.{Appends, Grows, Keeps, Longer, layout, rows_of}
+use Rattle.isp_registers.specs.Growth.{Grows, Keeps, Longer, rows_of}
+use Rattle.isp_lower.specs.Emitted.{Appends, layout}
 use Rattle.isp_lower_code.specs.Layout.{Layout}
 use Rattle.isp_lower_code.specs.Own.{IsOwn}
 use Rattle.isp_lower_code.specs.Rows.{Rows, keeps, layout_of, rows_at}
 use Rattle.isp_lower_code.specs.declared.constant.Constant.{Constant}
-use Rattle.isp_lower.specs.declared.registers.Registers.{Registers}
+use Rattle.isp_registers.specs.declared.registers.Registers.{Registers}
 use Rattle.isp_code.specs.declared.instr.Instr.TheVariants as instr
 use Rattle.isp_typed.specs.Typed.{TBlock}
 use Rattle.isp_lower_code.specs.Pieces.{two}
 use Rattle.isp_lower.specs.declared.types.Body.{Body}
 use Rattle.isp_lower.specs.declared.types.Scope.{Scope}
 use Rattle.isp_lower_code.proofs.Lemmas.{none_kept}
-use Rattle.isp_lower.proofs.Lemmas.{appends_self, appends_then, kept_same, longer_keeps, longer_self, longer_then}
+use Rattle.isp_registers.proofs.Lemmas.{kept_same, longer_keeps, longer_self, longer_then}
+use Rattle.isp_lower.proofs.Lemmas.{appends_self, appends_then}
 use Rattle.isp_masks.specs.Kept.{KeepsAll}
 use Rattle.isp_masks_code.specs.Keeping.{KeepsThem, constants_asks, constants_code, keep_code, keep_steps, steps_at}
 use Rattle.isp_masks_code.specs.Rounds.{fill_mask}

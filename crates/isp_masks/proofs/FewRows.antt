@@ -12,11 +12,11 @@ use Rattle.isp_typed.specs.declared.variable.Holds.TheVariants as holds
 use Rattle.isp_typed.specs.declared.variable.Variable.{Variable as Declared}
 use Rattle.isp_lower_code.specs.Asks.{Both}
 use Rattle.isp_lower_code.specs.FirstRows.{array_row, array_rows, first_rows, result_rows, row_at, row_where, value_row, value_rows}
-use Rattle.isp_lower.specs.Emitted.{row_of, rows_of}
+use Rattle.isp_registers.specs.Growth.{row_of, rows_of}
 use Rattle.isp_lower_code.specs.Room.{registers_asked}
 use Rattle.isp_lower_code.specs.Rows.{Result, Row, Rows}
 use Rattle.isp_lower_code.specs.declared.constant.Constant.{Constant}
-use Rattle.isp_lower.specs.declared.registers.Registers.{Registers}
+use Rattle.isp_registers.specs.declared.registers.Registers.{Registers}
 use Rattle.isp_masks_code.specs.Asks.{block_asks}
 use Rattle.isp_masks_code.specs.Keeping.{constants_asks, keep_steps, steps_at}
 use Rattle.isp_masks.specs.Added.{GrowsBy}

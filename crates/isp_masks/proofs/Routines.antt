@@ -15,13 +15,14 @@ use Rattle.isp_code.specs.declared.register.Class.TheVariants as class
 use Rattle.isp_meaning.specs.Calls.{same_rate}
 use Rattle.isp_lower_code.specs.Callees.{rates_in}
 use Rattle.isp_lower_code.specs.FirstRows.{Begins, first_rows, result_rows, row_at, row_where, value_row, value_rows}
-use Rattle.isp_lower.specs.Emitted.{HasArray, Longer, HasRow, rows_of, texts_of, HasLoaded}
+use Rattle.isp_registers.specs.Growth.{HasArray, Longer, HasRow, rows_of, HasLoaded}
+use Rattle.isp_lower.specs.Emitted.{texts_of}
 use Rattle.isp_lower_code.specs.Layout.{Layout, class_at}
 use Rattle.isp_lower_code.specs.Rows.{Row, Rows, layout_of}
 use Rattle.isp_lower_code.specs.Setting.{AreAt}
 use Rattle.isp_lower_code.specs.Asks.{All, Ask, Both}
 use Rattle.isp_lower_code.specs.declared.constant.Constant.{Constant}
-use Rattle.isp_lower.specs.declared.registers.Registers.{Registers}
+use Rattle.isp_registers.specs.declared.registers.Registers.{Registers}
 use Rattle.isp_lower.specs.declared.types.Body.{Body}
 use Rattle.isp_lower_code.specs.Tables.{AnyArray}
 use Rattle.isp_lower_code.proofs.Lemmas.{all_grow}
@@ -32,8 +33,8 @@ use Rattle.isp_typed.specs.declared.variable.Holds.TheVariants as holds
 use Rattle.isp_typed.specs.declared.variable.Variable.{Variable as Declared}
 use Rattle.isp_lower.specs.Drafts.{Draft, begun, routine_at_work}
 use Rattle.isp_lower_code.specs.Header.{heading_of, locals_of, param_of, params_of, returns_of, routine_with, types_of, value_kind}
-use Rattle.isp_lower.specs.Reserved.{Has, IsReserved}
-use Rattle.isp_lower.specs.declared.reserve.Reserve.{Reserve}
+use Rattle.isp_registers.specs.Reserved.{Has, IsReserved}
+use Rattle.isp_registers.specs.declared.reserve.Reserve.{Reserve}
 use Rattle.isp_masks.specs.Added.{AddsLowered}
 use Rattle.isp_masks_code.specs.Lowered.{IsLowered}
 use Rattle.isp_masks_code.specs.Asks.{block_asks, result_asks}

@@ -7,8 +7,8 @@ use Rattle.isp_code.specs.Writable.{has_byte, place_fits}
 use Rattle.isp_typed.specs.Nodes.{block_nodes}
 use Rattle.isp_typed.specs.Typed.{TFunction}
 use Rattle.isp_lower.specs.Drafts.{Draft, all_routines}
-use Rattle.isp_lower.specs.Emitted.{rows_of}
-use Rattle.isp_lower.specs.declared.registers.Registers.{Registers}
+use Rattle.isp_registers.specs.Growth.{rows_of}
+use Rattle.isp_registers.specs.declared.registers.Registers.{Registers}
 use Rattle.isp_masks_code.specs.Lowered.{IsLowered}
 
 -- of each rate there are at most so many registers more, and no array more

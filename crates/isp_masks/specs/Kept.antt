@@ -2,10 +2,10 @@
 use Rattle.std.specs.Prelude.{◌≡◌, ◌≤◌, ◌⊎◌, ℕ, ◌+◌, List, length, true}
 use Rattle.isp_base.specs.declared.types.Elem.{Elem}
 use Rattle.isp_base.specs.declared.types.Rate.{Rate}
-use Rattle.isp_lower.specs.Emitted.{Longer, rows_of}
+use Rattle.isp_registers.specs.Growth.{Longer, rows_of}
 use Rattle.isp_lower_code.specs.Rows.{keeps, rows_at}
 use Rattle.isp_lower_code.specs.declared.constant.Constant.{Constant}
-use Rattle.isp_lower.specs.declared.registers.Registers.{Registers}
+use Rattle.isp_registers.specs.declared.registers.Registers.{Registers}
 use Rattle.isp_masks_code.specs.Keeping.{Each, IsIn}
 
 -- registers keep these too

@@ -26,7 +26,7 @@ use Rattle.isp_code.specs.declared.instr.Plain.TheVariants as plain
 use Rattle.isp_lower_code.specs.Asks.{Ask, Both, Register, Number, spare_ask}
 use Rattle.isp_lower_code.specs.Layout.{Layout, within, outside}
 use Rattle.isp_lower_code.specs.Rows.{Variable, Place}
-use Rattle.isp_lower.specs.declared.numbered.Slot.{Slot}
+use Rattle.isp_registers.specs.declared.numbered.Slot.{Slot}
 use Rattle.isp_lower_code.specs.declared.constant.Constant.{Constant}
 use Rattle.isp_masks_code.specs.Asks.{bounds_asks, loop_asks, measures_asks, places_asks}
 use Rattle.isp_masks_code.specs.Asserts.{assert_code, assert_places}

@@ -11,10 +11,8 @@ ghost use Rattle.isp_masks.specs.Written.{assert_at};
 use crate::looping::Test;
 use isp_base::{Rate, Span};
 use isp_code::{Instr, JumpTest};
-use isp_lower::{
-    Body, Line, MaskNumber, PlaceNumber, RegisterNumber, Scope, Site, expr, mask, scalar,
-    the_others, where_so,
-};
+use isp_lower::{Body, Line, Scope, Site, expr, mask, scalar, the_others, where_so};
+use isp_registers::{MaskNumber, PlaceNumber, RegisterNumber};
 use isp_typed::TypedExpr;
 use std::alloc::AllocError;
 

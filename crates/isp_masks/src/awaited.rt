@@ -4,7 +4,8 @@ ghost use Rattle.isp_lower_code.specs.Instructions.{jump_off};
 ghost use Rattle.isp_masks.specs.Awaited.{AreBelow, LeavesRoom, set_all};
 
 use isp_code::{Instr, JumpTest};
-use isp_lower::{Body, MaskNumber, mask};
+use isp_lower::{Body, mask};
+use isp_registers::MaskNumber;
 use std::alloc::AllocError;
 
 /// Keeps room for a jump where a mask has no lane, if some may have left it.

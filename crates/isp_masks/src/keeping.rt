@@ -4,16 +4,15 @@ ghost use Rattle.isp_base.specs.declared.types.Rate.TheVariants.{Uniform};
 ghost use Rattle.isp_lower_code.specs.Asks.{spare_ask};
 ghost use Rattle.isp_lower.specs.Emitted.{Appends, Present, layout};
 ghost use Rattle.isp_lower_code.specs.Room.{HasNumbers};
-ghost use Rattle.isp_lower.specs.Reserved.{Gives};
+ghost use Rattle.isp_registers.specs.Reserved.{Gives};
 ghost use Rattle.isp_masks_code.specs.Keeping.{Each, constants_asks, constants_code, keep_at, keep_code};
 ghost use Rattle.isp_masks.specs.Kept.{KeepsAll};
 
 use crate::rounds::fill_mask;
 use isp_base::Rate;
-use isp_lower::{
-    Body, MaskNumber, RegisterNumber, Registers, Reserve, Scope, Slot, constant, splat,
-};
+use isp_lower::{Body, Scope, constant, splat};
 use isp_lower_code::Constant;
+use isp_registers::{MaskNumber, RegisterNumber, Registers, Reserve, Slot};
 use std::alloc::AllocError;
 
 /// What the code asks for that keeps some constants: a mask, and for each a spare scalar of its type.

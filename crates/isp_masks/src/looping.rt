@@ -14,10 +14,9 @@ use crate::masks::Masks;
 use crate::sets::{clear_mask, unite};
 use isp_base::Rate;
 use isp_code::{Instr, JumpTest, MaskInstr};
-use isp_lower::{
-    Body, Line, MaskNumber, RegisterNumber, Site, Slot, mask, scalar, the_others, where_so,
-};
+use isp_lower::{Body, Line, Site, mask, scalar, the_others, where_so};
 use isp_masks_code::Exits;
+use isp_registers::{MaskNumber, RegisterNumber, Slot};
 use isp_tree::Form;
 use isp_typed::{TypedExpr, TypedSimple};
 use std::alloc::AllocError;

@@ -2,7 +2,8 @@
 ghost use Rattle.std.specs.Prelude.{◌≡◌, ◌<◌, ◌+◌};
 ghost use Rattle.isp_masks.specs.AtWork.{own_spot};
 
-use isp_lower::{MaskNumber, Site, Slot};
+use isp_lower::Site;
+use isp_registers::{MaskNumber, Slot};
 
 /// The masks that go with a statement: the lanes that run it, and afterwards went on; those that continued; and those that
 /// returned.

@@ -13,9 +13,8 @@ ghost use Rattle.isp_masks.specs.Written.{Writes};
 
 use isp_base::Rate;
 use isp_code::Instr;
-use isp_lower::{
-    Body, Line, MaskNumber, RegisterNumber, Scope, Site, mask, operand, scalar, vector,
-};
+use isp_lower::{Body, Line, Scope, Site, mask, operand, scalar, vector};
+use isp_registers::{MaskNumber, RegisterNumber};
 use isp_typed::TypedExpr;
 use std::alloc::AllocError;
 

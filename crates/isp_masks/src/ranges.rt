@@ -20,10 +20,8 @@ use crate::looping::where_some;
 use crate::rounds::fill_mask;
 use isp_base::{Compare, Elem, Rate, Ty, number};
 use isp_code::{Instr, MaskInstr, Plain, Reduction, ScalarInstr, VectorInstr};
-use isp_lower::{
-    Body, Line, MaskNumber, RegisterNumber, Scope, Site, Slot, index as as_index, mask, scalar,
-    vector,
-};
+use isp_lower::{Body, Line, Scope, Site, index as as_index, mask, scalar, vector};
+use isp_registers::{MaskNumber, RegisterNumber, Slot};
 use isp_typed::{TypedExpr, TypedRange};
 use std::alloc::AllocError;
 

@@ -4,7 +4,8 @@ ghost use Rattle.isp_lower.specs.Emitted.{Appends};
 ghost use Rattle.isp_masks_code.specs.Rounds.{fill_mask, lane_number, lowest_mask, take_code};
 
 use isp_code::{Instr, MaskInstr, ScalarInstr};
-use isp_lower::{Body, MaskNumber, RegisterNumber, Slot, mask, scalar, the_others};
+use isp_lower::{Body, mask, scalar, the_others};
+use isp_registers::{MaskNumber, RegisterNumber, Slot};
 use std::alloc::AllocError;
 
 /// A mask gets all lanes.

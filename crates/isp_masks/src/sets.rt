@@ -11,7 +11,8 @@ ghost use Rattle.isp_masks_code.specs.Statements.{left_code};
 use crate::looping::copy_mask;
 use crate::masks::Masks;
 use isp_code::{Instr, JumpTest, MaskInstr, MaskOp};
-use isp_lower::{Body, MaskNumber, RegisterNumber, mask, the_others, where_so};
+use isp_lower::{Body, mask, the_others, where_so};
+use isp_registers::{MaskNumber, RegisterNumber};
 use isp_tree::Jump;
 use std::alloc::AllocError;
 

@@ -10,7 +10,8 @@ ghost use Rattle.isp_masks.specs.Written.{back_at, first_at, next_at, step_at, s
 
 use crate::looping::{Loop, Test, Turning, again, inside};
 use isp_code::{Instr, JumpTest};
-use isp_lower::{Body, Line, Scope, Site, Slot, declared, expr, mask, simple};
+use isp_lower::{Body, Line, Scope, Site, declared, expr, mask, simple};
+use isp_registers::Slot;
 use isp_typed::{TypedExpr, TypedFirst, TypedSimple};
 use std::alloc::AllocError;
 

@@ -19,11 +19,9 @@ use crate::ranges::{converted, spread};
 use crate::rounds::lowest_mask;
 use isp_base::{Compare, Elem, Rate, Ty};
 use isp_code::{Instr, Reduction, ScalarInstr, VectorInstr};
-use isp_lower::{
-    Body, MaskNumber, RegisterNumber, Scope, Slot, copy, mask, operand, scalar, the_others, vector,
-    where_so,
-};
+use isp_lower::{Body, Scope, copy, mask, operand, scalar, the_others, vector, where_so};
 use isp_masks_reserve::Unique;
+use isp_registers::{MaskNumber, RegisterNumber, Slot};
 use isp_typed::TypedExpr;
 use std::alloc::AllocError;
 

@@ -3,10 +3,10 @@ use Rattle.std.proofs.Common.{ℕ, ◌<◌, refl, arith}
 use Rattle.isp_base.specs.declared.types.Elem.{Elem}
 use Rattle.isp_base.specs.declared.types.Rate.{Rate}
 use Rattle.isp_lower_code.specs.Asks.{Number, Register}
-use Rattle.isp_lower.specs.Reserved.{Gives}
+use Rattle.isp_registers.specs.Reserved.{Gives}
 use Rattle.isp_lower_code.specs.Rows.{Variable}
-use Rattle.isp_lower.specs.declared.reserve.Reserve.{Reserve}
-use Rattle.isp_lower.proofs.Lemmas.{gives_none}
+use Rattle.isp_registers.specs.declared.reserve.Reserve.{Reserve}
+use Rattle.isp_registers.proofs.Lemmas.{gives_none}
 
 pub variable_reserved : (a : Reserve) (r : Rate) (v : ℕ) (t : Elem) → Gives a a (Register r (Variable v) t)
 variable_reserved a r v t =

@@ -2,11 +2,11 @@
 ghost use Rattle.std.specs.Prelude.{◌≡◌, ◌+◌, length, IfOk, OnOk};
 ghost use Rattle.isp_typed.specs.Views.{expr_of, range_of, ranges_of};
 ghost use Rattle.isp_lower_code.specs.Room.{HasNumbers};
-ghost use Rattle.isp_lower.specs.Reserved.{Gives};
+ghost use Rattle.isp_registers.specs.Reserved.{Gives};
 ghost use Rattle.isp_masks_code.specs.Asks.{bound_asks, bounds_asks, measures_asks, place_asks, places_asks};
 
 use isp_base::{Elem, Rate};
-use isp_lower::{Reserve, Slot};
+use isp_registers::{Reserve, Slot};
 use isp_typed::{TypedExpr, TypedRange};
 use std::alloc::AllocError;
 

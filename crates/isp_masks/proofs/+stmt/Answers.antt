@@ -41,8 +41,8 @@ use Rattle.isp_masks_code.specs.Ranges.{bounds_code, last_index, measures_code, 
 use Rattle.isp_masks.proofs.RangesWritten.{foreach_written, goes_on_codes, last_written, outer_written, ranges_count, ranges_outer, sweep_there, sweep_written}
 use Rattle.isp_masks_code.specs.Asks.{stmt_asks}
 use Rattle.isp_lower_code.specs.Layout.{mask_register, register, within}
-use Rattle.isp_lower.specs.declared.numbered.MaskNumber.{MaskNumber}
-use Rattle.isp_lower.specs.declared.numbered.Slot.{Slot}
+use Rattle.isp_registers.specs.declared.numbered.MaskNumber.{MaskNumber}
+use Rattle.isp_registers.specs.declared.numbered.Slot.{Slot}
 use Rattle.isp_masks.specs.declared.ranges.OuterIndex.{OuterIndex}
 use Rattle.isp_masks.specs.declared.ranges.Sweep.{Sweep}
 use Rattle.isp_masks.proofs.+stmt.Goals as goal

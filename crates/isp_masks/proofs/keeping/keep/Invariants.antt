@@ -1,6 +1,6 @@
 -- Who keeps the constants that are left, keeps all.
 use Rattle.std.proofs.Common.{drop}
-use Rattle.isp_lower.specs.declared.registers.Registers.{Registers}
+use Rattle.isp_registers.specs.declared.registers.Registers.{Registers}
 use Rattle.isp_masks.specs.Kept.{KeepsAll}
 use Rattle.isp_masks.proofs.keeping.keep.Given as goal
 

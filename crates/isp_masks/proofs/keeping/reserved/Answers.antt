@@ -1,7 +1,7 @@
 use Rattle.std.proofs.Common.{sym, subst}
 use Rattle.isp_lower_code.specs.Room.{HasNumbers}
-use Rattle.isp_lower.specs.Reserved.{Gives}
-use Rattle.isp_lower.proofs.Lemmas.{both_given, gives_none}
+use Rattle.isp_registers.specs.Reserved.{Gives}
+use Rattle.isp_registers.proofs.Lemmas.{both_given, gives_none}
 use Rattle.isp_masks_code.specs.Keeping.{constants_asks}
 use Rattle.isp_masks.proofs.ConstantRows.{left_none, left_one, some_constant}
 use Rattle.isp_masks.proofs.keeping.reserved.Goals as goal

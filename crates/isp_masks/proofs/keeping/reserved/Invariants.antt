@@ -1,8 +1,8 @@
 -- Who is given what the constants that are left ask for, is given what all ask for; and its mask can be had.
 use Rattle.std.proofs.Common.{drop}
 use Rattle.isp_lower_code.specs.Room.{HasNumbers}
-use Rattle.isp_lower.specs.Reserved.{Gives}
-use Rattle.isp_lower.specs.declared.reserve.Reserve.{Reserve}
+use Rattle.isp_registers.specs.Reserved.{Gives}
+use Rattle.isp_registers.specs.declared.reserve.Reserve.{Reserve}
 use Rattle.isp_masks_code.specs.Keeping.{constants_asks}
 use Rattle.isp_masks.proofs.keeping.reserved.Given as goal
 

@@ -7,7 +7,7 @@ use Rattle.isp_lower_code.specs.Code.{expr_code}
 use Rattle.isp_lower_code.specs.Found.{operand, operand_of}
 use Rattle.isp_lower_code.specs.Spans.{expr_places}
 use Rattle.isp_lower.specs.Emitted.{Appends, Present, layout}
-use Rattle.isp_lower.specs.declared.numbered.Slot.{Slot}
+use Rattle.isp_registers.specs.declared.numbered.Slot.{Slot}
 use Rattle.isp_masks.specs.Printed.{rates_of, registers_of}
 use Rattle.isp_masks_code.specs.Prints.{own_rates}
 use Rattle.isp_masks_code.proofs.Lemmas.{asked, asked_more}

@@ -2,7 +2,7 @@ use Rattle.std.proofs.Common.{◌≡◌, ◌+◌, ◌++◌, ◌∙◌, length, d
 use Rattle.isp_typed.specs.Views.{expr_of, ranges_of}
 use Rattle.isp_lower_code.specs.Spans.{expr_places}
 use Rattle.isp_lower.specs.Emitted.{Appends, Present, layout}
-use Rattle.isp_lower.specs.declared.numbered.Slot.{Slot}
+use Rattle.isp_registers.specs.declared.numbered.Slot.{Slot}
 use Rattle.isp_lower.proofs.Lemmas.{appends_then}
 use Rattle.isp_masks_code.specs.Asks.{bounds_asks}
 use Rattle.isp_masks_code.specs.Ranges.{bound_code, bounds_code, ranges_places}

@@ -2,7 +2,7 @@ use Rattle.std.proofs.Common.{◌≤◌, arith, refl, sym, ap, subst}
 use Rattle.isp_lower.specs.Drafts.{Draft, draft_of}
 use Rattle.isp_typed.specs.Views.{function_of}
 use Rattle.isp_lower_code.specs.Asks.{Both}
-use Rattle.isp_lower.proofs.Lemmas.{longer_has, longer_then}
+use Rattle.isp_registers.proofs.Lemmas.{longer_has, longer_then}
 use Rattle.isp_masks_code.specs.Asks.{block_asks, result_asks}
 use Rattle.isp_masks_code.specs.Keeping.{constants_asks, keep_steps}
 use Rattle.isp_masks.proofs.ConstantRows.{keeps_them, longer_grown}

@@ -2,7 +2,7 @@ use Rattle.std.proofs.Common.{arith}
 use Rattle.std.proofs.lemmas.Result.{on_ok_weaker}
 use Rattle.isp_typed.specs.Views.{function_of}
 use Rattle.isp_lower_code.specs.Asks.{Both}
-use Rattle.isp_lower.proofs.Lemmas.{all_there, both_given}
+use Rattle.isp_registers.proofs.Lemmas.{all_there, both_given}
 use Rattle.isp_masks_code.specs.Asks.{block_asks, result_asks}
 use Rattle.isp_masks_code.specs.Keeping.{constants_asks}
 use Rattle.isp_masks_code.proofs.Lemmas.{constants_numbers, result_own}

@@ -4,7 +4,7 @@ use Rattle.isp_code.specs.declared.instr.Instr.TheVariants as instr
 use Rattle.isp_code.specs.declared.instr.JumpTest.TheVariants as jump
 use Rattle.isp_lower_code.specs.Instructions.{jump_off}
 use Rattle.isp_lower_code.specs.Layout.{mask_register}
-use Rattle.isp_lower.specs.declared.numbered.MaskNumber.{MaskNumber}
+use Rattle.isp_registers.specs.declared.numbered.MaskNumber.{MaskNumber}
 use Rattle.isp_lower.proofs.Lemmas.{landed}
 use Rattle.isp_masks.specs.Written.{step_in, stepped_at, test_in}
 use Rattle.isp_masks.proofs.steps.some_stepped.Goals as goal

@@ -1,4 +1,4 @@
-use Rattle.isp_lower.proofs.Lemmas.{both_given}
+use Rattle.isp_registers.proofs.Lemmas.{both_given}
 use Rattle.isp_masks_reserve.proofs.ranges_reserved.measures.Goals as goal
 
 pub returns-clause-gives : goal.returns-clause-gives

@@ -1,6 +1,6 @@
 use Rattle.isp_base.specs.declared.types.Elem.TheVariants.{I32}
 use Rattle.isp_base.specs.declared.types.Rate.TheVariants.{Varying}
-use Rattle.isp_lower.proofs.Lemmas.{both_given}
+use Rattle.isp_registers.proofs.Lemmas.{both_given}
 use Rattle.isp_masks_reserve.proofs.Reserving.{variable_reserved}
 use Rattle.isp_masks_reserve.proofs.ranges_reserved.place.Goals as goal
 

@@ -2,8 +2,8 @@
 use Rattle.std.proofs.Common.{◌≡◌, ◌+◌, drop, length}
 use Rattle.isp_typed.specs.Views.{ranges_of}
 use Rattle.isp_lower_code.specs.Room.{HasNumbers}
-use Rattle.isp_lower.specs.Reserved.{Gives}
-use Rattle.isp_lower.specs.declared.reserve.Reserve.{Reserve}
+use Rattle.isp_registers.specs.Reserved.{Gives}
+use Rattle.isp_registers.specs.declared.reserve.Reserve.{Reserve}
 use Rattle.isp_masks_code.specs.Asks.{places_asks}
 use Rattle.isp_masks_reserve.proofs.ranges_reserved.places.Given as goal
 

@@ -8,8 +8,8 @@ use Rattle.isp_typed.specs.Views.{block_of, expr_of, first_of, simple_of, stmt_o
 use Rattle.isp_base.specs.declared.types.Elem.TheVariants.{I64}
 use Rattle.isp_base.specs.declared.types.Rate.TheVariants.{Uniform}
 use Rattle.isp_lower_code.specs.Room.{HasNumbers}
-use Rattle.isp_lower.specs.Reserved.{Gives}
-use Rattle.isp_lower.proofs.Lemmas.{both_given, gives_none}
+use Rattle.isp_registers.specs.Reserved.{Gives}
+use Rattle.isp_registers.proofs.Lemmas.{both_given, gives_none}
 use Rattle.isp_masks_reserve.proofs.Reserving.{variable_reserved}
 use Rattle.isp_masks_code.specs.Asks.{block_asks, stmt_asks, stmts_asks}
 use Rattle.isp_masks_code.proofs.Lemmas.{block_view, nodes_low, stmts_more, stmts_end}

@@ -5,8 +5,8 @@ use Rattle.isp_typed.specs.Nodes.{stmt_nodes, block_nodes}
 use Rattle.isp_typed.specs.Typed.{t_stmts}
 use Rattle.isp_typed.specs.Views.{block_of, stmt_of, stmts_of}
 use Rattle.isp_lower_code.specs.Room.{HasNumbers}
-use Rattle.isp_lower.specs.Reserved.{Gives}
-use Rattle.isp_lower.specs.declared.reserve.Reserve.{Reserve}
+use Rattle.isp_registers.specs.Reserved.{Gives}
+use Rattle.isp_registers.specs.declared.reserve.Reserve.{Reserve}
 use Rattle.isp_masks_code.specs.Asks.{stmts_asks}
 use Rattle.isp_masks_reserve.proofs.reserved.+stmt.Given as goal
 

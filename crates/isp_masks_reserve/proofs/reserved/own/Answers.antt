@@ -1,7 +1,7 @@
 use Rattle.isp_lower_code.specs.Asks.{MaskOf}
-use Rattle.isp_lower.specs.Reserved.{Gives}
-use Rattle.isp_lower.specs.declared.numbered.Slot.{Slot}
-use Rattle.isp_lower.proofs.Lemmas.{both_given}
+use Rattle.isp_registers.specs.Reserved.{Gives}
+use Rattle.isp_registers.specs.declared.numbered.Slot.{Slot}
+use Rattle.isp_registers.proofs.Lemmas.{both_given}
 use Rattle.std.proofs.Common.{◌+◌, subst}
 use Rattle.isp_masks_reserve.proofs.Reserving.{number_reserved}
 use Rattle.isp_masks_reserve.proofs.reserved.own.Goals as goal

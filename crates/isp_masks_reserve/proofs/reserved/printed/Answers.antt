@@ -3,8 +3,8 @@ use Rattle.isp_base.specs.declared.types.Ty.{Ty}
 use Rattle.isp_typed.specs.Views.{expr_of}
 use Rattle.isp_lower_code.specs.Asks.{operand_asks}
 use Rattle.isp_lower_code.specs.Room.{HasNumbers}
-use Rattle.isp_lower.specs.Reserved.{Gives}
-use Rattle.isp_lower.proofs.Lemmas.{both_given, gives_none}
+use Rattle.isp_registers.specs.Reserved.{Gives}
+use Rattle.isp_registers.proofs.Lemmas.{both_given, gives_none}
 use Rattle.isp_masks_code.proofs.Lemmas.{asked, asked_end, asked_more}
 use Rattle.isp_masks_reserve.proofs.reserved.printed.Goals as goal
 

@@ -1,4 +1,4 @@
-use Rattle.isp_lower.proofs.Lemmas.{both_given}
+use Rattle.isp_registers.proofs.Lemmas.{both_given}
 use Rattle.isp_masks_reserve.proofs.reserved.ranges.Goals as goal
 
 pub returns-clause-number : goal.returns-clause-number

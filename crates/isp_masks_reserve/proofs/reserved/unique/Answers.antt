@@ -1,5 +1,5 @@
 use Rattle.isp_base.specs.declared.types.Rate.TheVariants.{Uniform}
-use Rattle.isp_lower.proofs.Lemmas.{both_given}
+use Rattle.isp_registers.proofs.Lemmas.{both_given}
 use Rattle.isp_masks_reserve.proofs.Reserving.{variable_reserved}
 use Rattle.isp_masks_reserve.proofs.reserved.unique.Goals as goal
 
