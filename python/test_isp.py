@@ -3,7 +3,9 @@
 Needs NumPy, Dask and distributed, gcc and clang (tools/install), lib/libisp.so (tools/library), and the program crates/isp/out/isp. Where
 one of them is missing, that is a failure. With ISP_LARGE set arrays past 2^31 elements go through the library too, which takes 8 GB.
 """
+import _thread
 import array
+import contextlib
 import gc
 import json
 import os
@@ -144,6 +146,15 @@ class Calls(unittest.TestCase):
         native = isp.load(kernel.code, native=True)
         for n in (0, 1, 20000):
             self.assertEqual(native.f.run(n=n).output, b"".join(b"%d\n" % i for i in range(n)))
+
+    def test_long_run(self):
+        """A run of many instructions gives the same by a thread of its own, and where no thread can be had."""
+        kernel = isp.compile("export uniform int f(uniform int a[]) { for (uniform int i = 0; i < 30000; i++) a[i % 2] += i; return a[0]; }")
+        for how in ("at first", "again", "no thread"):
+            values = array.array("i", [0, 0])
+            none = unittest.mock.patch.object(_thread, "start_new_thread", side_effect=RuntimeError) if how == "no thread" else contextlib.nullcontext()
+            with self.subTest(how=how), none:
+                self.assertEqual((kernel.f(a=values), list(values)), (224985000, [224985000, 225000000]))
 
     def test_signatures(self):
         kernel = isp.compile("export uniform int f(uniform uint8 a[], uniform int64 n) { return 1; } export void g() { } void h() { }")

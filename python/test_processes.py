@@ -11,6 +11,7 @@ import threading
 import unittest
 
 import distributed
+import numpy
 import isp
 from test_isp import PLUS, ROOT
 
@@ -44,7 +45,7 @@ def refusals():
         (isp.Trap, text, kernel.f, {"a": array.array("i", [1, 0])}),
         (isp.BudgetUsed, {"status": 4, "output": b"on\n"}, speaking.g.within(5000), {"n": 1}),
         (isp.SourceError, {"number": 1, "name": "BadByte", "line": 1, "column": 3}, isp.compile, {"source": "  å"}),
-        (isp.ArgumentsError, {"number": 75, "parameter": 0, "element": 1}, flags.f, {"b": Flags(b"\0\2")}),
+        (isp.ArgumentsError, {"number": 75, "parameter": 0, "element": 1}, flags.f, {"b": bools(b"\0\2")}),
         (isp.CodeError, {"line": 3, "status": 8}, refused_code, {}),
         (isp.NativeError, {"status": 2}, no_compiler, {}),
         (TypeError, {}, kernel.f, {"a": array.array("f", [1.0])}),
@@ -53,10 +54,8 @@ def refusals():
     ]
 
 
-def Flags(values):
-    """Returns bytes as an array of bool that can be pickled."""
-    import numpy
-
+def bools(values):
+    """Returns bytes as an array of bool, which can be pickled."""
     return numpy.frombuffer(bytearray(values), numpy.uint8).view(bool)
 
 

@@ -141,7 +141,10 @@ def interruptible(call, *words):
     gives."""
     given, over = [], _thread.allocate_lock()
     over.acquire()
-    _thread.start_new_thread(_made, (call, words, given, over))
+    try:
+        _thread.start_new_thread(_made, (call, words, given, over))
+    except RuntimeError:
+        return call(*words)  # the system has no thread to give, or Python is about to end
     over.acquire()
     if isinstance(given[0], BaseException):
         raise given[0]
