@@ -139,6 +139,19 @@ class Compilers(unittest.TestCase):
                 os.environ["CC"] = "gcc -m64"
                 self.assertEqual(isp.building._compiler(), ["gcc", "-m64"])
 
+    def test_flags(self):
+        """As the table of docs/EMBEDDING.md has them."""
+        native = ["-O3", "-march=native"]
+        for compiler, processor, wanted in (
+            ("clang", "flags : sse2 avx2 avx512f fma\n", [*native, "-mprefer-vector-width=512"]), ("/usr/bin/clang-14", "flags : avx512f x", [*native, "-mprefer-vector-width=512"]),
+            ("clang", "flags : sse2 avx2 fma\n", native), ("gcc", "flags : sse2 avx512f fma\n", native),
+        ):
+            with unittest.mock.patch.dict(os.environ), unittest.mock.patch.object(isp.building, "_processor", lambda: processor):
+                os.environ.pop("CFLAGS", None)
+                self.assertEqual(isp.building._flags([compiler]), wanted)
+                os.environ["CFLAGS"] = "-O1 -DX='a b'"
+                self.assertEqual(isp.building._flags([compiler]), ["-O1", "-DX=a b"])
+
     def test_none(self):
         with unittest.mock.patch.dict(os.environ, CC="/nowhere/cc"), self.assertRaisesRegex(isp.NativeError, "no C compiler.*nowhere"):
             isp.compile(ONE, native=True)

@@ -18,12 +18,15 @@ from .errors import NativeError
 _HEADERS = ("isp_machine.h", "isp_calls.h")
 # what takes the output, built with each kernel
 _OUTPUT = os.path.join(os.path.dirname(os.path.realpath(__file__)), "output.c")
-_FLAGS = "-O3 -march=native"
+_FLAGS = ["-O3", "-march=native"]
+# what clang needs to be told where the processor has AVX-512 (docs/EMBEDDING.md, What to build with)
+_WIDE = "-mprefer-vector-width=512"
 
 
 def built(text):
     """Returns the functions of a C file: those that were kept, or built and kept."""
-    words, headers = [*_compiler(), "-std=gnu11", *shlex.split(os.environ.get("CFLAGS", _FLAGS))], _headers()
+    compiler, headers = _compiler(), _headers()
+    words = [*compiler, "-std=gnu11", *_flags(compiler)]
     folder = _cache_folder()
     if folder:
         kept = os.path.join(folder, f"{_key(text, words, headers)}.so")
@@ -70,6 +73,14 @@ def _compiler():
         if shutil.which(name):
             return [name]
     raise NativeError("no C compiler: there is no clang, no gcc and no cc, and CC names none")
+
+
+def _flags(compiler):
+    """Returns the flags: what CFLAGS says, or those that are the fastest by this compiler on this processor."""
+    if "CFLAGS" in os.environ:
+        return shlex.split(os.environ["CFLAGS"])
+    is_wide = " avx512f " in _processor() and os.path.basename(compiler[0]).startswith("clang")
+    return [*_FLAGS, *[_WIDE] * is_wide]
 
 
 def _headers():

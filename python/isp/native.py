@@ -41,8 +41,8 @@ class Native(Kernel):
     - There is no budget: a loop without an end does not end, and Ctrl-C is seen when the call has ended.
     - The code is the proved one; of the C compiler, of include/isp_machine.h and of output.c nothing is proved (docs/EMBEDDING.md).
 
-    The compiler is `clang`, else `gcc` or `cc`, or what the environment's CC says, with `-O3 -march=native` or what CFLAGS says. What it
-    made is kept in the user's cache folder. isp_machine.h is looked for in the folder `include`, or where ISP_INCLUDE says.
+    The compiler is `clang`, else `gcc` or `cc`, or what the environment's CC says, with `-O3 -march=native` or what CFLAGS says. What
+    it made is kept in the user's cache folder. isp_machine.h is looked for in the folder `include`, or where ISP_INCLUDE says.
     """
 
     def __init__(self, code, source, gang):
