@@ -118,7 +118,7 @@ fn gang_of(inner: &ArgMatches<'_>) -> Option<Gang> {
 
 /// What `isp --version` and `ispx --version` say behind the name: the version, and the commit that these sources stand in but for
 /// this line. `tools/release --stamp` writes it.
-pub const VERSION: &str = "0.2.0 (d65add21)";
+pub const VERSION: &str = "0.2.0 (3a1f7c4a)";
 
 fn isp<'a>(alloc: Global) -> Result<Command<'a>, Error> {
     let named = Command::new(alloc, "isp")
