@@ -259,6 +259,13 @@ class Refusals(unittest.TestCase):
         kernel.f(a=values, _budget=2**64 - 1)
         self.assertEqual(list(values), [1, 2, 3, 4])
 
+    def test_no_text(self):
+        for given in (PLUS.encode(), None, 5):
+            with self.assertRaisesRegex(TypeError, "source: wanted a str, given"):
+                isp.compile(given)
+            with self.assertRaisesRegex(TypeError, "code: wanted a str, given"):
+                isp.load(given)
+
     def test_traps(self):
         """Each kind of trap with its place and its instance, by the library, as native code, and from code alone."""
         for kind, (source, given, line, column, instance) in TRAPS.items():

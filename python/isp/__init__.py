@@ -29,10 +29,11 @@ def compile(source: str, gang: int = 4, native: bool = False) -> Kernel:
     """Compiles the text of a source for a gang of 4, 8, 16 or 32 instances, and returns the kernel; with `native` one that a
     C compiler has made native code of (Native).
 
-    SourceError where the source is refused, ValueError for another gang, MemoryError where memory is refused, NativeError where
-    the C compiler is missing or fails.
+    SourceError where the source is refused, ValueError for another gang, TypeError for what is no text, MemoryError where memory is
+    refused, NativeError where the C compiler is missing or fails.
     """
     gang = checked_gang(gang)
+    _check_text("source", source)
     status, code, report = library.compiled(source.encode(), gang)
     if status == errors.SOURCE:
         raise SourceError(report.text(), report.why, source)
@@ -43,4 +44,10 @@ def compile(source: str, gang: int = 4, native: bool = False) -> Kernel:
 def load(code: str, native: bool = False) -> Kernel:
     """Returns the kernel of code text, as `isp asm` and `kernel.code` give it. Code with a fault is refused (CodeError): by a
     call, and with `native` here."""
+    _check_text("code", code)
     return (Native if native else Kernel)(code, None, None)
+
+
+def _check_text(what, given):
+    if not isinstance(given, str):
+        raise TypeError(f"{what}: wanted a str, given {type(given).__name__}")
