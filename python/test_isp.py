@@ -11,6 +11,7 @@ import json
 import os
 import pathlib
 import pickle
+import signal
 import subprocess
 import sys
 import tempfile
@@ -376,6 +377,8 @@ def main():
     with tempfile.TemporaryDirectory() as cache:
         os.environ.update(XDG_CACHE_HOME=cache, PYTHONPATH=str(ROOT / "python"))
         os.environ.setdefault("CFLAGS", "-O1")
+        # (what a shell starts in the background ignores it)
+        signal.signal(signal.SIGINT, signal.default_int_handler)
         tests = unittest.defaultTestLoader.discover(str(ROOT / "python"))
         words = sys.argv[1:]
         if words:

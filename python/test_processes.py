@@ -138,6 +138,7 @@ class Threads(unittest.TestCase):
 
 INTERRUPT = """
 import array, os, signal, threading, time, isp
+signal.signal(signal.SIGINT, signal.default_int_handler)
 def interrupt():
     time.sleep(WAITED)
     sent.append(time.monotonic())
