@@ -7,9 +7,9 @@
     pixels = array.array("B", [0, 10, 100, 200])
     kernel.brighten(pixels=pixels, count=len(pixels), level=50)
 
-`tools/library` builds the shared library. It is looked for in the folder `lib` of this package or of the repository, or where the
-environment's ISP_LIBRARY says. Nothing else is needed but the standard library, and for `native=True` a C compiler. Of this
-module nothing is proved; it is tested (tools/library-test).
+`tools/library` builds the shared library. It is looked for where the environment's ISP_LIBRARY says, or in the folder `lib` of this
+package or of the repository. Where it is in neither, the released one is taken, if it is of the repository's sources. Nothing else is
+needed but the standard library, and for `native=True` a C compiler. Of this module nothing is proved; it is tested (tools/library-test).
 """
 from __future__ import annotations
 

@@ -5,6 +5,7 @@ import ctypes
 import functools
 import os
 import signal
+import subprocess
 import threading
 import _thread
 
@@ -54,9 +55,19 @@ def folder(name):
     return inside if os.path.isdir(inside) else os.path.join(os.path.dirname(os.path.dirname(package)), name)
 
 
+def _released():
+    """Returns where the released library is unpacked, or "" where this is no clone, or one of other sources than the release (tools/start)."""
+    start = os.path.join(folder("tools"), "start")
+    if not os.path.isfile(start):
+        return ""
+    return subprocess.run([start, "--path", "libisp.so"], stdin=subprocess.DEVNULL, stdout=subprocess.PIPE, text=True, check=False).stdout.strip()
+
+
 def _library_path():
-    """Returns where the shared library is: what ISP_LIBRARY says, or libisp.so in the folder `lib`."""
+    """Returns where the shared library is: what ISP_LIBRARY says, libisp.so in the folder `lib`, or else the released one."""
     path = os.environ.get("ISP_LIBRARY") or os.path.join(folder("lib"), "libisp.so")
+    if not os.path.isfile(path) and not os.environ.get("ISP_LIBRARY"):
+        path = _released() or path
     if not os.path.isfile(path):
         raise OSError(f"{path} is not there: `tools/library` builds it, or ISP_LIBRARY names it")
     return path
