@@ -158,7 +158,7 @@ static const struct form {
     {"export void f() { ", "do { ", "", "} while (programIndex < 0);", "}"},
     {"export void f() { foreach (i = 0 ... 3) ", "{ ", "", "}", "}"},
     {"export void f() { ", "unmasked { ", "", "}", "}"},
-    {"export void f() { int a[4]; ", "{ if (programIndex < a[-", "0", "]) ; }", "}"},
+    {"export void f() { int a[4]; ", "{ if (programIndex < a[0]) ", ";", "}", "}"},
 };
 
 /* The form so deep; where it is broken off it does not close. */
