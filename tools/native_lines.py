@@ -669,6 +669,58 @@ def partial_stores(dice):
                 yield f"lines: stores of {t} at {gang}", c.text(), "f", c.values, {"end": "ends", "writes": "", "arrays": wanted, "result": None, "readonly": {"a": gang}}
 
 
+# ---- arrays of more than 2^32 bytes
+
+HUGE = (1 << 32) + 5
+
+
+# what stands where in it, and 0 in all other places
+POINTS = {**{p << 26: p + 1 for p in range(64)}, **{HUGE - 1 - p: 200 - p for p in range(40)}, **{(1 << 31) - 1 - p: 100 - p for p in range(40)}}
+
+
+class Sparse:
+    """An array of so many elements, all 0 but at some places. What comes out of it is what stands at `looked` afterwards."""
+
+    def __init__(self, size, points, looked):
+        self.size, self.points, self.looked = size, points, looked
+
+
+def huge_of(gang, name, index, lines, row, out, changed=()):
+    """A program over an array of HUGE bytes with the indices of a row: `out` is what its d has in the end, or the lane that traps. Of `changed` elements
+    the neighbours are looked at too."""
+    c, changed = Code(gang, None), dict(changed)
+    looked = sorted({near for place in changed for near in (place - 1, place, place + 1) if 0 <= near < HUGE})
+    a, e = c.array("a", "u8", Sparse(HUGE, POINTS, looked)), c.array("e", index, row)
+    x, o = c.array("x", "u8", [p + 1 for p in range(gang)]), c.array("out", "u8", [0] * gang)
+    zero, given, i, s, lanes, d, m = c.constant("i64", 0), c.vector(index), c.vector("i64"), c.scalar("i64"), c.vector("u8"), c.vector("u8"), c.mask()
+    first, three = c.scalar(index), c.constant("i64", 3)
+    c.line(f"vload {given} {e} {zero} m0 p0", f"load {first} {e} {zero} m0 p0", f"vload {lanes} {x} {zero} m0 p0", f"conv {i} {given} m0", f"conv {s} {first}")
+    c.line(f"mrange {m} {zero} {three}", *(line.format(a=a, i=i, s=s, x=lanes, d=d, m=m) for line in lines), f"vstore {o} {zero} {d} m0 p0")
+    arrays = {"a": [changed.get(place, POINTS.get(place, 0)) for place in looked], "e": row, "x": c.values["x"], "out": out}
+    wanted = {"end": "ends", "writes": "", "result": None, "arrays": arrays}
+    if isinstance(out, int):
+        wanted.update(end="traps", kind="index", start=2, stop=5, instance=out, arrays={**arrays, "out": [0] * gang})
+    return f"huge: {name} by {index} at {gang}", c.text(), "f", c.values, wanted
+
+
+def huge():
+    """Accesses past 2^31 and 2^32 elements, by indices that reach there and by those that do not."""
+    gather, half = "gather {d} {a} {i} m0 p1", 1 << 31
+    for gang in GANGS:
+        lanes, end = range(gang), HUGE - gang
+        rows = [("i64", [HUGE - 1 - 3 * p for p in lanes]), ("i64", [end + p for p in lanes]), ("u32", [p << 26 for p in lanes])]
+        rows += [("u32", [half + (p << 26) for p in lanes]), ("i32", [half - 1 - p for p in lanes]), ("i32", [half - gang + p for p in lanes])]
+        for index, row in rows:
+            yield huge_of(gang, "gather", index, [gather], row, [POINTS.get(place, 0) for place in row])
+            yield huge_of(gang, "scatter", index, ["scatter {a} {i} {x} m0 p1"], row, [0] * gang, [(place, p + 1) for p, place in enumerate(row)])
+        run = [POINTS[end + p] for p in lanes]
+        yield huge_of(gang, "vload", "i64", ["vload {d} {a} {s} m0 p1"], [end] * gang, run)
+        yield huge_of(gang, "vstore", "i64", ["vstore {a} {s} {x} {m} p1"], [end] * gang, [0] * gang, [(end + p, p + 1) for p in range(3)])
+        yield huge_of(gang, "vload past the end", "i64", ["vload {d} {a} {s} m0 p1"], [end + 1] * gang, gang - 1)
+        for index, wrong in (("i32", -1), ("i32", -half), ("i64", HUGE), ("i64", -1), ("i64", 1 << 33)):
+            yield huge_of(gang, f"gather outside, {wrong},", index, [gather], [p if p < 2 else wrong for p in lanes], 2)
+
+
 # ---- calls and jumps
 
 
