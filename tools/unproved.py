@@ -11,6 +11,7 @@ that nothing is proved.
 Whatever the released program answers without running anything, help, refused words and files that cannot be read, it answers at once.
 """
 import fcntl
+import glob
 import os
 import shutil
 import signal
@@ -23,12 +24,14 @@ import time
 import sources
 from build import FAILED, TRIAL, stop
 
-NO_RT = "the sources have changed since the release, and there is no rt on the path to build a program of them: README.md says what it is"
+NO_RT = "these sources are not those of the release, and there is no rt on the path to build a program of them: README.md says what it is"
 PROVED_BY = "`bin/{0} build` proves the program and builds it"
 # the program's statuses of refused words and of help, and of files that cannot be read
 AT_ONCE = (2, 6)
 # how often the folder of `rt try` is looked at for the program, in seconds
 LOOKS = 0.05
+# how many programs of other sources are kept, 25 MB each
+KEPT = 4
 
 
 # ---- what needs no run
@@ -117,23 +120,31 @@ def build(name, folder, program):
         fcntl.flock(lock, fcntl.LOCK_EX)
         if os.path.exists(program):
             return
-        print("isp: the sources have changed since the release: a program is built of them, not proved, in a minute or two", file=sys.stderr, flush=True)
+        print("isp: these sources are not those of the release: a program is built of them, not proved, in some minutes", file=sys.stderr, flush=True)
         with tempfile.TemporaryDirectory(dir=folder, prefix="try-") as work:
             tried(name, work, f"{work}/kept")
             os.chmod(f"{work}/kept", 0o700)
             os.replace(f"{work}/kept", program)
 
 
+def forget_older(cache, name):
+    """Removes the programs that were built the longest time ago, but for a few."""
+    found = sorted(glob.glob(f"{glob.escape(cache)}/*/{name}-not-proved"), key=os.path.getmtime)
+    for program in found[:-KEPT]:
+        shutil.rmtree(os.path.dirname(program), ignore_errors=True)
+
+
 def answer(name, total, released, words):
-    folder = f"{folder_for_programs()}/{total}"
-    program = f"{folder}/{name}-not-proved"
+    cache = folder_for_programs()
+    program = f"{cache}/{total}/{name}-not-proved"
     if not os.path.exists(program):
         known = at_once(released, words)
         if known is not None:
             return known
         if not shutil.which("rt"):
             stop(NO_RT)
-        build(name, folder, program)
+        build(name, f"{cache}/{total}", program)
+        forget_older(cache, name)
     print(f"isp: not proved: {PROVED_BY.format(name)}", file=sys.stderr, flush=True)
     os.execv(program, [program, *words])
 
