@@ -710,9 +710,10 @@ ISP_STORED(8, __m512i, _mm512_mask_storeu_epi64)
     do { \
         const uint32_t ispm_n = ISP_SMALL_COUNT(a); \
         ISP_TYPE(d) ispm_each = {0}; \
-        if (ispm_in_a_row(&(i), ispm_n, &(k))) \
+        if (ispm_in_a_row(&(i), ispm_n, &(k))) { \
             memcpy(&ispm_each, (a) + (i)[0], sizeof ispm_each); \
-        else { \
+            ISP_PUT(d, ispm_each, ISP_FULL); \
+        } else { \
             ISP_INSIDE(ispm_v_uint32_t, i, ispm_n, k, q); \
             if (ISP_HAS_WORDS(a)) \
                 ispm_each = __builtin_convertvector(ispm_elements(a, sizeof *(a), ispm_n, &(i), &(k)), ISP_TYPE(d)); \
@@ -721,8 +722,8 @@ ISP_STORED(8, __m512i, _mm512_mask_storeu_epi64)
                 ISP_EACH(ispm_p) \
                     ispm_each[ispm_p] = (a)[ispm_i[ispm_p]]; \
             } \
+            ISP_PUT(d, ispm_each, k); \
         } \
-        ISP_PUT(d, ispm_each, k); \
     } while (0)
 /* a lane that is off reads what is at 0; where one is on and inside, that is there */
 #define GATHER(d, a, i, k, q) \
