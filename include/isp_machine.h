@@ -51,8 +51,8 @@ struct isp_run {
 #define ISP_CALLS 1
 #endif
 
-/* What the processor has beside C's operators; -DISP_PLAIN does without. ISP_GATHERS is how many elements of 4 bytes it gathers at once, ISP_MASKED that it loads
- * and stores the lanes of a mask alone, and ISP_BIT_MASKS that masks are bits: gcc 12 makes slower code of those. */
+/* What the processor has beside C's operators; -DISP_PLAIN does without. ISP_GATHERS is how many elements of 4 bytes it gathers at once, ISP_MASKED that it stores
+ * the lanes of a mask alone, and ISP_BIT_MASKS that a mask is a number with a bit a lane: gcc 12 makes slower code of those, and clang 14 with few lanes. */
 #if !defined ISP_PLAIN && defined __AVX512F__ && defined __AVX512BW__ && defined __AVX512VL__ && defined __AVX512DQ__
 #include <immintrin.h>
 #define ISP_MASKED 1
