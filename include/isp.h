@@ -239,8 +239,8 @@ static inline uint8_t isp_asm(struct isp_text source, uint32_t gang, struct isp_
     return isp_command(words, 4, files, 1, to->out, to->out_room, to->err, to->err_room, &to->used);
 }
 
-/* `isp run`: the answer in JSON to arguments in JSON (docs/ARGUMENTS.md), behind what `print` wrote. ISP_OK, or ISP_SOURCE,
- * ISP_WORDS, ISP_TRAP, ISP_BUDGET, ISP_ARGUMENTS, ISP_TEXT, ISP_MEMORY, ISP_ROOM. */
+/* `isp run`: the answer in JSON to arguments in JSON (docs/ARGUMENTS.md), behind what `print` wrote. `entry` is a name and no
+ * word of a command: of `--help` the line says 50 NoEntry. ISP_OK, or ISP_SOURCE, ISP_WORDS, ISP_TRAP, ISP_BUDGET, ISP_ARGUMENTS, ISP_TEXT, ISP_MEMORY, ISP_ROOM. */
 static inline uint8_t isp_json(struct isp_text source, uint32_t gang, struct isp_text entry, struct isp_text json, uint64_t budget,
                                struct isp_streams *to)
 {
