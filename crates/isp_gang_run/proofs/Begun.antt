@@ -26,7 +26,7 @@ use Rattle.isp_typed.specs.declared.function.TypedFunction.{TypedFunction}
 use Rattle.isp_meaning.specs.Calls.{frame_of, begun}
 use Rattle.isp_meaning.specs.State.{State, Frame}
 use Rattle.isp_gang_run.specs.Seen.{answer_in, frame_seen, sizes_in}
-use Rattle.isp_gang_run.specs.Stores.{own_of}
+use Rattle.isp_gang_arrays.specs.Stores.{own_of}
 use Rattle.isp_gang_run.specs.declared.activation.Activation.{Activation}
 
 pub over_zeros : (row : List (Option ℕ)) (x : Map) (lanes : List ℕ) → lane_of lanes ≡ over (map_of row) (lane_of (replicate widest 0)) → map_of row ≡ x → lane_of lanes ≡ over x (λ p. 0)

@@ -9,7 +9,7 @@ use Rattle.isp_meaning.specs.Payloads.{Payload, sole, spread}
 use Rattle.isp_meaning.specs.Places.{written}
 use Rattle.isp_gang_values.specs.Growing.{values_of, lanes_of}
 use Rattle.isp_gang_run.specs.Seen.{frame_seen, state_seen}
-use Rattle.isp_gang_run.specs.Stores.{stores_of, own_of}
+use Rattle.isp_gang_arrays.specs.Stores.{stores_of, own_of}
 use Rattle.isp_gang_run.specs.Tasks.{rest, store_seen, Changes}
 use Rattle.isp_gang_run.specs.declared.state.Evaluator.{Evaluator}
 

@@ -29,7 +29,7 @@ use Rattle.isp_gang_values.specs.Growing.{values_of}
 use Rattle.isp_gang_values.specs.declared.computed.Computed.{Computed}
 use Rattle.isp_gang_run.specs.Passing.{goes_in, does_call}
 use Rattle.isp_gang_run.specs.Seen.{answer_in, frame_seen, state_seen, variables_seen, passed_seen}
-use Rattle.isp_gang_run.specs.Stores.{stores_of}
+use Rattle.isp_gang_arrays.specs.Stores.{stores_of}
 use Rattle.isp_gang_run.specs.Tasks.{Store, Goes, First, Halts, trapped, cut, Comes, Does, finish, go, given, ran, does, rest, hand, value_at, calls_in, gang_of, store_seen, parts_seen, blocks}
 use Rattle.isp_gang_run.specs.declared.activation.Activation.{Activation}
 use Rattle.isp_gang_run.specs.declared.counting.Work.{Work}

@@ -2,8 +2,6 @@ pub mod Counts
 pub mod Steps
 pub mod Nodes
 pub mod Leaves
-pub mod Elements
-pub mod Puts
 pub mod Changes
 pub mod Assignments
 pub mod Runs
@@ -22,7 +20,6 @@ pub mod Unique
 pub mod RangesCounted
 pub mod Printed
 pub mod Leading
-pub mod Packs
 pub mod PackedCalls
 pub mod Acting
 pub mod Started

@@ -11,7 +11,7 @@ use Rattle.isp_meaning.specs.Runs.{first_frame}
 use Rattle.isp_gang_values.specs.Growing.{values_of}
 use Rattle.isp_gang_run.specs.Seen.{frame_seen, state_seen}
 use Rattle.isp_gang_run.specs.Starts.{Starts, nothing_written}
-use Rattle.isp_gang_run.specs.Stores.{stores_of}
+use Rattle.isp_gang_arrays.specs.Stores.{stores_of}
 use Rattle.isp_gang_run.specs.declared.state.Evaluator.{Evaluator}
 
 index_is : (xs : List ℕ) (e : ℕ) → values_of xs e ≡ slice_index xs e

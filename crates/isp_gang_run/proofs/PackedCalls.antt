@@ -25,10 +25,10 @@ use Rattle.isp_meaning.specs.Expressions.{packed_held, packed_kept}
 use Rattle.isp_gang_values.specs.Seen.{payload_of}
 use Rattle.isp_gang_values.specs.declared.computed.Computed.{Computed}
 use Rattle.isp_gang_values.specs.declared.computed.Computed.TheVariants as computed
-use Rattle.isp_gang_run.specs.Packing.{places_at}
+use Rattle.isp_gang_arrays.specs.Packing.{places_at}
 use Rattle.isp_gang_run.specs.Passing.{packs, packs_from}
 use Rattle.isp_gang_run.specs.Seen.{frame_seen, state_seen}
-use Rattle.isp_gang_run.specs.Stores.{stores_of}
+use Rattle.isp_gang_arrays.specs.Stores.{stores_of}
 use Rattle.isp_gang_run.specs.Tasks.{Store, Goes, First, Halts, refused, trapped, cut, Comes, Does, Changes, go, given, does, rest, pack, value_at, store_seen}
 use Rattle.isp_gang_run.specs.declared.counting.Work.{Work}
 use Rattle.isp_gang_run.specs.declared.state.Evaluator.{Evaluator}
@@ -40,7 +40,7 @@ use Rattle.isp_gang_run.specs.declared.tasks.Packing.TheVariants as packing
 use Rattle.isp_gang_run.specs.declared.tasks.Task.TheVariants as task
 use Rattle.isp_gang_run.proofs.Changes.{changed_rest, changed_store}
 use Rattle.isp_gang_run.proofs.Counts.{Adds, work_of, counts_same, counts_more, counts_one}
-use Rattle.isp_gang_run.proofs.Packs.{stored_within}
+use Rattle.isp_gang_arrays.proofs.Packs.{stored_within}
 use Rattle.isp_gang_run.proofs.Steps.{regiven, then_given_in}
 use Rattle.isp_gang_run.proofs.Turns.{halts_same}
 

@@ -3,13 +3,11 @@ pub mod Capped
 pub mod Ends
 pub mod Entering
 pub mod Foreach
-pub mod Packing
 pub mod Passing
 pub mod Runs
 pub mod Seen
 pub mod Settled
 pub mod Starting
 pub mod Starts
-pub mod Stores
 pub mod Tasks
 pub mod reader

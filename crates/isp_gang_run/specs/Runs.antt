@@ -8,7 +8,7 @@ use Rattle.isp_meaning.specs.Runs.{meaning, state_of}
 use Rattle.isp_meaning.specs.State.{State}
 use Rattle.isp_gang_values.specs.Seen.{payload_of}
 use Rattle.isp_gang_run.specs.Capped.{capped}
-use Rattle.isp_gang_run.specs.Stores.{stores_of}
+use Rattle.isp_gang_arrays.specs.Stores.{stores_of}
 use Rattle.isp_gang_run.specs.declared.running.Ending.{Ending}
 use Rattle.isp_gang_run.specs.declared.running.Ending.TheVariants.{Gave, Trapped, Cut}
 use Rattle.isp_gang_run.specs.declared.running.Run.{Run}

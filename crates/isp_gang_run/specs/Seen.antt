@@ -10,7 +10,7 @@ use Rattle.isp_meaning.specs.Places.{Place, Variable, Element}
 use Rattle.isp_meaning.specs.State.{State, Frame}
 use Rattle.isp_gang_values.specs.Growing.{values_of, lanes_of}
 use Rattle.isp_gang_values.specs.Seen.{payload_of}
-use Rattle.isp_gang_run.specs.Stores.{stores_of, own_of}
+use Rattle.isp_gang_arrays.specs.Stores.{stores_of, own_of}
 use Rattle.isp_gang_run.specs.declared.activation.Activation.{Activation}
 use Rattle.isp_gang_run.specs.declared.places.Place as rust_place_type
 use Rattle.isp_gang_run.specs.declared.places.Place.TheVariants as rust_place

@@ -9,7 +9,7 @@ ghost use Rattle.isp_gang_values.specs.Growing.{values_of};
 ghost use Rattle.isp_gang_run.specs.Seen.{frame_seen, passed_seen, state_seen};
 ghost use Rattle.isp_gang_run.specs.Starting.{ArgumentsFit};
 ghost use Rattle.isp_gang_run.specs.Starts.{Starts, nothing_written};
-ghost use Rattle.isp_gang_run.specs.Stores.{stores_of};
+ghost use Rattle.isp_gang_arrays.specs.Stores.{stores_of};
 ghost use Rattle.isp_gang_run.specs.Tasks.{Halts, rest};
 
 use crate::activation::Activation;

@@ -9,10 +9,8 @@ mod entering;
 mod evaluator;
 mod expressions;
 mod gathering;
-mod indices;
 mod loops;
 mod packed;
-mod packing;
 mod places;
 mod printing;
 mod rounds;
@@ -21,7 +19,6 @@ mod simple;
 mod starting;
 mod state;
 mod statements;
-mod stores;
 mod tasks;
 
 pub use running::{Ending, Run, run_function};

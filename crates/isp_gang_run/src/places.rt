@@ -9,13 +9,13 @@ ghost use Rattle.isp_meaning.specs.Places as Places;
 ghost use Rattle.isp_meaning.specs.Simple as Simple;
 ghost use Rattle.isp_gang_values.specs.Seen.{payload_of};
 ghost use Rattle.isp_gang_run.specs.Seen.{frame_seen, place_seen, state_seen};
-ghost use Rattle.isp_gang_run.specs.Stores.{stores_of};
+ghost use Rattle.isp_gang_arrays.specs.Stores.{stores_of};
 ghost use Rattle.isp_gang_run.specs.Tasks.{Changes};
 ghost use Rattle.isp_gang_run.specs.declared.state.Stop.TheVariants as Stop;
 
-use crate::indices::{element, is_outside, picked, picked_own, places, where_outside};
+use isp_gang_arrays::indices::{element, is_outside, picked, picked_own, places, where_outside};
 use crate::state::{Evaluator, Stop};
-use crate::stores::{clear, clear_own, element_at, put_each, put_element, put_own_each};
+use isp_gang_arrays::stores::{clear, clear_own, element_at, put_each, put_element, put_own_each};
 use crate::tasks::Operation;
 use isp_base::{Elem, Rate, Ty};
 use isp_gang_values::computed::Computed;

@@ -6,12 +6,12 @@ ghost use Rattle.isp_meaning.specs.Payloads.{Payload};
 ghost use Rattle.isp_gang_run.specs.Runs.{HasRun, IsRunOf};
 ghost use Rattle.isp_gang_run.specs.Settled.{Stands, Stood};
 ghost use Rattle.isp_gang_run.specs.Starting.{ArgumentsFit};
-ghost use Rattle.isp_gang_run.specs.Stores.{stores_of};
+ghost use Rattle.isp_gang_arrays.specs.Stores.{stores_of};
 
 use crate::evaluator::started;
 use crate::starting::handed;
 use crate::state::{Evaluator, Stop};
-use crate::stores::element_at;
+use isp_gang_arrays::stores::element_at;
 use isp_base::{Argument, Trap};
 use isp_gang_values::computed::Computed;
 use isp_typed::{Program, TypedFunction};

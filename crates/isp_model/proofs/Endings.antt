@@ -14,7 +14,7 @@ use Rattle.isp_type_soundness.specs.Fits.{RowsFit}
 use Rattle.isp_gang_values.specs.Seen.{payload_of}
 use Rattle.isp_gang_values.specs.declared.computed.Computed.{Computed}
 use Rattle.isp_gang_run.specs.Runs.{IsRunOf, ended_in}
-use Rattle.isp_gang_run.specs.Stores.{stores_of}
+use Rattle.isp_gang_arrays.specs.Stores.{stores_of}
 use Rattle.isp_gang_run.specs.declared.running.Ending.TheVariants as ending
 use Rattle.isp_gang_run.specs.declared.running.Run.{Run}
 use Rattle.isp_type_soundness.specs.Cut.{rows_cut}

@@ -11,7 +11,7 @@ ghost use Rattle.isp_gang_values.specs.Seen.{payload_of};
 ghost use Rattle.isp_type_soundness.specs.Cut.{cut, one_cut, rows_cut};
 ghost use Rattle.isp_model.specs.Evaluated.{ResultFits, outcome_seen};
 ghost use Rattle.isp_gang_run.specs.Runs.{IsRunOf};
-ghost use Rattle.isp_gang_run.specs.Stores.{stores_of};
+ghost use Rattle.isp_gang_arrays.specs.Stores.{stores_of};
 
 use crate::outcome::Outcome;
 use isp_base::{Argument, Array, Elem, Value, low_bits};

@@ -1,4 +1,4 @@
-use Rattle.isp_gang_run.specs.Stores.{stores_of}
+use Rattle.isp_gang_arrays.specs.Stores.{stores_of}
 use Rattle.isp_model.proofs.Cutting.{cut_more}
 use Rattle.isp_model.proofs.ending.array_now.Goals as goal
 

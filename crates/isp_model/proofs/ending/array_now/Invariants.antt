@@ -1,7 +1,7 @@
 use Rattle.std.proofs.Common.{◌≡◌, ◌^◌, ◌%◌}
 use Rattle.isp_base.specs.Arguments.{tabulate}
 use Rattle.isp_base.specs.Values.{width}
-use Rattle.isp_gang_run.specs.Stores.{stores_of}
+use Rattle.isp_gang_arrays.specs.Stores.{stores_of}
 use Rattle.isp_model.proofs.ending.array_now.Given as goal
 
 abbrev pub invariant-loop-place : goal.invariant-loop-place

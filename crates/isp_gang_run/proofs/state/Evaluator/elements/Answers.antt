@@ -6,7 +6,7 @@ use Rattle.isp_meaning.specs.Payloads.{Each, mapped}
 use Rattle.isp_meaning.specs.Places.{elements}
 use Rattle.isp_gang_values.specs.Seen.{payload_of}
 use Rattle.isp_gang_run.specs.Seen.{frame_seen, state_seen}
-use Rattle.isp_gang_run.specs.Stores.{stores_of, own_of}
+use Rattle.isp_gang_arrays.specs.Stores.{stores_of, own_of}
 use Rattle.isp_gang_run.proofs.state.Evaluator.elements.Goals as goal
 
 pub returns-in-Uniform : goal.returns-in-Uniform

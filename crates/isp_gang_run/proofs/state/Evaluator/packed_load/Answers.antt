@@ -8,7 +8,7 @@ use Rattle.isp_base.specs.declared.types.Gang.{Gang}
 use Rattle.isp_meaning.specs.Payloads.{One, Each}
 use Rattle.isp_gang_values.specs.Seen.{map_of}
 use Rattle.isp_gang_run.specs.Passing.{packs_from}
-use Rattle.isp_gang_run.specs.Stores.{stores_of}
+use Rattle.isp_gang_arrays.specs.Stores.{stores_of}
 use Rattle.isp_gang_run.specs.Tasks.{Halts}
 use Rattle.isp_gang_run.specs.declared.state.Evaluator.{Evaluator}
 use Rattle.isp_gang_run.specs.declared.tasks.Packing.TheVariants as packing

@@ -7,8 +7,8 @@ use Rattle.isp_base.specs.Values.{number}
 use Rattle.isp_base.specs.declared.types.Gang.{Gang}
 use Rattle.isp_base.specs.Cross.{packed_outside}
 use Rattle.isp_gang_values.specs.Seen.{map_of}
-use Rattle.isp_gang_run.specs.Packing.{places_at}
-use Rattle.isp_gang_run.specs.Stores.{stores_of}
+use Rattle.isp_gang_arrays.specs.Packing.{places_at}
+use Rattle.isp_gang_arrays.specs.Stores.{stores_of}
 use Rattle.isp_gang_run.specs.Tasks.{Halts, does}
 use Rattle.isp_gang_run.specs.declared.tasks.Task.TheVariants as task
 use Rattle.isp_gang_run.proofs.PackedCalls.{store_does, store_halts}

@@ -1,5 +1,5 @@
 use Rattle.std.proofs.Common.{◌≡◌, length, take, ap, ◌∙◌, arith}
-use Rattle.isp_gang_run.specs.Stores.{stores_of}
+use Rattle.isp_gang_arrays.specs.Stores.{stores_of}
 use Rattle.isp_gang_run.proofs.Handing.{resume_does}
 use Rattle.isp_gang_run.proofs.state.Evaluator.resume.Goals as goal
 

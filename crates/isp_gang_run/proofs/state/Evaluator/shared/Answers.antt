@@ -3,7 +3,7 @@ use Rattle.isp_base.specs.Access.{element}
 use Rattle.isp_base.specs.Maps.{map1}
 use Rattle.isp_meaning.specs.Payloads.{Each, mapped}
 use Rattle.isp_gang_values.specs.Seen.{map_of, payload_of}
-use Rattle.isp_gang_run.specs.Stores.{stores_of}
+use Rattle.isp_gang_arrays.specs.Stores.{stores_of}
 use Rattle.isp_gang_run.proofs.state.Evaluator.shared.Goals as goal
 
 pub returns-in-Each : goal.returns-in-Each

@@ -1,5 +1,0 @@
-use Rattle.isp_gang_values.proofs.Rows.{begun}
-use Rattle.isp_gang_run.proofs.indices.picked_own.Goals as goal
-
-pub loop-instance-init : goal.loop-instance-init
-loop-instance-init c = begun _
