@@ -10,8 +10,8 @@ from .library import Why
 from .signatures import code_of
 
 _ENDED, _TRAPPED = 0, 1
-# what stands before the name of an exported function in the C file; before, in those that older libraries write
-PREFIX, OLDER_PREFIX = "kernel_", "isp_"
+# what stands before the name of an exported function in the C file
+PREFIX = "kernel_"
 _IN_C = {
     "b": ctypes.c_bool, "i8": ctypes.c_int8, "u8": ctypes.c_uint8, "i16": ctypes.c_int16, "u16": ctypes.c_uint16, "i32": ctypes.c_int32,
     "u32": ctypes.c_uint32, "i64": ctypes.c_int64, "u64": ctypes.c_uint64,
@@ -51,7 +51,6 @@ class Native(Kernel):
         library.raise_else(status, report)
         self._calls = built(self.c_text)
         self._write = ctypes.cast(self._calls.isp_output_write, ctypes.c_void_p)
-        self._prefix = PREFIX if f"\nenum isp_end {PREFIX}" in self.c_text else OLDER_PREFIX
 
     def _run(self, entry, budget, given):
         if budget is not None:
@@ -67,7 +66,7 @@ class Native(Kernel):
                 words.append(_IN_C[it.code](arguments.number(entry, it, given[it.name])))
         result = _IN_C[code_of(signature.result)]() if signature.result else None
         words += [] if result is None else [ctypes.byref(result)]
-        end, run, output = self._called(getattr(self._calls, self._prefix + entry), words)
+        end, run, output = self._called(getattr(self._calls, PREFIX + entry), words)
         self._last.output = output
         if end == _TRAPPED:
             raise self._trap(run, output)
