@@ -15,6 +15,8 @@ MIRROR = "http://deb.debian.org/debian"
 SUITE = "bookworm"
 INSIDE = "python3,python3-numpy,gcc,libc6-dev,pkg-config,man-db,bash-completion,zsh,fish"
 
+# (/proc is mounted for the one command alone)
+CHROOT = 'mount -t proc proc "$0/proc" && exec chroot "$0" "$@"'
 KERNELS = """
 cd "$DOC/examples"
 for it in *.answer; do
@@ -211,7 +213,8 @@ def try_debian(release, work, trials):
     subprocess.run(["tar", "-C", root, "-xf", stored_root()], check=True)
     shutil.copy(formats.debian(release, work), root / "root/isp.deb")
     before = names_below(root / "usr")
-    inside = ["chroot", str(root), "/usr/bin/env", "-i", "PATH=/usr/bin:/bin:/usr/sbin:/sbin", "HOME=/root", "DOC=/usr/share/doc/isp", "SHARE=/usr/share", "MODULE=/usr/lib/python3", "sh", "-c"]
+    own = {"PATH": "/usr/bin:/bin:/usr/sbin:/sbin", "HOME": "/root", "DOC": "/usr/share/doc/isp", "SHARE": "/usr/share", "MODULE": "/usr/lib/python3"}
+    inside = ["unshare", "--mount", "sh", "-c", CHROOT, str(root), "env", "-i", *(f"{name}={value}" for name, value in own.items()), "sh", "-c"]
     trials.tell("deb: dpkg -i", ran(inside, "dpkg -i /root/isp.deb", None))
     for name, script, wanted in [version(release), *EVERYWHERE, *IN_DEBIAN]:
         trials.tell(f"deb: {name}", ran(inside, "cd /root\n" + script, wanted))
