@@ -7,7 +7,7 @@
  * remembers anything, so several threads may make calls at once, each over memory of its own.
  *
  * What a caller owes, and no call can check:
- *   - A pointer goes with a size, and that many bytes are there. Where the size is 0 the pointer may be NULL. A pointer to a struct is not.
+ *   - A pointer goes with a size, and that many bytes are there. Where the size is 0 the pointer may be NULL. A pointer to a struct is never NULL.
  *   - What a call writes, a room, a struct or `packed`, overlaps nothing else that it is passed. Rooms may stand side by side, at any address.
  *   - malloc, realloc and free are those of one allocator. No call is made from a signal handler.
  *   - The thread has ISP_STACK bytes of stack left.
