@@ -68,7 +68,7 @@ isp.compile(source, gang=16).twice(a=numbers, count=20)
 print((numbers == 2 * numpy.arange(20)).all())
 '
 """
-MAN = "MANWIDTH=200 man isp | grep -c -e '--budget B' && MANWIDTH=200 man ispx | grep -c 'ispx explain \\['"
+MAN = "MANWIDTH=200 man isp | grep -c 'Instructions that may run' && MANWIDTH=200 man ispx | grep -c 'ispx explain \\['"
 BASH = """
 bash -c '
 . "$SHARE/bash-completion/completions/isp"
