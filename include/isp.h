@@ -26,7 +26,8 @@
 extern "C" {
 #endif
 
-/* The stack that any call takes at most, in bytes (examples/c/stack.c measures it). */
+/* The stack that is enough for any call, in bytes. Measured (examples/c/stack.c): what compiles, isp_compile and isp_command but for `exec`,
+ * takes up to 800 KiB; `exec` 48 KiB; isp_run, isp_native and isp_trace 16 KiB. */
 #define ISP_STACK (1024 * 1024)
 
 /* What every call gives back. Up to 9 they are the statuses of the program `isp` (README.md); docs/FAULTS.md has each

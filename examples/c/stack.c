@@ -3,8 +3,8 @@
  *     tools/library
  *     cc -std=c11 -O2 -I include examples/c/stack.c lib/libisp.a -lm -pthread -o stack && ./stack
  *
- * It prints the most that each call took, and `N calls, M differ`; the status is 1 where a call ended otherwise than it must. A call that
- * needs more stack than the thread has ends in a signal.
+ * It prints the most that each call took, and `N calls, M differ`; the status is 1 where a call ended otherwise than it must, or took
+ * more than isp.h says. A call that needs more stack than the thread has ends in a signal.
  */
 #define _DEFAULT_SOURCE
 #include "isp.h"
@@ -54,6 +54,8 @@ static size_t taken(void (*make)(void *), void *given)
 static const char *const names[] = {"isp_compile", "isp_run", "isp_native", "isp_trace", "isp_command check", "isp_command run", "isp_command solo",
                                     "isp_command exec"};
 enum call { COMPILE, RUN, NATIVE, TRACE, CHECK, JSON, SOLO, EXEC, CALLS };
+/* what isp.h says that each takes at most, in KiB */
+static const size_t said[CALLS] = {800, 16, 16, 16, 800, 800, 800, 48};
 
 /* what is called, and what came of it */
 struct trial {
@@ -252,6 +254,7 @@ int main(void)
     for (int i = 0; i < CALLS; i++) {
         printf("%s: %zu bytes\n", names[i], most[i]);
         want(most[i] > 0, "it was not called", names[i]);
+        want(most[i] <= said[i] * 1024, "it takes more than isp.h says", names[i]);
     }
     printf("%d calls, %d differ\n", tried, differ);
     return differ != 0;
