@@ -13,11 +13,11 @@ ghost use Rattle.isp_gang_run.specs.declared.state.Stop.TheVariants as Stop;
 ghost use Rattle.isp_gang_run.specs.declared.tasks.Packing.TheVariants as Packing;
 ghost use Rattle.isp_gang_run.specs.declared.tasks.Task.TheVariants as Task;
 
-use isp_gang_arrays::packing::{held, outside, places};
 use crate::state::{Evaluator, Stop, checked};
-use isp_gang_arrays::stores::put_each;
 use crate::tasks::{Elements, Packing, Task};
 use isp_base::{Elem, Rate, Span, TrapKind};
+use isp_gang_arrays::packing::{held, outside, places};
+use isp_gang_arrays::stores::put_each;
 use isp_gang_values::computed::Computed;
 use isp_gang_values::sets::{Active, rank};
 use isp_typed::{ArrayVariable, TypedBase};

@@ -13,11 +13,11 @@ ghost use Rattle.isp_gang_arrays.specs.Stores.{stores_of};
 ghost use Rattle.isp_gang_run.specs.Tasks.{Changes};
 ghost use Rattle.isp_gang_run.specs.declared.state.Stop.TheVariants as Stop;
 
-use isp_gang_arrays::indices::{element, is_outside, picked, picked_own, places, where_outside};
 use crate::state::{Evaluator, Stop};
-use isp_gang_arrays::stores::{clear, clear_own, element_at, put_each, put_element, put_own_each};
 use crate::tasks::Operation;
 use isp_base::{Elem, Rate, Ty};
+use isp_gang_arrays::indices::{element, is_outside, picked, picked_own, places, where_outside};
+use isp_gang_arrays::stores::{clear, clear_own, element_at, put_each, put_element, put_own_each};
 use isp_gang_values::computed::Computed;
 use isp_gang_values::growing::{self, lanes_at, put, put_lanes};
 use isp_gang_values::row::{on, over};
