@@ -527,7 +527,13 @@ ISP_STORED(8, __m512i, _mm512_mask_storeu_epi64)
 #define PLACE(q, s, e) static const struct isp_place q ISP_UNUSED = {s, e};
 #define TEXT(t, x) static const char t[] ISP_UNUSED = x;
 
+/* Clang 14 hands a vector over by value where a function of the file is given a pointer to it, and then caller and callee can differ in the registers that they take for
+ * 64 bytes of it: a recursion gets wrong values. It leaves the pointers of a function that is marked as used. */
+#ifdef __clang__
+#define ISP_KERNEL static __attribute__((used))
+#else
 #define ISP_KERNEL static ISP_UNUSED
+#endif
 #define FUNC(f) ISP_KERNEL enum isp_end f(struct isp_run *run ISP_UNUSED, uint32_t depth ISP_UNUSED, void *result ISP_UNUSED, const ispm_mask *m0_given ISP_UNUSED
 #define SFUNC(f, t) ISP_KERNEL enum isp_end f(struct isp_run *run ISP_UNUSED, uint32_t depth ISP_UNUSED, t *result, const ispm_mask *m0_given ISP_UNUSED
 #define VFUNC(f, t) ISP_KERNEL enum isp_end f(struct isp_run *run ISP_UNUSED, uint32_t depth ISP_UNUSED, ispm_v_##t *result, const ispm_mask *m0_given ISP_UNUSED
