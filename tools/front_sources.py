@@ -1,5 +1,5 @@
 #!/usr/bin/env python3
-"""Writes the sources of at most 1 MiB on which the front is measured (docs/BENCHMARKS.md) into a folder.
+"""Writes the sources of at most 1 MiB on which the front is measured (docs/SPEED.md) into a folder.
 
     tools/front_sources.py FOLDER
 """
