@@ -50,7 +50,7 @@ def pages_faults():
         paragraphs = [" ".join(it.split()) for it in re.split(r"^#.*|\n\n", body, flags=re.M) if it.strip()]
         fix = next((it for it in paragraphs if it.startswith("Fix: ")), "")
         cells = [re.split(r"(?<!\\)\|", line) for line in body.split("\n") if line.startswith("| ")]
-        rows = [(row[1].strip().replace("\\|", "|"), row[3].strip().replace("\\|", "|")) for row in cells if len(row) == 5]
+        rows = [tuple(row[at].strip().replace("\\|", "|") for at in (1, -2)) for row in cells if len(row) >= 4]
         found[heading] = paragraphs[0], fix, rows[1:] if rows[:1] == [("At", "Fix")] else []
     return found
 

@@ -3,12 +3,12 @@
 
     tools/page_rows.py              writes the files below, and the count of requests in crates/isp_tests_requests/stdout
     tools/page_rows.py --check      ends with status 1 where one of these is stale, where a page shows another explanation than tools/explained.py
-                                    works out, or where a row of a table of docs/FAULTS.md is the fix of no program among these and among those of
-                                    ported.rows
+                                    works out, or where a row of a table of docs/FAULTS.md is the fix of no program among these, among those of
+                                    faults.rows and among those of ported.rows
 
 - crates/isp_tests_requests/data/pages.rows: the examples of README.md and docs/, so that the gate runs what the pages show.
-- crates/isp_tests_requests/data/explain.rows: what `ispx explain` has to say of each example of a page that is refused or trapped, and of each source of
-  ported.rows that is refused, by tools/explained.py.
+- crates/isp_tests_requests/data/explain.rows: what `ispx explain` has to say of each example of a page and of faults.rows beside it that is refused or trapped,
+  and of each source of ported.rows that is refused, by tools/explained.py.
 - crates/isp_remedies/src/page.rt: the sentences and the fixes of docs/FAULTS.md.
 
 An example is a block between ``` that begins with `$ `:
@@ -33,6 +33,7 @@ ROOT = os.path.dirname(os.path.dirname(os.path.realpath(__file__)))
 CRATE = "crates/isp_tests_requests"
 ROWS = f"{CRATE}/data/pages.rows"
 EXPLAIN = f"{CRATE}/data/explain.rows"
+FAULTS = f"{CRATE}/data/faults.rows"
 REMEDIES = "crates/isp_remedies/src/page.rt"
 COUNT = f"{CRATE}/stdout"
 PORTED = "crates/isp_tests_cases/data/ported.rows"
@@ -41,7 +42,7 @@ PROGRAM = {"isp": "words", "ispx": "ispx"}
 HEAD = """. What the examples of README.md and of the pages of docs/ show. Written by tools/page_rows.py.
 . What docs/FAULTS.md and docs/INDEPENDENCE.md show was worked out from the rules before it was run, but for the place of 11, which is left open.
 """
-EXPLAIN_HEAD = """. What `ispx explain` says of what docs/ shows as refused or stopped, and of each source that crates/isp_tests_cases/data/ported.rows has as refused.
+EXPLAIN_HEAD = """. What `ispx explain` says of what docs/ and faults.rows show as refused or stopped, and of each source that ported.rows of isp_tests_cases has as refused.
 . Written by tools/page_rows.py; worked out by tools/explained.py, which has the rules in Python, from docs/FAULTS.md.
 """
 
@@ -214,7 +215,7 @@ def ported():
 
 
 def refused(rows):
-    """Yields the fault, the source and the span of each source that rows refuse, those of this page and those of PORTED."""
+    """Yields the fault, the source and the span of each source that rows refuse, those of the pages, of FAULTS and of PORTED."""
     for _, words, files, shown in records(rows):
         err = parted(shown)[2]
         name = words[-1]
@@ -251,8 +252,9 @@ def main():
         of_page, otherwise = rows_of(page)
         rows += of_page
         differ += otherwise
-    text, explain = HEAD + text_of(rows), EXPLAIN_HEAD + text_of(explanations(rows))
-    differ += unused(rows)
+    tried = [*rows, *contents(FAULTS).split("\n")]
+    text, explain = HEAD + text_of(rows), EXPLAIN_HEAD + text_of(explanations(tried))
+    differ += unused(tried)
     for why in differ:
         print(why, file=sys.stderr)
     made = ((ROWS, text), (EXPLAIN, explain), (REMEDIES, explained.page()), (COUNT, counted(text + explain)))
