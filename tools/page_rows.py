@@ -1,5 +1,5 @@
 #!/usr/bin/env python3
-"""Writes from the pages what `rt ci` compares with the programs, and the table from which `ispx` takes its texts.
+"""Writes from the pages what `rt ci` compares with the programs, the table from which `ispx` takes its texts, and the kit that pages name.
 
     tools/page_rows.py              writes the files below, and the count of requests in crates/isp_tests_requests/stdout
     tools/page_rows.py --check      ends with status 1 where one of these is stale, where a page shows another explanation than tools/explained.py
@@ -10,6 +10,7 @@
 - crates/isp_tests_requests/data/explain.rows: what `ispx explain` has to say of each example of a page and of faults.rows beside it that is refused or trapped,
   and of each source of ported.rows that is refused, by tools/explained.py.
 - crates/isp_remedies/src/page.rt: the sentences and the fixes of docs/FAULTS.md.
+- each page that names the kit of the toolchain, README.md among them: its name there is the one that `rt version` prints.
 
 An example is a block between ``` that begins with `$ `:
 
@@ -22,8 +23,11 @@ Other commands count for nothing. A file that a page does not show is taken from
 goes into another, or reads a file that is not shown since another made it, there is no row; its name is printed. The format of the
 rows stands in crates/isp_tests_requests/src/main.rt.
 """
+import glob
 import os
 import re
+import shutil
+import subprocess
 import sys
 
 sys.dont_write_bytecode = True
@@ -37,6 +41,8 @@ FAULTS = f"{CRATE}/data/faults.rows"
 REMEDIES = "crates/isp_remedies/src/page.rt"
 COUNT = f"{CRATE}/stdout"
 PORTED = "crates/isp_tests_cases/data/ported.rows"
+# how a kit of the toolchain is called
+KIT = re.compile(r"\brattle-kit-\w+")
 # how a row says whose words it has
 PROGRAM = {"isp": "words", "ispx": "ispx"}
 HEAD = """. What the examples of README.md and of the pages of docs/ show. Written by tools/page_rows.py.
@@ -242,6 +248,16 @@ def counted(rows):
     return f"{requests.count('=== ')} requests, 0 differ\n"
 
 
+def with_kit():
+    """Yields each page that names the kit, and the page with the name that `rt version` prints."""
+    rt = shutil.which("rt") or sys.exit("page_rows.py: rt is not on the path: it says which kit the pages name")
+    kit = subprocess.run([rt, "version"], capture_output=True, text=True, check=True).stdout.split()[0]
+    for page in ["README.md", *sorted(glob.glob("docs/*.md", root_dir=ROOT) + glob.glob("crates/*/README.md", root_dir=ROOT))]:
+        text = contents(page)
+        if KIT.search(text):
+            yield page, KIT.sub(kit, text)
+
+
 def main():
     check = sys.argv[1:] == ["--check"]
     if sys.argv[1:] and not check:
@@ -255,9 +271,12 @@ def main():
     tried = [*rows, *contents(FAULTS).split("\n")]
     text, explain = HEAD + text_of(rows), EXPLAIN_HEAD + text_of(explanations(tried))
     differ += unused(tried)
+    named = dict(with_kit())
+    if "README.md" not in named:
+        differ.append("README.md names no kit")
     for why in differ:
         print(why, file=sys.stderr)
-    made = ((ROWS, text), (EXPLAIN, explain), (REMEDIES, explained.page()), (COUNT, counted(text + explain)))
+    made = ((ROWS, text), (EXPLAIN, explain), (REMEDIES, explained.page()), (COUNT, counted(text + explain)), *named.items())
     for name, wanted in made:
         if check and (not os.path.isfile(f"{ROOT}/{name}") or contents(name) != wanted):
             differ.append(name)
