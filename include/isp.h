@@ -221,7 +221,7 @@ static inline struct isp_text isp_decimal(char *digits, uint64_t number)
     return text;
 }
 
-/* `isp check`: for each exported function of `source` whether its instances are independent, or which rule it breaks and
+/* `isp check`: for each exported function of `source` whether it is independent by the rules, or which rule it breaks and
  * where. ISP_OK, or ISP_SOURCE, ISP_WORDS, ISP_TEXT, ISP_MEMORY, ISP_ROOM. */
 static inline uint8_t isp_check(struct isp_text source, uint32_t gang, struct isp_streams *to)
 {

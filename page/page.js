@@ -9,8 +9,8 @@ const ROWS = 5000;      // steps that are shown
 const TABS = {
     run: "What the run wrote, and its answer: the arrays as they are then, and the result.",
     asm: "The code of the machine: each line is one instruction.",
-    check: "For each exported function, whether its instances are independent, or which rule it breaks and where.",
-    solo: "The answer where each instance runs alone, one after another. Independent functions give that of the gang.",
+    check: "For each exported function, whether it is independent by the rules, or which rule it breaks and where.",
+    solo: "The answer where each instance runs alone, one after another. Independent functions whose instances do not clash give that of the gang.",
     trace: "Each instruction that is executed, the masks that it reads, and what it writes. A lane that is on is filled, lane 0 first.",
 };
 

@@ -7,7 +7,7 @@
     --kernel NAME  NAME.ispc of the folder examples (brighten)
     --kill         kills a worker in the middle, whose tiles Dask then runs again (own workers alone)
 
-An entry whose instances are independent does with each pixel what one instance does alone, so any tiles give the same picture;
+An independent entry whose instances do not clash does with each pixel what one does alone, so any tiles give the same picture;
 its last line says whether the tiles gave the bytes of one run over the whole. An entry that is not independent is refused before
 anything runs, with the rule that it breaks and the place. Needs python3-numpy, python3-dask and python3-distributed.
 The workers need this repository at the same path.

@@ -143,7 +143,7 @@ class Kernel:
         return [*super().__dir__(), *self.signatures]
 
     def is_independent(self, name: str) -> bool:
-        """Returns whether each instance of this exported function is on its own, as `isp check` says (docs/INDEPENDENCE.md)."""
+        """Returns whether this exported function is independent by the rules, as `isp check` says (docs/INDEPENDENCE.md)."""
         return self.dependence(name) is None
 
     def dependence(self, name: str) -> Optional[str]:
