@@ -1,5 +1,5 @@
 //! Memory refused to the calls of an emitter, at each growth: the same call on the same emitter then gives its number, and
-//! the finished code is the same.
+//! the finished code is the same. `finish` takes the emitter, so a new one writes and finishes the code in the same step.
 use crate::trees::no_function;
 use crate::written::{Call, TEXT, Trial, two_functions};
 use isp_asm::write;
@@ -20,7 +20,7 @@ fn attempted(
     let code = two_functions(alloc, checked, &mut trial, hoard)?;
     let right = match code {
         Some(code) => !trial.wrong && write(alloc, &code)?.as_str() == TEXT,
-        None => !trial.wrong,
+        None => false,
     };
     if trial.refused {
         Ok(Tried::failed(right))

@@ -290,8 +290,8 @@ fn finish(
     Ok(code.ok())
 }
 
-/// The code of the two functions, if its last call is not refused.
-pub(crate) fn two_functions(
+// The code of the two functions, if its last call is not refused.
+fn written(
     alloc: Global,
     checked: &Checked,
     trial: &mut Trial,
@@ -301,6 +301,22 @@ pub(crate) fn two_functions(
     let mut e = Emitter::new(alloc, checked);
     write_both(&mut e, &trees, trial, hoard)?;
     finish(e, &trees, trial, hoard)
+}
+
+/// The code of the two functions. Where its last call is refused, which leaves no emitter, a new one writes them once more.
+pub(crate) fn two_functions(
+    alloc: Global,
+    checked: &Checked,
+    trial: &mut Trial,
+    hoard: &mut Hoard,
+) -> Result<Option<Code>, AllocError> {
+    match written(alloc, checked, trial, hoard)? {
+        Some(code) => Ok(Some(code)),
+        None => {
+            trial.call = Call::None;
+            written(alloc, checked, trial, hoard)
+        }
+    }
 }
 
 pub(crate) const TEXT: &str = "isp 1 gang 8
