@@ -6,6 +6,8 @@ mod counts;
 #[cfg(test)]
 mod kernels;
 #[cfg(test)]
+mod refused;
+#[cfg(test)]
 mod runs;
 #[cfg(test)]
 mod traces;

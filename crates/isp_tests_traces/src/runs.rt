@@ -30,7 +30,8 @@ fn array(alloc: Global, items: &[u64]) -> Result<Array, Fail> {
     Ok(array)
 }
 
-fn bound(alloc: Global, given: &[Given]) -> Result<Bound, Fail> {
+/// Arguments as they are bound.
+pub fn bound(alloc: Global, given: &[Given]) -> Result<Bound, Fail> {
     let mut arguments = Vec::new(alloc);
     for it in given {
         let argument = match it {
@@ -45,7 +46,8 @@ fn bound(alloc: Global, given: &[Given]) -> Result<Bound, Fail> {
     Ok(Bound { arguments })
 }
 
-fn verified(alloc: Global, text: &str) -> Result<Verified, Fail> {
+/// Code text that is read and accepted.
+pub fn verified(alloc: Global, text: &str) -> Result<Verified, Fail> {
     let Ok(code) = read(alloc, text) else {
         return Err(Fail::from("no code"));
     };
