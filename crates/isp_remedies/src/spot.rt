@@ -1,7 +1,7 @@
 //! What stands at the place of a fault, and before it.
 use isp_base::Span;
-use isp_lex::{Mark, Token, TokenKind, Tokens, lex};
-use std::alloc::Global;
+use isp_lex::{Mark, SourceFault, Token, TokenKind, Tokens, lex};
+use std::alloc::{AllocError, Global};
 
 /// The place of a fault in a source: the tokens before it, and those that it has.
 #[derive(Drop)]
@@ -30,19 +30,34 @@ enum Class {
     Other,
 }
 
+// The tokens of a text, where it is made of tokens.
+fn tokens(alloc: Global, text: &str) -> Result<Option<Tokens>, AllocError> {
+    match lex(alloc, text) {
+        Ok(tokens) => Ok(Some(tokens)),
+        Err(SourceFault::Memory) => Err(AllocError),
+        Err(SourceFault::Refused(_fault)) => Ok(None),
+    }
+}
+
 impl<'a> Spot<'a> {
-    /// What stands at a span of a source. Nothing where the span is not of the source, where what stands before it is no
-    /// tokens, or where memory was refused.
-    pub fn new(alloc: Global, source: &'a str, span: Span) -> Option<Spot<'a>> {
-        let ahead = source.get(..span.start)?;
-        let place = source.get(span.start..span.end)?;
-        let before = lex(alloc, ahead).ok()?;
-        Some(Spot {
+    /// What stands at a span of a source. Nothing where the span is not of the source, or where what stands before it is no
+    /// tokens. 0 where memory is refused.
+    pub fn new(alloc: Global, source: &'a str, span: Span) -> Result<Option<Spot<'a>>, AllocError> {
+        let (Some(ahead), Some(place)) = (
+            source.get(..span.start),
+            source.get(span.start..span.end),
+        ) else {
+            return Ok(None);
+        };
+        let Some(before) = tokens(alloc, ahead)? else {
+            return Ok(None);
+        };
+        Ok(Some(Spot {
             ahead,
             before,
             place,
-            found: lex(alloc, place).ok(),
-        })
+            found: tokens(alloc, place)?,
+        }))
     }
 
     /// Whether the place is as a row says: one of some tokens, and behind each `? ` what has to hold around it.

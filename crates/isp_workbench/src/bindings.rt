@@ -2,7 +2,7 @@
 use crate::page::Source;
 use isp_base::{Elem, Parameter, Signature, greatest_of, low_mask};
 use isp_bind::BindFault;
-use serde_json::{Number, Value as Json};
+use serde_json::{Category, Number, Value as Json};
 use std::alloc::{AllocError, Global};
 use std::fmt::Write;
 
@@ -36,6 +36,9 @@ pub(crate) fn push_arguments(
     match Json::from_str(alloc, arguments.text) {
         Ok(value) => push_site(page, signature, &value, fault),
         Err(error) => {
+            if error.classify() == Category::Memory {
+                return Err(AllocError);
+            }
             let (line, column) = (error.line(), error.column());
             write!(page, ":{line}:{column}: {fault}\n")
         }

@@ -12,7 +12,7 @@ use clap::Error;
 use clap::error::ErrorKind;
 use isp_engine::{Failure, Sink, SourceFiles, tell_end};
 use ispx_command_line::{Request, read_words};
-use std::alloc::Global;
+use std::alloc::{AllocError, Global};
 
 /// Does what `words` ask for, the first of which is the program's name, and answers the exit status.
 ///
@@ -66,8 +66,11 @@ fn refuse<E: Sink>(alloc: Global, error: &Error, err: &mut E) -> u8
     if error.kind() == ErrorKind::OutOfMemory {
         return tell_end(Err(Failure::Memory), err);
     }
-    if let Ok(text) = format!(in alloc; "{error}") {
-        show(text.as_str(), err);
+    match format!(in alloc; "{error}") {
+        Ok(text) => {
+            show(text.as_str(), err);
+            2
+        }
+        Err(AllocError) => tell_end(Err(Failure::Memory), err),
     }
-    2
 }

@@ -9,7 +9,7 @@ use isp_base::{Gang, Trap};
 use isp_bind::BindFault;
 use isp_engine::{Failure, RunFault, front};
 use isp_independence::Dependence;
-use isp_lex::Fault;
+use isp_lex::{Fault, SourceFault};
 use isp_rates::Checked;
 use isp_remedies::{Spot, advice_on};
 use std::alloc::{AllocError, Global};
@@ -47,7 +47,7 @@ pub(crate) fn source_story(
     fault: Fault,
 ) -> Result<String, AllocError> {
     let what = format!(in alloc; "{}", fault.rule)?;
-    let spot = Spot::new(alloc, asked.source.text, fault.span);
+    let spot = Spot::new(alloc, asked.source.text, fault.span)?;
     let mut page = String::new(alloc);
     push_place(&mut page, asked.source, fault.span, what.as_str())?;
     push_advice(&mut page, what.as_str(), spot.as_ref())?;
@@ -102,6 +102,15 @@ fn push_advice(page: &mut String, fault: &str, spot: Option<&Spot<'_>>) -> Resul
     page.push_str("\n")
 }
 
+// The program of the source, where it is one.
+fn checked_again(alloc: Global, asked: &Asked<'_, '_>) -> Result<Option<Checked>, AllocError> {
+    match front(alloc, asked.source.text, asked.gang) {
+        Ok(checked) => Ok(Some(checked)),
+        Err(SourceFault::Memory) => Err(AllocError),
+        Err(SourceFault::Refused(_fault)) => Ok(None),
+    }
+}
+
 // Why an entry was not run.
 fn push_refusal(
     page: &mut String,
@@ -109,7 +118,7 @@ fn push_refusal(
     asked: &Asked<'_, '_>,
     fault: RunFault,
 ) -> Result<(), AllocError> {
-    let (Some(call), Ok(checked)) = (asked.call, front(alloc, asked.source.text, asked.gang)) else {
+    let (Some(call), Some(checked)) = (asked.call, checked_again(alloc, asked)?) else {
         return write!(page, "isp: {fault}\n");
     };
     match fault {
@@ -150,7 +159,7 @@ fn push_exports(page: &mut String, checked: &Checked) -> Result<(), AllocError> 
 /// Which rule each exported function breaks that is no independent entry, where, and what to write instead.
 pub(crate) fn notes(alloc: Global, asked: &Asked<'_, '_>) -> Result<String, AllocError> {
     let mut page = String::new(alloc);
-    if let Ok(checked) = front(alloc, asked.source.text, asked.gang) {
+    if let Some(checked) = checked_again(alloc, asked)? {
         push_notes(&mut page, alloc, asked.source, &checked)?;
     }
     Ok(page)
