@@ -1,0 +1,201 @@
+-- The lanes of rows of parts.
+use Rattle.std.proofs.Common.{◌≡◌, ℕ, zero, suc, ◌+◌, ◌-◌, ◌*◌, ◌/◌, ◌%◌, ◌^◌, ◌<◌, ◌≤◌, ◌≢◌, ◌⊎◌, inl, inr, Bool, true, false, refl, sym, ap, ap₂, ◌∙◌, subst, arith, mod-eq_of_lt}
+use Rattle.std.specs.Prelude.{nat_eq, if◌then◌else◌, min}
+use Rattle.std.proofs.lemmas.Bool.{eqb-true, eqb-false, lt-ltb, cases_lt, cases_eq}
+use Rattle.std.proofs.lemmas.Nat.{pow_pos, le-div}
+use Rattle.std.proofs.Math.Nat.{mod-lt}
+use Rattle.isp_wasm_meaning.specs.Syntax.{Shape, I8x16, I16x8, I32x4, I64x2, Whole, Bitwise, Test, Expr, Const128, One, Two, Bitselect, ExtendLow, ExtendHigh, Splat, Lanes, CompareLanes, Bits}
+use Rattle.isp_wasm_meaning.specs.Meaning.{lane, of_lanes, flags, wide, count, halved, value, signed, whole, tested, bitwise}
+use Rattle.isp_wasm_meaning.proofs.Digits.{packed-below}
+use Rattle.isp_wasm_meaning.proofs.Lanes.{lane_is, selected, extended_low, extended_high, signed_flags, IsWide}
+use Rattle.isp_wasm_meaning.proofs.Bits.{lane_bits, replaced_same, replaced_other, joined_low, joined_high}
+use Rattle.isp_wasm.specs.Places.{Setting, gang, parts}
+use Rattle.isp_wasm.specs.Rows.{half, widened, joined, narrowed, built, present}
+use Rattle.isp_wasm.proofs.WordLaws.{whole_below}
+
+-- the first n lanes of a row are these
+abbrev pub IsRow : ℕ → Shape → (ℕ → ℕ) → (ℕ → Expr) → (ℕ → ℕ) → Type 0
+IsRow n s l e f = (j i : ℕ) → i < count s → j * count s + i < n → lane s i (value l (e j)) ≡ f (j * count s + i)
+
+pub row_same : (n : ℕ) (s : Shape) (l : ℕ → ℕ) (e : ℕ → Expr) (f g : ℕ → ℕ) → ((p : ℕ) → p < n → f p ≡ g p) → IsRow n s l e f → IsRow n s l e g
+row_same n s l e f g same h j i q r = h j i q r ∙ same (j * count s + i) r
+
+-- ---- lane by lane operators
+
+flags_below : (w : ℕ) (b : Bool) → flags w b < 2 ^ w
+flags_below w true = let some = pow_pos w in omega arith
+flags_below w false = pow_pos w
+
+pub row_whole : (n : ℕ) (s : Shape) (o : Whole) (l : ℕ → ℕ) (a b : ℕ → Expr) (f g : ℕ → ℕ) → IsRow n s l a f → IsRow n s l b g → IsRow n s l (λ j. Two (Lanes s o) (a j) (b j)) (λ p. whole (wide s) o (f p) (g p))
+row_whole n s o l a b f g x y j i q r =
+    lane_is s i (λ i. whole (wide s) o (lane s i (value l (a j))) (lane s i (value l (b j)))) (λ i z. whole_below (wide s) o (lane s i (value l (a j))) (lane s i (value l (b j)))) q
+    ∙ ap₂ (whole (wide s) o) (x j i q r) (y j i q r)
+
+pub row_tested : (n : ℕ) (s : Shape) (o : Test) (l : ℕ → ℕ) (a b : ℕ → Expr) (f g : ℕ → ℕ) → IsRow n s l a f → IsRow n s l b g
+    → IsRow n s l (λ j. Two (CompareLanes s o) (a j) (b j)) (λ p. flags (wide s) (tested (wide s) o (f p) (g p)))
+row_tested n s o l a b f g x y j i q r =
+    lane_is s i (λ i. flags (wide s) (tested (wide s) o (lane s i (value l (a j))) (lane s i (value l (b j)))))
+    (λ i z. flags_below (wide s) (tested (wide s) o (lane s i (value l (a j))) (lane s i (value l (b j))))) q
+    ∙ ap₂ (λ u v. flags (wide s) (tested (wide s) o u v)) (x j i q r) (y j i q r)
+
+pub row_bits : (n : ℕ) (s : Shape) (o : Bitwise) (l : ℕ → ℕ) (a b : ℕ → Expr) (f g : ℕ → ℕ) → IsRow n s l a f → IsRow n s l b g → IsRow n s l (λ j. Two (Bits o) (a j) (b j)) (λ p. bitwise o (f p) (g p))
+row_bits n s o l a b f g x y j i q r = lane_bits s o i (value l (a j)) (value l (b j)) ∙ ap₂ (bitwise o) (x j i q r) (y j i q r)
+
+pub row_select : (n : ℕ) (s : Shape) (l : ℕ → ℕ) (a b c : ℕ → Expr) (f g : ℕ → ℕ) (m : ℕ → Bool) → IsRow n s l a f → IsRow n s l b g → IsRow n s l c (λ p. flags (wide s) (m p))
+    → IsRow n s l (λ j. Bitselect (a j) (b j) (c j)) (λ p. if m p then f p else g p)
+row_select n s l a b c f g m x y z j i q r =
+    selected s i (value l (c j)) (value l (a j)) (value l (b j)) (m (j * count s + i)) q (z j i q r) ∙ ap₂ (λ u v. if m (j * count s + i) then u else v) (x j i q r) (y j i q r)
+
+pub row_splat : (n : ℕ) (s : Shape) (l : ℕ → ℕ) (e : Expr) → IsRow n s l (λ j. One (Splat s) e) (λ p. value l e % 2 ^ wide s)
+row_splat n s l e j i q r = lane_is s i (λ k. value l e % 2 ^ wide s) (λ k z. mod-lt (value l e) (pow_pos (wide s))) q
+
+all_bits : (s : Shape) → (2 ^ wide s) ^ count s ≡ 2 ^ 128
+all_bits I8x16 = refl
+all_bits I16x8 = refl
+all_bits I32x4 = refl
+all_bits I64x2 = refl
+
+pub row_constant : (n : ℕ) (s : Shape) (l : ℕ → ℕ) (f : ℕ → ℕ) → ((p : ℕ) → p < n + count s → f p < 2 ^ wide s) → IsRow n s l (λ j. Const128 (of_lanes s (λ i. f (j * count s + i)))) f
+row_constant n s l f low j i q r =
+    let here : (i : ℕ) → i < count s → f (j * count s + i) < 2 ^ wide s = (λ k z. low (j * count s + k) (omega arith)) in
+    ap (lane s i) (mod-eq_of_lt (subst (λ m. of_lanes s (λ i. f (j * count s + i)) < m) (all_bits s) (packed-below (2 ^ wide s) (count s) (λ i. f (j * count s + i)) here)))
+    ∙ lane_is s i (λ i. f (j * count s + i)) here q
+
+-- ---- one lane after the other
+
+cells_lane : (s : Shape) (l : ℕ → ℕ) (f : ℕ → Expr) (n i : ℕ) → n ≤ count s → i < n → lane s i (value l (built s n f)) ≡ value l (f i) % 2 ^ wide s
+cells_lane s l f zero i le h = absurd (omega arith)
+cells_lane s l f (suc n) i le h = by (cells_lane s l f n i (omega arith)) (cases_eq i n)
+  where
+    by : (i < n → lane s i (value l (built s n f)) ≡ value l (f i) % 2 ^ wide s) → (i ≡ n) ⊎ (i ≡ n → ⊥) → lane s i (value l (built s (suc n) f)) ≡ value l (f i) % 2 ^ wide s
+    by before (inl e) =
+        subst (λ k. lane s k (value l (built s (suc n) f)) ≡ value l (f k) % 2 ^ wide s) (sym e) (replaced_same s n (value l (built s n f)) (value l (f n)) (omega arith))
+    by before (inr ne) =
+        let other : i ≢ n = ne in replaced_other s n i (value l (built s n f)) (value l (f n)) (omega arith) ne ∙ before (omega arith)
+
+pub row_built : (n : ℕ) (s : Shape) (l : ℕ → ℕ) (f : ℕ → Expr) (v : ℕ → ℕ) → ((p : ℕ) → p < n → value l (f p) % 2 ^ wide s ≡ v p)
+    → IsRow n s l (λ j. built s (min (count s) (n - j * count s)) (λ i. f (j * count s + i))) v
+row_built n s l f v h j i q r =
+    cells_lane s l (λ i. f (j * count s + i)) (min (count s) (n - j * count s)) i (omega arith) (omega arith) ∙ h (j * count s + i) r
+
+-- ---- flags, wider and narrower
+
+low_lane : (s : Shape) (j k : ℕ) → IsWide s → nat_eq (j % 2) 0 ≡ true → j / 2 * count (halved s) + k ≡ j * count s + k
+low_lane I8x16 j k h e = absurd h
+low_lane I16x8 j k h e = omega (arith, eqb-true (j % 2) 0 e)
+low_lane I32x4 j k h e = omega (arith, eqb-true (j % 2) 0 e)
+low_lane I64x2 j k h e = omega (arith, eqb-true (j % 2) 0 e)
+
+odd : (j : ℕ) → nat_eq (j % 2) 0 ≡ false → j % 2 ≡ 1
+odd j e = let ne : j % 2 ≢ 0 = eqb-false (j % 2) 0 e in omega arith
+
+high_lane : (s : Shape) (j k : ℕ) → IsWide s → nat_eq (j % 2) 0 ≡ false → j / 2 * count (halved s) + (k + count s) ≡ j * count s + k
+high_lane I8x16 j k h e = absurd h
+high_lane I16x8 j k h e = omega (arith, odd j e)
+high_lane I32x4 j k h e = omega (arith, odd j e)
+high_lane I64x2 j k h e = omega (arith, odd j e)
+
+low_room : (s : Shape) (k : ℕ) → IsWide s → k < count s → k < count (halved s)
+low_room I8x16 k h l = absurd h
+low_room I16x8 k h l = omega arith
+low_room I32x4 k h l = omega arith
+low_room I64x2 k h l = omega arith
+
+high_room : (s : Shape) (k : ℕ) → IsWide s → k < count s → k + count s < count (halved s)
+high_room I8x16 k h l = absurd h
+high_room I16x8 k h l = omega arith
+high_room I32x4 k h l = omega arith
+high_room I64x2 k h l = omega arith
+
+row_half : (n : ℕ) (s : Shape) (l : ℕ → ℕ) (e : ℕ → Expr) (m : ℕ → Bool) → IsWide s → IsRow n (halved s) l e (λ p. flags (wide (halved s)) (m p)) → IsRow n s l (λ j. half s j (e (j / 2))) (λ p. flags (wide s) (m p))
+row_half n s l e m h x j i q r = by (nat_eq (j % 2) 0) refl
+  where
+    by : (b : Bool) → nat_eq (j % 2) 0 ≡ b → lane s i (value l (if b then One (ExtendLow s) (e (j / 2)) else One (ExtendHigh s) (e (j / 2)))) ≡ flags (wide s) (m (j * count s + i))
+    by true g =
+        let at = low_lane s j i h g in
+        extended_low s i (value l (e (j / 2))) q
+        ∙ ap (signed (wide (halved s)) (wide s)) (x (j / 2) i (low_room s i h q) (subst (λ p. p < n) (sym at) r) ∙ ap (λ p. flags (wide (halved s)) (m p)) at) ∙ signed_flags s (m (j * count s + i)) h
+    by false g =
+        let at = high_lane s j i h g in
+        extended_high s i (value l (e (j / 2))) q
+        ∙ ap (signed (wide (halved s)) (wide s)) (x (j / 2) (i + count s) (high_room s i h q) (subst (λ p. p < n) (sym at) r) ∙ ap (λ p. flags (wide (halved s)) (m p)) at)
+        ∙ signed_flags s (m (j * count s + i)) h
+
+pub row_widened : (n : ℕ) (s : Shape) (l : ℕ → ℕ) (e : ℕ → Expr) (m : ℕ → Bool) → IsRow n I8x16 l e (λ p. flags 8 (m p)) → IsRow n s l (widened s e) (λ p. flags (wide s) (m p))
+row_widened n I8x16 l e m x = x
+row_widened n I16x8 l e m x = row_half n I16x8 l e m tt x
+row_widened n I32x4 l e m x = row_half n I32x4 l (λ j. half I16x8 j (e (j / 2))) m tt (row_half n I16x8 l e m tt x)
+row_widened n I64x2 l e m x =
+    row_half n I64x2 l (λ j. half I32x4 j (half I16x8 (j / 2) (e (j / 2 / 2)))) m tt (row_half n I32x4 l (λ j. half I16x8 j (e (j / 2))) m tt (row_half n I16x8 l e m tt x))
+
+-- the lanes of two parts in one
+low_place : (s : Shape) (j i : ℕ) → IsWide s → 2 * j * count s + i ≡ j * count (halved s) + i
+low_place I8x16 j i h = absurd h
+low_place I16x8 j i h = omega arith
+low_place I32x4 j i h = omega arith
+low_place I64x2 j i h = omega arith
+
+high_place : (s : Shape) (j i : ℕ) → IsWide s → count s ≤ i → (2 * j + 1) * count s + (i - count s) ≡ j * count (halved s) + i
+high_place I8x16 j i h l = absurd h
+high_place I16x8 j i h l = omega arith
+high_place I32x4 j i h l = omega arith
+high_place I64x2 j i h l = omega arith
+
+rest_room : (s : Shape) (i : ℕ) → IsWide s → i < count (halved s) → count s ≤ i → i - count s < count s
+rest_room I8x16 i h q l = absurd h
+rest_room I16x8 i h q l = omega arith
+rest_room I32x4 i h q l = omega arith
+rest_room I64x2 i h q l = omega arith
+
+pub row_joined : (n : ℕ) (s : Shape) (l : ℕ → ℕ) (e : ℕ → Expr) (f : ℕ → ℕ) → IsWide s → IsRow n s l e f → IsRow n (halved s) l (joined s e) (λ p. f p % 2 ^ wide (halved s))
+row_joined n s l e f h x j i q r = by (cases_lt i (count s))
+  where
+    by : (i < count s) ⊎ (count s ≤ i) → lane (halved s) i (value l (joined s e j)) ≡ f (j * count (halved s) + i) % 2 ^ wide (halved s)
+    by (inl lt) =
+        let at = low_place s j i h in
+        joined_low s i (value l (e (2 * j))) (value l (e (2 * j + 1))) h q lt ∙ ap (λ v. v % 2 ^ wide (halved s)) (x (2 * j) i lt (subst (λ p. p < n) (sym at) r) ∙ ap f at)
+    by (inr le) =
+        let at = high_place s j i h le in
+        joined_high s i (value l (e (2 * j))) (value l (e (2 * j + 1))) h q le
+        ∙ ap (λ v. v % 2 ^ wide (halved s)) (x (2 * j + 1) (i - count s) (rest_room s i h q le) (subst (λ p. p < n) (sym at) r) ∙ ap f at)
+
+flags_low : (s : Shape) (b : Bool) → IsWide s → flags (wide s) b % 2 ^ wide (halved s) ≡ flags (wide (halved s)) b
+flags_low I8x16 b h = absurd h
+flags_low I16x8 true h = refl
+flags_low I16x8 false h = refl
+flags_low I32x4 true h = refl
+flags_low I32x4 false h = refl
+flags_low I64x2 true h = refl
+flags_low I64x2 false h = refl
+
+joined_flags : (n : ℕ) (s : Shape) (l : ℕ → ℕ) (e : ℕ → Expr) (m : ℕ → Bool) → IsWide s → IsRow n s l e (λ p. flags (wide s) (m p)) → IsRow n (halved s) l (joined s e) (λ p. flags (wide (halved s)) (m p))
+joined_flags n s l e m h x =
+    row_same n (halved s) l (joined s e) (λ p. flags (wide s) (m p) % 2 ^ wide (halved s)) (λ p. flags (wide (halved s)) (m p)) (λ p q. flags_low s (m p) h) (row_joined n s l e (λ p. flags (wide s) (m p)) h x)
+
+pub row_narrowed : (n : ℕ) (s : Shape) (l : ℕ → ℕ) (e : ℕ → Expr) (m : ℕ → Bool) → IsRow n s l e (λ p. flags (wide s) (m p)) → IsRow n I8x16 l (narrowed s e) (λ p. flags 8 (m p))
+row_narrowed n I8x16 l e m x = x
+row_narrowed n I16x8 l e m x = joined_flags n I16x8 l e m tt x
+row_narrowed n I32x4 l e m x = joined_flags n I16x8 l (joined I32x4 e) m tt (joined_flags n I32x4 l e m tt x)
+row_narrowed n I64x2 l e m x = joined_flags n I16x8 l (joined I32x4 (joined I64x2 e)) m tt (joined_flags n I32x4 l (joined I64x2 e) m tt (joined_flags n I64x2 l e m tt x))
+
+-- ---- the parts that there are
+
+some_lanes : (s : Shape) → 0 < count s
+some_lanes I8x16 = omega arith
+some_lanes I16x8 = omega arith
+some_lanes I32x4 = omega arith
+some_lanes I64x2 = omega arith
+
+-- there are parts for all lanes
+pub enough : (w : Setting) (s : Shape) (j k : ℕ) → j * count s + k < gang w → j < parts w s
+enough w s j k h = le-div (suc j) (gang w + (count s - 1)) (count s) (some_lanes s) (by s h)
+  where
+    by : (s : Shape) → j * count s + k < gang w → suc j * count s ≤ gang w + (count s - 1)
+    by I8x16 h = omega arith
+    by I16x8 h = omega arith
+    by I32x4 h = omega arith
+    by I64x2 h = omega arith
+
+pub row_present : (w : Setting) (s : Shape) (l : ℕ → ℕ) (e : ℕ → Expr) (f : ℕ → ℕ) → IsRow (gang w) s l e f → IsRow (gang w) s l (present w s e) f
+row_present w s l e f x j i q r =
+    ap (λ b. lane s i (value l (if b then e j else Const128 0))) (lt-ltb j (parts w s) (enough w s j i r)) ∙ x j i q r

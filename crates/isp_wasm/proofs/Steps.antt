@@ -1,0 +1,79 @@
+-- The machine's runs are such as the ladder asks, and what its instructions do one by one.
+use Rattle.std.proofs.Common.{◌≡◌, ℕ, suc, ◌+◌, ◌≤◌, Option, Some, None, refl, ap, ◌∙◌, arith}
+use Rattle.std.specs.Prelude.{slice_get}
+use Rattle.isp_code.specs.Conf as machine
+use Rattle.isp_base.specs.declared.trap.Trap.{Trap}
+use Rattle.isp_code.specs.Conf.{Conf, Move, Go, Say, Fail}
+use Rattle.isp_code.specs.Lines.{act}
+use Rattle.isp_code.specs.Machine.{after, step, act_in, act_at, arrive}
+use Rattle.isp_code.proofs.Steps.{after-sum}
+use Rattle.isp_code.specs.declared.instr.Instr.{Instr}
+use Rattle.isp_wasm_meaning.specs.Meaning.{Report, State, Result, Fell, Branched, Returned, Trapped, OutOfFuel}
+use Rattle.isp_wasm_meaning.specs.Ladder.{Laws, Meets}
+use Rattle.isp_wasm.specs.Places.{Setting, Counter}
+use Rattle.isp_wasm.specs.Standing.{Stands, Holds, Keeps, Final, Cut, Goes, the_machine, report_of, IsSettled}
+
+module _ (w : Setting) where
+  further : (a b : ℕ) (x y : Conf) → Goes w a x y → after w.code (b + a) (machine.Runs x) ≡ after w.code b (machine.Runs y)
+  further a b x y g = after-sum w.code b a (machine.Runs x) ∙ ap (after w.code b) g
+
+  ended_before : (a : ℕ) (x y : Conf) (r : Result) → Goes w a x y → Final w y r → Final w x r
+  ended_before a x y (Returned v s) g f =
+      record { conf = f.conf; steps = f.steps + a; register = f.register; leaves = further a f.steps x y g ∙ f.leaves; value_is = f.value_is; out_is = f.out_is; keeps = f.keeps }
+  ended_before a x y (Trapped (Some t) s) g f =
+      record { conf = f.conf; steps = f.steps + a; trap = f.trap; fails = further a f.steps x y g ∙ f.fails; report_is = f.report_is; out_is = f.out_is; keeps = f.keeps }
+  ended_before a x y (Trapped None s) g f = f
+  ended_before a x y (Fell s) g f = f
+  ended_before a x y (Branched k s) g f = f
+  ended_before a x y (OutOfFuel s) g f = f
+
+  cut_before : (a f g : ℕ) (x y : Conf) (s : State) → Goes w a x y → g ≤ f + a → Cut w f y s → Cut w g x s
+  cut_before a f g x y s go le h = record { conf = h.conf; steps = h.steps + a; goes = further a h.steps x y go ∙ h.goes; far = omega (arith, h.far); out_is = h.out_is }
+
+  pub machine_laws : Laws (the_machine w)
+  machine_laws =
+      record {
+        goes_on = λ a b x y z g h. further a b x y g ∙ h;
+        final_back = ended_before;
+        cut_back = λ a f x y s g h. cut_before a f f x y s g (omega arith) h;
+        cut_more = λ a f x y s g h. cut_before (suc a) f (suc f) x y s g (omega arith) h;
+        cut_less = λ f g x s le h. record { conf = h.conf; steps = h.steps; goes = h.goes; far = omega (arith, h.far); out_is = h.out_is };
+        cut_none = λ k x s st. record { conf = x; steps = 0; goes = refl; far = omega arith; out_is = st.stands.out_is };
+      }
+
+  module _ (ready : IsSettled w) where
+    step_at : (pc : ℕ) (c : Conf) (s : State) (i : Option Instr) → Stands w pc c s → slice_get w.routine.code pc ≡ i → step w.code c ≡ act_at w.code w.routine c i
+    step_at pc c s i st has =
+        ap (λ h. act_in w.code c (slice_get w.code.routines h.fn)) st.home_is
+        ∙ ap (act_in w.code c) ready.found
+        ∙ ap (λ p. act_at w.code w.routine c (slice_get w.routine.code p)) st.pc_is
+        ∙ ap (act_at w.code w.routine c) has
+
+    pub step_is : (pc : ℕ) (c : Conf) (s : State) (i : Instr) (m : Move) → Stands w pc c s → slice_get w.routine.code pc ≡ Some i → act w.code w.routine c i ≡ m
+        → after w.code 1 (machine.Runs c) ≡ arrive w.code m c
+    step_is pc c s i m st has is = ap (λ x. arrive w.code x c) (step_at pc c s (Some i) st has ∙ is)
+
+    -- an instruction after which control goes on
+    module _ (fuel n k pc : ℕ) (c : Conf) (s : State) (i : Instr) (st : Stands w pc c s) (has : slice_get w.routine.code pc ≡ Some i) where
+      pub falls_on : (c1 : Conf) (t : State) → act w.code w.routine c i ≡ Go c1 → c1.home ≡ c.home → c1.waiting ≡ c.waiting → c1.pc ≡ c.pc + 1 → t.out ≡ s.out
+          → Holds w c1.scalars c1.vectors c1.masks t.locals → Keeps w c1.arrays t.memory t.size → Meets (the_machine w) (w.local Counter) n fuel (Stands w (pc + 1)) (suc k) c (Fell t)
+      falls_on c1 t is home waiting at out holds keeps =
+          record {
+            conf = record c1 { out = c.out };
+            steps = 1;
+            goes = step_is pc c s i (Go c1) st has is;
+            stands =
+                record {
+                  home_is = home ∙ st.home_is;
+                  waiting_is = waiting ∙ st.waiting_is;
+                  pc_is = at ∙ ap (λ p. p + 1) st.pc_is;
+                  out_is = out ∙ st.out_is;
+                  holds = holds;
+                  keeps = keeps;
+                };
+          }
+
+      pub fails_here : (t : Trap) (u : State) → act w.code w.routine c i ≡ Fail t → u.out ≡ s.out → Keeps w c.arrays u.memory u.size
+          → (r : Report) → r ≡ report_of w t → Meets (the_machine w) (w.local Counter) n fuel (Stands w (pc + 1)) (suc k) c (Trapped (Some r) u)
+      fails_here t u is out keeps r said =
+          record { conf = c; steps = 1; trap = t; fails = step_is pc c s i (Fail t) st has is; report_is = said; out_is = out ∙ st.out_is; keeps = keeps }

@@ -1,0 +1,77 @@
+-- A function in WebAssembly does what its code does on the machine.
+use Rattle.std.specs.Prelude.{◌≡◌, ℕ, suc, ◌<◌, List, [], ◌∷◌, Option, Some, None}
+use Rattle.isp_base.specs.Prefixes.{IsPrefix}
+use Rattle.isp_base.specs.declared.trap.Trap.{Trap}
+use Rattle.isp_base.specs.declared.types.Value.{Value}
+use Rattle.isp_code.specs.Conf as machine
+use Rattle.isp_code.specs.Conf.{Conf, Frame}
+use Rattle.isp_code.specs.Calls.{with_result, resumed}
+use Rattle.isp_code.specs.declared.register.Register.{Register}
+use Rattle.isp_wasm_meaning.specs.Ladder.{Told}
+use Rattle.isp_code.specs.Machine.{after}
+use Rattle.isp_wasm_meaning.specs.Meaning.{Report, State, Result, Fell, Branched, Returned, Trapped, OutOfFuel, run, left}
+use Rattle.isp_wasm.specs.Places.{Setting, Counter}
+use Rattle.isp_wasm.specs.Templates.{function_code}
+use Rattle.isp_wasm.specs.Standing.{Stands, Keeps, Ends, Fails, Cut, IsSettled, bits_of, report_of, the_machine}
+use Rattle.isp_wasm.specs.Thin.{IsCovered, AllThin}
+
+abbrev pub out_of : Result → List ℕ
+out_of (Fell s) = s.out
+out_of (Branched k s) = s.out
+out_of (Returned v s) = s.out
+out_of (Trapped t s) = s.out
+out_of (OutOfFuel s) = s.out
+
+abbrev pub value_bits : Option Value → Option ℕ
+value_bits None = None
+value_bits (Some x) = Some x.bits
+
+module _ (w : Setting) (c : Conf) where
+  pub record Returns (x : Option Value) (d : Conf) (r : Result) : Type 0 where
+    pub state : State
+    pub is : r ≡ Returned (value_bits x) state
+    pub out_is : state.out ≡ d.out
+    pub keeps : Keeps w d.arrays state.memory state.size
+
+  pub record Reports (t : Trap) (d : Conf) (r : Result) : Type 0 where
+    pub state : State
+    pub is : r ≡ Trapped (Some (report_of w t)) state
+    pub out_is : state.out ≡ d.out
+    pub keeps : Keeps w d.arrays state.memory state.size
+
+  -- the result for each fuel, and the machine's runs
+  pub record Agrees (result : ℕ → Result) : Type 0 where
+    -- where the machine ends or traps after m instructions, so does the function with the fuel m + 1, and the reverse
+    pub ends : (m : ℕ) (x : Option Value) (d : Conf) → after w.code m (machine.Runs c) ≡ machine.Ended x d → Returns x d (result (suc m))
+    pub traps : (m : ℕ) (t : Trap) (d : Conf) → after w.code m (machine.Runs c) ≡ machine.Trapped t d → Reports t d (result (suc m))
+    pub ends_only : (f : ℕ) (v : Option ℕ) (s : State) → result f ≡ Returned v s → (x : Option Value) × (v ≡ value_bits x) × Ends w c x s
+    pub traps_only : (f : ℕ) (r : Option Report) (s : State) → result f ≡ Trapped r s → (q : Report) × (r ≡ Some q) × Fails w c q s
+    -- where the function is cut, the machine still runs after as many instructions, with this output
+    pub goes_on : (f : ℕ) (s : State) → result f ≡ OutOfFuel s → Cut w f c s
+    -- where the machine still runs after m instructions, its output is the beginning of that with the fuel m
+    pub so_far : (m : ℕ) (d : Conf) → after w.code m (machine.Runs c) ≡ machine.Runs d → IsPrefix d.out (out_of (result m))
+
+-- whatever the function's calls do, as it makes none; no call waits for it
+abbrev pub FunctionsAgree : Type 0
+FunctionsAgree =
+    (w : Setting) → IsSettled w → IsCovered w → AllThin w → w.waiting ≡ [] → (call : ℕ → ℕ → List ℕ → State → Result) (c : Conf) (s : State)
+    → s.locals (w.local Counter) < w.rungs
+    → Stands w (w.heads (s.locals (w.local Counter))) c s → Agrees w c (λ f. left (run f (call f) (function_code w) s))
+
+-- a call that waits goes on
+pub record ComesBack (w : Setting) (fr : Frame) (rest : List Frame) (c : Conf) (v : Option ℕ) (s : State) : Type 0 where
+  pub conf : Conf
+  pub steps : ℕ
+  pub register : Option Register
+  pub value_is : v ≡ bits_of w conf register
+  pub goes : after w.code steps (machine.Runs c) ≡ machine.Runs
+      (record (with_result conf fr.result register fr.under (resumed conf fr rest)) { out = conf.out })
+  pub out_is : s.out ≡ conf.out
+  pub keeps : Keeps w conf.arrays s.memory s.size
+
+-- the same of a function that is called
+abbrev pub CallsComeBack : Type 0
+CallsComeBack =
+    (w : Setting) → IsSettled w → IsCovered w → AllThin w → (fr : Frame) (rest : List Frame) → w.waiting ≡ fr ∷ rest
+    → (call : ℕ → List ℕ → State → Result) (f : ℕ) (c : Conf) (s : State) → s.locals (w.local Counter) < w.rungs
+    → Stands w (w.heads (s.locals (w.local Counter))) c s → Told (the_machine w) (ComesBack w fr rest) f c (left (run f call (function_code w) s))

@@ -1,0 +1,87 @@
+-- A call of an exported function by a host, and what its outcomes are.
+use Rattle.std.specs.Prelude.{◌≡◌, ℕ, suc, ◌+◌, ◌*◌, ◌^◌, ◌<◌, ◌≤◌, List, [], length, Option, Some, slice_index}
+use Rattle.isp_base.specs.Arguments.{row_bits}
+use Rattle.isp_base.specs.Outcomes as outcomes
+use Rattle.isp_base.specs.Outcomes.{Outcome}
+use Rattle.isp_base.specs.Prefixes.{IsPrefix}
+use Rattle.isp_base.specs.Rows.{Row}
+use Rattle.isp_base.specs.Sets.{everyone}
+use Rattle.isp_base.specs.Values.{width}
+use Rattle.isp_base.specs.declared.signature.Argument.{Argument}
+use Rattle.isp_base.specs.declared.trap.Trap.{Trap}
+use Rattle.isp_base.specs.declared.types.Value.{Value}
+use Rattle.isp_code.specs.Conf.{Conf}
+use Rattle.isp_code.specs.Machine.{values, first_conf, outcome_after}
+use Rattle.isp_wasm_meaning.specs.Syntax.{I8x16, Code, Then, Set, Const128}
+use Rattle.isp_wasm_meaning.specs.Meaning.{Report, State, Result, Returned, Trapped, OutOfFuel, called, loaded}
+use Rattle.isp_wasm.specs.Places.{Setting, Counter, Scalar, Vector, Mask, Base, Count, elem, gang, parts, bytes_of}
+use Rattle.isp_wasm.specs.Templates.{each, mask_part, function_code}
+use Rattle.isp_wasm.specs.Standing.{Keeps, IsBeside, IsSettled, report_of, scalar_register}
+use Rattle.isp_wasm.specs.Thin.{IsCovered, AllThin}
+use Rattle.isp_wasm.specs.Agreement.{out_of, value_bits}
+
+module _ (w : Setting) where
+  -- all lanes are on, and then the function's code
+  abbrev pub entry_code : Code
+  entry_code = Then (each (parts w I8x16) (λ j. Set (w.local (Mask 0 j)) (Const128 (mask_part (everyone (gang w)) j)))) (function_code w)
+
+  -- the machine before its first instruction
+  abbrev pub first : List Argument → Conf
+  first xs = first_conf w.code w.home.fn w.routine xs
+
+  -- A host calls it: the arguments of WebAssembly are its first locals, and all others are 0. An array is an address and a
+  -- count, and its elements are in memory.
+  pub record IsCalled (xs : List Argument) (arguments : List ℕ) (s : State) : Type 0 where
+    pub home_is : (first xs).home ≡ w.home
+    pub alone : w.waiting ≡ []
+    pub some : 0 < w.rungs
+    pub head_is : w.heads 0 ≡ 0
+    pub counter_is : slice_index arguments (w.local Counter) ≡ 0
+    pub scalars_are : (r : ℕ) → slice_index arguments (w.local (Scalar r)) ≡ slice_index (values xs) r
+    pub fits : (r : ℕ) → slice_index (values xs) r < 2 ^ width (elem w (scalar_register r))
+    pub vectors_are : (r j : ℕ) → slice_index arguments (w.local (Vector r j)) ≡ 0
+    pub masks_are : (r j : ℕ) → slice_index arguments (w.local (Mask r j)) ≡ 0
+    pub bases : (a : ℕ) → slice_index arguments (w.local (Base a)) ≡ w.begins (w.home.named a)
+    pub counts : (a : ℕ) → slice_index arguments (w.local (Count a)) ≡ w.home.sizes (w.home.named a)
+    pub keeps : Keeps w (first xs).arrays s.memory s.size
+    pub silent : s.out ≡ []
+
+  -- the memory has the elements of these arrays, and beside the arrays what it had
+  pub record Shows (rs : List Row) (s : State) : Type 0 where
+    pub elements : (b e : ℕ) → e < length (row_bits rs b) → loaded (bytes_of (w.elems b))
+        (w.begins b + e * bytes_of (w.elems b)) s.memory ≡ slice_index (row_bits rs b) e
+    pub beside : (a : ℕ) → IsBeside w a → s.memory a ≡ w.before a
+
+  pub record ReturnsSo (rs : List Row) (x : Option Value) (out : List ℕ) (r : Result) : Type 0 where
+    pub state : State
+    pub is : r ≡ Returned (value_bits x) state
+    pub out_is : state.out ≡ out
+    pub shows : Shows rs state
+
+  pub record TrapsSo (t : Trap) (rs : List Row) (out : List ℕ) (r : Result) : Type 0 where
+    pub state : State
+    pub is : r ≡ Trapped (Some (report_of w t)) state
+    pub out_is : state.out ≡ out
+    pub shows : Shows rs state
+
+  -- The results of a call, for each fuel, and how the machine stands after so many instructions of a run.
+  pub record SameOutcomes (xs : List Argument) (result : ℕ → Result) : Type 0 where
+    pub ends : (m : ℕ) (rs : List Row) (x : Option Value) (out : List ℕ) → outcome_after w.code w.home.fn w.routine xs m ≡ outcomes.Ends rs x out
+        → ReturnsSo rs x out (result (suc m))
+    pub traps : (m : ℕ) (t : Trap) (rs : List Row) (out : List ℕ) → outcome_after w.code w.home.fn w.routine xs m ≡ outcomes.Traps t rs out
+        → TrapsSo t rs out (result (suc m))
+    pub ends_only : (n : ℕ) (v : Option ℕ) (s : State) → result (suc n) ≡ Returned v s
+        → (m : ℕ) × (rs : List Row) × (x : Option Value) × (outcome_after w.code w.home.fn w.routine xs m ≡ outcomes.Ends rs x s.out) × (v ≡ value_bits x)
+    pub traps_only : (n : ℕ) (r : Option Report) (s : State) → result (suc n) ≡ Trapped r s
+        → (m : ℕ) × (rs : List Row) × (t : Trap) × (outcome_after w.code w.home.fn w.routine xs m ≡ outcomes.Traps t rs s.out) × (r ≡ Some (report_of w t))
+    pub goes_on : (n : ℕ) (s : State) → result (suc n) ≡ OutOfFuel s
+        → (m : ℕ) × (suc n ≤ m) × (outcome_after w.code w.home.fn w.routine xs m ≡ outcomes.GoesOn s.out)
+    -- where the machine goes on, its output so far is the beginning of the call's
+    pub so_far : (m : ℕ) (out : List ℕ) → outcome_after w.code w.home.fn w.routine xs m ≡ outcomes.GoesOn out → IsPrefix out (out_of (result m))
+
+-- a module in which some function is this one, called by a host
+abbrev pub EntriesAgree : Type 0
+EntriesAgree =
+    (w : Setting) → IsSettled w → IsCovered w → AllThin w → (module_code : ℕ → Code) (f : ℕ) → module_code f ≡ entry_code w
+    → (xs : List Argument) (arguments : List ℕ) (s : State) → IsCalled w xs arguments s
+    → SameOutcomes w xs (λ n. called module_code n f arguments s)

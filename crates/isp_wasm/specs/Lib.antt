@@ -1,0 +1,10 @@
+pub mod Places
+pub mod Words
+pub mod Rows
+pub mod Templates
+pub mod Standing
+pub mod Thin
+pub mod Agreement
+pub mod Entry
+pub mod Lines
+pub mod Sample

@@ -1,0 +1,384 @@
+-- The WebAssembly of each instruction.
+use Rattle.std.specs.Prelude.{ℕ, length, zero, suc, ◌+◌, ◌-◌, ◌*◌, ◌/◌, ◌%◌, ◌^◌, Option, Some, None, if◌then◌else◌, slice_get, nat_lt}
+use Rattle.isp_base.specs.Cross.{widened as sum_type}
+use Rattle.isp_base.specs.Sets as Sets
+use Rattle.isp_base.specs.Sets.{everyone, nobody}
+use Rattle.isp_base.specs.Values.{width, wrap}
+use Rattle.isp_base.specs.declared.types.Elem.{Elem}
+use Rattle.isp_base.specs.declared.types.Elem.TheVariants.{I64}
+use Rattle.isp_code.specs.Calls.{place_at}
+use Rattle.isp_code.specs.declared.instr.Division.{Division}
+use Rattle.isp_code.specs.declared.instr.Division.TheVariants as division
+use Rattle.isp_code.specs.declared.instr.Exchange.{Exchange}
+use Rattle.isp_code.specs.declared.instr.Exchange.TheVariants as exchange
+use Rattle.isp_code.specs.declared.instr.Instr.{Instr}
+use Rattle.isp_code.specs.declared.instr.Instr.TheVariants as instr
+use Rattle.isp_code.specs.declared.instr.JumpTest.TheVariants as jump
+use Rattle.isp_code.specs.declared.instr.MaskInstr.{MaskInstr}
+use Rattle.isp_code.specs.declared.instr.MaskInstr.TheVariants as mask
+use Rattle.isp_code.specs.declared.instr.MaskOp.{MaskOp}
+use Rattle.isp_code.specs.declared.instr.MaskOp.TheVariants as mask_op
+use Rattle.isp_code.specs.declared.instr.Plain.TheVariants as plain
+use Rattle.isp_code.specs.declared.instr.Reduction.{Reduction}
+use Rattle.isp_code.specs.declared.instr.Reduction.TheVariants as reduction
+use Rattle.isp_code.specs.declared.instr.Scan.{Scan}
+use Rattle.isp_code.specs.declared.instr.Scan.TheVariants as scan
+use Rattle.isp_code.specs.declared.instr.ScalarInstr.{ScalarInstr}
+use Rattle.isp_code.specs.declared.instr.ScalarInstr.TheVariants as scalar
+use Rattle.isp_code.specs.declared.instr.VectorInstr.{VectorInstr}
+use Rattle.isp_code.specs.declared.instr.VectorInstr.TheVariants as vector
+use Rattle.isp_code.specs.declared.register.Class.{Class}
+use Rattle.isp_code.specs.declared.register.Class.TheVariants as class
+use Rattle.isp_code.specs.declared.register.Register.{Register}
+use Rattle.isp_wasm_meaning.specs.Meaning.{of_lanes, flags, count}
+use Rattle.isp_wasm_meaning.specs.Ladder.{dispatched}
+use Rattle.isp_wasm_meaning.specs.Syntax as wasm
+use Rattle.isp_wasm_meaning.specs.Syntax.{Shape, I8x16, Add, Sub, Mul, And, Or, Xor, Eq, Ne, LtU, LtS, DivU, RemU, Eqz, Ctz, Wrap, ExtendU, Splat, Extract, Bitmask, Of, BitsOf, CompareLanes, Bits, Replace, Expr, Const32, Const64, Const128, Local, One, Two, Select, Bitselect}
+use Rattle.isp_wasm_meaning.specs.Syntax.{Code, Skip, Then, Set, Load, Store, Divide, Fail, Write, If, Br, Return}
+use Rattle.isp_wasm.specs.Places.{Setting, gang, text, Counter, Scalar, Vector, Mask, Base, Count, Fresh, Spare, bytes_of, elem, shape, parts, size_of}
+use Rattle.isp_wasm.specs.Words.{constant, below, whole_expr, plain_expr, unary_expr, compare_expr, convert_expr}
+use Rattle.isp_wasm.specs.Rows.{as_cell, lane_at, widened, narrowed, ones, compare_row, unary_row, by_lane, present, plain_row}
+
+-- one part after the other
+abbrev pub each : ℕ → (ℕ → Code) → Code
+each zero body = Skip
+each (suc n) body = Then (each n body) (body n)
+
+-- part j of a set's mask
+abbrev pub mask_part : Sets.Mask → ℕ → ℕ
+mask_part a j = of_lanes I8x16 (λ i. flags 8 (a (j * 16 + i)))
+
+module _ (w : Setting) where
+  abbrev pub scalar_local : Register → Expr
+  scalar_local x = Local (w.local (Scalar x.number))
+
+  abbrev pub vector_local : Register → ℕ → Expr
+  vector_local x j = Local (w.local (Vector x.number j))
+
+  abbrev pub mask_local : Register → ℕ → Expr
+  mask_local k j = Local (w.local (Mask k.number j))
+
+  -- the lanes of a mask are set; what they get is worked out before
+  abbrev pub set_lanes : Register → Register → (ℕ → Expr) → Code
+  set_lanes d k new =
+      Then (each (parts w (shape w d)) (λ j. Set (w.local (Fresh j)) (new j)))
+      (each (parts w (shape w d)) (λ j. Set (w.local (Vector d.number j))
+      (Bitselect (Local (w.local (Fresh j))) (vector_local d j) (widened (shape w d) (mask_local k) j))))
+
+  abbrev pub set_mask : Register → (ℕ → Expr) → Code
+  set_mask d new =
+      Then (each (parts w I8x16) (λ j. Set (w.local (Fresh j)) (new j)))
+      (each (parts w I8x16) (λ j. Set (w.local (Mask d.number j)) (Local (w.local (Fresh j)))))
+
+  -- ---- lanes of masks
+
+  -- not 0 where a mask has the lane
+  abbrev pub is_member : Register → ℕ → Expr
+  is_member k p = One (Extract I8x16 (p % 16)) (mask_local k (p / 16))
+
+  -- the lanes of a mask as bits, and the number of the lowest one, or 0
+  abbrev pub lanes_as_bits : Register → Expr
+  lanes_as_bits k =
+      Two (Of wasm.I32 Add) (One (Bitmask I8x16) (mask_local k 0)) (Two (Of wasm.I32 Mul) (One (Bitmask I8x16) (mask_local k 1)) (Const32 (2 ^ 16)))
+
+  abbrev pub lowest_of : Register → Expr
+  lowest_of k = Select (lanes_as_bits k) (One (Ctz wasm.I32) (lanes_as_bits k)) (Const32 0)
+
+  -- ---- values across lanes
+
+  -- a lane's value, or another where the mask has it not
+  abbrev pub lane_or : Register → Register → Expr → ℕ → Expr
+  lane_or x k other p = Select (is_member k p) (lane_at (elem w x) (vector_local x) p) other
+
+  abbrev pub lane_or_zero : Register → Register → ℕ → Expr
+  lane_or_zero x k = lane_or x k (constant (size_of (elem w x)) 0)
+
+  -- the one of n values that a number names, else 0
+  abbrev pub picked : wasm.Size → Expr → (ℕ → Expr) → ℕ → Expr
+  picked t i f zero = constant t 0
+  picked t i f (suc n) = Select (Two (wasm.Compare wasm.I32 Eq) i (Const32 n)) (f n) (picked t i f n)
+
+  -- the value of the lowest lane, from lane p on; so many are left
+  abbrev pub first_value : Register → Register → ℕ → ℕ → Expr
+  first_value x k zero p = constant (size_of (elem w x)) 0
+  first_value x k (suc n) p = Select (is_member k p) (lane_at (elem w x) (vector_local x) p) (first_value x k n (suc p))
+
+  -- an operator over n values, from the lowest on
+  abbrev pub folded : (Expr → Expr → Expr) → Expr → (ℕ → Expr) → ℕ → Expr
+  folded f e x zero = e
+  folded f e x (suc n) = f (folded f e x n) (x n)
+
+  -- modulo a power of two
+  abbrev pub modulo : ℕ → Expr → Expr
+  modulo n i = Two (BitsOf wasm.I32 And) i (Const32 (n - 1))
+
+  abbrev pub plus : Expr → ℕ → Expr
+  plus i p = Two (Of wasm.I32 Add) i (Const32 p)
+
+  abbrev pub exchange_expr : Exchange → Register → Register → Register → ℕ → Expr
+  exchange_expr exchange.Broadcast x i k p = picked (size_of (elem w x)) (modulo (gang w) (scalar_local i)) (lane_or_zero x k) (gang w)
+  exchange_expr exchange.Rotate x i k p = picked (size_of (elem w x)) (modulo (gang w) (plus (scalar_local i) p)) (lane_or_zero x k) (gang w)
+  exchange_expr exchange.Shift x i k p = picked (size_of (elem w x)) (plus (scalar_local i) p) (lane_or_zero x k) (gang w)
+
+  -- lane p of two vectors side by side
+  abbrev pub of_both : Register → Register → Register → ℕ → Expr
+  of_both x y k p = if nat_lt p (gang w) then lane_or_zero x k p else lane_or_zero y k (p - gang w)
+
+  abbrev pub scan_expr : Scan → Register → Register → ℕ → Expr
+  scan_expr scan.Add x k p = folded (plain_expr plain.Add (elem w x)) (constant (size_of (elem w x)) 0) (lane_or_zero x k) p
+  scan_expr scan.Or x k p = folded (plain_expr plain.Or (elem w x)) (constant (size_of (elem w x)) 0) (lane_or_zero x k) p
+  scan_expr scan.And x k p =
+      let all = constant (size_of (elem w x)) (2 ^ width (elem w x) - 1) in folded (plain_expr plain.And (elem w x)) all (lane_or x k all) p
+
+  -- ---- scalars
+
+  abbrev pub reduce_expr : Reduction → Register → Register → Expr
+  reduce_expr reduction.Add x k =
+      folded (whole_expr (sum_type (elem w x)) Add) (constant (size_of (sum_type (elem w x))) 0)
+      (λ p. Select (is_member k p) (convert_expr (elem w x) (sum_type (elem w x)) (lane_at (elem w x) (vector_local x) p))
+      (constant (size_of (sum_type (elem w x))) 0)) (gang w)
+  reduce_expr reduction.Equal x k =
+      folded (Two (BitsOf wasm.I32 And)) (Const32 1)
+      (λ p. Select (is_member k p) (Two (wasm.Compare (size_of (elem w x)) Eq) (lane_at (elem w x) (vector_local x) p) (first_value x k (gang w) 0))
+      (Const32 1)) (gang w)
+  reduce_expr reduction.Any x k = folded (Two (BitsOf wasm.I32 Or)) (Const32 0) (lane_or x k (Const32 0)) (gang w)
+  reduce_expr reduction.All x k = folded (Two (BitsOf wasm.I32 And)) (Const32 1) (lane_or x k (Const32 1)) (gang w)
+  reduce_expr r x k = Const32 0
+
+  abbrev pub scalar_of : Register → ScalarInstr → Expr
+  scalar_of d (scalar.Constant z) = constant (size_of (elem w d)) (wrap (elem w d) z)
+  scalar_of d (scalar.Copy x) = scalar_local x
+  scalar_of d (scalar.Convert x) = convert_expr (elem w x) (elem w d) (scalar_local x)
+  scalar_of d (scalar.Unary o x) = unary_expr o (elem w d) (scalar_local x)
+  scalar_of d (scalar.Binary o x y) = plain_expr o (elem w d) (scalar_local x) (scalar_local y)
+  scalar_of d (scalar.Compare o x y) = compare_expr o (elem w x) (scalar_local x) (scalar_local y)
+  scalar_of d (scalar.Select t x y) = Select (scalar_local t) (scalar_local x) (scalar_local y)
+  scalar_of d (scalar.First k) = One ExtendU (lowest_of k)
+  scalar_of d (scalar.Reduce r x k) = reduce_expr r x k
+  scalar_of d (scalar.Extract x i k) = picked (size_of (elem w x)) (modulo (gang w) (scalar_local i)) (lane_or_zero x k) (gang w)
+  scalar_of d i = Const32 0
+
+  -- the least or the greatest: so far one lane was there, and this is the best
+  abbrev pub best_step : Elem → (Expr → Expr → Expr) → Register → Register → ℕ → Code
+  best_step t better x k p =
+      let best = Local (w.local (Spare (size_of t) 0)) in
+      let some = Local (w.local (Spare wasm.I32 1)) in
+      let here = lane_at t (vector_local x) p in
+      Then (Set (w.local (Spare (size_of t) 0)) (Select (is_member k p) (Select some (better best here) here) best))
+      (Set (w.local (Spare wasm.I32 1)) (Two (BitsOf wasm.I32 Or) some (is_member k p)))
+
+  abbrev pub best_of : Register → (Expr → Expr → Expr) → Register → Register → Code
+  best_of d better x k =
+      let t = elem w x in
+      Then (Set (w.local (Spare (size_of t) 0)) (constant (size_of t) 0))
+      (Then (Set (w.local (Spare wasm.I32 1)) (Const32 0)) (Then (each (gang w) (best_step t better x k))
+      (Set (w.local (Scalar d.number)) (Local (w.local (Spare (size_of t) 0))))))
+
+  -- ---- traps
+
+  -- a trap of a lane at a place
+  abbrev pub fault : ℕ → ℕ → Expr → Code
+  fault kind q p = Fail kind (place_at w.code q).start (place_at w.code q).end p
+
+  -- ---- memory
+
+  -- where an element of an array begins, and whether there is one
+  abbrev pub address_at : Register → Expr → Expr
+  address_at a x = Two (Of wasm.I32 Add) (Local (w.local (Base a.number))) (Two (Of wasm.I32 Mul) (One Wrap x) (Const32 (bytes_of (elem w a))))
+
+  abbrev pub is_there : Register → Expr → Expr
+  is_there a x = Two (wasm.Compare wasm.I64 LtU) x (Local (w.local (Count a.number)))
+
+  abbrev pub spare : Elem → ℕ
+  spare t = w.local (Spare (size_of t) 0)
+
+  -- one lane after the other, where the mask has it
+  abbrev pub lane_loop : Register → (ℕ → Code) → Code
+  lane_loop k body = each (gang w) (λ p. If (is_member k p) (body p) Skip)
+
+  -- lane p is set
+  abbrev pub set_lane : Register → ℕ → Expr → Code
+  set_lane d p x =
+      let j = p / count (shape w d) in Set (w.local (Vector d.number j))
+      (Two (Replace (shape w d) (p % count (shape w d))) (vector_local d j) (as_cell (elem w d) x))
+
+  abbrev pub lane_loads : Register → Register → (ℕ → Expr) → Register → ℕ → Code
+  lane_loads d a index k q =
+      lane_loop k
+      (λ p. If (is_there a (index p)) (Then (Load (bytes_of (elem w a)) (spare (elem w a)) (address_at a (index p)) 0)
+      (set_lane d p (Local (spare (elem w a))))) (fault 1 q (Const32 p)))
+
+  -- first all lanes are checked, then they are stored, the lowest first
+  abbrev pub lane_checks : Register → (ℕ → Expr) → Register → ℕ → Code
+  lane_checks a index k q = lane_loop k (λ p. If (is_there a (index p)) Skip (fault 1 q (Const32 p)))
+
+  abbrev pub lane_stores : Register → (ℕ → Expr) → Register → Register → Code
+  lane_stores a index y k = lane_loop k (λ p. Store (bytes_of (elem w a)) (address_at a (index p)) 0 (lane_at (elem w a) (vector_local y) p))
+
+  -- the index of a lane: its own, that of a run of elements, and that of those in the order of a mask's lanes
+  abbrev pub own_index : Register → ℕ → Expr
+  own_index i p = lane_at I64 (vector_local i) p
+
+  abbrev pub run_index : Register → ℕ → Expr
+  run_index i p = Two (Of wasm.I64 Add) (scalar_local i) (Const64 p)
+
+  abbrev pub rank_expr : Register → ℕ → Expr
+  rank_expr k zero = Const64 0
+  rank_expr k (suc p) = Two (Of wasm.I64 Add) (rank_expr k p) (One ExtendU (Two (BitsOf wasm.I32 And) (is_member k p) (Const32 1)))
+
+  abbrev pub packed_index : Register → Register → ℕ → Expr
+  packed_index i k p = Two (Of wasm.I64 Add) (scalar_local i) (rank_expr k p)
+
+  abbrev pub set_count : Register → Register → Code
+  set_count d k = Set (w.local (Scalar d.number)) (One Wrap (rank_expr k (gang w)))
+
+  -- an index past an array traps
+  abbrev pub checked : Register → Register → Register → ℕ → Code
+  checked a i k q = If (is_there a (scalar_local i)) Skip (fault 1 q (lowest_of k))
+
+  abbrev pub scalar_code : Register → ScalarInstr → Code
+  scalar_code d (scalar.Load a i k q) = Then (checked a i k q) (Load (bytes_of (elem w a)) (w.local (Scalar d.number)) (address_at a (scalar_local i)) 0)
+  scalar_code d (scalar.Reduce reduction.Min x k) = best_of d (plain_expr plain.Min (elem w x)) x k
+  scalar_code d (scalar.Reduce reduction.Max x k) = best_of d (plain_expr plain.Max (elem w x)) x k
+  scalar_code d i = Set (w.local (Scalar d.number)) (scalar_of d i)
+
+  -- ---- vectors
+
+  abbrev pub vector_of : Register → VectorInstr → ℕ → Expr
+  vector_of d (vector.Copy x k) = vector_local x
+  vector_of d (vector.Convert x k) = by_lane w (elem w d) (λ p. convert_expr (elem w x) (elem w d) (lane_at (elem w x) (vector_local x) p))
+  vector_of d (vector.Unary o x k) = unary_row o (elem w d) (vector_local x)
+  vector_of d (vector.Binary o x y k) = plain_row w o (elem w d) (vector_local x) (vector_local y)
+  vector_of d (vector.Compare o x y k) = narrowed (shape w x) (present w (shape w x) (compare_row o (elem w x) (vector_local x) (vector_local y)))
+  vector_of d (vector.Select t x y k) = λ j. Bitselect (vector_local x j) (vector_local y j) (widened (shape w d) (vector_local t) j)
+  vector_of d (vector.Splat x k) = λ j. One (Splat (shape w d)) (as_cell (elem w d) (scalar_local x))
+  vector_of d (vector.Index k) = λ j. Const128 (of_lanes (shape w d) (λ i. j * count (shape w d) + i))
+  vector_of d (vector.Scan o x k) = by_lane w (elem w d) (scan_expr o x k)
+  vector_of d (vector.Exchange e x i k) = by_lane w (elem w d) (exchange_expr e x i k)
+  vector_of d (vector.Shuffle x i k) = by_lane w (elem w d) (λ p. picked (size_of (elem w x)) (modulo (gang w) (lane_or_zero i k p))
+      (lane_or_zero x k) (gang w))
+  vector_of d (vector.ShuffleTwo x y i k) = by_lane w (elem w d)
+      (λ p. picked (size_of (elem w x)) (modulo (2 * gang w) (lane_or_zero i k p)) (of_both x y k) (2 * gang w))
+  vector_of d (vector.Insert x i y k) =
+      by_lane w (elem w d) (λ p. Select (Two (wasm.Compare wasm.I32 Eq) (modulo (gang w) (scalar_local i)) (Const32 p)) (scalar_local y) (lane_or_zero x k p))
+  vector_of d i = λ j. Const128 0
+
+  -- the mask under which an instruction writes
+  abbrev pub mask_under : VectorInstr → Register
+  mask_under (vector.Copy x k) = k
+  mask_under (vector.Convert x k) = k
+  mask_under (vector.Unary o x k) = k
+  mask_under (vector.Binary o x y k) = k
+  mask_under (vector.Compare o x y k) = k
+  mask_under (vector.Select t x y k) = k
+  mask_under (vector.Splat x k) = k
+  mask_under (vector.Index k) = k
+  mask_under (vector.Gather a i k q) = k
+  mask_under (vector.LoadRun a i k q) = k
+  mask_under (vector.Scan o x k) = k
+  mask_under (vector.Exchange e x i k) = k
+  mask_under (vector.Shuffle x i k) = k
+  mask_under (vector.ShuffleTwo x y i k) = k
+  mask_under (vector.Insert x i y k) = k
+
+  abbrev pub vector_code : Register → VectorInstr → Code
+  vector_code d (vector.Gather a i k q) = lane_loads d a (own_index i) k q
+  vector_code d (vector.LoadRun a i k q) = lane_loads d a (run_index i) k q
+  vector_code d i = set_lanes d (mask_under i) (vector_of d i)
+
+  -- ---- masks
+
+  abbrev pub mask_bits : MaskOp → (ℕ → Expr) → (ℕ → Expr) → ℕ → Expr
+  mask_bits mask_op.And x y j = Two (Bits And) (x j) (y j)
+  mask_bits mask_op.Or x y j = Two (Bits Or) (x j) (y j)
+  mask_bits mask_op.AndNot x y j = Two (Bits And) (x j) (Two (Bits Xor) (y j) ones)
+
+  -- how many of the lanes are before the end, at most all
+  abbrev pub range_count : Register → Register → Expr
+  range_count x y =
+      let n = Two (Of wasm.I64 Sub) (scalar_local y) (scalar_local x) in
+      Select (Two (wasm.Compare wasm.I64 LtS) (scalar_local x) (scalar_local y))
+      (Select (Two (wasm.Compare wasm.I64 LtU) n (Const64 (gang w))) n (Const64 (gang w))) (Const64 0)
+
+  -- the numbers of the lanes, past the gang 127
+  abbrev pub numbers_part : ℕ → ℕ
+  numbers_part j = of_lanes I8x16 (λ i. if nat_lt (j * 16 + i) (gang w) then j * 16 + i else 127)
+
+  abbrev pub mask_of : MaskInstr → ℕ → Expr
+  mask_of (mask.Copy x) = mask_local x
+  mask_of (mask.Binary o x y) = mask_bits o (mask_local x) (mask_local y)
+  mask_of mask.Full = λ j. Const128 (mask_part (everyone (gang w)) j)
+  mask_of mask.Off = λ j. Const128 (mask_part nobody j)
+  mask_of (mask.Test x y) = λ j. Two (Bits And) (vector_local x j) (mask_local y j)
+  mask_of (mask.Lowest x) = λ j. Two (Bits And) (Two (CompareLanes I8x16 Eq) (Const128 (numbers_part j)) (One (Splat I8x16) (lowest_of x))) (mask_local x j)
+  mask_of (mask.Range x y) = λ j. Two (CompareLanes I8x16 LtS) (Const128 (numbers_part j)) (One (Splat I8x16) (One Wrap (range_count x y)))
+
+  -- ---- quotients: those of the magnitudes, with the sign put back
+
+  abbrev pub magnitude_expr : Elem → Expr → Expr
+  magnitude_expr t x = Select (below t x (constant (size_of t) 0)) (whole_expr t Sub (constant (size_of t) 0) x) x
+
+  abbrev pub division_of : Division → wasm.Division
+  division_of division.Div = DivU
+  division_of division.Rem = RemU
+
+  abbrev pub turns_sign : Division → Elem → Expr → Expr → Expr
+  turns_sign division.Div t x y = Two (wasm.Compare wasm.I32 Ne) (below t x (constant (size_of t) 0)) (below t y (constant (size_of t) 0))
+  turns_sign division.Rem t x y = below t x (constant (size_of t) 0)
+
+  abbrev pub quotient_to : Division → Elem → Expr → Expr → (Expr → Code) → ℕ → Expr → Code
+  quotient_to o t x y put q p =
+      let got = Local (w.local (Spare (size_of t) 0)) in
+      If (One (Eqz (size_of t)) y) (fault 0 q p)
+      (Then (Divide (size_of t) (division_of o) (w.local (Spare (size_of t) 0)) (magnitude_expr t x) (magnitude_expr t y))
+      (put (Select (turns_sign o t x y) (whole_expr t Sub (constant (size_of t) 0) got) got)))
+
+  abbrev pub quotients : Class → Division → Register → Register → Register → Register → ℕ → Code
+  quotients class.Vector o d x y k q =
+      lane_loop k (λ p. quotient_to o (elem w d) (lane_at (elem w d) (vector_local x) p) (lane_at (elem w d) (vector_local y) p) (set_lane d p) q (Const32 p))
+  quotients c o d x y k q = quotient_to o (elem w d) (scalar_local x) (scalar_local y) (Set (w.local (Scalar d.number))) q (lowest_of k)
+
+  -- ---- control
+
+  -- from inside so many labels below the loop's
+  abbrev pub jump_to : ℕ → ℕ → Code
+  jump_to depth to = Then (Set (w.local Counter) (Const32 (w.rung_at to))) (Br depth)
+
+  -- depth: how many labels are between this and the loop's
+  abbrev pub code_of : ℕ → Instr → Code
+  code_of depth (instr.Scalar d i) = scalar_code d i
+  code_of depth (instr.Vector d i) = vector_code d i
+  code_of depth (instr.Mask d i) = set_mask d (mask_of i)
+  code_of depth (instr.Divide o d x y k q) = quotients d.class o d x y k q
+  code_of depth (instr.Store a i y k q) = Then (checked a i k q) (Store (bytes_of (elem w a)) (address_at a (scalar_local i)) 0 (scalar_local y))
+  code_of depth (instr.Scatter a i y k q) = Then (lane_checks a (own_index i) k q) (lane_stores a (own_index i) y k)
+  code_of depth (instr.StoreRun a i y k q) = Then (lane_checks a (run_index i) k q) (lane_stores a (run_index i) y k)
+  code_of depth (instr.PackedStore d a i y k q) = Then (lane_checks a (packed_index i k) k q) (Then (lane_stores a (packed_index i k) y k) (set_count d k))
+  code_of depth (instr.PackedLoad d a i y k q) = Then (lane_loads y a (packed_index i k) k q) (set_count d k)
+  code_of depth (instr.Jump to) = jump_to depth to
+  code_of depth (instr.JumpIf jump.False x to) = If (One (Eqz wasm.I32) (scalar_local x)) (jump_to (suc depth) to) Skip
+  code_of depth (instr.JumpIf jump.True x to) = If (scalar_local x) (jump_to (suc depth) to) Skip
+  code_of depth (instr.JumpIf jump.Off x to) = If (One (Eqz wasm.I32) (lanes_as_bits x)) (jump_to (suc depth) to) Skip
+  code_of depth (instr.JumpIf jump.On x to) = If (lanes_as_bits x) (jump_to (suc depth) to) Skip
+  code_of depth (instr.JumpIf jump.All x to) = If (Two (wasm.Compare wasm.I32 Eq) (lanes_as_bits x) (Const32 (2 ^ gang w - 1))) (jump_to (suc depth) to) Skip
+  code_of depth (instr.Say t) = Write (Const32 (w.text_at t)) (Const32 (length (text w t)))
+  code_of depth (instr.Fail x q) = If (lanes_as_bits x) (fault 2 q (lowest_of x)) Skip
+  code_of depth (instr.Return None) = Return None
+  code_of depth (instr.Return (Some x)) = Return (Some (scalar_local x))
+  code_of depth i = Skip
+
+  abbrev pub code_at : ℕ → Option Instr → Code
+  code_at depth None = Return None
+  code_at depth (Some i) = code_of depth i
+
+  -- so many instructions from one on
+  abbrev pub span : ℕ → ℕ → ℕ → Code
+  span depth pc zero = Skip
+  span depth pc (suc n) = Then (code_at depth (slice_get w.routine.code pc)) (span depth (pc + 1) n)
+
+  -- the code from a head to the next one; from rung k the loop is behind the labels of all higher rungs
+  abbrev pub rung : ℕ → Code
+  rung k = span (w.rungs - suc k) (w.heads k) (w.heads (suc k) - w.heads k)
+
+  abbrev pub function_code : Code
+  function_code = dispatched (w.local Counter) rung w.rungs

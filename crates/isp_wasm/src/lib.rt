@@ -1,0 +1,30 @@
+//! Code of the machine as WebAssembly, and that it does the same. No code is run here: a function carries a law in its
+//! contract.
+#![tactic(auto)]
+
+ghost use Rattle.isp_wasm.specs.Agreement.{CallsComeBack, FunctionsAgree};
+ghost use Rattle.isp_wasm.specs.Entry.{EntriesAgree};
+ghost use Rattle.isp_wasm.specs.Lines.{FineIsThin};
+
+/// A function in WebAssembly that stands before a rung as the machine stands before an instruction ends, traps and
+/// writes as the machine does from there, where the code is covered.
+pub fn functions_agree()
+    ensures { FunctionsAgree }
+{}
+
+/// A function that another one called does so too, and the one that waits goes on where it returns.
+pub fn calls_come_back()
+    ensures { CallsComeBack }
+{}
+
+/// A function of a module that a host calls, with its arrays in memory and its arguments: its results are the outcomes of
+/// the machine's run, and the machine's outcomes its results.
+pub fn entries_agree()
+    ensures { EntriesAgree }
+{}
+
+/// An instruction whose operands are as the table of the machine asks, as they are in accepted code, is covered where its
+/// form has a template, no array is a lane's own, and jumps are to rungs.
+pub fn fine_is_thin()
+    ensures { FineIsThin }
+{}

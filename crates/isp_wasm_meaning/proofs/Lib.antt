@@ -1,0 +1,6 @@
+pub mod Digits
+pub mod Lanes
+pub mod Bits
+pub mod Memory
+pub mod Ladders
+mod Engine

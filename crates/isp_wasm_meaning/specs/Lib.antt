@@ -1,0 +1,5 @@
+pub mod Digits
+pub mod Syntax
+pub mod Meaning
+pub mod Lists
+pub mod Ladder
