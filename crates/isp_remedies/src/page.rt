@@ -272,6 +272,15 @@ Fix: declare as `uniform` what is one for the gang: without the word a variable 
 it one value: `reduce_add(sum)`, another `reduce_` call, or `extract(x, 0)`. A varying array cannot
 be passed: write its loop in place, or declare it `uniform` with a part for each instance, `t[8 *
 programIndex + k]`.
+@ NAME
+? after return
+Fix: make one value of it: `return reduce_add(x);`.
+@ NAME
+? after ...
+Fix: declare the bound as `uniform`: without the word a variable is varying.
+@ NAME
+? after +=
+Fix: let each instance have a sum, `int sum = 0;`, and write `reduce_add(sum)` after the loop.
 # 31 BadExit
 A `break`, `continue` or `return` stands where it may not: a `break` goes to a loop, a `continue` to
 a loop or a `foreach` of any kind, and no `return` stands in a `foreach` of any kind or an
@@ -368,8 +377,8 @@ command names the rule and where.
 Fix: that of the rule, below; or use `isp run`.
 # rule 1
 A call looks across the gang, or an `unmasked`, a `foreach_active` or a `foreach_unique` does.
-Fix: store each instance's value in an array, and join them in the caller or a second kernel. For
-`if (any(x))` write `if (x)`.
+Fix: nothing is wrong with `isp run`. To be independent: store each instance's value in an array,
+and join them in the caller or a second kernel. For `if (any(x))` write `if (x)`.
 # rule 2
 There is a `print`: the gang does it once, and each instance alone would do it too.
 Fix: store in an array what is to be seen.
