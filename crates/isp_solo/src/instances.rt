@@ -23,7 +23,7 @@ use std::alloc::{AllocError, Global};
 /// element at which two clash; else the arrays that they leave one after the other, 0 first, and the result of instance 0.
 ///
 /// 50 where no exported function has that name and the arguments' signature; 80 where it is not independent
-/// (docs/INDEPENDENCE.md), with its first breach; 0 where memory is refused, or where a run takes more steps than 64 bits count.
+/// (docs/INDEPENDENCE.md), with its first breach; 0 where memory is refused.
 pub fn one_by_one(
     alloc: Global,
     checked: &Checked,

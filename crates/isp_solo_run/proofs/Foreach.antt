@@ -1,5 +1,6 @@
 -- What a `foreach` leaves to be done: its bounds, and then its runs.
-use Rattle.std.proofs.Common.{◌≡◌, refl, sym, ap, ap₂, ◌∙◌, ℕ, List, [], ◌∷◌, ◌++◌, map, Bor, Box, Vec, Global, Bool, true, false, Result, append_assoc}
+use Rattle.std.proofs.Math.Nat.{mul-le-mul_right}
+use Rattle.std.proofs.Common.{◌≡◌, refl, sym, ap, ap₂, subst, ◌∙◌, ◌*◌, ◌^◌, ◌≤◌, arith, length, zero, suc, ℕ, List, [], ◌∷◌, ◌++◌, map, Bor, Box, Vec, Global, Bool, true, false, Result, append_assoc}
 use Rattle.std.proofs.lemmas.List.{append-nil}
 use Rattle.isp_base.specs.Types.{gang_width}
 use Rattle.isp_typed.specs.declared.expr.TypedExpr.{TypedExpr}
@@ -14,6 +15,11 @@ use Rattle.isp_solo_meaning.specs.Answers.{Answer, Has, Bad, Long, End, Does, Di
 use Rattle.isp_solo_meaning.specs.Does.{bounds}
 use Rattle.isp_solo_meaning.specs.Loops.{at_indices}
 use Rattle.isp_gang_values.specs.Left.{range_seen, restarted, runs_left, advanced, indices_now, members_now, is_ready}
+use Rattle.isp_typed.specs.Typed.{TRange}
+use Rattle.isp_meaning.specs.Rounds.{length_of}
+use Rattle.isp_solo_run.specs.Due.{call_due, value_due, run_due, bounds_due, end_due, rounds_due}
+use Rattle.isp_solo_run.specs.Most.{one, two, rounds_most, runs_most, bounds_most}
+use Rattle.isp_solo_run.specs.Tasks.{DoesTask, Waits, WaitBoth, Bounded, Begins, both_due}
 use Rattle.isp_solo_run.specs.Tasks.{Store, Goes, Changes, Tells, go, given, ran, leaves, finds, bounds_on, begins_on, bound_by, found_range, range_then, end_then, runs_in}
 use Rattle.isp_solo_run.specs.Tasks.{round_on, does_task, does_both, store_seen, state_seen, bound_in, calls_in, value_at, run_in, rest}
 use Rattle.isp_solo_run.specs.declared.rounds.Bounds.{Bounds}
@@ -24,7 +30,8 @@ use Rattle.isp_solo_run.specs.declared.state.Single.{Single}
 use Rattle.isp_solo_run.specs.declared.state.Stop.{Stop}
 use Rattle.isp_solo_run.specs.declared.tasks.Task.TheVariants as task
 use Rattle.isp_gang_values.proofs.Left.{left_begins, next_run}
-use Rattle.isp_solo_run.proofs.Steps.{changed_store, tells_via}
+use Rattle.isp_solo_run.proofs.Counts.{runs_few, runs_more, few_numbers}
+use Rattle.isp_solo_run.proofs.Steps.{changed_store, tells_by, tells_from, tells_within}
 
 -- ---- bounds
 
@@ -130,13 +137,98 @@ ran_before r (Does s h) f = refl
 ran_before r (Dies t s) f = refl
 ran_before r (Lasts s) f = refl
 
+-- ---- how much is left
+
+module _ (old : Single) (b d : Box Rounds Global) (eb : d.value.body ≡ b.value.body) where
+  -- a run less
+  one_less : is_ready b.value.ranges.items ≡ true → d.value.ranges.items ≡ advanced (gang_width old.setting.program.now.gang) b.value.ranges.items
+      → rounds_due old.setting old.left b.value ≡ two (run_due old.setting old.left (stmt_of d.value.body.now)) (rounds_due old.setting old.left d.value)
+  one_less ready er =
+      ap (λ xs. rounds_most (run_due old.setting old.left (stmt_of b.value.body.now)) (length xs)) (next_run old.setting.program.now.gang b.value.ranges.items ready)
+      ∙ ap₂ (λ (z : Bor TypedStmt) (ys : List Range). two (run_due old.setting old.left (stmt_of z.now)) (rounds_most (run_due old.setting old.left (stmt_of z.now)) (length (runs_left (gang_width old.setting.program.now.gang) ys)))) (sym eb) (sym er)
+
+  no_more : runs_left (gang_width old.setting.program.now.gang) d.value.ranges.items ≡ runs_left (gang_width old.setting.program.now.gang) b.value.ranges.items → rounds_due old.setting old.left d.value ≡ rounds_due old.setting old.left b.value
+  no_more er = ap₂ (λ (z : Bor TypedStmt) xs. rounds_most (run_due old.setting old.left (stmt_of z.now)) (length xs)) eb er
+
+-- fewer runs are no more
+rounds_grow : (body n m : ℕ) → n ≤ m → rounds_most body n ≤ rounds_most body m
+rounds_grow body zero m h = omega arith
+rounds_grow body (suc n) zero h = absurd (omega (arith, h))
+rounds_grow body (suc n) (suc m) h = let k = rounds_grow body n m (omega (arith, h)) in omega (arith, k)
+
+bounds_grow : (calls : ℕ → ℕ) (body : ℕ) (rs : List TRange) (n m : ℕ) → n ≤ m → bounds_most calls body rs n ≤ bounds_most calls body rs m
+bounds_grow calls body [] n m h = let k = rounds_grow body n m h in omega (arith, k)
+bounds_grow calls body (r ∷ rs) n m h = let k = bounds_grow calls body rs (n * 2 ^ 32) (m * 2 ^ 32) (mul-le-mul_right (2 ^ 32) h) in omega (arith, k)
+
+module _ (q : Result (Unit {0}) Stop) (old new : Single) where
+  pub bounds_end_tells : (rs : List TypedRange) (before : List Meaning.Range) (body : Bor TypedStmt) → rs ≡ [] → Begins q old new before body → Bounded q old new (ranges_of rs) before body
+  bounds_end_tells rs before body none h =
+      subst (λ (ys : List TypedRange). Bounded q old new (ranges_of ys) before body) (sym none) (tells_by (bounds_due old.setting old.left [] before body) q old new (bounds_on old [] before body) (begins_on old before body) (bounds_end old (store_seen old) [] before body refl) h)
+
+  pub bounds_next_tells : (xs : List TypedRange) (y : Bor TypedRange) (zs : Bor (List TypedRange)) (done : Vec Range Global) (body : Bor TypedStmt)
+      (b : Box Bounds Global) (x : Bor TypedExpr) → xs ≡ y.now ∷ zs.now → b.value ≡ record { range = y; rest = zs; done = done; body = body }
+      → x.now ≡ y.now.start → WaitBoth q old new (task.Value x) (task.Start b) → Bounded q old new (ranges_of xs) (map range_seen done.items) body
+  bounds_next_tells xs y zs done body b x is held at h =
+      let d : Bounds = record { range = y; rest = zs; done = done; body = body } in
+      subst (λ (n : ℕ). Tells q old new (bounds_on old (ranges_of xs) (map range_seen done.items) body) n)
+      (ap₂ (λ (e : TypedExpr) (u : Bounds). two (value_due old.setting old.left (expr_of e)) (two (value_due old.setting old.left (expr_of u.range.now.end)) (end_due old.setting old.left u))) at held
+      ∙ sym (ap (λ us. bounds_due old.setting old.left (ranges_of us) (map range_seen done.items) body) is))
+      (tells_by (both_due old (task.Value x) (task.Start b)) q old new (bounds_on old (ranges_of xs) (map range_seen done.items) body) (does_both old (task.Value x) (task.Start b)) (bounds_next old (store_seen old) xs y zs done body b x is held at) h)
+
+  pub start_tells : (b : Box Bounds Global) (i : ℕ) (x : Bor TypedExpr) → i ≡ old.value → x.now ≡ b.value.range.now.end → WaitBoth q old new (task.Value x) (task.End i b) → DoesTask q old new (task.Start b)
+  start_tells b i x is at h =
+      subst (λ (n : ℕ). Tells q old new (does_task old (task.Start b)) n) (ap (λ (e : TypedExpr). two (value_due old.setting old.left (expr_of e)) (end_due old.setting old.left b.value)) at)
+      (tells_by (both_due old (task.Value x) (task.End i b)) q old new (does_task old (task.Start b)) (does_both old (task.Value x) (task.End i b)) (start_is old (store_seen old) b i x is at) h)
+
+  -- the range that was found has no more numbers than there are int32
+  pub end_tells : (b : Box Bounds Global) (i : ℕ) (d : Bounds) (x : Range) (done : List Range) → d ≡ b.value → range_seen x ≡ found_range d i old.value → done ≡ d.done.items ++ x ∷ []
+      → Bounded q old new (ranges_of d.rest.now) (map range_seen done) d.body → DoesTask q old new (task.End i b)
+  end_tells b i d x done held is more h =
+      let few : length_of (range_seen x) ≤ 2 ^ 32 = subst (λ (r : Meaning.Range). length_of r ≤ 2 ^ 32) (sym is) (few_numbers d.range.now.index i old.value) in
+      let fewer : runs_most (map range_seen done) ≤ runs_most (map range_seen d.done.items) * 2 ^ 32 =
+      subst (λ (rs : List Meaning.Range). runs_most rs ≤ runs_most (map range_seen d.done.items) * 2 ^ 32) (sym (ap (map range_seen) more ∙ seen_more old (store_seen old) d.done.items x)) (runs_more (map range_seen d.done.items) (range_seen x) few) in
+      subst (λ (n : ℕ). Tells q old new (does_task old (task.End i b)) n) (ap (end_due old.setting old.left) held)
+      (tells_within (bounds_due old.setting old.left (ranges_of d.rest.now) (map range_seen done) d.body) (end_due old.setting old.left d) q old new (does_task old (task.End i b))
+      (bounds_grow (call_due old.setting old.left) (run_due old.setting old.left (stmt_of d.body.now)) (ranges_of d.rest.now) (runs_most (map range_seen done)) (runs_most (map range_seen d.done.items) * 2 ^ 32) fewer)
+      (tells_by (bounds_due old.setting old.left (ranges_of d.rest.now) (map range_seen done) d.body) q old new (does_task old (task.End i b)) (bounds_on old (ranges_of d.rest.now) (map range_seen done) d.body) (end_is old (store_seen old) b i d x done held is more) h))
+
+  pub begins_tells : (b : Box Rounds Global) (rs : List Range) (v : Vec Range Global) (body : Bor TypedStmt) → v.items ≡ restarted 0 rs
+      → b.value ≡ record { ranges = v; body = body } → Waits q old new (task.Rounds b) → Begins q old new (map range_seen rs) body
+  begins_tells b rs v body anew held h =
+      let g = old.setting.program.now.gang in
+      let is : rounds_due old.setting old.left b.value ≡ rounds_most (run_due old.setting old.left (stmt_of body.now)) (length (runs_of (gang_width g) (map range_seen rs))) =
+      ap (rounds_due old.setting old.left) held ∙ ap (λ xs. rounds_most (run_due old.setting old.left (stmt_of body.now)) (length xs)) (ap (runs_left (gang_width g)) anew ∙ left_begins g rs) in
+      let few = rounds_grow (run_due old.setting old.left (stmt_of body.now)) (length (runs_of (gang_width g) (map range_seen rs))) (runs_most (map range_seen rs)) (runs_few g (map range_seen rs)) in
+      tells_within (one (rounds_due old.setting old.left b.value)) (bounds_due old.setting old.left [] (map range_seen rs) body) q old new (begins_on old (map range_seen rs) body) (omega (arith, is, few))
+      (tells_by (one (rounds_due old.setting old.left b.value)) q old new (begins_on old (map range_seen rs) body) (does_task old (task.Rounds b)) (begins_is old (store_seen old) b rs v body anew held) h)
+
+  pub same_tells : (b d : Box Rounds Global) → d.value.body ≡ b.value.body → runs_left (gang_width old.setting.program.now.gang) d.value.ranges.items ≡ runs_left (gang_width old.setting.program.now.gang) b.value.ranges.items
+      → DoesTask q old new (task.Rounds d) → DoesTask q old new (task.Rounds b)
+  same_tells b d eb er h =
+      subst (λ (n : ℕ). Tells q old new (does_task old (task.Rounds b)) n) (no_more old b d eb er)
+      (tells_by (rounds_due old.setting old.left d.value) q old new (does_task old (task.Rounds b)) (does_task old (task.Rounds d)) (rounds_same old (store_seen old) b d eb er) h)
+
+  pub no_round_tells : (b : Box Rounds Global) → runs_left (gang_width old.setting.program.now.gang) b.value.ranges.items ≡ [] → Tells q old new (leaves how.Going) 0 → DoesTask q old new (task.Rounds b)
+  no_round_tells b none h =
+      tells_within 0 (rounds_due old.setting old.left b.value) q old new (does_task old (task.Rounds b)) (omega arith)
+      (tells_by 0 q old new (does_task old (task.Rounds b)) (leaves how.Going) (no_round old (store_seen old) b none) h)
+
+  pub other_tells : (b d : Box Rounds Global) → is_ready b.value.ranges.items ≡ true → members_now (gang_width old.setting.program.now.gang) b.value.ranges.items old.setting.instance ≡ false
+      → d.value.body ≡ b.value.body → d.value.ranges.items ≡ advanced (gang_width old.setting.program.now.gang) b.value.ranges.items → Waits q old new (task.Rounds d) → DoesTask q old new (task.Rounds b)
+  other_tells b d ready on eb er h =
+      let less = one_less old b d eb ready er in
+      tells_within (one (rounds_due old.setting old.left d.value)) (rounds_due old.setting old.left b.value) q old new (does_task old (task.Rounds b)) (omega (arith, less))
+      (tells_by (one (rounds_due old.setting old.left d.value)) q old new (does_task old (task.Rounds b)) (does_task old (task.Rounds d)) (other_is old (store_seen old) b d ready on eb er) h)
+
 -- the instance is in the run: the indices are set, and then comes the body
 pub own_tells : (q : Result (Unit {0}) Stop) (old mid new : Single) (b d : Box Rounds Global) (y : Bor TypedStmt)
     → is_ready b.value.ranges.items ≡ true → members_now (gang_width old.setting.program.now.gang) b.value.ranges.items old.setting.instance ≡ true
     → Changes old mid (at_indices old.setting.instance (indices_now b.value.ranges.items)) → d.value.body ≡ b.value.body → d.value.ranges.items ≡ advanced (gang_width old.setting.program.now.gang) b.value.ranges.items → y ≡ b.value.body
-    → Tells q mid new (does_both mid (task.Run y) (task.Rounds d)) → Tells q old new (does_task old (task.Rounds b))
+    → WaitBoth q mid new (task.Run y) (task.Rounds d) → DoesTask q old new (task.Rounds b)
 own_tells q old mid new b d y ready on c eb er ey h =
-    tells_via q old mid new (does_task old (task.Rounds b)) (does_both mid (task.Run y) (task.Rounds d))
+    subst (λ (n : ℕ). Tells q old new (does_task old (task.Rounds b)) n)
+    (ap (λ (z : Bor TypedStmt). two (run_due old.setting old.left (stmt_of z.now)) (rounds_due old.setting old.left d.value)) (ey ∙ sym eb) ∙ sym (one_less old b d eb ready er))
+    (tells_from old (record old { here = mid.here; arrays = mid.arrays }) mid new (does_task old (task.Rounds b)) (λ e. does_both e (task.Run y) (task.Rounds d)) (λ e. both_due e (task.Run y) (task.Rounds d)) (λ e. e.left) c.same
     (round_is old (store_seen old) b true ready on
     ∙ changed_store old mid (at_indices old.setting.instance (indices_now b.value.ranges.items)) (λ fr l s. begun old b.value.body (advanced (gang_width old.setting.program.now.gang) b.value.ranges.items) fr l s) c
     ∙ ap₂ (λ (z : Bor TypedStmt) (ys : List Range). begun old z ys (store_seen mid).frame mid.left (state_seen mid)) (sym eb) (sym er)
@@ -144,7 +236,7 @@ own_tells q old mid new b d y ready on c eb er ey h =
     ∙ ran_before (store_seen mid) (run_in mid.setting (store_seen mid).frame mid.left (stmt_of d.value.body.now) (state_seen mid))
     (λ fr l. runs_in mid.setting fr l d.value.body (runs_left (gang_width mid.setting.program.now.gang) d.value.ranges.items))
     ∙ ap (λ (z : Bor TypedStmt). does_both mid (task.Run z) (task.Rounds d) (store_seen mid)) (eb ∙ sym ey))
-    (ap rest c.same) h
+    refl q h)
   where
     begun : Single → Bor TypedStmt → List Range → Frame → ℕ → Alone → Goes
     begun e body rs fr l s =

@@ -1,5 +1,6 @@
 -- What calls leave to be done: their arguments, the function's body, and the caller afterwards.
-use Rattle.std.proofs.Common.{◌≡◌, refl, sym, ap, ap₂, ◌∙◌, ℕ, zero, suc, List, [], ◌∷◌, ◌++◌, map, Bor, Box, Vec, Global, Option, Some, None, Result, Ok, Err, append_assoc}
+use Rattle.std.proofs.Math.Nat.{add_assoc}
+use Rattle.std.proofs.Common.{◌≡◌, refl, sym, ap, ap₂, subst, ◌∙◌, ◌+◌, ◌≤◌, ℕ, zero, suc, List, [], ◌∷◌, ◌++◌, map, Bor, Box, Vec, Global, Option, Some, None, Result, Ok, Err, append_assoc}
 use Rattle.std.specs.Prelude.{slice_get, option_map}
 use Rattle.std.proofs.lemmas.List.{append-nil, map-append}
 use Rattle.isp_base.specs.Traps.{trap}
@@ -23,7 +24,9 @@ use Rattle.isp_solo_meaning.specs.Answers.{Answer, Has, Bad, Long, End, Does, Di
 use Rattle.isp_solo_meaning.specs.Values.{arguments}
 use Rattle.isp_solo_meaning.specs.Calls.{begun, called, ended}
 use Rattle.isp_solo_run.specs.Seen.{frame_seen, passed_seen, with_variables}
-use Rattle.isp_solo_run.specs.Tasks.{Store, Goes, On, Trapped, Cut, go, given, ran, calls_on, hands, enters, does_call, blocks, block_in, does_task, does_both, finish, rest, store_seen, state_seen, value_at, bound_in, calls_in, Tells}
+use Rattle.isp_solo_run.specs.Due.{due, value_due, hand_due, called_due, call_due, body_due, block_due}
+use Rattle.isp_solo_run.specs.Most.{one, two, argument_most, function_most}
+use Rattle.isp_solo_run.specs.Tasks.{Waits, WaitBoth, Hands, Calls, CallsAndGoes, Enters, DoesCall, RunsBlock, calls_and_goes, due_at, due_now, Store, Goes, On, Trapped, Cut, go, given, ran, calls_on, hands, enters, does_call, blocks, block_in, does_task, does_both, finish, rest, store_seen, state_seen, value_at, bound_in, calls_in, Tells}
 use Rattle.isp_solo_run.specs.declared.activation.Activation.{Activation}
 use Rattle.isp_solo_run.specs.declared.state.Single.{Single}
 use Rattle.isp_solo_run.specs.declared.state.Stop.{Stop}
@@ -31,7 +34,7 @@ use Rattle.isp_solo_run.specs.declared.state.Stop.TheVariants as stop
 use Rattle.isp_solo_run.specs.declared.tasks.Passed as rust_passed_type
 use Rattle.isp_solo_run.specs.declared.tasks.Passed.TheVariants as rust_passed
 use Rattle.isp_solo_run.specs.declared.tasks.Task.TheVariants as task
-use Rattle.isp_solo_run.proofs.Steps.{pushed}
+use Rattle.isp_solo_run.proofs.Steps.{pushed, due_pushed, tells_by}
 
 pub call_view : (c : TypedCall) → call_of c ≡ t_called c.function (t_arguments (arguments_of c.arguments.items)) c.span
 call_view c = fold_out-TypedCall TArgument TBase TExpr TPlace TCall argument_step base_step expr_step place_step call_step c
@@ -154,8 +157,73 @@ module _ (old p : Single) (f : Bor TypedFunction) (ps : List Passed) (b : Box Ac
   then_rest (Trapped t s) = refl
   then_rest (Cut s) = refl
 
-  pub begin_tells : (q : Result (Unit {0}) Stop) (new : Single) → Tells q p new (blocks p (block_of f.now.body)) → Tells q old new (does_call old l (function_of f.now) ps)
-  begin_tells (Ok x) new k = ap (λ g. go g (rest old)) comes ∙ then_rest (blocks p (block_of f.now.body) (store_seen p)) ∙ k
+  -- the caller waits, and then the body
+  todo_due : due_at p p.left ≡ one 0 + due_at old old.left
+  todo_due =
+      ap (λ (e : Single). due e.setting p.tasks.items e.left) same ∙ ap (λ ts. due old.setting ts l) more ∙ due_pushed old.setting old.tasks.items (task.Return b old.left) l
+
+  body_left : block_due p.setting p.left (block_of f.now.body) ≡ block_due old.setting l (block_of f.now.body)
+  body_left = ap (λ (e : Single). block_due e.setting e.left (block_of f.now.body)) same
+
+  pub begin_tells : (q : Result (Unit {0}) Stop) (new : Single) → RunsBlock q p new (block_of f.now.body) → DoesCall q old new l (function_of f.now) ps
+  begin_tells (Ok x) new k = (
+    ap (λ g. go g (rest old)) comes ∙ then_rest (blocks p (block_of f.now.body) (store_seen p)) ∙ k.0,
+    subst (λ (n : ℕ). due_now new ≤ n) (ap₂ (λ (i j : ℕ). i + j) body_left todo_due ∙ sym (add_assoc (block_due old.setting l (block_of f.now.body)) (one 0) (due_at old old.left))) k.1,
+  )
   begin_tells (Err stop.Memory) new k = tt
   begin_tells (Err (stop.Trapped t)) new k = comes ∙ ap (λ g. go g (does_task old (task.Return b old.left))) k
   begin_tells (Err stop.Cut) new k = comes ∙ ap (λ g. go g (does_task old (task.Return b old.left))) k
+
+-- ---- how much is left
+
+-- what is left of a call does not look at what was found
+module _ (q : Result (Unit {0}) Stop) (old new : Single) where
+  pub no_argument_tells : (c : TypedCall) (xs : List TypedArgument) (done ps : List rust_passed_type.Passed) → xs ≡ [] → ps ≡ done → Enters q old new c.function c.span (map passed_seen ps) → Hands q old new (call_of c) (arguments_of xs) (map passed_seen done)
+  no_argument_tells c xs done ps none is h =
+      subst (λ (n : ℕ). Tells q old new (hands old (call_of c) (arguments_of xs) (map passed_seen done)) n) (sym (ap₂ (λ k ys. hand_due old.setting old.left k (arguments_of ys)) (call_view c) none))
+      (tells_by (call_due old.setting old.left c.function) q old new (hands old (call_of c) (arguments_of xs) (map passed_seen done)) (enters old c.function c.span (map passed_seen ps)) (no_argument old (store_seen old) c xs done ps none is) h)
+
+  -- the next is there, and then the others
+  hand_next : (c : TypedCall) (y : TArgument) (zs : List TArgument) → hand_due old.setting old.left (call_of c) (y ∷ zs) ≡ argument_most (call_due old.setting old.left) y (hand_due old.setting old.left (call_of c) zs)
+  hand_next c y zs =
+      ap (λ k. hand_due old.setting old.left k (y ∷ zs)) (call_view c) ∙ sym (ap (λ k. argument_most (call_due old.setting old.left) y (hand_due old.setting old.left k zs)) (call_view c))
+
+  pub named_tells : (c : Bor TypedCall) (xs : List TypedArgument) (y : TypedArgument) (zs : Bor (List TypedArgument)) (b : ArrayVariable) (sp : Span) (n : ℕ) (done : List rust_passed_type.Passed) (after : Vec rust_passed_type.Passed Global) → xs ≡ y ∷ zs.now → argument_of y ≡ t_by_name b sp
+      → n ≡ (frame_seen old.here).named b.number → after.items ≡ done ++ rust_passed.Store n ∷ [] → Waits q old new (task.Arguments c zs after) → Hands q old new (call_of c.now) (arguments_of xs) (map passed_seen done)
+  named_tells c xs y zs b sp n done after is seen store more h =
+      subst (λ (m : ℕ). Tells q old new (hands old (call_of c.now) (arguments_of xs) (map passed_seen done)) m)
+      (sym (ap (λ us. hand_due old.setting old.left (call_of c.now) (arguments_of us)) is ∙ ap (λ u. hand_due old.setting old.left (call_of c.now) (u ∷ arguments_of zs.now)) seen ∙ hand_next c.now (t_by_name b sp) (arguments_of zs.now)))
+      (tells_by (one (hand_due old.setting old.left (call_of c.now) (arguments_of zs.now))) q old new (hands old (call_of c.now) (arguments_of xs) (map passed_seen done)) (does_task old (task.Arguments c zs after))
+      (named_argument old (store_seen old) c.now xs y zs b sp n done after.items is seen store more) h)
+
+  pub value_tells : (c : Bor TypedCall) (zs : Bor (List TypedArgument)) (done : Vec rust_passed_type.Passed Global) (xs : List TypedArgument) (y : TypedArgument) (x : Bor TypedExpr) → xs ≡ y ∷ zs.now → argument_of y ≡ t_by_value (expr_of x.now)
+      → WaitBoth q old new (task.Value x) (task.Argument c zs done) → Hands q old new (call_of c.now) (arguments_of xs) (map passed_seen done.items)
+  value_tells c zs done xs y x is seen h =
+      subst (λ (m : ℕ). Tells q old new (hands old (call_of c.now) (arguments_of xs) (map passed_seen done.items)) m)
+      (sym (ap (λ us. hand_due old.setting old.left (call_of c.now) (arguments_of us)) is ∙ ap (λ u. hand_due old.setting old.left (call_of c.now) (u ∷ arguments_of zs.now)) seen ∙ hand_next c.now (t_by_value (expr_of x.now)) (arguments_of zs.now)))
+      (tells_by (two (value_due old.setting old.left (expr_of x.now)) (hand_due old.setting old.left (call_of c.now) (arguments_of zs.now))) q old new (hands old (call_of c.now) (arguments_of xs) (map passed_seen done.items)) (does_both old (task.Value x) (task.Argument c zs done))
+      (value_argument old c zs done (store_seen old) xs y x is seen) h)
+
+  -- a call: all arguments are left
+  called_all : (c : TypedCall) (xs : List TypedArgument) → xs ≡ c.arguments.items → one (hand_due old.setting old.left (call_of c) (arguments_of xs)) ≡ called_due old.setting old.left (call_of c)
+  called_all c xs is =
+      ap (λ ys. one (hand_due old.setting old.left (call_of c) (arguments_of ys))) is ∙ ap (λ k. one (hand_due old.setting old.left k (arguments_of c.arguments.items))) (call_view c) ∙ sym (ap (called_due old.setting old.left) (call_view c))
+
+  pub call_tells : (c : Bor TypedCall) (xs : Bor (List TypedArgument)) (ds : Vec rust_passed_type.Passed Global) → xs.now ≡ c.now.arguments.items → ds.items ≡ [] → Waits q old new (task.Arguments c xs ds) → Calls q old new (call_of c.now)
+  call_tells c xs ds is none h =
+      subst (λ (m : ℕ). Tells q old new (calls_on old (call_of c.now)) m) (called_all c.now xs.now is)
+      (tells_by (one (hand_due old.setting old.left (call_of c.now) (arguments_of xs.now))) q old new (calls_on old (call_of c.now)) (does_task old (task.Arguments c xs ds)) (call_node old (store_seen old) c.now xs.now ds.items is none) h)
+
+  pub call_goes_tells : (c : Bor TypedCall) (xs : Bor (List TypedArgument)) (ds : Vec rust_passed_type.Passed Global) → xs.now ≡ c.now.arguments.items → ds.items ≡ [] → WaitBoth q old new (task.Arguments c xs ds) task.Go → CallsAndGoes q old new (call_of c.now)
+  call_goes_tells c xs ds is none h =
+      subst (λ (m : ℕ). Tells q old new (calls_and_goes old (call_of c.now)) (m + one 0)) (called_all c.now xs.now is)
+      (tells_by (two (hand_due old.setting old.left (call_of c.now) (arguments_of xs.now)) 0) q old new (calls_and_goes old (call_of c.now)) (does_both old (task.Arguments c xs ds) task.Go)
+      (ap (λ g. go g (does_task old task.Go)) (call_node old (store_seen old) c.now xs.now ds.items is none)) h)
+
+  -- the function is there
+  pub enter_tells : (f : ℕ) (span : Span) (ps : List Passed) (n : ℕ) (g : TypedFunction) → old.left ≡ suc n → slice_get old.setting.program.now.functions.items f ≡ Some g → DoesCall q old new n (function_of g) ps → Enters q old new f span ps
+  enter_tells f span ps n g more is h =
+      subst (λ (m : ℕ). Tells q old new (enters old f span ps) m)
+      (sym (ap (λ k. call_due old.setting k f) more
+      ∙ ap (function_most old.setting.turns (call_due old.setting n)) (got old.setting.program.now.functions.items f ∙ ap (option_map function_of) is)))
+      (tells_by (body_due old.setting n (function_of g)) q old new (enters old f span ps) (does_call old n (function_of g) ps) (function_enters old (store_seen old) f span ps n g more is) h)

@@ -10,6 +10,7 @@ pub mod Writes
 pub mod Runs
 pub mod Handing
 pub mod Indices
+pub mod Counts
 pub mod Foreach
 pub mod Started
 pub mod Outcomes

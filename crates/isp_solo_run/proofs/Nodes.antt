@@ -1,5 +1,5 @@
 -- What the task of an expression leaves to be done.
-use Rattle.std.proofs.Common.{◌≡◌, refl, sym, ap, subst, ◌∙◌, ℕ, List, [], ◌∷◌, ◌++◌, Bool, true, false, Bor, Vec, Global, Result, Err, append_assoc}
+use Rattle.std.proofs.Common.{◌≡◌, arith, refl, sym, ap, subst, ◌∙◌, ℕ, List, [], ◌∷◌, ◌++◌, Bool, true, false, Bor, Vec, Global, Result, Err, append_assoc}
 use Rattle.std.proofs.lemmas.List.{append-nil}
 use Rattle.isp_base.specs.Access.{is_zero}
 use Rattle.isp_base.specs.Values.{op_bits, compare_bits}
@@ -21,7 +21,9 @@ use Rattle.isp_meaning.specs.Expressions.{needs}
 use Rattle.isp_base.specs.Unary.{unary_bits}
 use Rattle.isp_solo_meaning.specs.Answers.{Answer, Has, Bad, Long, and_then, unless, choose}
 use Rattle.isp_solo_meaning.specs.Values.{answer}
-use Rattle.isp_solo_run.specs.Tasks.{Store, Goes, Trapped, go, given, gives, finds, gathers, gathered, join, does_task, does_both, store_seen, state_seen, value_at, values_at, bound_in, calls_in, Tells}
+use Rattle.isp_solo_run.specs.Due.{value_due}
+use Rattle.isp_solo_run.specs.Most.{one, two}
+use Rattle.isp_solo_run.specs.Tasks.{DoesTask, Waits, WaitBoth, Gathers, both_due, FindsValue, Store, Goes, Trapped, go, given, gives, finds, gathers, gathered, join, does_task, does_both, store_seen, state_seen, value_at, values_at, bound_in, calls_in, Tells}
 use Rattle.isp_solo_run.specs.declared.state.Single.{Single}
 use Rattle.isp_solo_run.specs.declared.state.Stop.{Stop}
 use Rattle.isp_solo_run.specs.declared.state.Stop.TheVariants as stop
@@ -29,12 +31,13 @@ use Rattle.isp_solo_run.specs.declared.tasks.Gathering.{Gathering}
 use Rattle.isp_solo_run.specs.declared.tasks.Joining.{Joining}
 use Rattle.isp_solo_run.specs.declared.tasks.Joining.TheVariants as joining
 use Rattle.isp_solo_run.specs.declared.tasks.Task.TheVariants as task
-use Rattle.isp_solo_run.proofs.Steps.{given_then, tells_by}
+use Rattle.isp_solo_run.proofs.Steps.{given_then, tells_by, tells_within}
 
 -- the task of an expression, where its tree is known
 pub seen_by : (q : Result (Unit {0}) Stop) (old new : Single) (x : Bor TypedExpr) (n : TExpr) (g : Store → Goes) → expr_of x.now ≡ n
-    → finds old n (store_seen old) ≡ g (store_seen old) → Tells q old new g → Tells q old new (does_task old (task.Value x))
-seen_by q old new x n g is e h = tells_by q old new (does_task old (task.Value x)) g (ap (λ k. finds old k (store_seen old)) is ∙ e) h
+    → finds old n (store_seen old) ≡ g (store_seen old) → Tells q old new g (value_due old.setting old.left n) → DoesTask q old new (task.Value x)
+seen_by q old new x n g is e h =
+    subst (λ (k : TExpr). FindsValue q old new k) (sym is) (tells_by (value_due old.setting old.left n) q old new (finds old n) g e h)
 
 -- a value
 pub given_bits : (r : Store) (a b : ℕ) → b ≡ a → given r (Has a r.state) ≡ gives b r
@@ -104,6 +107,40 @@ module _ (old : Single) (r : Store) where
   pub logic_settled : (l : Logic) (y : Bor TypedExpr) (b : Bool) → needs l r.value ≡ b → b ≡ false → does_task old (task.Logic l y) r ≡ gives r.value r
   logic_settled l y b is t = ap (λ k. given r (choose k (value_at old.setting r (expr_of y.now)) (Has r.value) r.state)) (is ∙ t)
 
+-- ---- how much is left
+
+module _ (q : Result (Unit {0}) Stop) (old new : Single) where
+  pub values_none_tells : (g : Gathering) (before : List ℕ) (xs : List TypedExpr) (f : Store → Goes) → xs ≡ [] → given (store_seen old) (gathered old.setting g before (state_seen old)) ≡ f (store_seen old) → Tells q old new f 0 → Gathers q old new g (exprs_of xs) before
+  values_none_tells g before xs f none e h =
+      subst (λ ys. Gathers q old new g (exprs_of ys) before) (sym none) (tells_by 0 q old new (gathers old g [] before) f (values_none old (store_seen old) g before [] refl ∙ e) h)
+
+  pub values_next_tells : (g : Gathering) (before : Vec ℕ Global) (y : Bor TypedExpr) (ys : Bor (List TypedExpr)) (xs : List TypedExpr) → xs ≡ y.now ∷ ys.now → WaitBoth q old new (task.Value y) (task.Values g ys before)
+      → Gathers q old new g (exprs_of xs) before.items
+  values_next_tells g before y ys xs is h =
+      subst (λ zs. Gathers q old new g (exprs_of zs) before.items) (sym is)
+      (tells_by (both_due old (task.Value y) (task.Values g ys before)) q old new (gathers old g (exprs_of (y.now ∷ ys.now)) before.items) (does_both old (task.Value y) (task.Values g ys before)) (values_next old (store_seen old) g before y ys (y.now ∷ ys.now) refl) h)
+
+  -- a later operand where it is needed, and one of two values
+  pub needed_tells : (l : Logic) (y : Bor TypedExpr) (b : Bool) → needs l old.value ≡ b → b ≡ true → Waits q old new (task.Value y) → DoesTask q old new (task.Logic l y)
+  needed_tells l y b is t h = tells_by (one (value_due old.setting old.left (expr_of y.now))) q old new (does_task old (task.Logic l y)) (does_task old (task.Value y)) (logic_needed old (store_seen old) l y b is t) h
+
+  pub settled_tells : (l : Logic) (y : Bor TypedExpr) (b : Bool) → needs l old.value ≡ b → b ≡ false → Tells q old new (gives old.value) 0 → DoesTask q old new (task.Logic l y)
+  settled_tells l y b is t h =
+      tells_within 0 (one (value_due old.setting old.left (expr_of y.now))) q old new (does_task old (task.Logic l y)) (omega arith)
+      (tells_by 0 q old new (does_task old (task.Logic l y)) (gives old.value) (logic_settled old (store_seen old) l y b is t) h)
+
+  pub chosen_tells : (x y : Bor TypedExpr) → is_true old.value ≡ true → Waits q old new (task.Value x) → DoesTask q old new (task.Choose x y)
+  chosen_tells x y t h =
+      tells_within (one (value_due old.setting old.left (expr_of x.now))) (two (value_due old.setting old.left (expr_of x.now)) (value_due old.setting old.left (expr_of y.now))) q old new (does_task old (task.Choose x y)) (omega arith)
+      (tells_by (one (value_due old.setting old.left (expr_of x.now))) q old new (does_task old (task.Choose x y)) (does_task old (task.Value x))
+      (ap (λ k. given (store_seen old) (choose k (value_at old.setting (store_seen old) (expr_of x.now)) (value_at old.setting (store_seen old) (expr_of y.now)) (state_seen old))) t) h)
+
+  pub other_tells : (x y : Bor TypedExpr) → is_true old.value ≡ false → Waits q old new (task.Value y) → DoesTask q old new (task.Choose x y)
+  other_tells x y t h =
+      tells_within (one (value_due old.setting old.left (expr_of y.now))) (two (value_due old.setting old.left (expr_of x.now)) (value_due old.setting old.left (expr_of y.now))) q old new (does_task old (task.Choose x y)) (omega arith)
+      (tells_by (one (value_due old.setting old.left (expr_of y.now))) q old new (does_task old (task.Choose x y)) (does_task old (task.Value y))
+      (ap (λ k. given (store_seen old) (choose k (value_at old.setting (store_seen old) (expr_of x.now)) (value_at old.setting (store_seen old) (expr_of y.now)) (state_seen old))) t) h)
+
 -- a trap
-pub trap_tells : (old : Single) (f : Store → Goes) (e : Stop) (t : Trap) → e ≡ stop.Trapped t → f (store_seen old) ≡ Trapped t (state_seen old) → Tells (Err e) old old f
-trap_tells old f e t is h = subst (λ (k : Stop). Tells (Err k) old old f) (sym is) h
+pub trap_tells : (n : ℕ) (old : Single) (f : Store → Goes) (e : Stop) (t : Trap) → e ≡ stop.Trapped t → f (store_seen old) ≡ Trapped t (state_seen old) → Tells (Err e) old old f n
+trap_tells n old f e t is h = subst (λ (k : Stop). Tells (Err k) old old f n) (sym is) h

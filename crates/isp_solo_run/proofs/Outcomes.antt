@@ -40,11 +40,11 @@ alone e (On r) none = nothing_more e r none
 alone e (Trapped t s) none = refl
 alone e (Cut s) none = refl
 
-pub then_ends : (q : Result (Unit {0}) Stop) (x : Unit {0}) (old mid new : Single) (f : Store → Goes) → old.tasks.items ≡ [] → Tells (Ok x) old mid f → Ends q mid new (rest mid) → Ends q old new f
-then_ends q x old mid new f none h = by q
+pub then_ends : (q : Result (Unit {0}) Stop) (x : Unit {0}) (old mid new : Single) (f : Store → Goes) (n : ℕ) → old.tasks.items ≡ [] → Tells (Ok x) old mid f n → Ends q mid new (rest mid) → Ends q old new f
+then_ends q x old mid new f n none h = by q
   where
     comes : f (store_seen old) ≡ rest mid (store_seen mid)
-    comes = sym (alone old (f (store_seen old)) none) ∙ h
+    comes = sym (alone old (f (store_seen old)) none) ∙ h.0
 
     by : (q : Result (Unit {0}) Stop) → Ends q mid new (rest mid) → Ends q old new f
     by (Ok y) k = comes ∙ k
@@ -52,8 +52,10 @@ then_ends q x old mid new f none h = by q
     by (Err (stop.Trapped t)) k = comes ∙ k
     by (Err stop.Cut) k = comes ∙ k
 
-pub stops_ends : (e : Stop) (old new : Single) (f : Store → Goes) → Tells (Err e) old new f → Ends (Err e) old new f
-stops_ends e old new f h = h
+pub stops_ends : (e : Stop) (old new : Single) (f : Store → Goes) (n : ℕ) → Tells (Err e) old new f n → Ends (Err e) old new f
+stops_ends stop.Memory old new f n h = h
+stops_ends (stop.Trapped t) old new f n h = h
+stops_ends stop.Cut old new f n h = h
 
 -- ---- what it came to
 

@@ -1,5 +1,5 @@
 -- What statements and loops leave to be done.
-use Rattle.std.proofs.Common.{◌≡◌, refl, sym, ap, subst, ◌∙◌, ℕ, suc, List, [], ◌∷◌, Bool, true, false, Bor, Box, Global, Option, Some, None, Result}
+use Rattle.std.proofs.Common.{◌≡◌, ◌≤◌, arith, refl, sym, ap, subst, ◌∙◌, ℕ, suc, List, [], ◌∷◌, Bool, true, false, Bor, Box, Global, Option, Some, None, Result}
 use Rattle.std.specs.Prelude.{option_map, not}
 use Rattle.std.proofs.Common.{eq-eqb, ne_eqb}
 use Rattle.isp_base.specs.Traps.{trap}
@@ -24,7 +24,9 @@ use Rattle.isp_solo_meaning.specs.Steps.{items, simple}
 use Rattle.isp_solo_meaning.specs.Loops.{turned}
 use Rattle.isp_solo_meaning.specs.Does.{goes_on}
 use Rattle.isp_solo_run.specs.Seen.{how_seen}
-use Rattle.isp_solo_run.specs.Tasks.{Store, Goes, Trapped, Cut, go, given, done, ran, goes, leaves, finds, gathers, runs, blocks, runs_all, chooses, branches_on, follows, tests_on, keeps_on, turned_on}
+use Rattle.isp_solo_run.specs.Due.{value_due, simple_due, run_due, all_due, turn_due, turns_due, test_due, step_due, first_due, branch_due}
+use Rattle.isp_solo_run.specs.Most.{one, two, branch_most}
+use Rattle.isp_solo_run.specs.Tasks.{DoesTask, Waits, WaitBoth, both_due, TakesTurn, TurnsByValue, Chooses, RunsAll, RunsBlock, Turns, StepsOn, Tests, Firsts, BranchesOn, Store, Goes, Trapped, Cut, go, given, done, ran, goes, leaves, finds, gathers, runs, blocks, runs_all, chooses, branches_on, follows, tests_on, keeps_on, turned_on}
 use Rattle.isp_solo_run.specs.Tasks.{turns_on, steps_on, firsts, takes_turn, turns_by_value, turns_with, turn_in, does_task, does_both, store_seen, state_seen, value_at, values_at, bound_in, calls_in}
 use Rattle.isp_solo_run.specs.Tasks.{perhaps_in, run_in, all_in, turns_in, tested_in, stepped_in, turned_in, test_in, body_in, step_in, rest, Changes, Tells}
 use Rattle.isp_solo_run.specs.declared.loops.Turning.{Turning}
@@ -37,11 +39,13 @@ use Rattle.isp_solo_run.specs.declared.tasks.Gathering.TheVariants as gathering
 use Rattle.isp_solo_run.specs.declared.tasks.Statements.{Statements}
 use Rattle.isp_solo_run.specs.declared.tasks.Task.TheVariants as task
 use Rattle.isp_solo_run.specs.declared.tasks.Unique.{Unique}
-use Rattle.isp_solo_run.proofs.Steps.{ran_with, ran_done, ran_then, ran_goes, ran_always, changed_store, tells_by, tells_via}
+use Rattle.isp_solo_run.proofs.Steps.{ran_with, ran_done, ran_then, ran_goes, ran_always, changed_store, tells_by, tells_from, tells_within}
 
 -- the task of a statement, where its tree is known
-pub stmt_by : (q : Result (Unit {0}) Stop) (old new : Single) (x : Bor TypedStmt) (n : TStmt) (g : Store → Goes) → stmt_of x.now ≡ n → runs old n (store_seen old) ≡ g (store_seen old) → Tells q old new g → Tells q old new (does_task old (task.Run x))
-stmt_by q old new x n g is e h = tells_by q old new (does_task old (task.Run x)) g (ap (λ k. runs old k (store_seen old)) is ∙ e) h
+pub stmt_by : (q : Result (Unit {0}) Stop) (old new : Single) (x : Bor TypedStmt) (n : TStmt) (g : Store → Goes) → stmt_of x.now ≡ n → runs old n (store_seen old) ≡ g (store_seen old)
+    → Tells q old new g (run_due old.setting old.left n) → DoesTask q old new (task.Run x)
+stmt_by q old new x n g is e h =
+    subst (λ (k : TStmt). Tells q old new (runs old k) (run_due old.setting old.left k)) (sym is) (tells_by (run_due old.setting old.left n) q old new (runs old n) g e h)
 
 pub block_view : (b : TypedBlock) → block_of b ≡ t_braces (t_stmts (stmts_of b.statements.items)) b.span
 block_view b = fold_out-TypedBlock TStmt TBlock stmt_step block_step b
@@ -216,23 +220,118 @@ pub false_value : (x : ℕ) → x ≡ 0 → is_true x ≡ false
 false_value x h = ap not (eq-eqb x 0 h)
 
 -- a turn that is taken alone
-pub alone_tells : (q : Result (Unit {0}) Stop) (old mid new : Single) (i b : ℕ) (x : Bor TypedStmt) → Changes old mid (written Uniform i b) → Tells q mid new (does_both mid (task.Run x) task.Go) → Tells q old new (takes_turn old i b (stmt_of x.now))
+pub alone_tells : (q : Result (Unit {0}) Stop) (old mid new : Single) (i b : ℕ) (x : Bor TypedStmt) → Changes old mid (written Uniform i b) → WaitBoth q mid new (task.Run x) task.Go → TakesTurn q old new i b (stmt_of x.now)
 alone_tells q old mid new i b x c h =
-    tells_via q old mid new (takes_turn old i b (stmt_of x.now)) (does_both mid (task.Run x) task.Go)
+    tells_from old (record old { here = mid.here; arrays = mid.arrays }) mid new (takes_turn old i b (stmt_of x.now)) (λ e. does_both e (task.Run x) task.Go) (λ e. both_due e (task.Run x) task.Go) (λ e. e.left) c.same
     (changed_store old mid (written Uniform i b) (λ fr l s. once old fr l s) c
     ∙ ap (λ (e : Single). once e (store_seen mid).frame mid.left (state_seen mid)) (sym c.same)
     ∙ ran_always (store_seen mid) (run_in mid.setting (store_seen mid).frame mid.left (stmt_of x.now) (state_seen mid)))
-    (ap rest c.same) h
+    refl q h
   where
     once : Single → Frame → ℕ → Alone → Goes
     once e fr l s = ran (record (store_seen mid) { frame = fr; left = l }) (then_always (run_in e.setting fr l (stmt_of x.now) s) (λ z. Does z Going))
 
 -- and its value first
-pub value_tells : (q : Result (Unit {0}) Stop) (old new : Single) (x : Bor TypedExpr) (u : Unique) (k : Box Unique Global) → k.value ≡ u → u.from ≡ elem_of (expr_of x.now) → Tells q old new (does_both old (task.Value x) (task.Turn k))
-    → Tells q old new (turns_by_value old u.index u.to (expr_of x.now) (stmt_of u.body.now))
+pub value_tells : (q : Result (Unit {0}) Stop) (old new : Single) (x : Bor TypedExpr) (u : Unique) (k : Box Unique Global) → k.value ≡ u → u.from ≡ elem_of (expr_of x.now) → WaitBoth q old new (task.Value x) (task.Turn k)
+    → TurnsByValue q old new u.index u.to (expr_of x.now) (stmt_of u.body.now)
 value_tells q old new x u k is of h =
     let r = store_seen old in
-    tells_by q old new (turns_by_value old u.index u.to (expr_of x.now) (stmt_of u.body.now)) (does_both old (task.Value x) (task.Turn k))
+    tells_by (two (value_due old.setting old.left (expr_of x.now)) (turn_due old.setting old.left (stmt_of u.body.now))) q old new (turns_by_value old u.index u.to (expr_of x.now) (stmt_of u.body.now)) (does_both old (task.Value x) (task.Turn k))
     (ran_with r (value_at old.setting r (expr_of x.now) r.state) (λ fr l b s. turn_in old.setting fr l u.index (converted (elem_of (expr_of x.now)) u.to b) (stmt_of u.body.now) s)
     ∙ ap (λ (e : Elem). go (finds old (expr_of x.now) r) (turns_with old (record u { from = e }))) (sym of)
-    ∙ ap (λ (v : Unique). go (finds old (expr_of x.now) r) (turns_with old v)) (sym is)) h
+    ∙ ap (λ (v : Unique). go (finds old (expr_of x.now) r) (turns_with old v)) (sym is))
+    (subst (λ (v : Unique). Tells q old new (does_both old (task.Value x) (task.Turn k)) (two (value_due old.setting old.left (expr_of x.now)) (turn_due old.setting old.left (stmt_of v.body.now)))) is h)
+
+-- ---- how much is left of a statement whose parts stand in a box
+
+module _ (q : Result (Unit {0}) Stop) (old new : Single) where
+  pub choice_tells : (x : Bor TypedExpr) (b : Branches) (k : Box Branches Global) → k.value ≡ b → WaitBoth q old new (task.Value x) (task.Branch k) → Chooses q old new (expr_of x.now) b
+  choice_tells x b k is h = subst (λ (v : Branches). Chooses q old new (expr_of x.now) v) is h
+
+  -- statements: the first, and then the others
+  pub next_tells : (xs ys : List TypedStmt) (x : Bor TypedStmt) (b : Box Statements Global) → xs ≡ x.now ∷ ys → b.value.rest.now ≡ ys → WaitBoth q old new (task.Run x) (task.Statements b) → RunsAll q old new (stmts_of xs)
+  next_tells xs ys x b is others h =
+      subst (λ zs. RunsAll q old new (stmts_of zs)) (sym is)
+      (subst (λ zs. RunsAll q old new (stmt_of x.now ∷ stmts_of zs)) others
+      (tells_by (all_due old.setting old.left (stmt_of x.now ∷ stmts_of b.value.rest.now)) q old new (runs_all old (stmt_of x.now ∷ stmts_of b.value.rest.now)) (does_both old (task.Run x) (task.Statements b))
+      (one_next old (store_seen old) (x.now ∷ b.value.rest.now) b.value.rest.now x b refl refl) h))
+
+  pub none_tells : (xs : List TypedStmt) → xs ≡ [] → Tells q old new (leaves how.Going) 0 → RunsAll q old new (stmts_of xs)
+  none_tells xs none h = subst (λ zs. RunsAll q old new (stmts_of zs)) (sym none) h
+
+  pub block_tells : (b : TypedBlock) (xs : List TypedStmt) → xs ≡ b.statements.items → RunsAll q old new (stmts_of xs) → RunsBlock q old new (block_of b)
+  block_tells b xs is h =
+      subst (λ k. RunsBlock q old new k) (sym (block_view b)) (subst (λ zs. RunsAll q old new (stmts_of zs)) is h)
+
+  pub turn_tells : (t : Turning) (b : Box Turning Global) (n : ℕ) → t.left ≡ suc n → b.value ≡ record t { left = n } → WaitBoth q old new (task.Run t.body) (task.Turned b) → Turns q old new t
+  turn_tells t b n more is h =
+      subst (λ k. Turns q old new (record t { left = k })) (sym more)
+      (tells_by (turns_due old.setting old.left (record t { left = suc n })) q old new (turns_on old (record t { left = suc n })) (does_both old (task.Run t.body) (task.Turned b))
+      (turn_goes old (store_seen old) (record t { left = suc n }) b n refl is)
+      (subst (λ (v : Turning). Tells q old new (does_both old (task.Run t.body) (task.Turned b)) (two (run_due old.setting old.left (stmt_of t.body.now)) (step_due old.setting old.left v))) is h))
+
+  pub step_tells : (t : Turning) (b : Box Turning Global) (x : Bor TypedSimple) → b.value ≡ t → t.step ≡ Some x → WaitBoth q old new (task.Simple x) (task.Test b) → StepsOn q old new t
+  step_tells t b x is some h =
+      subst (λ (o : Option (Bor TypedSimple)). StepsOn q old new (record t { step = o })) (sym some)
+      (tells_by (step_due old.setting old.left (record t { step = Some x })) q old new (steps_on old (record t { step = Some x })) (does_both old (task.Simple x) (task.Test b))
+      (step_goes old (store_seen old) (record t { step = Some x }) b x (is ∙ ap (λ (o : Option (Bor TypedSimple)). record t { step = o }) some) refl)
+      (subst (λ (v : Turning). Tells q old new (does_both old (task.Simple x) (task.Test b)) (two (simple_due old.setting old.left (simple_of x.now)) (test_due old.setting old.left v))) (is ∙ ap (λ (o : Option (Bor TypedSimple)). record t { step = o }) some) h))
+
+  pub no_step_tells : (t : Turning) (b : Box Turning Global) → b.value ≡ t → t.step ≡ None → Waits q old new (task.Test b) → StepsOn q old new t
+  no_step_tells t b is none h =
+      subst (λ (o : Option (Bor TypedSimple)). StepsOn q old new (record t { step = o })) (sym none)
+      (tells_by (step_due old.setting old.left (record t { step = None })) q old new (steps_on old (record t { step = None })) (does_task old (task.Test b))
+      (no_step old (store_seen old) (record t { step = None }) b (is ∙ ap (λ (o : Option (Bor TypedSimple)). record t { step = o }) none) refl)
+      (subst (λ (v : Turning). Tells q old new (does_task old (task.Test b)) (one (test_due old.setting old.left v))) (is ∙ ap (λ (o : Option (Bor TypedSimple)). record t { step = o }) none) h))
+
+  pub test_tells : (t : Turning) (b : Box Turning Global) (x : Bor TypedExpr) → b.value ≡ t → t.test ≡ Some x → WaitBoth q old new (task.Value x) (task.Tested b) → Tests q old new t
+  test_tells t b x is some h =
+      subst (λ (o : Option (Bor TypedExpr)). Tests q old new (record t { test = o })) (sym some)
+      (tells_by (test_due old.setting old.left (record t { test = Some x })) q old new (tests_on old (record t { test = Some x })) (does_both old (task.Value x) (task.Tested b))
+      (test_goes old (store_seen old) (record t { test = Some x }) b x (is ∙ ap (λ (o : Option (Bor TypedExpr)). record t { test = o }) some) refl)
+      (subst (λ (v : Turning). Tells q old new (does_both old (task.Value x) (task.Tested b)) (two (value_due old.setting old.left (expr_of x.now)) (turns_due old.setting old.left v))) (is ∙ ap (λ (o : Option (Bor TypedExpr)). record t { test = o }) some) h))
+
+  pub no_test_tells : (t : Turning) → t.test ≡ None → Turns q old new t → Tests q old new t
+  no_test_tells t none h =
+      subst (λ (o : Option (Bor TypedExpr)). Tests q old new (record t { test = o })) (sym none)
+      (subst (λ (o : Option (Bor TypedExpr)). Turns q old new (record t { test = o })) none h)
+
+  pub first_tells : (t : Turning) (b : Box Turning Global) (o : Option TFirst) (g : Store → Goes) → b.value ≡ t → firsts old o t (store_seen old) ≡ g (store_seen old) → Tells q old new g (first_due old.setting old.left o b.value) → Firsts q old new o t
+  first_tells t b o g is e h =
+      tells_by (first_due old.setting old.left o t) q old new (firsts old o t) g e (subst (λ (v : Turning). Tells q old new g (first_due old.setting old.left o v)) is h)
+
+  pub no_first_tells : (t : Turning) (b : Box Turning Global) (o : Option TFirst) → b.value ≡ t → o ≡ None → Waits q old new (task.Test b) → Firsts q old new o t
+  no_first_tells t b o is none h =
+      subst (λ k. Firsts q old new k t) (sym none)
+      (first_tells t b None (does_task old (task.Test b)) is (no_first old (store_seen old) t b None is refl) h)
+
+  pub first_items_tells : (b : Box Turning Global) (xs : Bor (List TypedItem)) (ys : List TypedItem) (o : Option TFirst) (sp : Span)
+      → xs.now ≡ ys → o ≡ Some (t_first_declare (items_of ys) sp) → WaitBoth q old new (task.Items xs) (task.Test b) → Firsts q old new o b.value
+  first_items_tells b xs ys o sp same some h =
+      subst (λ k. Firsts q old new k b.value) (ap (λ zs. Some (t_first_declare (items_of zs) sp)) same ∙ sym some)
+      (first_tells b.value b (Some (t_first_declare (items_of xs.now) sp)) (does_both old (task.Items xs) (task.Test b)) refl (first_items old (store_seen old) b.value b xs xs.now (Some (t_first_declare (items_of xs.now) sp)) sp refl refl refl) h)
+
+  pub first_simple_tells : (b : Box Turning Global) (x : Bor TypedSimple) (o : Option TFirst) → o ≡ Some (t_first_simple (simple_of x.now)) → WaitBoth q old new (task.Simple x) (task.Test b) → Firsts q old new o b.value
+  first_simple_tells b x o some h =
+      subst (λ k. Firsts q old new k b.value) (sym some)
+      (first_tells b.value b (Some (t_first_simple (simple_of x.now))) (does_both old (task.Simple x) (task.Test b)) refl (first_simple old (store_seen old) b.value b x (Some (t_first_simple (simple_of x.now))) refl refl) h)
+
+  -- a branch is no more than both
+  then_most : (b : Branches) → one (run_due old.setting old.left (stmt_of b.then.now)) ≤ branch_due old.setting old.left b
+  then_most b = by (option_map (λ (z : Bor TypedStmt). run_due old.setting old.left (stmt_of z.now)) b.otherwise)
+    where
+      by : (o : Option ℕ) → one (run_due old.setting old.left (stmt_of b.then.now)) ≤ branch_most (run_due old.setting old.left (stmt_of b.then.now)) o
+      by None = omega arith
+      by (Some k) = omega arith
+
+  pub branch_true_tells : (b : Branches) → is_true old.value ≡ true → Waits q old new (task.Run b.then) → BranchesOn q old new b
+  branch_true_tells b t h =
+      tells_within (one (run_due old.setting old.left (stmt_of b.then.now))) (branch_due old.setting old.left b) q old new (branches_on old b) (then_most b)
+      (tells_by (one (run_due old.setting old.left (stmt_of b.then.now))) q old new (branches_on old b) (does_task old (task.Run b.then)) (branch_true old (store_seen old) b t) h)
+
+  pub branch_other_tells : (b : Branches) (y : Bor TypedStmt) → is_true old.value ≡ false → b.otherwise ≡ Some y → Waits q old new (task.Run y) → BranchesOn q old new b
+  branch_other_tells b y f is h =
+      let both : branch_due old.setting old.left b ≡ two (run_due old.setting old.left (stmt_of b.then.now)) (run_due old.setting old.left (stmt_of y.now)) =
+      ap (λ (o : Option (Bor TypedStmt)). branch_due old.setting old.left (record b { otherwise = o })) is in
+      tells_within (one (run_due old.setting old.left (stmt_of y.now))) (branch_due old.setting old.left b) q old new (branches_on old b) (omega (arith, both))
+      (tells_by (one (run_due old.setting old.left (stmt_of y.now))) q old new (branches_on old b) (does_task old (task.Run y)) (branch_other old (store_seen old) b y f is) h)

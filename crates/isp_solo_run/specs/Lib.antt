@@ -1,6 +1,8 @@
 pub mod Arrays
+pub mod Due
 pub mod Ends
 pub mod Entering
+pub mod Most
 pub mod Seen
 pub mod Starting
 pub mod Tasks

@@ -1,5 +1,5 @@
 -- What tasks do, in the words of the definitions of an instance alone, and what a list of them comes to.
-use Rattle.std.specs.Prelude.{◌≡◌, ℕ, List, [], ◌∷◌, ◌++◌, map, option_map, Option, Some, None, Result, Ok, Err, get_or}
+use Rattle.std.specs.Prelude.{◌≡◌, ◌≤◌, ◌+◌, ℕ, Bool, true, false, List, [], ◌∷◌, ◌++◌, map, option_map, Option, Some, None, Result, Ok, Err, get_or}
 use Rattle.std.proofs.Common.{Bor}
 use Rattle.isp_base.specs.Access.{is_zero}
 use Rattle.isp_base.specs.Types.{gang_width}
@@ -31,6 +31,9 @@ use Rattle.isp_solo_meaning.specs.Does.{bounds, does, does_block, does_all, test
 use Rattle.isp_solo_meaning.specs.Calls.{called, own_calls}
 use Rattle.isp_solo_run.specs.Arrays.{bound_seen}
 use Rattle.isp_gang_values.specs.Left.{range_seen, runs_left}
+use Rattle.isp_solo_run.specs.Due.{due, left_after, task_due, value_due, values_due, hand_due, called_due, call_due, body_due, write_due, target_due, item_due, block_due, all_due, branch_due, turn_due}
+use Rattle.isp_solo_run.specs.Due.{first_due, test_due, turns_due, step_due, bounds_due}
+use Rattle.isp_solo_run.specs.Most.{one, two}
 use Rattle.isp_solo_run.specs.Seen.{frame_seen, state_of, with_variables, how_seen, spot_seen, passed_seen}
 use Rattle.isp_solo_run.specs.declared.loops.Turning.{Turning}
 use Rattle.isp_solo_run.specs.declared.places.Writing.{Writing}
@@ -291,13 +294,66 @@ does_both e t u r = go (does_task e t r) (does_task e u)
 abbrev pub rest : Single → Store → Goes
 rest e = finish e.setting e.tasks.items
 
--- What a call in the code tells: where it went on, all that there is to do after f comes to what is left to do then. Where it
--- trapped or was cut, so does f, in the state that was reached. Memory is refused at any time.
-abbrev pub Tells : Result (Unit {0}) Stop → Single → Single → (Store → Goes) → Type 0
-Tells (Ok x) old new f = go (f (store_seen old)) (rest old) ≡ rest new (store_seen new)
-Tells (Err stop.Memory) old new f = Unit {0}
-Tells (Err (stop.Trapped t)) old new f = f (store_seen old) ≡ Trapped t (state_seen new)
-Tells (Err stop.Cut) old new f = f (store_seen old) ≡ Cut (state_seen new)
+-- how many tasks are done at most, as it stands; and where so many more calls may run
+abbrev pub due_now : Single → ℕ
+due_now e = due e.setting e.tasks.items e.left
+
+abbrev pub due_at : Single → ℕ → ℕ
+due_at e = due e.setting e.tasks.items
+
+-- What a call in the code tells: where it went on, all that there is to do after f comes to what is left to do then, and it left at most n
+-- tasks more to be done; after it l more calls may run. Where it trapped or was cut, so does f, in the state that was reached. Memory
+-- is refused where a growth was.
+abbrev pub TellsAt : ℕ → Result (Unit {0}) Stop → Single → Single → (Store → Goes) → ℕ → Type 0
+TellsAt l (Ok x) old new f n = (go (f (store_seen old)) (rest old) ≡ rest new (store_seen new)) × (due_now new ≤ n + due_at old l)
+TellsAt l (Err stop.Memory) old new f n = Unit {0}
+TellsAt l (Err (stop.Trapped t)) old new f n = f (store_seen old) ≡ Trapped t (state_seen new)
+TellsAt l (Err stop.Cut) old new f n = f (store_seen old) ≡ Cut (state_seen new)
+
+abbrev pub Tells : Result (Unit {0}) Stop → Single → Single → (Store → Goes) → ℕ → Type 0
+Tells q old new = TellsAt old.left q old new
+
+-- what the handler of a task tells
+abbrev pub DoesTask : Result (Unit {0}) Stop → Single → Single → Task → Type 0
+DoesTask q old new t = TellsAt (left_after t old.left) q old new (does_task old t) (task_due old.setting old.left t)
+
+-- a task waits; a task, and then another
+abbrev pub Waits : Result (Unit {0}) Stop → Single → Single → Task → Type 0
+Waits q old new t = TellsAt (left_after t old.left) q old new (does_task old t) (one (task_due old.setting old.left t))
+
+abbrev pub both_due : Single → Task → Task → ℕ
+both_due e t u = two (task_due e.setting e.left t) (task_due e.setting (left_after t e.left) u)
+
+abbrev pub WaitBoth : Result (Unit {0}) Stop → Single → Single → Task → Task → Type 0
+WaitBoth q old new t u = TellsAt (left_after u (left_after t old.left)) q old new (does_both old t u) (both_due old t u)
+
+-- ---- groups of tasks
+
+-- those of statements, also of a `foreach`; all others are of expressions and calls
+abbrev pub is_of_foreach : Task → Bool
+is_of_foreach (task.Start b) = true
+is_of_foreach (task.End i b) = true
+is_of_foreach (task.Rounds b) = true
+is_of_foreach t = false
+
+abbrev pub is_of_statements : Task → Bool
+is_of_statements (task.Simple x) = true
+is_of_statements task.Go = true
+is_of_statements (task.Indexed q b t w) = true
+is_of_statements (task.Assign k sp) = true
+is_of_statements (task.Update op t k q sp) = true
+is_of_statements (task.Items xs) = true
+is_of_statements (task.Declared v t) = true
+is_of_statements (task.Run x) = true
+is_of_statements (task.Statements b) = true
+is_of_statements (task.Branch b) = true
+is_of_statements task.Answer = true
+is_of_statements (task.Assert sp) = true
+is_of_statements (task.Turn b) = true
+is_of_statements (task.Test b) = true
+is_of_statements (task.Tested b) = true
+is_of_statements (task.Turned b) = true
+is_of_statements t = is_of_foreach t
 
 -- ---- what the parts of an evaluation come to
 
@@ -410,6 +466,86 @@ bounds_on e = bounded e.setting
 abbrev pub begins_on : Single → List Range → Bor TypedStmt → Store → Goes
 begins_on e xs body r = ran r (runs_in e.setting r.frame r.left body (runs_of (gang_width e.setting.program.now.gang) xs) r.state)
 
+-- ---- what the calls of the code tell, by what they do
+
+abbrev pub FindsValue : Result (Unit {0}) Stop → Single → Single → TExpr → Type 0
+FindsValue q old new x = Tells q old new (finds old x) (value_due old.setting old.left x)
+
+abbrev pub Gathers : Result (Unit {0}) Stop → Single → Single → Gathering → List TExpr → List ℕ → Type 0
+Gathers q old new g xs before = Tells q old new (gathers old g xs before) (values_due old.setting old.left xs)
+
+abbrev pub Hands : Result (Unit {0}) Stop → Single → Single → TCall → List TArgument → List Passed → Type 0
+Hands q old new k xs before = Tells q old new (hands old k xs before) (hand_due old.setting old.left k xs)
+
+abbrev pub Calls : Result (Unit {0}) Stop → Single → Single → TCall → Type 0
+Calls q old new k = Tells q old new (calls_on old k) (called_due old.setting old.left k)
+
+abbrev pub CallsAndGoes : Result (Unit {0}) Stop → Single → Single → TCall → Type 0
+CallsAndGoes q old new k = Tells q old new (calls_and_goes old k) (called_due old.setting old.left k + one 0)
+
+abbrev pub Enters : Result (Unit {0}) Stop → Single → Single → ℕ → Span → List Passed → Type 0
+Enters q old new f sp ps = Tells q old new (enters old f sp ps) (call_due old.setting old.left f)
+
+abbrev pub DoesCall : Result (Unit {0}) Stop → Single → Single → ℕ → TFunction → List Passed → Type 0
+DoesCall q old new l f ps = Tells q old new (does_call old l f ps) (body_due old.setting l f)
+
+abbrev pub Writes : Result (Unit {0}) Stop → Single → Single → Writing → TPlace → Spot → Type 0
+Writes q old new w p k = Tells q old new (writes old w p k) (write_due old.setting old.left w)
+
+abbrev pub Targets : Result (Unit {0}) Stop → Single → Single → Writing → TPlace → Type 0
+Targets q old new w p = Tells q old new (targets old w p) (target_due old.setting old.left w p)
+
+abbrev pub Declares : Result (Unit {0}) Stop → Single → Single → TItem → Type 0
+Declares q old new x = Tells q old new (declares old x) (item_due old.setting old.left x)
+
+abbrev pub RunsBlock : Result (Unit {0}) Stop → Single → Single → TBlock → Type 0
+RunsBlock q old new b = Tells q old new (blocks old b) (block_due old.setting old.left b)
+
+abbrev pub RunsAll : Result (Unit {0}) Stop → Single → Single → List TStmt → Type 0
+RunsAll q old new xs = Tells q old new (runs_all old xs) (all_due old.setting old.left xs)
+
+abbrev pub Follows : Result (Unit {0}) Stop → Single → Single → Statements → Type 0
+Follows q old new b = Tells q old new (follows old b) (all_due old.setting old.left (stmts_of b.rest.now))
+
+abbrev pub Chooses : Result (Unit {0}) Stop → Single → Single → TExpr → Branches → Type 0
+Chooses q old new x b = Tells q old new (chooses old x b) (two (value_due old.setting old.left x) (branch_due old.setting old.left b))
+
+abbrev pub BranchesOn : Result (Unit {0}) Stop → Single → Single → Branches → Type 0
+BranchesOn q old new b = Tells q old new (branches_on old b) (branch_due old.setting old.left b)
+
+abbrev pub TakesTurn : Result (Unit {0}) Stop → Single → Single → ℕ → ℕ → TStmt → Type 0
+TakesTurn q old new i b x = Tells q old new (takes_turn old i b x) (turn_due old.setting old.left x)
+
+abbrev pub TurnsWith : Result (Unit {0}) Stop → Single → Single → Unique → Type 0
+TurnsWith q old new u = Tells q old new (turns_with old u) (turn_due old.setting old.left (stmt_of u.body.now))
+
+abbrev pub TurnsByValue : Result (Unit {0}) Stop → Single → Single → ℕ → Elem → TExpr → TStmt → Type 0
+TurnsByValue q old new i t x body = Tells q old new (turns_by_value old i t x body) (two (value_due old.setting old.left x) (turn_due old.setting old.left body))
+
+abbrev pub Firsts : Result (Unit {0}) Stop → Single → Single → Option TFirst → Turning → Type 0
+Firsts q old new x t = Tells q old new (firsts old x t) (first_due old.setting old.left x t)
+
+abbrev pub Tests : Result (Unit {0}) Stop → Single → Single → Turning → Type 0
+Tests q old new t = Tells q old new (tests_on old t) (test_due old.setting old.left t)
+
+abbrev pub KeepsOn : Result (Unit {0}) Stop → Single → Single → Turning → Type 0
+KeepsOn q old new t = Tells q old new (keeps_on old t) (turns_due old.setting old.left t)
+
+abbrev pub Turns : Result (Unit {0}) Stop → Single → Single → Turning → Type 0
+Turns q old new t = Tells q old new (turns_on old t) (turns_due old.setting old.left t)
+
+abbrev pub TurnedOn : Result (Unit {0}) Stop → Single → Single → Turning → Type 0
+TurnedOn q old new t = Tells q old new (turned_on old t) (step_due old.setting old.left t)
+
+abbrev pub StepsOn : Result (Unit {0}) Stop → Single → Single → Turning → Type 0
+StepsOn q old new t = Tells q old new (steps_on old t) (step_due old.setting old.left t)
+
+abbrev pub Bounded : Result (Unit {0}) Stop → Single → Single → List TRange → List Range → Bor TypedStmt → Type 0
+Bounded q old new rs before body = Tells q old new (bounds_on old rs before body) (bounds_due old.setting old.left rs before body)
+
+abbrev pub Begins : Result (Unit {0}) Stop → Single → Single → List Range → Bor TypedStmt → Type 0
+Begins q old new xs body = Tells q old new (begins_on old xs body) (bounds_due old.setting old.left [] xs body)
+
 -- what is held at a place: the value, or a trap
 abbrev pub Finds : Result ℕ Stop → Single → Single → Span → Spot → Type 0
 Finds (Ok x) old new sp k = (held (bound_in old.setting) old.setting.instance (frame_seen old.here) sp k (state_seen old) ≡ Has x (state_seen new)) × (new ≡ record old { arrays = new.arrays })
@@ -433,4 +569,4 @@ pub record Changes (old new : Single) (f : Alone → Alone) : Type 0 where
 -- What a whole run of the tasks tells: where it ended, f comes to the registers as they are then; else as Tells has it.
 abbrev pub Ends : Result (Unit {0}) Stop → Single → Single → (Store → Goes) → Type 0
 Ends (Ok x) old new f = f (store_seen old) ≡ On (store_seen new)
-Ends (Err e) old new f = Tells (Err e) old new f
+Ends (Err e) old new f = Tells (Err e) old new f 0

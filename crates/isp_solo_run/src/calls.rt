@@ -2,7 +2,7 @@
 ghost use Rattle.std.specs.Prelude.{◌≡◌, ◌<◌, ◌-◌, map, option_map, slice_get};
 ghost use Rattle.isp_typed.specs.Views.{arguments_of, call_of, function_of};
 ghost use Rattle.isp_solo_run.specs.Seen.{passed_seen};
-ghost use Rattle.isp_solo_run.specs.Tasks.{Tells, calls_and_goes, calls_on, does_call, does_task, enters, hands};
+ghost use Rattle.isp_solo_run.specs.Tasks.{Calls, CallsAndGoes, DoesCall, DoesTask, Enters, Hands};
 ghost use Rattle.isp_solo_run.specs.declared.tasks.Task.TheVariants as Task;
 
 use crate::activation::Activation;
@@ -15,7 +15,7 @@ use std::mem;
 impl<'a> Single<'a> {
     /// A call: its arguments come first.
     pub fn call(&mut self, call: &'a TypedCall) -> Result<(), Stop>
-        ensures { Tells result self.old self.new (calls_on self.old (call_of call.now)) }
+        ensures { Calls result self.old self.new (call_of call.now) }
     {
         let after = Task::Arguments {
             call,
@@ -27,7 +27,7 @@ impl<'a> Single<'a> {
 
     /// A call whose result is not needed.
     pub fn call_and_go(&mut self, call: &'a TypedCall) -> Result<(), Stop>
-        ensures { Tells result self.old self.new (calls_and_goes self.old (call_of call.now)) }
+        ensures { CallsAndGoes result self.old self.new (call_of call.now) }
     {
         let first = Task::Arguments {
             call,
@@ -44,7 +44,7 @@ impl<'a> Single<'a> {
         rest: &'a [TypedArgument],
         mut done: Vec<Passed>,
     ) -> Result<(), Stop>
-        ensures { Tells result self.old self.new (hands self.old (call_of call.now) (arguments_of rest.now) (map passed_seen done.items)) }
+        ensures { Hands result self.old self.new (call_of call.now) (arguments_of rest.now) (map passed_seen done.items) }
     {
         match rest {
             [] => self.enter(call.function, call.span, done.as_slice()),
@@ -69,7 +69,7 @@ impl<'a> Single<'a> {
         rest: &'a [TypedArgument],
         mut done: Vec<Passed>,
     ) -> Result<(), Stop>
-        ensures { Tells result self.old self.new (does_task self.old (Task.Argument call.entry rest.entry done)) }
+        ensures { DoesTask result self.old self.new (Task.Argument call.entry rest.entry done) }
     {
         match done.push(Passed::Value(self.value)) {
             Ok(()) => self.arguments(call, rest, done),
@@ -79,7 +79,7 @@ impl<'a> Single<'a> {
 
     /// A function runs, by its number; with no call left it traps at its place.
     pub fn enter(&mut self, function: usize, place: Span, passed: &[Passed]) -> Result<(), Stop>
-        ensures { Tells result self.old self.new (enters self.old function place (map passed_seen passed.now)) }
+        ensures { Enters result self.old self.new function place (map passed_seen passed.now) }
     {
         if self.left == 0 {
             return Err(self.trap(TrapKind::Depth, place));
@@ -93,7 +93,7 @@ impl<'a> Single<'a> {
     /// The body of a function, with what is passed; the caller goes on afterwards.
     pub fn begin(&mut self, function: &'a TypedFunction, passed: &[Passed]) -> Result<(), Stop>
         requires { 0 < self.old.left }
-        ensures { Tells result self.old self.new (does_call self.old (self.old.left - 1) (function_of function.now) (map passed_seen passed.now)) }
+        ensures { DoesCall result self.old self.new (self.old.left - 1) (function_of function.now) (map passed_seen passed.now) }
     {
         let Ok(begun) = Activation::begun(self.alloc, function, passed, &self.here) else {
             return Err(Stop::Memory);
@@ -112,7 +112,7 @@ impl<'a> Single<'a> {
 
     /// The caller goes on, with its level and its variables.
     pub fn resume(&mut self, caller: Box<Activation<'a>>, left: usize) -> Result<(), Stop>
-        ensures { Tells result self.old self.new (does_task self.old (Task.Return caller.entry left)) }
+        ensures { DoesTask result self.old self.new (Task.Return caller.entry left) }
     {
         self.value = self.here.result;
         self.how = How::Going;

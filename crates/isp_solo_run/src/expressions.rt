@@ -3,7 +3,7 @@ ghost use Rattle.std.specs.Prelude.{◌≡◌};
 ghost use Rattle.isp_base.specs.Access as Access;
 ghost use Rattle.isp_meaning.specs.Expressions as Expressions;
 ghost use Rattle.isp_typed.specs.Views.{exprs_of};
-ghost use Rattle.isp_solo_run.specs.Tasks.{Tells, does_task, gathers};
+ghost use Rattle.isp_solo_run.specs.Tasks.{DoesTask, Gathers};
 ghost use Rattle.isp_solo_run.specs.declared.tasks.Task.TheVariants as Task;
 
 use crate::library::by_instance;
@@ -16,7 +16,7 @@ use isp_typed::{Logic, TypedExpr};
 impl<'a> Single<'a> {
     /// An expression.
     pub fn value(&mut self, x: &'a TypedExpr) -> Result<(), Stop>
-        ensures { Tells result self.old self.new (does_task self.old (Task.Value x.entry)) }
+        ensures { DoesTask result self.old self.new (Task.Value x.entry) }
     {
         match x {
             TypedExpr::Constant { value, .. } => self.give(low_bits(value.elem, value.bits)),
@@ -107,7 +107,7 @@ impl<'a> Single<'a> {
     /// The right one of two operands.
     #[tactic(auto)]
     pub fn right(&mut self, joining: Joining, right: &'a TypedExpr) -> Result<(), Stop>
-        ensures { Tells result self.old self.new (does_task self.old (Task.Right joining right.entry)) }
+        ensures { DoesTask result self.old self.new (Task.Right joining right.entry) }
     {
         let left = self.value;
         self.both(Task::Value(right), Task::Join { joining, left })
@@ -115,7 +115,7 @@ impl<'a> Single<'a> {
 
     /// The operator, both operands being found.
     pub fn join(&mut self, joining: Joining, left: u64) -> Result<(), Stop>
-        ensures { Tells result self.old self.new (does_task self.old (Task.Join joining left)) }
+        ensures { DoesTask result self.old self.new (Task.Join joining left) }
     {
         let right = self.value;
         match joining {
@@ -138,7 +138,7 @@ impl<'a> Single<'a> {
 
     /// The right operand of `&&` or `||`, where it is needed.
     pub fn logic(&mut self, logic: Logic, right: &'a TypedExpr) -> Result<(), Stop>
-        ensures { Tells result self.old self.new (does_task self.old (Task.Logic logic right.entry)) }
+        ensures { DoesTask result self.old self.new (Task.Logic logic right.entry) }
     {
         if needed(logic, self.value) {
             self.later(Task::Value(right))
@@ -149,7 +149,7 @@ impl<'a> Single<'a> {
 
     /// The value of `?:` that the test chooses.
     pub fn choose(&mut self, then: &'a TypedExpr, otherwise: &'a TypedExpr) -> Result<(), Stop>
-        ensures { Tells result self.old self.new (does_task self.old (Task.Choose then.entry otherwise.entry)) }
+        ensures { DoesTask result self.old self.new (Task.Choose then.entry otherwise.entry) }
     {
         if self.value != 0 {
             self.later(Task::Value(then))
@@ -165,7 +165,7 @@ impl<'a> Single<'a> {
         rest: &'a [TypedExpr],
         done: Vec<u64>,
     ) -> Result<(), Stop>
-        ensures { Tells result self.old self.new (gathers self.old gathering (exprs_of rest.now) done.items) }
+        ensures { Gathers result self.old self.new gathering (exprs_of rest.now) done.items }
     {
         match rest {
             [] => match gathering {
@@ -192,7 +192,7 @@ impl<'a> Single<'a> {
         rest: &'a [TypedExpr],
         mut done: Vec<u64>,
     ) -> Result<(), Stop>
-        ensures { Tells result self.old self.new (does_task self.old (Task.Values gathering rest.entry done)) }
+        ensures { DoesTask result self.old self.new (Task.Values gathering rest.entry done) }
     {
         match done.push(self.value) {
             Ok(()) => self.values(gathering, rest, done),

@@ -1,7 +1,7 @@
 //! Loops whose body runs while a test is true.
 ghost use Rattle.std.specs.Prelude.{◌≡◌, Some, option_map};
 ghost use Rattle.isp_typed.specs.Views.{first_of};
-ghost use Rattle.isp_solo_run.specs.Tasks.{Tells, firsts, keeps_on, steps_on, tests_on, turned_on, turns_on};
+ghost use Rattle.isp_solo_run.specs.Tasks.{Firsts, KeepsOn, StepsOn, Tests, TurnedOn, Turns};
 
 use crate::state::{How, Single, Stop};
 use crate::tasks::Task;
@@ -38,7 +38,7 @@ impl<'a> Turning<'a> {
 impl<'a> Single<'a> {
     /// The first part of a `for`, if there is one, and then the test.
     pub fn first(&mut self, first: Option<&'a TypedFirst>, turning: Turning<'a>) -> Result<(), Stop>
-        ensures { Tells result self.old self.new (firsts self.old (option_map (λ x. first_of x.now) first.entry) turning.entry) }
+        ensures { Firsts result self.old self.new (option_map (λ x. first_of x.now) first.entry) turning.entry }
     {
         match Box::new(self.alloc, turning) {
             Ok(after) => match first {
@@ -51,7 +51,7 @@ impl<'a> Single<'a> {
 
     // The first part, and then the test.
     fn some_first(&mut self, first: &'a TypedFirst, after: Box<Turning<'a>>) -> Result<(), Stop>
-        ensures { Tells result self.old self.new (firsts self.old (Some (first_of first.now)) after.entry.value) }
+        ensures { Firsts result self.old self.new (Some (first_of first.now)) after.entry.value }
     {
         match first {
             TypedFirst::Declare { items, .. } => {
@@ -63,7 +63,7 @@ impl<'a> Single<'a> {
 
     /// The test, and what it decides; a test that is left out is true.
     pub fn test(&mut self, turning: Turning<'a>) -> Result<(), Stop>
-        ensures { Tells result self.old self.new (tests_on self.old turning.entry) }
+        ensures { Tests result self.old self.new turning.entry }
     {
         match turning.test {
             Some(test) => match Box::new(self.alloc, turning) {
@@ -76,7 +76,7 @@ impl<'a> Single<'a> {
 
     /// A turn where the test is true, else the loop ends.
     pub fn tested(&mut self, turning: Turning<'a>) -> Result<(), Stop>
-        ensures { Tells result self.old self.new (keeps_on self.old turning.entry) }
+        ensures { KeepsOn result self.old self.new turning.entry }
     {
         if self.value != 0 {
             self.turn(turning)
@@ -87,7 +87,7 @@ impl<'a> Single<'a> {
 
     /// A turn; with no turn left the run is cut.
     pub fn turn(&mut self, turning: Turning<'a>) -> Result<(), Stop>
-        ensures { Tells result self.old self.new (turns_on self.old turning.entry) }
+        ensures { Turns result self.old self.new turning.entry }
     {
         let Turning {
             test,
@@ -107,7 +107,7 @@ impl<'a> Single<'a> {
 
     /// The body was run: `break` ends the loop alone, `return` the function; else come the step and the test.
     pub fn turned(&mut self, turning: Turning<'a>) -> Result<(), Stop>
-        ensures { Tells result self.old self.new (turned_on self.old turning.entry) }
+        ensures { TurnedOn result self.old self.new turning.entry }
     {
         match self.how {
             How::Going => self.step(turning),
@@ -119,7 +119,7 @@ impl<'a> Single<'a> {
 
     // The step, and then the test.
     fn step(&mut self, turning: Turning<'a>) -> Result<(), Stop>
-        ensures { Tells result self.old self.new (steps_on self.old turning.entry) }
+        ensures { StepsOn result self.old self.new turning.entry }
     {
         match Box::new(self.alloc, turning) {
             Ok(after) => match turning.step {

@@ -4,7 +4,7 @@ ghost use Rattle.isp_solo_meaning.specs.Loops.{at_indices};
 ghost use Rattle.isp_base.specs.Types.{gang_width};
 ghost use Rattle.isp_typed.specs.Views.{ranges_of};
 ghost use Rattle.isp_gang_values.specs.Left.{indices_now, is_ready, members_now, numbers_below, range_seen};
-ghost use Rattle.isp_solo_run.specs.Tasks.{Changes, Tells, begins_on, bounds_on, does_task};
+ghost use Rattle.isp_solo_run.specs.Tasks.{Begins, Bounded, Changes, DoesTask};
 ghost use Rattle.isp_solo_run.specs.declared.tasks.Task.TheVariants as Task;
 
 use crate::state::{How, Single, Stop};
@@ -41,7 +41,7 @@ impl<'a> Single<'a> {
         done: Vec<Range>,
         body: &'a TypedStmt,
     ) -> Result<(), Stop>
-        ensures { Tells result self.old self.new (bounds_on self.old (ranges_of rest.now) (map range_seen done.items) body.entry) }
+        ensures { Bounded result self.old self.new (ranges_of rest.now) (map range_seen done.items) body.entry }
     {
         match rest {
             [] => self.begin_rounds(done, body),
@@ -62,7 +62,7 @@ impl<'a> Single<'a> {
 
     /// The start of a range was found.
     pub fn start(&mut self, bounds: Box<Bounds<'a>>) -> Result<(), Stop>
-        ensures { Tells result self.old self.new (does_task self.old (Task.Start bounds.entry)) }
+        ensures { DoesTask result self.old self.new (Task.Start bounds.entry) }
     {
         let start = self.value;
         let range = bounds.range;
@@ -71,7 +71,7 @@ impl<'a> Single<'a> {
 
     /// The end of a range was found.
     pub fn end(&mut self, start: u64, bounds: Box<Bounds<'a>>) -> Result<(), Stop>
-        ensures { Tells result self.old self.new (does_task self.old (Task.End start bounds.entry)) }
+        ensures { DoesTask result self.old self.new (Task.End start bounds.entry) }
     {
         let start = int(start);
         let end = int(self.value);
@@ -95,7 +95,7 @@ impl<'a> Single<'a> {
 
     // All bounds were found: the first run begins.
     fn begin_rounds(&mut self, mut ranges: Vec<Range>, body: &'a TypedStmt) -> Result<(), Stop>
-        ensures { Tells result self.old self.new (begins_on self.old (map range_seen ranges.items) body.entry) }
+        ensures { Begins result self.old self.new (map range_seen ranges.items) body.entry }
     {
         reset(&mut ranges, 0);
         match Box::new(self.alloc, Rounds { ranges, body }) {
@@ -110,7 +110,7 @@ impl<'a> Single<'a> {
 impl<'a> Single<'a> {
     /// The next run, if there is one; else the loop ends.
     pub fn rounds(&mut self, mut rounds: Box<Rounds<'a>>) -> Result<(), Stop>
-        ensures { Tells result self.old self.new (does_task self.old (Task.Rounds rounds.entry)) }
+        ensures { DoesTask result self.old self.new (Task.Rounds rounds.entry) }
     {
         carry(&mut rounds.ranges);
         let ready = is_ready(rounds.ranges.as_slice());
@@ -124,7 +124,7 @@ impl<'a> Single<'a> {
     // The run that comes next, then the others.
     fn round(&mut self, rounds: Box<Rounds<'a>>) -> Result<(), Stop>
         requires { is_ready rounds.value.ranges.items ≡ true }
-        ensures { Tells result self.old self.new (does_task self.old (Task.Rounds rounds.entry)) }
+        ensures { DoesTask result self.old self.new (Task.Rounds rounds.entry) }
     {
         let on = is_on(
             self.setting.program.gang,
@@ -142,7 +142,7 @@ impl<'a> Single<'a> {
     fn own_round(&mut self, mut rounds: Box<Rounds<'a>>) -> Result<(), Stop>
         requires ready { is_ready rounds.value.ranges.items ≡ true }
         requires on { members_now (gang_width self.old.setting.program.now.gang) rounds.value.ranges.items self.old.setting.instance ≡ true }
-        ensures { Tells result self.old self.new (does_task self.old (Task.Rounds rounds.entry)) }
+        ensures { DoesTask result self.old self.new (Task.Rounds rounds.entry) }
     {
         let body = rounds.body;
         match self.set_indices(&rounds.ranges) {
@@ -158,7 +158,7 @@ impl<'a> Single<'a> {
     fn other_round(&mut self, mut rounds: Box<Rounds<'a>>) -> Result<(), Stop>
         requires ready { is_ready rounds.value.ranges.items ≡ true }
         requires on { members_now (gang_width self.old.setting.program.now.gang) rounds.value.ranges.items self.old.setting.instance ≡ false }
-        ensures { Tells result self.old self.new (does_task self.old (Task.Rounds rounds.entry)) }
+        ensures { DoesTask result self.old self.new (Task.Rounds rounds.entry) }
     {
         advance(self.setting.program.gang, &mut rounds.ranges);
         self.later(Task::Rounds(rounds))

@@ -43,7 +43,7 @@ pub struct Run {
 /// Runs a function of a program, by its number, by one instance alone: from arguments that have its signature, where each
 /// loop makes at most so many turns each time it is entered. What `arrays` said of an earlier run is forgotten.
 ///
-/// Memory may be refused; so is a run that takes more steps than 64 bits count.
+/// Memory may be refused.
 pub fn run_alone(
     program: &Program,
     function: usize,

@@ -1,7 +1,7 @@
 //! Statements after which the instance goes on: values, calls, assignments and declarations.
 ghost use Rattle.isp_typed.specs.Views.{item_of, place_of};
 ghost use Rattle.isp_solo_run.specs.Seen.{spot_seen};
-ghost use Rattle.isp_solo_run.specs.Tasks.{Tells, declares, does_task, finds, loads, targets, updates, writes};
+ghost use Rattle.isp_solo_run.specs.Tasks.{Declares, DoesTask, FindsValue, Targets, Tells, Writes, loads, updates};
 ghost use Rattle.isp_typed.specs.Typed.{t_place};
 ghost use Rattle.isp_solo_run.specs.declared.tasks.Task.TheVariants as Task;
 
@@ -16,7 +16,7 @@ use isp_typed::{TypedItem, TypedPlace, TypedSimple};
 impl<'a> Single<'a> {
     /// What is held at a place, as an expression.
     pub fn place(&mut self, place: &'a TypedPlace) -> Result<(), Stop>
-        ensures { Tells result self.old self.new (finds self.old (t_place (place_of place.now))) }
+        ensures { FindsValue result self.old self.new (t_place (place_of place.now)) }
     {
         match place {
             TypedPlace::Variable { number, ty, span } => {
@@ -44,7 +44,7 @@ impl<'a> Single<'a> {
 
     /// What is held at a place that is known.
     pub fn load(&mut self, place: &Place, span: Span) -> Result<(), Stop>
-        ensures { Tells result self.old self.new (loads self.old span (spot_seen place.now)) }
+        ensures { Tells result self.old self.new (loads self.old span (spot_seen place.now)) 0 }
     {
         match self.hold(place, span) {
             Ok(bits) => self.give(bits),
@@ -54,7 +54,7 @@ impl<'a> Single<'a> {
 
     /// What stands before a semicolon.
     pub fn simple(&mut self, simple: &'a TypedSimple) -> Result<(), Stop>
-        ensures { Tells result self.old self.new (does_task self.old (Task.Simple simple.entry)) }
+        ensures { DoesTask result self.old self.new (Task.Simple simple.entry) }
     {
         match simple {
             TypedSimple::Value(x) => self.both(Task::Value(x), Task::Go),
@@ -95,7 +95,7 @@ impl<'a> Single<'a> {
 
     // The place that is written: its index goes first.
     fn target(&mut self, target: &'a TypedPlace, writing: Writing<'a>) -> Result<(), Stop>
-        ensures { Tells result self.old self.new (targets self.old writing.entry (place_of target.now)) }
+        ensures { Targets result self.old self.new writing.entry (place_of target.now) }
     {
         match target {
             TypedPlace::Variable { number, ty, .. } => {
@@ -124,7 +124,7 @@ impl<'a> Single<'a> {
         place: Place,
         writing: Writing<'a>,
     ) -> Result<(), Stop>
-        ensures { Tells result self.old self.new (writes self.old writing.entry (place_of target.now) (spot_seen place)) }
+        ensures { Writes result self.old self.new writing.entry (place_of target.now) (spot_seen place) }
     {
         match writing {
             Writing::Assign(value) => {
@@ -159,7 +159,7 @@ impl<'a> Single<'a> {
 
     /// The right side of `=` was found.
     pub fn assign(&mut self, place: Place, span: Span) -> Result<(), Stop>
-        ensures { Tells result self.old self.new (does_task self.old (Task.Assign place span)) }
+        ensures { DoesTask result self.old self.new (Task.Assign place span) }
     {
         if self.is_outside(&place) {
             return Err(self.trap(TrapKind::Index, span));
@@ -180,7 +180,7 @@ impl<'a> Single<'a> {
         span: Span,
         right: u64,
     ) -> Result<(), Stop>
-        ensures { Tells result self.old self.new (updates self.old operator elem (place_of target.now) (spot_seen place) right span) }
+        ensures { Tells result self.old self.new (updates self.old operator elem (place_of target.now) (spot_seen place) right span) 0 }
     {
         let own = target.ty().elem;
         let held = match self.hold(&place, target.span()) {
@@ -199,7 +199,7 @@ impl<'a> Single<'a> {
 
     /// Declared items, one after the other.
     pub fn items(&mut self, items: &'a [TypedItem]) -> Result<(), Stop>
-        ensures { Tells result self.old self.new (does_task self.old (Task.Items items.entry)) }
+        ensures { DoesTask result self.old self.new (Task.Items items.entry) }
     {
         match items {
             [] => self.go_on(),
@@ -212,7 +212,7 @@ impl<'a> Single<'a> {
 
     // A declared item: without a value it is set to 0.
     fn item(&mut self, item: &'a TypedItem) -> Result<(), Stop>
-        ensures { Tells result self.old self.new (declares self.old (item_of item.now)) }
+        ensures { Declares result self.old self.new (item_of item.now) }
     {
         match item {
             TypedItem::Plain { number, ty, .. } => match self.write(*number, ty.rate, 0) {
@@ -240,7 +240,7 @@ impl<'a> Single<'a> {
 
     /// The initial value was found.
     pub fn declared(&mut self, number: usize, ty: Ty) -> Result<(), Stop>
-        ensures { Tells result self.old self.new (does_task self.old (Task.Declared number ty)) }
+        ensures { DoesTask result self.old self.new (Task.Declared number ty) }
     {
         match self.write(number, ty.rate, self.value) {
             Ok(()) => self.go_on(),

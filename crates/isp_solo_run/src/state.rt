@@ -1,7 +1,7 @@
 //! The run of one instance: its registers, and what is left to do.
 ghost use Rattle.std.specs.Prelude.{◌≡◌, ◌++◌, ◌∷◌, [], OnOk};
 ghost use Rattle.isp_base.specs.Traps.{trap};
-ghost use Rattle.isp_solo_run.specs.Tasks.{Tells, does_both, does_task, gives, goes, leaves};
+ghost use Rattle.isp_solo_run.specs.Tasks.{Tells, WaitBoth, Waits, gives, goes, leaves};
 ghost use Rattle.isp_solo_run.specs.declared.state.Stop.TheVariants as Stop;
 
 use crate::activation::Activation;
@@ -70,7 +70,7 @@ impl<'a> Single<'a> {
     /// A task is done next.
     #[tactic(auto, using(crate::proofs::Steps::later_tells))]
     pub fn later(&mut self, task: Task<'a>) -> Result<(), Stop>
-        ensures { Tells result self.old self.new (does_task self.old task.entry) }
+        ensures { Waits result self.old self.new task.entry }
     {
         match self.push(task) {
             Ok(()) => Ok(()),
@@ -81,7 +81,7 @@ impl<'a> Single<'a> {
     /// A task is done next, and then the other.
     #[tactic(auto, using(crate::proofs::Steps::both_tell))]
     pub fn both(&mut self, first: Task<'a>, second: Task<'a>) -> Result<(), Stop>
-        ensures { Tells result self.old self.new (does_both self.old first.entry second.entry) }
+        ensures { WaitBoth result self.old self.new first.entry second.entry }
     {
         match self.push(second) {
             Ok(()) => self.later(first),
@@ -94,7 +94,7 @@ impl<'a> Single<'a> {
     /// An expression gives this.
 
     pub fn give(&mut self, value: u64) -> Result<(), Stop>
-        ensures { Tells result self.old self.new (gives value) }
+        ensures { Tells result self.old self.new (gives value) 0 }
     {
         self.value = value;
         self.how = How::Going;
@@ -104,7 +104,7 @@ impl<'a> Single<'a> {
     /// The instance goes on.
 
     pub fn go_on(&mut self) -> Result<(), Stop>
-        ensures { Tells result self.old self.new goes }
+        ensures { Tells result self.old self.new goes 0 }
     {
         self.value = 0;
         self.how = How::Going;
@@ -114,7 +114,7 @@ impl<'a> Single<'a> {
     /// A statement is left.
 
     pub fn leave(&mut self, how: How) -> Result<(), Stop>
-        ensures { Tells result self.old self.new (leaves how) }
+        ensures { Tells result self.old self.new (leaves how) 0 }
     {
         self.value = 0;
         self.how = how;

@@ -1,6 +1,6 @@
 //! What statements do.
 ghost use Rattle.isp_typed.specs.Views.{block_of, expr_of, stmt_of, stmts_of};
-ghost use Rattle.isp_solo_run.specs.Tasks.{Tells, blocks, branches_on, chooses, does_task, follows, runs_all, takes_turn, turns_by_value, turns_with};
+ghost use Rattle.isp_solo_run.specs.Tasks.{BranchesOn, Chooses, DoesTask, Follows, RunsAll, RunsBlock, TakesTurn, TurnsByValue, TurnsWith};
 ghost use Rattle.isp_solo_run.specs.declared.tasks.Task.TheVariants as Task;
 
 use crate::loops::Turning;
@@ -13,7 +13,7 @@ use isp_typed::{TypedBlock, TypedExpr, TypedStmt};
 impl<'a> Single<'a> {
     /// A statement.
     pub fn run(&mut self, statement: &'a TypedStmt) -> Result<(), Stop>
-        ensures { Tells result self.old self.new (does_task self.old (Task.Run statement.entry)) }
+        ensures { DoesTask result self.old self.new (Task.Run statement.entry) }
     {
         match statement {
             TypedStmt::Block(block) => self.block(block),
@@ -83,14 +83,14 @@ impl<'a> Single<'a> {
 
     /// A block: its statements in order.
     pub fn block(&mut self, block: &'a TypedBlock) -> Result<(), Stop>
-        ensures { Tells result self.old self.new (blocks self.old (block_of block.now)) }
+        ensures { RunsBlock result self.old self.new (block_of block.now) }
     {
         self.statements(block.statements.as_slice())
     }
 
     // Statements in order.
     fn statements(&mut self, statements: &'a [TypedStmt]) -> Result<(), Stop>
-        ensures { Tells result self.old self.new (runs_all self.old (stmts_of statements.now)) }
+        ensures { RunsAll result self.old self.new (stmts_of statements.now) }
     {
         match statements {
             [] => self.leave(How::Going),
@@ -103,7 +103,7 @@ impl<'a> Single<'a> {
 
     /// A statement was run; those that are left follow where it went on.
     pub fn went(&mut self, statements: Statements<'a>) -> Result<(), Stop>
-        ensures { Tells result self.old self.new (follows self.old statements.entry) }
+        ensures { Follows result self.old self.new statements.entry }
     {
         match self.how {
             How::Going => self.statements(statements.rest),
@@ -120,7 +120,7 @@ impl<'a> Single<'a> {
         then: &'a TypedStmt,
         otherwise: Option<&'a TypedStmt>,
     ) -> Result<(), Stop>
-        ensures { Tells result self.old self.new (chooses self.old (expr_of test.now) (record { then = then.entry; otherwise = otherwise.entry })) }
+        ensures { Chooses result self.old self.new (expr_of test.now) (record { then = then.entry; otherwise = otherwise.entry }) }
     {
         match Box::new(self.alloc, Branches { then, otherwise }) {
             Ok(after) => self.both(Task::Value(test), Task::Branch(after)),
@@ -130,7 +130,7 @@ impl<'a> Single<'a> {
 
     /// The test of an `if` was found.
     pub fn branch(&mut self, branches: Branches<'a>) -> Result<(), Stop>
-        ensures { Tells result self.old self.new (branches_on self.old branches.entry) }
+        ensures { BranchesOn result self.old self.new branches.entry }
     {
         if self.value != 0 {
             return self.later(Task::Run(branches.then));
@@ -143,7 +143,7 @@ impl<'a> Single<'a> {
 
     /// The result was found.
     pub fn answer(&mut self) -> Result<(), Stop>
-        ensures { Tells result self.old self.new (does_task self.old Task.Answer) }
+        ensures { DoesTask result self.old self.new Task.Answer }
     {
         self.here.result = self.value;
         self.leave(How::Returned)
@@ -151,7 +151,7 @@ impl<'a> Single<'a> {
 
     /// The test of an `assert` was found.
     pub fn assert(&mut self, span: Span) -> Result<(), Stop>
-        ensures { Tells result self.old self.new (does_task self.old (Task.Assert span)) }
+        ensures { DoesTask result self.old self.new (Task.Assert span) }
     {
         if self.value == 0 {
             Err(self.trap(TrapKind::Assert, span))
@@ -168,7 +168,7 @@ impl<'a> Single<'a> {
         value: &'a TypedExpr,
         body: &'a TypedStmt,
     ) -> Result<(), Stop>
-        ensures { Tells result self.old self.new (turns_by_value self.old index elem (expr_of value.now) (stmt_of body.now)) }
+        ensures { TurnsByValue result self.old self.new index elem (expr_of value.now) (stmt_of body.now) }
     {
         let unique = Unique {
             index,
@@ -184,7 +184,7 @@ impl<'a> Single<'a> {
 
     /// The value of a `foreach_unique` was found.
     pub fn with_value(&mut self, unique: Unique<'a>) -> Result<(), Stop>
-        ensures { Tells result self.old self.new (turns_with self.old unique.entry) }
+        ensures { TurnsWith result self.old self.new unique.entry }
     {
         let bits = convert(unique.from, unique.to, self.value);
         self.alone(unique.index, bits, unique.body)
@@ -192,7 +192,7 @@ impl<'a> Single<'a> {
 
     // The one turn that the instance takes alone, with these bits as its index.
     fn alone(&mut self, index: usize, bits: u64, body: &'a TypedStmt) -> Result<(), Stop>
-        ensures { Tells result self.old self.new (takes_turn self.old index bits (stmt_of body.now)) }
+        ensures { TakesTurn result self.old self.new index bits (stmt_of body.now) }
     {
         match self.write(index, Rate::Uniform, bits) {
             Ok(()) => self.both(Task::Run(body), Task::Go),

@@ -1,5 +1,6 @@
 //! What is left to do.
-ghost use Rattle.isp_solo_run.specs.Tasks.{Ends, Tells, does_task, rest};
+ghost use Rattle.std.specs.Prelude.{◌≡◌, true};
+ghost use Rattle.isp_solo_run.specs.Tasks.{DoesTask, Ends, is_of_foreach, is_of_statements, rest};
 
 use crate::activation::Activation;
 use crate::loops::Turning;
@@ -187,7 +188,7 @@ pub enum Task<'a> {
 impl<'a> Single<'a> {
     /// Does a task.
     pub fn act(&mut self, task: Task<'a>) -> Result<(), Stop>
-        ensures { Tells result self.old self.new (does_task self.old task.entry) }
+        ensures { DoesTask result self.old self.new task.entry }
     {
         match task {
             Task::Value(x) => self.value(x),
@@ -219,7 +220,8 @@ impl<'a> Single<'a> {
 
     // Does a task of statements.
     fn act_statement(&mut self, task: Task<'a>) -> Result<(), Stop>
-        ensures { Tells result self.old self.new (does_task self.old task.entry) }
+        requires { is_of_statements task ≡ true }
+        ensures { DoesTask result self.old self.new task.entry }
     {
         match task {
             Task::Simple(simple) => self.simple(simple),
@@ -256,35 +258,34 @@ impl<'a> Single<'a> {
             Task::Test(turning) => self.test(*turning),
             Task::Tested(turning) => self.tested(*turning),
             Task::Turned(turning) => self.turned(*turning),
-            task => self.act_foreach(task),
+            Task::Start(_) | Task::End { .. } | Task::Rounds(_) => self.act_foreach(task),
+            _ => unreachable!(),
         }
     }
 
     // Does a task of a `foreach`.
     fn act_foreach(&mut self, task: Task<'a>) -> Result<(), Stop>
-        ensures { Tells result self.old self.new (does_task self.old task.entry) }
+        requires { is_of_foreach task ≡ true }
+        ensures { DoesTask result self.old self.new task.entry }
     {
         match task {
             Task::Start(bounds) => self.start(bounds),
             Task::End { start, bounds } => self.end(start, bounds),
             Task::Rounds(rounds) => self.rounds(rounds),
-            task => self.later(task),
+            _ => unreachable!(),
         }
     }
 
-    /// All tasks, the last one first. More tasks than 64 bits count are refused as memory is.
+    /// All tasks, the last one first. Each leaves fewer to be done, so they come to an end.
     pub fn finish(&mut self) -> Result<(), Stop>
         ensures { Ends result self.old self.new (rest self.old) }
     {
-        for _count in 0..u64::MAX {
-            match self.tasks.pop() {
-                None => return Ok(()),
-                Some(task) => match self.act(task) {
-                    Ok(()) => {}
-                    Err(stop) => return Err(stop),
-                },
+        while let Some(task) = self.tasks.pop() {
+            match self.act(task) {
+                Ok(()) => {}
+                Err(stop) => return Err(stop),
             }
         }
-        Err(Stop::Memory)
+        Ok(())
     }
 }

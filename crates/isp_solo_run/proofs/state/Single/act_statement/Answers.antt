@@ -1,3 +1,5 @@
+use Rattle.isp_solo_run.specs.Tasks.{BranchesOn, Follows, KeepsOn, Tests, TurnedOn, TurnsWith}
+use Rattle.std.proofs.Common.{subst}
 use Rattle.std.proofs.Common.{refl, sym, ap}
 use Rattle.isp_solo_run.specs.Tasks.{store_seen, branches_on, follows, turns_with, tests_on, keeps_on, turned_on}
 use Rattle.isp_solo_run.proofs.Steps.{acts}
@@ -34,19 +36,19 @@ pub returns-in-Assert : goal.returns-in-Assert
 returns-in-Assert c = acts c.assert.result c.args.self.now c.assert.new.self c.args.task _ _ c.in-Assert.is refl c.assert.ensures
 
 pub returns-in-Statements : goal.returns-in-Statements
-returns-in-Statements c = acts c.went.result c.args.self.now c.went.new.self c.args.task _ _ c.in-Statements.is (ap (λ b. follows c.args.self.now b (store_seen c.args.self.now)) (sym c.deref.ensures)) c.went.ensures
+returns-in-Statements c = acts c.went.result c.args.self.now c.went.new.self c.args.task _ _ c.in-Statements.is refl (subst (λ b. Follows c.went.result c.args.self.now c.went.new.self b) c.deref.ensures c.went.ensures)
 
 pub returns-in-Branch : goal.returns-in-Branch
-returns-in-Branch c = acts c.branch-self.result c.args.self.now c.branch-self.new.self c.args.task _ _ c.in-Branch.is (ap (λ b. branches_on c.args.self.now b (store_seen c.args.self.now)) (sym c.deref-in-Branch.ensures)) c.branch-self.ensures
+returns-in-Branch c = acts c.branch-self.result c.args.self.now c.branch-self.new.self c.args.task _ _ c.in-Branch.is refl (subst (λ b. BranchesOn c.branch-self.result c.args.self.now c.branch-self.new.self b) c.deref-in-Branch.ensures c.branch-self.ensures)
 
 pub returns-in-Turn : goal.returns-in-Turn
-returns-in-Turn c = acts c.with_value.result c.args.self.now c.with_value.new.self c.args.task _ _ c.in-Turn.is (ap (λ b. turns_with c.args.self.now b (store_seen c.args.self.now)) (sym c.deref-in-Turn.ensures)) c.with_value.ensures
+returns-in-Turn c = acts c.with_value.result c.args.self.now c.with_value.new.self c.args.task _ _ c.in-Turn.is refl (subst (λ b. TurnsWith c.with_value.result c.args.self.now c.with_value.new.self b) c.deref-in-Turn.ensures c.with_value.ensures)
 
 pub returns-in-Test : goal.returns-in-Test
-returns-in-Test c = acts c.test.result c.args.self.now c.test.new.self c.args.task _ _ c.in-Test.is (ap (λ b. tests_on c.args.self.now b (store_seen c.args.self.now)) (sym c.deref-in-Test.ensures)) c.test.ensures
+returns-in-Test c = acts c.test.result c.args.self.now c.test.new.self c.args.task _ _ c.in-Test.is refl (subst (λ b. Tests c.test.result c.args.self.now c.test.new.self b) c.deref-in-Test.ensures c.test.ensures)
 
 pub returns-in-Tested : goal.returns-in-Tested
-returns-in-Tested c = acts c.tested.result c.args.self.now c.tested.new.self c.args.task _ _ c.in-Tested.is (ap (λ b. keeps_on c.args.self.now b (store_seen c.args.self.now)) (sym c.deref-in-Tested.ensures)) c.tested.ensures
+returns-in-Tested c = acts c.tested.result c.args.self.now c.tested.new.self c.args.task _ _ c.in-Tested.is refl (subst (λ b. KeepsOn c.tested.result c.args.self.now c.tested.new.self b) c.deref-in-Tested.ensures c.tested.ensures)
 
 pub returns-in-Turned : goal.returns-in-Turned
-returns-in-Turned c = acts c.turned.result c.args.self.now c.turned.new.self c.args.task _ _ c.in-Turned.is (ap (λ b. turned_on c.args.self.now b (store_seen c.args.self.now)) (sym c.deref-in-Turned.ensures)) c.turned.ensures
+returns-in-Turned c = acts c.turned.result c.args.self.now c.turned.new.self c.args.task _ _ c.in-Turned.is refl (subst (λ b. TurnedOn c.turned.result c.args.self.now c.turned.new.self b) c.deref-in-Turned.ensures c.turned.ensures)

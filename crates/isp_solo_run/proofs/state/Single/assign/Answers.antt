@@ -11,7 +11,7 @@ use Rattle.isp_solo_run.proofs.state.Single.assign.Goals as goal
 pub returns-then-is_outside : goal.returns-then-is_outside
 returns-then-is_outside c =
     let old = c.args.self.now in
-    trap_tells old (does_task old (task.Assign c.args.place c.args.span)) c.trap.result _ c.trap.ensures (assign_outside old c.args.place c.args.span c.is_outside.result c.is_outside.ensures c.if-is_outside.true)
+    trap_tells _ old (does_task old (task.Assign c.args.place c.args.span)) c.trap.result _ c.trap.ensures (assign_outside old c.args.place c.args.span c.is_outside.result c.is_outside.ensures c.if-is_outside.true)
 
 pub returns-in-Ok : goal.returns-in-Ok
 returns-in-Ok c =

@@ -15,4 +15,4 @@ returns-in-Ok c =
 pub returns-in-Err : goal.returns-in-Err
 returns-in-Err c =
     let old = c.args.self.now in
-    held_stops c.in-Err.stop old c.hold.new.self c.args.span (spot_seen c.args.place.now) (subst (λ (q : Result ℕ Stop). Finds q old c.hold.new.self c.args.span (spot_seen c.args.place.now)) c.in-Err.is c.hold.ensures)
+    held_stops _ c.in-Err.stop old c.hold.new.self c.args.span (spot_seen c.args.place.now) (subst (λ (q : Result ℕ Stop). Finds q old c.hold.new.self c.args.span (spot_seen c.args.place.now)) c.in-Err.is c.hold.ensures)

@@ -1,3 +1,4 @@
+use Rattle.isp_solo_run.proofs.Foreach.{other_tells}
 use Rattle.std.proofs.Common.{ap, ◌∙◌}
 use Rattle.isp_base.specs.Types.{gang_width}
 use Rattle.isp_gang_values.specs.Left.{advanced}
@@ -10,7 +11,6 @@ use Rattle.isp_solo_run.proofs.state.Single.other_round.Goals as goal
 pub returns : goal.returns
 returns c =
     let old = c.args.self.now in
-    tells_by c.later.result old c.later.new.self _ _
-    (other_is old (store_seen old) c.args.rounds (record c.args.rounds { value = record c.deref_mut.result.now { ranges = c.advance.new.ranges } }) c.requires.ready c.requires.on (ap (λ (x : Rounds). x.body) c.deref_mut.ensures.value)
-    (c.advance.ensures ∙ ap (λ (x : Rounds). advanced (gang_width old.setting.program.now.gang) x.ranges.items) c.deref_mut.ensures.value))
+    other_tells c.later.result old c.later.new.self c.args.rounds (record c.args.rounds { value = record c.deref_mut.result.now { ranges = c.advance.new.ranges } }) c.requires.ready c.requires.on (ap (λ (x : Rounds). x.body) c.deref_mut.ensures.value)
+    (c.advance.ensures ∙ ap (λ (x : Rounds). advanced (gang_width old.setting.program.now.gang) x.ranges.items) c.deref_mut.ensures.value)
     c.later.ensures

@@ -1,3 +1,4 @@
+use Rattle.isp_solo_run.proofs.Foreach.{no_round_tells, same_tells}
 use Rattle.std.proofs.Common.{◌≡◌, sym, ap, ◌∙◌, false}
 use Rattle.isp_base.specs.Types.{gang_width}
 use Rattle.isp_gang_values.specs.Left.{is_ready, runs_left}
@@ -12,9 +13,8 @@ pub returns-then-ready : goal.returns-then-ready
 returns-then-ready c =
     let old = c.args.self.now in
     let g = old.setting.program.now.gang in
-    tells_by c.round.result old c.round.new.self _ _
-    (rounds_same old (store_seen old) c.args.rounds (record c.args.rounds { value = record c.deref_mut.result.now { ranges = c.carry.new.ranges } }) (ap (λ (x : Rounds). x.body) c.deref_mut.ensures.value)
-    (c.carry.ensures.left g ∙ ap (λ (x : Rounds). runs_left (gang_width g) x.ranges.items) c.deref_mut.ensures.value))
+    same_tells c.round.result old c.round.new.self c.args.rounds (record c.args.rounds { value = record c.deref_mut.result.now { ranges = c.carry.new.ranges } }) (ap (λ (x : Rounds). x.body) c.deref_mut.ensures.value)
+    (c.carry.ensures.left g ∙ ap (λ (x : Rounds). runs_left (gang_width g) x.ranges.items) c.deref_mut.ensures.value)
     c.round.ensures
 
 pub returns-else-ready : goal.returns-else-ready
@@ -22,7 +22,6 @@ returns-else-ready c =
     let old = c.args.self.now in
     let g = old.setting.program.now.gang in
     let not_ready : is_ready c.carry.new.ranges.items ≡ false = sym (ap is_ready (c.as_slice.ensures.value ∙ ap (λ (x : Rounds). x.ranges.items) c.deref.ensures)) ∙ sym c.is_ready-ready.ensures ∙ c.if-ready.false in
-    tells_by c.leave.result old c.leave.new.self _ _
-    (no_round old (store_seen old) c.args.rounds
-    (sym (c.carry.ensures.left g ∙ ap (λ (x : Rounds). runs_left (gang_width g) x.ranges.items) c.deref_mut.ensures.value) ∙ no_next_run g c.carry.new.ranges.items c.carry.ensures.within not_ready))
+    no_round_tells c.leave.result old c.leave.new.self c.args.rounds
+    (sym (c.carry.ensures.left g ∙ ap (λ (x : Rounds). runs_left (gang_width g) x.ranges.items) c.deref_mut.ensures.value) ∙ no_next_run g c.carry.new.ranges.items c.carry.ensures.within not_ready)
     c.leave.ensures

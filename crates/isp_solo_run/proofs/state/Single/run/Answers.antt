@@ -1,4 +1,4 @@
-use Rattle.std.proofs.Common.{refl, sym, ap, ap₂, ◌∙◌, ℕ, List, Option, None, Some, Bor, map}
+use Rattle.std.proofs.Common.{refl, sym, ap, ap₂, subst, ◌∙◌, ℕ, List, Option, None, Some, Bor, map}
 use Rattle.std.specs.Prelude.{option_map}
 use Rattle.isp_typed.specs.declared.expr.TypedExpr.{TypedExpr}
 use Rattle.isp_typed.specs.declared.stmt.TypedFirst.{TypedFirst}
@@ -11,7 +11,8 @@ use Rattle.isp_typed.proofs.StmtViews.{if_view, if_else_view, while_view, do_vie
 use Rattle.isp_typed.specs.declared.stmt.TypedStmt.TheVariants as variant
 use Rattle.isp_typed.specs.declared.stmt.TypedStmt.TheFolds.{fold-roll-TypedStmt}
 use Rattle.isp_solo_meaning.specs.Steps.{items, simple}
-use Rattle.isp_solo_run.specs.Tasks.{block_in, blocks, bound_in, bounds_on, calls_in, does_task, gathers, go, store_seen, tests_on, turns_on, firsts}
+use Rattle.isp_solo_run.specs.Due.{block_due}
+use Rattle.isp_solo_run.specs.Tasks.{Bounded, Firsts, Tests, Turns, block_in, blocks, bound_in, calls_in, does_task, gathers, go, store_seen}
 use Rattle.isp_gang_values.specs.Left.{range_seen}
 use Rattle.isp_solo_run.specs.declared.loops.Turning.{Turning}
 use Rattle.isp_gang_values.specs.declared.ranges.Range.{Range}
@@ -20,7 +21,7 @@ use Rattle.isp_solo_run.specs.declared.tasks.Gathering.TheVariants as gathering
 use Rattle.isp_solo_run.specs.declared.tasks.Task.TheVariants as task
 use Rattle.isp_solo_run.proofs.Lists.{part_is}
 use Rattle.isp_solo_run.proofs.Runs.{stmt_by, if_is, if_else_is, printed_by, asserted_by}
-use Rattle.isp_solo_run.proofs.Steps.{ran_goes, ran_always, tells_by, then_tells}
+use Rattle.isp_solo_run.proofs.Steps.{ran_goes, ran_always, then_tells}
 use Rattle.isp_solo_run.proofs.state.Single.run.Goals as goal
 
 pub returns-in-Block : goal.returns-in-Block
@@ -72,15 +73,15 @@ returns-in-While c =
     (ap stmt_of c.in-While.is ∙ while_view c.in-While.form c.in-While.before c.in-While.test c.in-While.body c.in-While.span
     ∙ ap (λ (k : TypedStmt). t_while c.in-While.form c.in-While.before (expr_of c.in-While.test) (stmt_of k) c.in-While.span)
     (sym c.deref-in-While.ensures))
-    (ap (λ (t : Turning). tests_on c.args.self.now t (store_seen c.args.self.now)) (sym c.new-turning.ensures))
-    c.test.ensures
+    refl
+    (subst (λ (t : Turning). Tests c.test.result c.args.self.now c.test.new.self t) c.new-turning.ensures c.test.ensures)
 
 pub returns-in-Do : goal.returns-in-Do
 returns-in-Do c =
     stmt_by c.turn.result c.args.self.now c.turn.new.self c.args.statement _ _
     (ap stmt_of c.in-Do.is ∙ do_view c.in-Do.form c.in-Do.before c.in-Do.body c.in-Do.test c.in-Do.span ∙ ap (λ (k : TypedStmt). t_do c.in-Do.form c.in-Do.before (stmt_of k) (expr_of c.in-Do.test) c.in-Do.span) (sym c.deref-in-Do.ensures))
-    (ap (λ (t : Turning). turns_on c.args.self.now t (store_seen c.args.self.now)) (sym c.new-turning-in-Do.ensures))
-    c.turn.ensures
+    refl
+    (subst (λ (t : Turning). Turns c.turn.result c.args.self.now c.turn.new.self t) c.new-turning-in-Do.ensures c.turn.ensures)
 
 pub returns-in-For : goal.returns-in-For
 returns-in-For c =
@@ -93,16 +94,16 @@ returns-in-For c =
     (option_map (λ (v : Bor TypedFirst). first_of v.now) c.as_ref-in-For-2.result) x p c.in-For.inside (stmt_of c.deref-in-For.result.now)
     c.in-For.span) (part_is expr_of c.in-For.test c.as_ref.result c.as_ref.ensures.value)
     (part_is simple_of c.in-For.step c.as_ref-in-For.result c.as_ref-in-For.ensures.value))
-    (ap (λ (t : Turning). firsts c.args.self.now (option_map (λ (v : Bor TypedFirst). first_of v.now) c.as_ref-in-For-2.result) t (store_seen c.args.self.now)) (sym c.new-turning-in-For.ensures))
-    c.first.ensures
+    refl
+    (subst (λ (t : Turning). Firsts c.first.result c.args.self.now c.first.new.self (option_map (λ (v : Bor TypedFirst). first_of v.now) c.as_ref-in-For-2.result) t) c.new-turning-in-For.ensures c.first.ensures)
 
 pub returns-in-Foreach : goal.returns-in-Foreach
 returns-in-Foreach c =
     stmt_by c.bounds.result c.args.self.now c.bounds.new.self c.args.statement _ _
     (ap stmt_of c.in-Foreach.is ∙ foreach_view c.in-Foreach.keyword c.in-Foreach.before c.in-Foreach.ranges c.in-Foreach.body c.in-Foreach.span
     ∙ ap₂ (λ (rs : List TypedRange) (k : TypedStmt). t_foreach c.in-Foreach.keyword c.in-Foreach.before (ranges_of rs) (stmt_of k) c.in-Foreach.span) (sym c.as_slice-in-Foreach.ensures.value) (sym c.deref-in-Foreach.ensures))
-    (ap (λ (ds : List Range). bounds_on c.args.self.now (ranges_of c.as_slice-in-Foreach.result.now) (map range_seen ds) c.deref-in-Foreach.result (store_seen c.args.self.now)) (sym c.new.ensures.items))
-    c.bounds.ensures
+    refl
+    (subst (λ (ds : List Range). Bounded c.bounds.result c.args.self.now c.bounds.new.self (ranges_of c.as_slice-in-Foreach.result.now) (map range_seen ds) c.deref-in-Foreach.result) c.new.ensures.items c.bounds.ensures)
 
 pub returns-in-ForeachActive : goal.returns-in-ForeachActive
 returns-in-ForeachActive c =
@@ -130,8 +131,7 @@ returns-in-Ok c =
     stmt_by c.block-in-Ok.result old c.block-in-Ok.new.self c.args.statement _ (λ r. go (blocks old b r) (does_task old task.Go))
     (ap stmt_of (c.in-Unmasked.is ∙ sym (variant.rolls-Unmasked c.in-Unmasked.keyword c.in-Unmasked.body c.in-Unmasked.span)) ∙ fold-roll-TypedStmt TStmt TBlock stmt_step block_step _)
     (ran_always (store_seen old) (block_in old.setting (store_seen old).frame (store_seen old).left b (store_seen old).state))
-    (then_tells c.block-in-Ok.result old mid c.block-in-Ok.new.self task.Go (blocks old b) c.in-Ok.ensures.more c.in-Ok.ensures.rest
-    (tells_by c.block-in-Ok.result mid c.block-in-Ok.new.self (blocks old b) (blocks mid b) (ap (λ (e : Single). blocks e b (store_seen mid)) (sym c.in-Ok.ensures.rest)) c.block-in-Ok.ensures))
+    (then_tells old mid task.Go c.in-Ok.ensures.more c.in-Ok.ensures.rest c.block-in-Ok.result c.block-in-Ok.new.self (λ e. blocks e b) (λ e. block_due e.setting e.left b) (λ e. e.left) c.block-in-Ok.ensures)
 
 pub returns-in-Print : goal.returns-in-Print
 returns-in-Print c =

@@ -1,3 +1,5 @@
+use Rattle.isp_solo_run.proofs.Writes.{simple_by}
+use Rattle.std.proofs.Common.{refl}
 use Rattle.std.proofs.Common.{ap, ◌∙◌}
 use Rattle.isp_typed.specs.Views.{call_of, expr_of, simple_of}
 use Rattle.isp_solo_meaning.specs.Answers.{Has}
@@ -9,39 +11,35 @@ use Rattle.isp_solo_run.proofs.state.Single.simple.Goals as goal
 
 pub returns-in-Value : goal.returns-in-Value
 returns-in-Value c =
-    let r = (store_seen c.args.self.now) in
-    tells_by c.both.result c.args.self.now c.both.new.self _ _
-    (ap (λ k. done r (simple (bound_in c.args.self.now.setting) c.args.self.now.setting.instance r.frame (calls_in c.args.self.now.setting r.left)
-    (simple_of k) r.state)) c.in-Value.is ∙ done_then r (value_at c.args.self.now.setting r (expr_of c.in-Value.x) r.state)
-    (λ fr l i s. Has tt s)) c.both.ensures
+    let r = store_seen c.args.self.now in
+    simple_by c.both.result c.args.self.now c.both.new.self c.args.simple _ _ c.in-Value.is
+    (done_then r (value_at c.args.self.now.setting r (expr_of c.in-Value.x) r.state) (λ fr l i s. Has tt s))
+    c.both.ensures
 
 pub returns-in-Call : goal.returns-in-Call
 returns-in-Call c =
-    let r = (store_seen c.args.self.now) in
-    tells_by c.call_and_go.result c.args.self.now c.call_and_go.new.self _ _
-    (ap (λ k. done r (simple (bound_in c.args.self.now.setting) c.args.self.now.setting.instance r.frame (calls_in c.args.self.now.setting r.left)
-    (simple_of k) r.state)) c.in-Call.is ∙ done_then r
-    (answer_call (bound_in c.args.self.now.setting) c.args.self.now.setting.instance r.frame (calls_in c.args.self.now.setting r.left)
-    (call_of c.in-Call.call) r.state) (λ fr l i s. Has tt s))
+    let r = store_seen c.args.self.now in
+    simple_by c.call_and_go.result c.args.self.now c.call_and_go.new.self c.args.simple _ _ c.in-Call.is
+    (done_then r (answer_call (bound_in c.args.self.now.setting) c.args.self.now.setting.instance r.frame (calls_in c.args.self.now.setting r.left) (call_of c.in-Call.call) r.state) (λ fr l i s. Has tt s))
     c.call_and_go.ensures
 
 pub returns-in-Assign : goal.returns-in-Assign
 returns-in-Assign c =
-    let r = (store_seen c.args.self.now) in
-    tells_by c.target.result c.args.self.now c.target.new.self _ _
-    (ap (λ k. done r (simple (bound_in c.args.self.now.setting) c.args.self.now.setting.instance r.frame (calls_in c.args.self.now.setting r.left)
-    (simple_of k) r.state)) c.in-Assign.is) c.target.ensures
+    let r = store_seen c.args.self.now in
+    simple_by c.target.result c.args.self.now c.target.new.self c.args.simple _ _ c.in-Assign.is
+    refl
+    c.target.ensures
 
 pub returns-in-Update : goal.returns-in-Update
 returns-in-Update c =
-    let r = (store_seen c.args.self.now) in
-    tells_by c.target-in-Update.result c.args.self.now c.target-in-Update.new.self _ _
-    (ap (λ k. done r (simple (bound_in c.args.self.now.setting) c.args.self.now.setting.instance r.frame (calls_in c.args.self.now.setting r.left)
-    (simple_of k) r.state)) c.in-Update.is) c.target-in-Update.ensures
+    let r = store_seen c.args.self.now in
+    simple_by c.target-in-Update.result c.args.self.now c.target-in-Update.new.self c.args.simple _ _ c.in-Update.is
+    refl
+    c.target-in-Update.ensures
 
 pub returns-in-Step : goal.returns-in-Step
 returns-in-Step c =
-    let r = (store_seen c.args.self.now) in
-    tells_by c.target-in-Step.result c.args.self.now c.target-in-Step.new.self _ _
-    (ap (λ k. done r (simple (bound_in c.args.self.now.setting) c.args.self.now.setting.instance r.frame (calls_in c.args.self.now.setting r.left)
-    (simple_of k) r.state)) c.in-Step.is) c.target-in-Step.ensures
+    let r = store_seen c.args.self.now in
+    simple_by c.target-in-Step.result c.args.self.now c.target-in-Step.new.self c.args.simple _ _ c.in-Step.is
+    refl
+    c.target-in-Step.ensures

@@ -1,3 +1,4 @@
+use Rattle.isp_solo_run.proofs.Runs.{no_step_tells, step_tells}
 use Rattle.isp_solo_run.specs.Tasks.{store_seen}
 use Rattle.isp_solo_run.proofs.Results.{at_found}
 use Rattle.isp_solo_run.proofs.Runs.{step_goes, no_step}
@@ -7,9 +8,9 @@ use Rattle.isp_solo_run.proofs.state.Single.step.Goals as goal
 pub returns-in-Some : goal.returns-in-Some
 returns-in-Some c =
     let old = c.args.self.now in
-    tells_by c.both.result old c.both.new.self _ _ (step_goes old (store_seen old) c.args.turning c.in-Ok.after c.in-Some.step (at_found _ c.new.result _ c.in-Ok.is c.new.ensures.ok) c.in-Some.is) c.both.ensures
+    step_tells c.both.result old c.both.new.self c.args.turning c.in-Ok.after c.in-Some.step (at_found _ c.new.result _ c.in-Ok.is c.new.ensures.ok) c.in-Some.is c.both.ensures
 
 pub returns-in-None : goal.returns-in-None
 returns-in-None c =
     let old = c.args.self.now in
-    tells_by c.later.result old c.later.new.self _ _ (no_step old (store_seen old) c.args.turning c.in-Ok.after (at_found _ c.new.result _ c.in-Ok.is c.new.ensures.ok) c.in-None.is) c.later.ensures
+    no_step_tells c.later.result old c.later.new.self c.args.turning c.in-Ok.after (at_found _ c.new.result _ c.in-Ok.is c.new.ensures.ok) c.in-None.is c.later.ensures

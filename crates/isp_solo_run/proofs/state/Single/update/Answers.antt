@@ -15,7 +15,7 @@ use Rattle.isp_solo_run.proofs.state.Single.update.Goals as goal
 pub returns-in-Err : goal.returns-in-Err
 returns-in-Err c =
     let old = c.args.self.now in
-    update_stops c.in-Err.stop old c.hold.new.self c.args.operator c.args.elem (place_of c.args.target.now) (spot_seen c.args.place) c.args.right c.args.span
+    update_stops _ c.in-Err.stop old c.hold.new.self c.args.operator c.args.elem (place_of c.args.target.now) (spot_seen c.args.place) c.args.right c.args.span
     (subst (λ (s : Span). Finds (Err c.in-Err.stop) old c.hold.new.self s (spot_seen c.args.place)) c.span.ensures (subst (λ (q : Result ℕ Stop). Finds q old c.hold.new.self c.span.result (spot_seen c.args.place)) c.in-Err.is c.hold.ensures))
 
 pub returns-then-is_zero : goal.returns-then-is_zero
