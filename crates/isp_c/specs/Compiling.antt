@@ -1,24 +1,25 @@
 -- What isp_compile does.
 use Rattle.std.specs.Prelude.{◌≡◌, ◌≢◌, ℕ, List, codes, Result, Ok, Err, IsUtf8}
-use Rattle.isp_asm.specs.Spelling.{text_of}
 use Rattle.isp_base.specs.Types.{gang_width}
 use Rattle.isp_base.specs.declared.types.Gang.{Gang}
 use Rattle.isp_code.specs.Listing.{Listing}
+use Rattle.isp_engine.specs.Compilation.{IsCompilation}
 use Rattle.isp_engine.specs.Front.{IsFaulty}
-use Rattle.isp_engine.specs.Images.{IsCompilation}
+use Rattle.isp_engine.specs.Loading.{IsLoaded}
 use Rattle.isp_engine.specs.declared.failure.Failure.TheVariants.{Source, CannotRead, Memory}
 use Rattle.isp_c.specs.Rooms.{Answers}
 use Rattle.isp_c.specs.declared.refusal.Refusal.{Refusal}
 use Rattle.isp_c.specs.declared.refusal.Refusal.TheVariants.{NoGang, Failed}
 use Rattle.isp_c.specs.declared.report.Report.{Report}
 
--- the text of the code that the source is compiled to
+-- the text that is loaded as the code that the source is compiled to
 pub record IsCodeText (width : ℕ) (source text : List ℕ) : Type 0 where
   pub gang : Gang
   pub width_is : gang_width gang ≡ width
   pub code : Listing
   pub compiles : IsCompilation gang source code
-  pub text_is : text ≡ text_of code
+  pub loads : IsLoaded text code
+  pub utf8 : IsUtf8 text
 
 -- why there is none
 abbrev pub NoCodeText : ℕ → List ℕ → Refusal → Type 0

@@ -7,7 +7,8 @@ use Rattle.isp_base.specs.declared.types.Value.{Value}
 use Rattle.isp_code.specs.Entries.{IsEntry, IsExport, parameters_of}
 use Rattle.isp_code.specs.Listing.{Listing, Routine}
 use Rattle.isp_engine.specs.BoundReports.{MeansBound, RunsBound}
-use Rattle.isp_engine.specs.Images.{IsCompilation, IsLoaded, IsNotLoaded}
+use Rattle.isp_engine.specs.Compilation.{IsCompilation}
+use Rattle.isp_engine.specs.Loading.{IsLoaded, IsNotLoaded}
 use Rattle.isp_engine.specs.declared.failure.Failure.TheVariants.{BudgetUsed, CannotRead, Code, Memory, Run, Trapped}
 use Rattle.isp_engine.specs.declared.fault.RunFault.TheVariants.{NoEntry}
 use Rattle.isp_engine.specs.declared.report.BoundReport.{BoundReport}

@@ -1,14 +1,13 @@
 //! A source text is compiled to code text.
 ghost use Rattle.std.specs.Prelude.{◌≡◌, IfErr, IfOk, string_bytes};
 ghost use Rattle.isp_base.specs.Types.{gang_width};
-ghost use Rattle.isp_engine.specs.Images.{IsCompilation};
+ghost use Rattle.isp_engine.specs.Compilation.{IsCompilation};
 ghost use Rattle.isp_c.specs.Compiling.{Compiles, IsCodeText, NoCodeText};
 ghost use Rattle.isp_c.specs.Rooms.{Gives};
 
 use crate::refusal::Refusal;
 use crate::report::{Report, done, refuse};
 use crate::room::put;
-use isp_asm::write;
 use isp_base::Gang;
 use isp_engine::{Failure, Image, compile};
 use isp_lex::SourceFault;
@@ -63,7 +62,7 @@ fn code_text(alloc: Global, source: &[u8], gang: u32) -> Result<String, Refusal<
         return Err(Refusal::NoGang);
     };
     let image = compiled(alloc, text, gang)?;
-    match write(alloc, image.code()) {
+    match image.text(alloc) {
         Ok(text) => Ok(text),
         Err(_) => Err(Refusal::Failed(Failure::Memory)),
     }

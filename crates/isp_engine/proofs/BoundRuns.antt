@@ -88,7 +88,7 @@ over Running x c h = absurd h
 over Ended x c h = refl
 over (Trapped t) x c h = absurd h
 
-shows : (rs : List Row) (s : State) (r : BoundReport) → Leaves rs s r → Shows (outcome rs s) r
+pub shows : (rs : List Row) (s : State) (r : BoundReport) → Leaves rs s r → Shows (outcome rs s) r
 shows rs (Going c) r l = (cut r.stop c l.stop, l.result, l.output)
 shows rs (Fell t c) r l = (fell r.stop t c l.stop, l.arrays, l.result, l.output)
 shows rs (Over x c) r l = (over r.stop x c l.stop, l.arrays, l.result, l.output)

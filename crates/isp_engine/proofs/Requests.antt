@@ -17,7 +17,7 @@ use Rattle.isp_engine.specs.Commands.{Given, IsNoImage, NotGiven, Ran, RunEnds}
 use Rattle.isp_engine.specs.Stories.{Holds, Reads, Unread}
 use Rattle.isp_engine.specs.Failures.{code_failure, source_failure}
 use Rattle.isp_engine.specs.Front.{IsFaulty}
-use Rattle.isp_engine.specs.Images.{IsNotLoaded}
+use Rattle.isp_engine.specs.Loading.{IsNotLoaded}
 
 -- ---- a text that gives no code
 

@@ -19,7 +19,7 @@ use Rattle.isp_engine.specs.declared.report.Report.{Report}
 use Rattle.isp_bind.specs.Binding.{bound_of}
 use Rattle.isp_bind.specs.declared.fault.BindFault.{BindFault}
 use Rattle.isp_bind.specs.declared.fault.BindFault.TheVariants as bind
-use Rattle.isp_engine.specs.Faults.{run_fault}
+use Rattle.isp_engine.specs.RunFaults.{run_fault}
 use Rattle.isp_engine.specs.Reports.{Reports, ReportsRun, Executes}
 use Rattle.isp_engine.specs.declared.fault.RunFault.TheVariants as fault
 use Rattle.isp_engine.specs.Stops.{StopsAs}

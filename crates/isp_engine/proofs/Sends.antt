@@ -54,7 +54,7 @@ ended_bytes : (text : List ℕ) (a : Option (String Global)) → MatchOption a �
 ended_bytes text None h = absurd h
 ended_bytes text (Some s) h = ap (λ z. z ++ 10 ∷ []) h
 
-report_sent : (ps : List Parameter) (o : Outcome) (r : Report) → Reports ps o r → report_bytes r ≡ sent ps o
+pub report_sent : (ps : List Parameter) (o : Outcome) (r : Report) → Reports ps o r → report_bytes r ≡ sent ps o
 report_sent ps (Ends arrays answer out) r h = ap (λ z. z ++ answer_bytes r.answer) h.1 ∙ ap (λ z. out ++ z) (ended_bytes _ r.answer h.2)
 report_sent ps (Traps t arrays out) r h = ap (λ z. z ++ answer_bytes r.answer) h.1 ∙ ap (λ z. out ++ answer_bytes z) h.2 ∙ append-nil out
 report_sent ps (GoesOn out) r h = ap (λ z. z ++ answer_bytes r.answer) h.1 ∙ ap (λ z. out ++ answer_bytes z) h.2 ∙ append-nil out

@@ -6,7 +6,6 @@
 use Rattle.std.specs.Prelude.{◌≡◌, ◌≢◌, ◌⊎◌, ℕ, List, [], Bool, Option, Some, Result, Ok, Err, ⊤}
 use Rattle.isp_base.specs.declared.types.Gang.{Gang}
 use Rattle.isp_code.specs.Listing.{Listing}
-use Rattle.isp_asm.specs.Spelling.{text_of}
 use Rattle.isp_engine.specs.declared.commands.Job.{Job}
 use Rattle.isp_engine.specs.declared.commands.Origin.{Origin}
 use Rattle.isp_engine.specs.declared.commands.Origin.TheVariants.{Compiled, Loaded}
@@ -26,7 +25,8 @@ use Rattle.isp_engine.specs.Failures.{failure_line, line_of, run_failure, status
 use Rattle.isp_engine.specs.Sending.{Sends}
 use Rattle.isp_engine.specs.Sinks.{TookAll}
 use Rattle.isp_engine.specs.Front.{IsFaulty}
-use Rattle.isp_engine.specs.Images.{IsCompilation, IsLoaded, IsNotLoaded}
+use Rattle.isp_engine.specs.Compilation.{IsCompilation}
+use Rattle.isp_engine.specs.Loading.{IsLoaded, IsNotLoaded}
 use Rattle.isp_engine.specs.Meaning.{Means}
 use Rattle.isp_engine.specs.Reports.{Executes}
 use Rattle.isp_engine.specs.Checking.{WroteVerdicts}
@@ -100,14 +100,16 @@ RunEnds holds job old new failed end = Runs holds job old new failed end ⊎ Sto
 
 -- ---- asm
 
--- the code that the source is compiled to
-pub record Assembled (holds : Holds) (q : AsmRequest) (code : Listing) : Type 0 where
+-- the text that is loaded as the code that the source is compiled to
+pub record Assembled (holds : Holds) (q : AsmRequest) (bytes : List ℕ) : Type 0 where
   pub text : List ℕ
   pub has_text : holds q.source.now (Some text)
+  pub code : Listing
   pub compiles : IsCompilation q.gang text code
+  pub loads : IsLoaded bytes code
 
 abbrev pub WroteCode : Holds → AsmRequest → Option (List ℕ) → Option (List ℕ) → Bool → Result ⊤ Failure → Type 0
-WroteCode holds q old new failed end = ((code : Listing) × Assembled holds q code × Writes (text_of code) old new failed end) ⊎ Stops (SourceFails holds q.gang q.source.now) old new failed end
+WroteCode holds q old new failed end = ((bytes : List ℕ) × Assembled holds q bytes × Writes bytes old new failed end) ⊎ Stops (SourceFails holds q.gang q.source.now) old new failed end
 
 -- ---- the whole
 

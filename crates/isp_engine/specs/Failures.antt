@@ -15,7 +15,8 @@ use Rattle.isp_engine.specs.declared.fault.CodeFault.{CodeFault}
 use Rattle.isp_engine.specs.declared.fault.CodeFault.TheVariants.{Memory as NoCodeMemory, Text as BadText, Code as BadCode}
 use Rattle.isp_engine.specs.declared.fault.RunFault.{RunFault}
 use Rattle.isp_engine.specs.declared.fault.RunFault.TheVariants.{Memory as NoRunMemory, NoEntry, Arguments, WriteFailed}
-use Rattle.isp_engine.specs.Faults.{code_fault_text, run_fault, run_fault_text}
+use Rattle.isp_engine.specs.CodeFaults.{code_fault_text}
+use Rattle.isp_engine.specs.RunFaults.{run_fault, run_fault_text}
 use Rattle.isp_engine.specs.declared.failure.Failure.{Failure}
 use Rattle.isp_engine.specs.declared.failure.Failure.TheVariants.{Source, Trapped, BudgetUsed, TurnsUsed, Run, CannotRead, CannotWrite, Memory, Code, NotIndependent, NotApart}
 

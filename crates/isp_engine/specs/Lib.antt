@@ -1,8 +1,10 @@
-pub mod Faults
+pub mod RunFaults
+pub mod CodeFaults
 pub mod Sinks
 pub mod Files
 pub mod Front
-pub mod Images
+pub mod Compilation
+pub mod Loading
 pub mod Reports
 pub mod Stops
 pub mod Sending

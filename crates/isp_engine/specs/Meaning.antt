@@ -16,7 +16,7 @@ use Rattle.isp_engine.specs.declared.fault.RunFault.{RunFault}
 use Rattle.isp_engine.specs.declared.fault.RunFault.TheVariants.{Memory, NoEntry}
 use Rattle.isp_engine.specs.declared.report.Ending.TheVariants.{Running}
 use Rattle.isp_engine.specs.declared.report.Report.{Report}
-use Rattle.isp_engine.specs.Faults.{run_fault}
+use Rattle.isp_engine.specs.RunFaults.{run_fault}
 use Rattle.isp_engine.specs.OneByOne.{StandAlone, left_one_by_one}
 use Rattle.isp_engine.specs.Reports.{Reports}
 

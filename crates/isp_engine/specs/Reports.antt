@@ -13,7 +13,7 @@ use Rattle.isp_engine.specs.declared.fault.RunFault.{RunFault}
 use Rattle.isp_engine.specs.declared.fault.RunFault.TheVariants.{Memory, NoEntry}
 use Rattle.isp_engine.specs.declared.report.Ending.TheVariants.{Ended, Trapped, Running}
 use Rattle.isp_engine.specs.declared.report.Report.{Report}
-use Rattle.isp_engine.specs.Faults.{run_fault}
+use Rattle.isp_engine.specs.RunFaults.{run_fault}
 
 -- the report of an outcome; only an end has an answer
 abbrev pub Reports : List Parameter → Outcome → Report → Type 0

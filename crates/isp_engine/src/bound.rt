@@ -6,7 +6,7 @@ ghost use Rattle.isp_base.specs.declared.types.Gang.{Gang};
 ghost use Rattle.isp_machine.specs.Kept.{given, state};
 ghost use Rattle.isp_store.specs.Held.{shapes_of};
 ghost use Rattle.isp_engine.specs.BoundReports.{Leaves, MeansBound, NotMeant, RefusesBound, RunsBound, StandsAs};
-ghost use Rattle.isp_engine.specs.Images.{IsCompilation};
+ghost use Rattle.isp_engine.specs.Compilation.{IsCompilation};
 
 use crate::image::Image;
 use crate::report::BoundReport;

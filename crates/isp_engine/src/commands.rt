@@ -1,7 +1,6 @@
 //! The whole program, over what it is handed.
 ghost use Rattle.std.specs.Prelude.{◌≡◌, ◌≢◌, false, string_bytes, Some, IfOk, IfErr};
 ghost use Rattle.isp_engine.specs.Commands.{Assembled, Commands, Ends, Given, IsImage, IsNoImage, NotGiven, Ran, RunEnds, WroteCode, end_of_ending, exit_status, job_of_exec as of_exec, job_of_run as of_run};
-ghost use Rattle.isp_asm.specs.Spelling.{text_of};
 ghost use Rattle.isp_engine.specs.Sinks.{Told};
 ghost use Rattle.isp_engine.specs.Stories.{SourceFails};
 ghost use Rattle.isp_engine.specs.declared.failure.Failure.TheVariants.{Memory};
@@ -17,7 +16,6 @@ use crate::run::run_to;
 use crate::sink::Sink;
 use crate::texts::{read_file, write_text};
 use clap::error::ErrorKind;
-use isp_asm::write;
 use isp_base::Gang;
 use isp_command_line::{AsmRequest, ExecRequest, Request, RunRequest, read_words};
 use std::alloc::Global;
@@ -187,28 +185,21 @@ fn asm<'a, F: SourceFiles, O: Sink>(
     requires { O.has_failed out.old ≡ false }
     ensures { WroteCode (F.holds files.now) request.now (O.written out.old) (O.written out.new) (O.has_failed out.new) result }
 {
-    let image = compiled(alloc, request, files)?;
-    let text = code_text(alloc, &image)?;
+    let text = assembled(alloc, request, files)?;
     write_text(text.as_str(), out)
 }
 
-fn compiled<'a, F: SourceFiles>(
+// The text of the code that a source is compiled to.
+fn assembled<'a, F: SourceFiles>(
     alloc: Global,
     request: &AsmRequest<'a>,
     files: &F,
-) -> Result<Image, Failure<'a>>
-    ensures ok { IfOk result (Assembled (F.holds files.now) request.now) }
+) -> Result<String, Failure<'a>>
+    ensures ok { IfOk result (λ s. Assembled (F.holds files.now) request.now (string_bytes s)) }
     ensures err { IfErr result (SourceFails (F.holds files.now) request.now.gang request.now.source.now) }
 {
     let source = read_file(alloc, files, request.source)?;
     let image = compile(alloc, source.as_str(), request.gang)?;
-    Ok(image)
-}
-
-// The text of the code of an image.
-fn code_text(alloc: Global, image: &Image) -> Result<String, Failure<'static>>
-    ensures ok { IfOk result (λ s. string_bytes s ≡ text_of image.now) }
-    ensures err { IfErr result (λ e. e ≡ Memory) }
-{
-    write(alloc, image.code()).map_err(|_| Failure::Memory)
+    let text = image.text(alloc)?;
+    Ok(text)
 }

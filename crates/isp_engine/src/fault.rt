@@ -1,7 +1,7 @@
 //! Why code is not loaded, and why a run gives no report.
 ghost use Rattle.std.specs.Prelude.{◌≡◌};
 ghost use Rattle.isp_bind.specs.Faults.{fault_text};
-ghost use Rattle.isp_engine.specs.Faults.{run_fault_text};
+ghost use Rattle.isp_engine.specs.RunFaults.{run_fault_text};
 
 use crate::sink::SinkFault;
 use isp_asm::AsmFault;
@@ -56,7 +56,7 @@ fn bind_fault_name(fault: BindFault) -> &'static str
 
 impl fmt::Display for RunFault {
     ghost use Rattle.std.specs.Prelude.{Some};
-    ghost use Rattle.isp_engine.specs.Faults.{run_fault_text};
+    ghost use Rattle.isp_engine.specs.RunFaults.{run_fault_text};
 
     ghost output = { λ f. Some (run_fault_text f) };
 
@@ -98,7 +98,7 @@ impl From<SinkFault> for RunFault {
 }
 
 impl From<BindFault> for RunFault {
-    ghost use Rattle.isp_engine.specs.Faults.{run_fault};
+    ghost use Rattle.isp_engine.specs.RunFaults.{run_fault};
 
     ghost from_gives = { λ f e. e ≡ run_fault f };
 
@@ -123,7 +123,7 @@ pub enum CodeFault {
 
 impl fmt::Display for CodeFault {
     ghost use Rattle.std.specs.Prelude.{Some};
-    ghost use Rattle.isp_engine.specs.Faults.{code_fault_text};
+    ghost use Rattle.isp_engine.specs.CodeFaults.{code_fault_text};
 
     ghost output = { λ f. Some (code_fault_text f) };
 
@@ -139,7 +139,7 @@ impl fmt::Display for CodeFault {
 impl Error for CodeFault {}
 
 impl From<AsmFault> for CodeFault {
-    ghost use Rattle.isp_engine.specs.Faults.{text_refusal};
+    ghost use Rattle.isp_engine.specs.CodeFaults.{text_refusal};
 
     ghost from_gives = { λ f e. e ≡ text_refusal f };
 
@@ -152,7 +152,7 @@ impl From<AsmFault> for CodeFault {
 }
 
 impl From<VerifyFault> for CodeFault {
-    ghost use Rattle.isp_engine.specs.Faults.{code_refusal};
+    ghost use Rattle.isp_engine.specs.CodeFaults.{code_refusal};
 
     ghost from_gives = { λ f e. e ≡ code_refusal f };
 

@@ -1,8 +1,7 @@
 //! Compiled programs, and code that was loaded.
-ghost use Rattle.std.specs.Prelude.{◌≡◌, ◌≢◌, List, None, Some, IfOk, IfErr, MatchResult};
+ghost use Rattle.std.specs.Prelude.{◌≡◌, ◌≢◌, List, None, Some, IfOk, IfErr, MatchResult, string_bytes};
 ghost use Rattle.isp_asm.specs.declared.fault.Fault.{Fault as TextFault};
 ghost use Rattle.isp_verify.specs.declared.fault.Fault.{Fault as CodeRefusal};
-ghost use Rattle.isp_asm.specs.Spelling.{text_of};
 ghost use Rattle.isp_code.specs.Listing.{Listing};
 ghost use Rattle.isp_code.specs.Writable.{IsWritable};
 ghost use Rattle.isp_lex.specs.declared.fault.Fault.{Fault};
@@ -10,19 +9,20 @@ ghost use Rattle.isp_rates.specs.Program.{IsAccepted};
 ghost use Rattle.isp_typed.specs.Typed.{Program};
 ghost use Rattle.isp_typed.specs.Views.{program_of};
 ghost use Rattle.isp_verify.specs.Faults.{code_fault};
+ghost use Rattle.isp_engine.specs.Compilation.{IsCompilation};
 ghost use Rattle.isp_engine.specs.Front.{IsFaulty, IsSource};
-ghost use Rattle.isp_engine.specs.Images.{IsCompilation, IsLoaded, IsNotLoaded};
+ghost use Rattle.isp_engine.specs.Loading.{IsCodeOf, IsLoaded, IsNotLoaded};
 
 use crate::fault::CodeFault;
 use crate::source::front;
-use isp_asm::read;
+use isp_asm::{read, write};
 use isp_base::Gang;
 use isp_code::Code;
 use isp_lex::SourceFault;
 use isp_masks::lower;
 use isp_rates::Checked;
 use isp_verify::{Verified, VerifyFault, verify};
-use std::alloc::Global;
+use std::alloc::{AllocError, Global};
 use std::marker::Model;
 
 /// A compiled program, or code that was loaded, which `execute` runs. Contracts see its code.
@@ -40,12 +40,22 @@ impl Model for Image {
 }
 
 impl Image {
-    /// The code, for the gang that it was compiled or written for. The verifier finds no fault in it.
+    /// The code, for the gang that it was compiled or written for. The verifier finds no fault in it, and it has a text.
     pub fn code(&self) -> &Code
         ensures same { result.now ≡ self.now }
         ensures fine { code_fault self.now ≡ None }
+        ensures writable { IsWritable self.now }
     {
-        self.verified.code()
+        let code = self.verified.code();
+        let _functions = code.functions();
+        code
+    }
+
+    /// The text of the code (docs/MACHINE.md, Code text), which `load_code` reads as this image. It fails where memory is refused.
+    pub fn text(&self, alloc: Global) -> Result<String, AllocError>
+        ensures { IfOk result (λ s. IsLoaded (string_bytes s) self.now) }
+    {
+        write(alloc, self.code())
     }
 
     /// The code, which is without a fault.
@@ -85,19 +95,24 @@ fn accepted(checked: &Checked)
     let _program = checked.program();
 }
 
-/// Reads code text and verifies the code.
+/// Reads code text and verifies the code. A text is that of one code at most.
 ///
 /// 60 to 63 of a text that is that of no code, with the line; then 40 to 45 of code that the verifier refuses, with the
 /// function and the instruction (docs/MACHINE.md). 0: memory was refused.
 pub fn load_code(alloc: Global, text: &str) -> Result<Image, CodeFault>
-    ensures loaded { IfOk result (λ image. IsLoaded text.now image) }
+    ensures loaded { IfOk result (IsLoaded text.now) }
     // The text of code without a fault gives that code, but for memory.
-    ensures only { (c : Listing) → IsWritable c → text_of c ≡ text.now → code_fault c ≡ None
-        → MatchResult result (λ image. image ≡ c) (λ e. e ≡ CodeFault.Memory) }
+    ensures only { (c : Listing) → IsLoaded text.now c → MatchResult result (λ image. image ≡ c) (λ e. e ≡ CodeFault.Memory) }
+    // The text of code with a fault gives the first one, but for memory.
+    ensures first { (c : Listing) (f : CodeRefusal) → IsCodeOf text.now c → code_fault c ≡ Some f
+        → MatchResult result (λ _. ⊥) (λ e. e ≢ CodeFault.Memory → e ≡ CodeFault.Code f) }
     ensures refused { IfErr result (λ e. e ≢ CodeFault.Memory → IsNotLoaded text.now e) }
 {
     match read(alloc, text) {
-        Ok(code) => verified(alloc, code),
+        Ok(code) => {
+            let _functions = code.functions();
+            verified(alloc, code)
+        }
         Err(fault) => Err(CodeFault::from(fault)),
     }
 }

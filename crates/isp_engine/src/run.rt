@@ -9,7 +9,7 @@ ghost use Rattle.isp_code.specs.Machine.{outcome};
 ghost use Rattle.isp_machine.specs.Kept.{given, state};
 ghost use Rattle.isp_machine.specs.declared.stop.Stop.TheVariants.{Memory};
 ghost use Rattle.isp_store.specs.Held.{shapes_of};
-ghost use Rattle.isp_engine.specs.Images.{IsCompilation};
+ghost use Rattle.isp_engine.specs.Compilation.{IsCompilation};
 ghost use Rattle.isp_engine.specs.Meaning.{Means};
 ghost use Rattle.isp_engine.specs.Reports.{Executes, Reports, ReportsRun};
 ghost use Rattle.isp_engine.specs.Sending.{Sends, SendsOf, answer_bytes};

@@ -1,5 +1,8 @@
 mod Programs
+mod Accepted
 mod Same
 mod Turns
 mod Whole
 mod SoloRuns
+mod Answered
+mod FromSource

@@ -56,8 +56,8 @@ module _ (program : Program) (image : Listing) (entry json : List ℕ) (turns : 
       -- the machine stands where the gang has ended
       stands : (o : Outcome) → IsOver o → run_of program f turns xs ≡ o → outcome_after image f does.routine xs budget ≡ o
       stands o over e =
-          let first : outcome_after image f does.routine xs (enough program f xs turns) ≡ run_of program f turns xs = does.within turns (subst IsOver (sym e) over) in
-          does.same.stays (enough program f xs turns) budget few (subst IsOver (sym (first ∙ e)) over) ∙ first ∙ e
+          let first : outcome_after image f does.routine xs (enough program f xs turns) ≡ run_of program f turns xs = does.runs.within turns (subst IsOver (sym e) over) in
+          does.runs.same.stays (enough program f xs turns) budget few (subst IsOver (sym (first ∙ e)) over) ∙ first ∙ e
 
       ends_as : (arrays : List Row) (value : Option Value) → run_of program f turns xs ≡ Ends arrays value [] → EndsWith (answer_text h.parameters arrays value ++ 10 ∷ []) answer
       ends_as arrays value e =
@@ -82,7 +82,7 @@ solo_is_run gang text program image source compiled entry json turns bytes told 
     let same : compiled.program ≡ program = one_program gang text compiled.program program compiled.source source in
     let accepted : IsAccepted program = subst IsAccepted same compiled.accepted in
     let e = told.entered in
-    let does = headline gang text program image source compiled entry json e.number told.function told.bound e.export e.binds in
+    let does = headline gang text image compiled program source entry json e.number told.function told.bound e.export e.binds in
     let r = told.reports in
     let is_one = one_export program entry r.0 e.number r.1 told.function accepted r.2.export e.export in
     told_ends program image entry json turns bytes e.number told.function told.bound

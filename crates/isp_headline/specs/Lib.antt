@@ -1,3 +1,6 @@
 pub mod OneProgram
 pub mod Headline
+pub mod BoundHeadline
 pub mod SoloIsRun
+pub mod Answers
+pub mod FromSource

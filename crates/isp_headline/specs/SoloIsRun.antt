@@ -8,7 +8,7 @@ use Rattle.isp_engine.specs.declared.fault.RunFault.TheVariants.{Memory}
 use Rattle.isp_engine.specs.declared.report.Ending.TheVariants.{Ended}
 use Rattle.isp_engine.specs.declared.report.Report.{Report}
 use Rattle.isp_engine.specs.Front.{IsSource}
-use Rattle.isp_engine.specs.Images.{IsCompilation}
+use Rattle.isp_engine.specs.Compilation.{IsCompilation}
 use Rattle.isp_engine.specs.Meaning.{enough}
 use Rattle.isp_engine.specs.Reports.{Executes}
 use Rattle.isp_engine.specs.Sending.{report_bytes}

@@ -1,12 +1,18 @@
-//! What the contracts of `front`, `compile`, `execute` and `solo` come to together. No code is run here: each function carries a law
-//! in its contract.
+//! What the contracts of `front`, `compile`, `execute`, `run_to`, `execute_bound`, `solo` and of the commands come to together. No code
+//! is run here: each function carries a law in its contract.
+ghost use Rattle.isp_headline.specs.BoundHeadline.{BoundHeadline};
+ghost use Rattle.isp_headline.specs.FromSource.{ByExec, ByRun};
 ghost use Rattle.isp_headline.specs.Headline.{Headline};
-ghost use Rattle.isp_headline.specs.OneProgram.{OneProgram};
+ghost use Rattle.isp_headline.specs.OneProgram.{NoneRefused, OneProgram};
 ghost use Rattle.isp_headline.specs.SoloIsRun.{SoloIsRun};
 
-/// A text is at most one program.
+use isp_asm::text_laws;
+use isp_engine::SourceFiles;
+
+/// A text is at most one program, and no program is refused.
 pub fn one_program()
-    ensures { OneProgram }
+    ensures one { OneProgram }
+    ensures accepted { NoneRefused }
 {}
 
 /// For every accepted program and arguments, the machine ends with some arrays, result and output, or traps with some arrays and
@@ -17,7 +23,24 @@ pub fn headline()
     ensures { Headline }
 {}
 
+/// The same from arguments that are bound already, as bytes or by a caller.
+pub fn bound_headline()
+    ensures { BoundHeadline }
+{}
+
 /// What `solo` answers is what each run answers that has a budget large enough.
 pub fn solo_is_run()
     ensures { SoloIsRun }
 {}
+
+/// How `run` of a source ends, and what goes out: as is meant.
+pub fn by_run<F: SourceFiles>(files: &F)
+    ensures { ByRun (F.holds files.now) }
+{}
+
+/// The same of `exec`, where the file of the code holds what `asm` wrote of the source.
+pub fn by_exec<F: SourceFiles, G: SourceFiles>(files: &F, later: &G)
+    ensures { ByExec (F.holds files.now) (G.holds later.now) }
+{
+    text_laws();
+}

@@ -1,6 +1,8 @@
-//! The end as one statement: what becomes of a text, its code and an entry's arguments. No code is run here.
+//! The end as one statement: what becomes of a text, its code and an entry's arguments; and the calls of which it is the promise.
 #![tactic(auto)]
 
+mod calls;
 mod laws;
 
-pub use laws::{headline, one_program, solo_is_run};
+pub use calls::{Refusal, compile_as_meant, run_as_meant};
+pub use laws::{bound_headline, by_exec, by_run, headline, one_program, solo_is_run};

@@ -12,6 +12,8 @@ mod covered;
 #[cfg(test)]
 mod fakes;
 #[cfg(test)]
+mod meant;
+#[cfg(test)]
 mod reading;
 #[cfg(test)]
 mod refused;

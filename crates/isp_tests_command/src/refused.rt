@@ -5,7 +5,6 @@ use crate::commands::{ANSWER, FILES, page, words};
 use crate::fakes::{Page, Shelf};
 use crate::reading::{TEXT, gives};
 use crate::writes::{SENT, SHORT, image, runs};
-use isp_asm::write;
 use isp_base::Gang;
 use isp_engine::{
     CodeFault, Ending, FileFault, Image, Report, RunFault, command, compile, execute, front,
@@ -60,6 +59,14 @@ fn loaded(alloc: Global, text: &str, program: &Program<'_>) -> Tried {
     }
 }
 
+// What comes of the text of code, beside one that was written before.
+fn texted(alloc: Global, image: &Image, text: &str) -> Tried {
+    match image.text(alloc) {
+        Ok(again) => Tried::answered(again.as_str() == text),
+        Err(_) => Tried::Refused,
+    }
+}
+
 fn swept(alloc: Global, program: &Program<'_>) -> Result<(), Fail> {
     sweep_call(alloc, "front", || {
         match front(alloc, program.source, Gang::W4) {
@@ -70,7 +77,8 @@ fn swept(alloc: Global, program: &Program<'_>) -> Result<(), Fail> {
     sweep_call(alloc, "compile", || compiled(alloc, program))?;
     let image = compile(alloc, program.source, Gang::W4)?;
     sweep_call(alloc, "execute", || executed(alloc, &image, program))?;
-    let text = write(alloc, image.code())?;
+    let text = image.text(alloc)?;
+    sweep_call(alloc, "text", || texted(alloc, &image, text.as_str()))?;
     sweep_call(alloc, "load_code", || loaded(alloc, text.as_str(), program))
 }
 

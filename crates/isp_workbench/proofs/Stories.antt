@@ -13,7 +13,8 @@ use Rattle.isp_engine.specs.Checking.{WroteVerdicts}
 use Rattle.isp_engine.specs.Commands.{NotGiven, Ran, RunEnds, job_of_run}
 use Rattle.isp_engine.specs.Failures.{code_failure, source_failure}
 use Rattle.isp_engine.specs.Front.{IsFaulty}
-use Rattle.isp_engine.specs.Images.{IsCompilation, IsNotLoaded}
+use Rattle.isp_engine.specs.Compilation.{IsCompilation}
+use Rattle.isp_engine.specs.Loading.{IsNotLoaded}
 use Rattle.isp_engine.specs.Stories.{Holds, Reads, SourceFails, Unread, UnreadOf}
 use Rattle.isp_engine.proofs.Requests.{unread_first, unread_second}
 use Rattle.isp_engine.proofs.Written.{adds_nil}

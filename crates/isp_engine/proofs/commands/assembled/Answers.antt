@@ -1,6 +1,6 @@
 use Rattle.std.proofs.lemmas.Result.{err_from_is_err_and}
 use Rattle.isp_engine.proofs.Sources.{refused_source}
-use Rattle.isp_engine.proofs.commands.compiled.Goals as goal
+use Rattle.isp_engine.proofs.commands.assembled.Goals as goal
 
 pub returns-in_err-image-clause-err : goal.returns-in_err-image-clause-err
 returns-in_err-image-clause-err g c =
@@ -9,4 +9,4 @@ returns-in_err-image-clause-err g c =
 
 pub returns-clause-ok : goal.returns-clause-ok
 returns-clause-ok g c =
-    record { text = c.as_str.result.now; has_text = rw c.as_str.ensures.value c.in_ok-source.ensures.ok; compiles = c.in_ok-image.ensures.compiled }
+    record { text = c.as_str.result.now; has_text = rw c.as_str.ensures.value c.in_ok-source.ensures.ok; code = _; compiles = c.in_ok-image.ensures.compiled; loads = c.in_ok-text.ensures }
