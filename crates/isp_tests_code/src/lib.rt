@@ -4,4 +4,8 @@
 #[cfg(test)]
 mod codes;
 #[cfg(test)]
+mod limits;
+#[cfg(test)]
 mod refused;
+#[cfg(test)]
+mod scatter;

@@ -1,5 +1,5 @@
 //! Memory refused to what builds code and to the verifier, at each growth.
-use crate::codes::{add, add_scatter, is_scatter, scatter};
+use crate::scatter::{add, add_scatter, is_scatter, scatter};
 use isp_base::{Gang, Span};
 use isp_code::{Code, CodeLimit};
 use isp_tests_support::{Hoard, Tried, sweep};
