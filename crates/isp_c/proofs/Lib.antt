@@ -1,3 +1,4 @@
 mod Lines
 mod Runs
 mod Traces
+mod FromSource

@@ -7,3 +7,4 @@ pub mod Running
 pub mod Translating
 pub mod Tracing
 pub mod Commanding
+pub mod FromSource

@@ -7,6 +7,7 @@
 
 mod command;
 mod compile;
+mod laws;
 mod line;
 mod native;
 mod refusal;
@@ -18,6 +19,7 @@ mod trace;
 
 pub use command::{File, Used, isp_command};
 pub use compile::isp_compile;
+pub use laws::from_source;
 pub use native::isp_native;
 pub use report::{Report, Why};
 pub use run::{Job, isp_run};

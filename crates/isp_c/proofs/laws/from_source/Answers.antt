@@ -1,0 +1,8 @@
+use Rattle.isp_c.proofs.FromSource.{from_source, from_source_to_c}
+use Rattle.isp_c.proofs.laws.from_source.Goals as goal
+
+pub returns-clause-bytes : goal.returns-clause-bytes
+returns-clause-bytes c = from_source c.text_laws.ensures.one c.text_laws.ensures.faultless c.bound_headline.ensures
+
+pub returns-clause-file : goal.returns-clause-file
+returns-clause-file c = from_source_to_c c.text_laws.ensures.one c.text_laws.ensures.faultless
