@@ -17,15 +17,13 @@ SECONDS = 60
 LEAST = 60
 MEMORY = "isp: memory\n"
 # what docs/FAULTS.md says behind the line
-EXPLAINED = MEMORY + (
-    "The system gave no memory. The same command may end otherwise with more of it.\n"
-    "Fix: end other programs, or use smaller arrays and a shorter source.\n")
+EXPLAINED = MEMORY + "The system gave no memory.\nFix: end other programs, or use smaller arrays.\n"
 # the requests that the gate takes, by the file and the name: each command, each kind of explanation, and refused words
 TAKEN = {
     "commands.rows": ["isp run double.ispc f four.json", "isp exec scatter.isp f nines.json", "isp try a"],
     "check.rows": ["a rule that a called function breaks"],
     "solo.rows": ["print"],
-    "explain.rows": ["docs/FAULTS.md, 12 LeftOut", "docs/INDEPENDENCE.md, Asking", "docs/FAULTS.md, trap divide", "docs/FAULTS.md, 70 NotJson"],
+    "explain.rows": ["12 LeftOut", "docs/INDEPENDENCE.md, Asking", "trap divide", "70 NotJson"],
     "ispx.rows": [
         "and run", "a value in place of an array, by its parameter", "no entry, and what is exported", "count: output, answer and counts",
         "trace: with lanes, in a window", "the C file of a source", "the prototypes of the exported functions", "a command that is none"],
