@@ -4,10 +4,11 @@
 use Rattle.std.specs.Prelude.{ℕ, zero, suc, ◌+◌, ◌-◌, ◌*◌, ◌^◌, Bool, true, false, ◌&&◌, ◌||◌, nat_lt, nat_eq, if◌then◌else◌, Option, Some, None, ℤ, pos, negsuc, ◌+ℤ◌, unsigned_abs}
 use Rattle.std.specs.Int.{int_rem_euclid}
 use Rattle.isp_base.specs.declared.types.Elem.{Elem}
-use Rattle.isp_base.specs.declared.types.Elem.TheVariants.{Bool as Truth, I8, U8, I16, U16, I32, U32, I64, U64}
+use Rattle.isp_base.specs.declared.types.Elem.TheVariants.{I32}
 use Rattle.isp_base.specs.declared.operators.BinOp.{BinOp}
 use Rattle.isp_base.specs.declared.operators.BinOp.TheVariants.{And}
 use Rattle.isp_base.specs.Values.{width, number, wrap, op_bits}
+use Rattle.isp_base.specs.Ranks.{widened}
 use Rattle.isp_base.specs.Sets.{Mask}
 use Rattle.isp_base.specs.Access.{is_beyond}
 use Rattle.isp_base.specs.Maps.{Map, on}
@@ -74,18 +75,6 @@ neutral op t = 0
 -- each instance gets what the lower ones give
 abbrev pub exclusive_scan : BinOp → Elem → Map → ℕ → ℕ
 exclusive_scan op t x p = fold_below (op_bits op t) (neutral op t) x p
-
--- the type of a sum: twice as wide, up to 64 bits, of the same sign
-abbrev pub widened : Elem → Elem
-widened Truth = I64
-widened I8 = I16
-widened U8 = U16
-widened I16 = I32
-widened U16 = U32
-widened I32 = I64
-widened U32 = U64
-widened I64 = I64
-widened U64 = U64
 
 -- the sum of whole numbers, wrapped
 abbrev pub reduce_add : Elem → ℕ → Map → ℕ

@@ -1,4 +1,4 @@
--- The order of the element types, and the type in which two operands meet.
+-- The order of the element types, the type in which two operands meet, and that of a sum.
 use Rattle.std.specs.Prelude.{ℕ, Bool, ◌==◌, nat_lt, if◌then◌else◌}
 use Rattle.isp_base.specs.declared.types.Elem.{Elem}
 use Rattle.isp_base.specs.declared.types.Elem.TheVariants.{Bool as Truth, I8, U8, I16, U16, I32, U32, I64, U64}
@@ -31,3 +31,15 @@ common a b = if nat_lt (rank (operand a)) (rank (operand b)) then operand b else
 abbrev pub chosen : Elem → Elem → Elem
 chosen Truth Truth = Truth
 chosen a b = common a b
+
+-- the type of a sum: twice as wide, up to 64 bits, of the same sign
+abbrev pub widened : Elem → Elem
+widened Truth = I64
+widened I8 = I16
+widened U8 = U16
+widened I16 = I32
+widened U16 = U32
+widened I32 = I64
+widened U32 = U64
+widened I64 = I64
+widened U64 = U64

@@ -1,9 +1,8 @@
 //! Element types, rates, places and gangs.
 ghost use Rattle.std.specs.Prelude.{◌≡◌, ◌≢◌, ◌<◌, ◌≤◌, ◌⊎◌, None, Some, true};
-ghost use Rattle.isp_base.specs.Cross.{widened};
 ghost use Rattle.isp_base.specs.Sets.{any, everyone};
 ghost use Rattle.isp_base.specs.Types.{gang_width, span_to, widest};
-ghost use Rattle.isp_base.specs.Ranks.{chosen, common, operand, rank};
+ghost use Rattle.isp_base.specs.Ranks.{chosen, common, operand, rank, widened};
 ghost use Rattle.isp_base.specs.declared.types.Elem.{Elem};
 ghost use Rattle.isp_base.specs.declared.types.Gang.{Gang};
 

@@ -8,7 +8,8 @@ use Rattle.isp_base.specs.declared.types.Elem.TheVariants.{Bool as Truth, I8, U8
 use Rattle.isp_base.specs.Values.{width, number, wrap, wrap_to, convert_bits}
 use Rattle.isp_base.proofs.Words.{cut}
 use Rattle.isp_base.proofs.Wraps.{wrap_to-pos}
-use Rattle.isp_base.specs.Cross.{and_this, fold_below, widened, instance}
+use Rattle.isp_base.specs.Cross.{and_this, fold_below, instance}
+use Rattle.isp_base.specs.Ranks.{widened}
 use Rattle.isp_base.specs.Maps.{Map, lane_of, on}
 use Rattle.isp_base.specs.Sets.{flag_of}
 use Rattle.isp_cross.proofs.Places.{lifted}

@@ -1,6 +1,7 @@
 //! What the lanes of a mask give together.
 ghost use Rattle.std.specs.Prelude.{◌≡◌, ℕ, ◌%◌, ◌^◌, ◌<◌, ◌≤◌, List, length, replicate, false, not};
-ghost use Rattle.isp_base.specs.Cross.{widened, reduce_add, reduce_best, best, rank, any_of, all_of, reduce_equal};
+ghost use Rattle.isp_base.specs.Cross.{reduce_add, reduce_best, best, rank, any_of, all_of, reduce_equal};
+ghost use Rattle.isp_base.specs.Ranks.{widened};
 ghost use Rattle.isp_base.specs.Maps.{lane_of};
 ghost use Rattle.isp_base.specs.Sets.{flag_of};
 ghost use Rattle.isp_base.specs.Truths.{is_true};

@@ -20,7 +20,7 @@ use Rattle.isp_machine.specs.declared.stop.Stop.{Stop}
 use Rattle.isp_machine.specs.declared.stop.Stop.TheVariants.{Running, Trapped, Ended, Memory}
 use Rattle.isp_masks_code.specs.Agreement.{Agrees}
 use Rattle.isp_meaning.specs.Entries as meaning
-use Rattle.isp_rates.specs.Program.{IsAccepted}
+use Rattle.isp_rates.specs.Accepted.{IsAccepted}
 use Rattle.isp_store.specs.Held.{shapes_of}
 use Rattle.isp_typed.specs.Typed.{Program}
 use Rattle.isp_engine.specs.BoundReports.{Counts, IsCut, Leaves, MeansBound, NotMeant, RefusesBound, RunsBound, Shows, StandsAs}

@@ -15,7 +15,7 @@ use Rattle.isp_solo_law.proofs.Entry.{solo_runs_agree}
 use Rattle.isp_meaning.specs.Entries.{IsEntry, IsExport}
 use Rattle.isp_meaning.specs.Runs.{run_of}
 use Rattle.isp_typed.specs.Typed.{Program, TFunction}
-use Rattle.isp_rates.specs.Program.{IsAccepted}
+use Rattle.isp_rates.specs.Accepted.{IsAccepted}
 use Rattle.isp_masks_code.specs.Agreement.{RunsAgree, EntryAgrees, Agrees}
 use Rattle.isp_masks_code.proofs.Lemmas.{longer, grows}
 use Rattle.isp_engine.specs.declared.fault.RunFault.{RunFault}

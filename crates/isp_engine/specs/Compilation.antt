@@ -4,7 +4,7 @@ use Rattle.isp_base.specs.declared.types.Gang.{Gang}
 use Rattle.isp_code.specs.Listing.{Listing}
 use Rattle.isp_typed.specs.Typed.{Program}
 use Rattle.isp_masks_code.specs.Agreement.{Agrees}
-use Rattle.isp_rates.specs.Program.{IsAccepted}
+use Rattle.isp_rates.specs.Accepted.{IsAccepted}
 use Rattle.isp_engine.specs.Front.{IsSource}
 
 -- the text is the source of a program that is accepted, and the code agrees with it

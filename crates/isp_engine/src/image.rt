@@ -5,7 +5,7 @@ ghost use Rattle.isp_verify.specs.declared.fault.Fault.{Fault as CodeRefusal};
 ghost use Rattle.isp_code.specs.Listing.{Listing};
 ghost use Rattle.isp_code.specs.Writable.{IsWritable};
 ghost use Rattle.isp_lex.specs.declared.fault.Fault.{Fault};
-ghost use Rattle.isp_rates.specs.Program.{IsAccepted};
+ghost use Rattle.isp_rates.specs.Accepted.{IsAccepted};
 ghost use Rattle.isp_typed.specs.Typed.{Program};
 ghost use Rattle.isp_typed.specs.Views.{program_of};
 ghost use Rattle.isp_verify.specs.Faults.{code_fault};

@@ -11,7 +11,7 @@ use Rattle.isp_syntax.proofs.Promised.{one_tree}
 use Rattle.isp_typed.specs.Fine.{all_new}
 use Rattle.isp_typed.specs.Typed.{Program, TFunction}
 use Rattle.isp_types.specs.Functions.{IsProgram}
-use Rattle.isp_rates.specs.Program.{IsAccepted}
+use Rattle.isp_rates.specs.Accepted.{IsAccepted}
 use Rattle.isp_meaning.specs.Entries.{IsExport}
 use Rattle.isp_headline.specs.OneProgram.{OneProgram}
 

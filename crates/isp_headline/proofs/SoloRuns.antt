@@ -15,7 +15,7 @@ use Rattle.isp_code.specs.Listing.{Listing}
 use Rattle.isp_code.specs.Machine.{outcome_after}
 use Rattle.isp_typed.specs.Typed.{Program, TFunction}
 use Rattle.isp_independence.specs.Independent.{IsIndependent}
-use Rattle.isp_rates.specs.Program.{IsAccepted}
+use Rattle.isp_rates.specs.Accepted.{IsAccepted}
 use Rattle.isp_meaning.specs.Entries.{IsEntry}
 use Rattle.isp_meaning.specs.Payloads.{One}
 use Rattle.isp_meaning.specs.Runs.{run_of, answer_as}

@@ -15,7 +15,7 @@ use Rattle.isp_typed.specs.Typed.{Program, TFunction}
 use Rattle.isp_meaning.specs.Entries.{IsEntry}
 use Rattle.isp_meaning.specs.Payloads.{One}
 use Rattle.isp_meaning.specs.Runs.{run_of, answer_as}
-use Rattle.isp_rates.specs.Program.{IsAccepted}
+use Rattle.isp_rates.specs.Accepted.{IsAccepted}
 use Rattle.isp_solo_meaning.specs.Answers.{Answer, Has, Bad, Long, reached}
 use Rattle.isp_solo_meaning.specs.Longer.{Later}
 use Rattle.isp_solo_meaning.specs.OneByOne.{one_by_one, IsOrder}

@@ -24,7 +24,8 @@ use Rattle.isp_typed.specs.Fine.{HoldsArray, array_type, params_of, IsDeclared, 
 use Rattle.isp_typed.specs.Typed.{TFunction, Program}
 use Rattle.isp_rates.specs.Breaches.{OfEach}
 use Rattle.isp_rates.specs.Exits.{at_start}
-use Rattle.isp_rates.specs.Program.{IsAccepted, FunctionBreach}
+use Rattle.isp_rates.specs.Program.{FunctionBreach}
+use Rattle.isp_rates.specs.Accepted.{IsAccepted}
 use Rattle.isp_independence.specs.Reaches.{Reaches, itself, by_call, Calls, block_calls}
 use Rattle.isp_meaning.specs.Calls.{shared_sizes, store_or, same_rate, is_value, one_passed, each_passed, frame_of, begun, answer_at, answer_of, ended, called, calls_at}
 use Rattle.isp_meaning.specs.Expressions.{Passed, Values, Store}

@@ -9,9 +9,10 @@ use Rattle.isp_base.specs.declared.types.Rate.TheVariants.{Uniform, Varying}
 use Rattle.isp_lex.specs.Lexing.{IsWord}
 use Rattle.isp_typed.specs.declared.variable.Holds.TheVariants.{Local}
 use Rattle.isp_typed.specs.Typed.{TFunction, t_call, t_called, t_arguments, t_by_value}
-use Rattle.isp_typed.specs.Fine.{FineExpr, IsDeclared, IsSized, foreach_index}
+use Rattle.isp_typed.specs.Fine.{FineExpr, IsDeclared, IsSized}
+use Rattle.isp_typed.specs.Indices.{foreach_index}
 use Rattle.isp_typed.specs.Scoped.{ExprIn}
-use Rattle.isp_rates.specs.Program.{IsAccepted}
+use Rattle.isp_rates.specs.Accepted.{IsAccepted}
 use Rattle.isp_independence.specs.declared.dependence.Restriction.TheVariants.{Crossing, Printing, SharedArray, Outside, Turned, Foreach, Return}
 use Rattle.isp_independence.specs.Reaches.{itself}
 use Rattle.isp_solo_meaning.specs.Answers.{Answer}

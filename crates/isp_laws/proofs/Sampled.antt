@@ -12,9 +12,10 @@ use Rattle.isp_base.specs.declared.signature.Parameter.{Parameter}
 use Rattle.isp_base.specs.declared.types.Rate.TheVariants.{Uniform, Varying}
 use Rattle.isp_lex.specs.Lexing.{IsWord}
 use Rattle.isp_typed.specs.Typed.{TFunction, t_call, t_called, t_arguments, t_by_value}
-use Rattle.isp_typed.specs.Fine.{FineExpr, IsDeclared, foreach_index}
+use Rattle.isp_typed.specs.Fine.{FineExpr, IsDeclared}
+use Rattle.isp_typed.specs.Indices.{foreach_index}
 use Rattle.isp_typed.specs.declared.variable.Variable.{Variable}
-use Rattle.isp_rates.specs.Program.{IsAccepted}
+use Rattle.isp_rates.specs.Accepted.{IsAccepted}
 use Rattle.isp_meaning.specs.Runs.{run_of}
 use Rattle.isp_solo_meaning.specs.Answers.{Answer}
 use Rattle.isp_solo_meaning.specs.OneByOne.{IsOrder}

@@ -17,7 +17,7 @@ use Rattle.isp_typed.specs.Typed.{TStmt, t_block, t_declare, t_simple, t_if, t_i
 use Rattle.isp_typed.specs.Typed.{t_unmasked, t_jump, t_return, t_print, t_assert, TBlock, t_braces, TStmts, t_no_stmts, t_stmt_then}
 use Rattle.isp_rates.specs.declared.exits.Within.{Within}
 use Rattle.isp_rates.specs.Exits.{StmtBreach}
-use Rattle.isp_rates.specs.Program.{IsAccepted}
+use Rattle.isp_rates.specs.Accepted.{IsAccepted}
 use Rattle.isp_rates.specs.Rates.{ExprBreach}
 use Rattle.isp_independence.specs.declared.dependence.Dependence.{Dependence}
 use Rattle.isp_independence.specs.Crossing.{Cross, CrossPlace, CrossCall}

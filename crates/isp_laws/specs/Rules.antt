@@ -12,9 +12,9 @@ use Rattle.isp_tree.specs.declared.stmt.Jump.TheVariants.{Continue}
 use Rattle.isp_typed.specs.declared.library.Library.TheVariants.{ReduceAdd}
 use Rattle.isp_typed.specs.declared.variable.Holds.TheVariants.{Local}
 use Rattle.isp_typed.specs.declared.variable.Variable.{Variable}
-use Rattle.isp_typed.specs.Fine.{foreach_index}
+use Rattle.isp_typed.specs.Indices.{foreach_index}
 use Rattle.isp_typed.specs.Typed.{TExpr, t_convert, t_library, t_exprs, ty_of, t_with_size, t_update, TStmt, t_declare, t_simple, t_jump, t_print, TFunction}
-use Rattle.isp_rates.specs.Program.{IsAccepted}
+use Rattle.isp_rates.specs.Accepted.{IsAccepted}
 use Rattle.isp_independence.specs.declared.dependence.Dependence.{Dependence}
 use Rattle.isp_independence.specs.declared.dependence.Restriction.{Restriction}
 use Rattle.isp_independence.specs.declared.dependence.Restriction.TheVariants.{Crossing, Printing, SharedArray, Outside, Turned, Foreach, Return}

@@ -12,9 +12,9 @@ use Rattle.isp_base.specs.declared.signature.Argument.{Argument}
 use Rattle.isp_base.specs.declared.signature.Argument.TheVariants.{Value as AValue}
 use Rattle.isp_tree.specs.declared.stmt.Form.TheVariants.{Plain}
 use Rattle.isp_tree.specs.declared.stmt.Jump.TheVariants.{Break}
-use Rattle.isp_typed.specs.Fine.{foreach_index}
+use Rattle.isp_typed.specs.Indices.{foreach_index}
 use Rattle.isp_typed.specs.Typed.{t_constant, t_step, TStmt, t_simple, t_while, t_jump, TFunction}
-use Rattle.isp_rates.specs.Program.{IsAccepted}
+use Rattle.isp_rates.specs.Accepted.{IsAccepted}
 use Rattle.isp_independence.specs.Independent.{IsIndependent}
 use Rattle.isp_meaning.specs.Entries.{IsEntry}
 use Rattle.isp_meaning.specs.Runs.{run_of}

@@ -1,8 +1,8 @@
 //! From a text to its tokens.
-ghost use Rattle.std.specs.Prelude.{◌≡◌, ◌<◌, ◌≤◌, ◌+◌, ◌^◌, List, [], length, IfOk, IfErr, MatchResult, Some, true, ℕ};
+ghost use Rattle.std.specs.Prelude.{◌≡◌, ◌<◌, ◌≤◌, ◌+◌, ◌^◌, List, [], length, Err, IfOk, IfErr, MatchResult, Some, true, ℕ};
 ghost use Rattle.isp_lex.specs.Listed.{AreTokens, IsListed};
 ghost use Rattle.isp_lex.specs.Tokens.{TokenList};
-ghost use Rattle.isp_lex.specs.Lexing.{BeginsNothing, IsFault, IsFirstFault, IsRefused, IsText, Lexes, limit, slice};
+ghost use Rattle.isp_lex.specs.Lexing.{BeginsNothing, IsFault, IsFirstFault, IsRefused, IsText, Lexes, limit, slice, span};
 ghost use Rattle.std.specs.List.{All};
 ghost use Rattle.std.specs.Str.{IsUtf8};
 ghost use Rattle.isp_lex.specs.Cuts.{IsCut};
@@ -11,7 +11,9 @@ ghost use Rattle.isp_lex.specs.reader.Runs.{run_of};
 ghost use Rattle.isp_lex.specs.reader.Words.{word_kind};
 ghost use Rattle.isp_lex.specs.Bytes as class;
 ghost use Rattle.isp_lex.specs.Bytes.{all};
-ghost use Rattle.isp_lex.specs.declared.fault.SourceFault.TheVariants.{Memory};
+ghost use Rattle.isp_lex.specs.Faults.{fault};
+ghost use Rattle.isp_lex.specs.declared.fault.Rule.TheVariants.{TooLong};
+ghost use Rattle.isp_lex.specs.declared.fault.SourceFault.TheVariants.{Memory, Refused};
 ghost use Rattle.isp_lex.specs.declared.token.Token.{Token};
 ghost use Rattle.isp_lex.specs.declared.fault.Fault.{Fault};
 
@@ -144,6 +146,8 @@ pub fn lex(alloc: Global, text: &str) -> Result<Tokens, SourceFault>
     ensures only { (tokens : List Token) → Lexes 0 text.now tokens [] → length text.now ≤ limit
         → MatchResult result (λ t. t.items ≡ tokens) (λ e. e ≡ Memory) }
     ensures refused { IfErr result (λ e. IsRefused e text.now) }
+    // A text that is too long is refused before memory is asked for.
+    ensures long { limit < length text.now → result ≡ Err (Refused (fault TooLong (span 0 0))) }
 {
     if text.len() > SOURCE_LIMIT {
         return Err(refused(Rule::TooLong, 0, 0));

@@ -1,6 +1,6 @@
 -- The instructions of the library's functions have their operands.
 use Rattle.std.proofs.Common.{◌≡◌, ◌≢◌, ℕ, ◌+◌, ◌<◌, ◌≤◌, List, [], ◌∷◌, length, true, refl, sym, ap, ◌∙◌, arith}
-use Rattle.isp_base.specs.Cross.{widened}
+use Rattle.isp_base.specs.Ranks.{widened}
 use Rattle.isp_base.specs.declared.operators.UnaryOp.TheVariants.{Absolute, Not}
 use Rattle.isp_base.specs.declared.types.Elem.{Elem}
 use Rattle.isp_base.specs.declared.types.Elem.TheVariants.{Bool as Truth, I8, U8, I16, U16, I32, U32, I64, U64}

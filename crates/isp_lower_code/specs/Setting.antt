@@ -14,7 +14,8 @@ use Rattle.isp_code.specs.Listing.{Listing, Routine}
 use Rattle.isp_code.specs.Registers.{is_per_lane, passed, elem_of}
 use Rattle.isp_code.specs.declared.instr.Call.{Call}
 use Rattle.isp_code.specs.declared.instr.Instr.TheVariants as instr
-use Rattle.isp_typed.specs.Fine.{HoldsArray, params_of, foreach_index}
+use Rattle.isp_typed.specs.Fine.{HoldsArray, params_of}
+use Rattle.isp_typed.specs.Indices.{foreach_index}
 use Rattle.isp_typed.specs.Typed.{Program, TFunction}
 use Rattle.isp_typed.specs.declared.variable.ArrayVariable.{ArrayVariable}
 use Rattle.isp_meaning.specs.State.{State, Frame, extent}

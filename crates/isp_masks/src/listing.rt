@@ -2,7 +2,7 @@
 ghost use Rattle.std.specs.Prelude.{◌≡◌, ◌<◌, [], IfOk, OnOk};
 ghost use Rattle.std.specs.List.{All};
 ghost use Rattle.isp_lower.specs.Drafts.{TablesCanBeWritten, all_routines, draft_of};
-ghost use Rattle.isp_rates.specs.Program.{IsAccepted};
+ghost use Rattle.isp_rates.specs.Accepted.{IsAccepted};
 ghost use Rattle.isp_tree.specs.Nodes.{nodes_of_all};
 ghost use Rattle.isp_typed.specs.Nodes.{function_nodes};
 ghost use Rattle.isp_typed.specs.Views.{functions_of, program_of};

@@ -7,7 +7,7 @@ use Rattle.isp_base.specs.declared.types.Rate.{Rate}
 use Rattle.isp_base.specs.declared.types.Rate.TheVariants.{Uniform, Varying}
 use Rattle.isp_code.specs.Conf.{Conf}
 use Rattle.isp_code.specs.declared.instr.Instr.{Instr}
-use Rattle.isp_typed.specs.Fine.{foreach_index}
+use Rattle.isp_typed.specs.Indices.{foreach_index}
 use Rattle.isp_typed.specs.Typed.{TStmt, TRange}
 use Rattle.isp_typed.specs.declared.variable.ArrayVariable.{ArrayVariable}
 use Rattle.isp_meaning.specs.Outcomes.{Res, Went, Trapped, Cut}

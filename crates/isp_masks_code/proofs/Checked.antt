@@ -27,7 +27,8 @@ use Rattle.isp_rates.specs.Rates as rates
 use Rattle.isp_rates.specs.Rates.{goes_to, variables_of, DemandBreach, ExprBreach, PlaceBreach, BaseBreach, CallBreach, ArgumentsBreach, ArgumentBreach, ValuesBreach, part_rate}
 use Rattle.isp_lower_code.specs.Callees.{rate_held, rates_held, rates_in}
 use Rattle.isp_rates.specs.Exits.{at_start, in_loop, in_foreach, in_turns, in_unmasked, ItemBreach, SimpleBreach, FirstBreach, RangeBreach, StmtBreach, BlockBreach, StmtsBreach}
-use Rattle.isp_rates.specs.Program.{ParametersBreach, ResultBreach, FunctionBreach, IsAccepted}
+use Rattle.isp_rates.specs.Program.{ParametersBreach, ResultBreach, FunctionBreach}
+use Rattle.isp_rates.specs.Accepted.{IsAccepted}
 use Rattle.isp_typed.specs.Library.{asks_uniform, parts}
 use Rattle.isp_typed.specs.declared.library.Part.{Part}
 use Rattle.isp_typed.specs.declared.library.Part.TheVariants as part

@@ -27,7 +27,8 @@ use Rattle.isp_masks_code.specs.Statements.{body_layout}
 use Rattle.isp_lower_code.specs.Layout.{Layout, outside}
 use Rattle.isp_lower_code.specs.Rows.{Name, Variable, Result, Spare, Place, Fresh, Kept}
 use Rattle.isp_lower_code.specs.Tables.{AnyMask, IsLoadedIn, IsNamedIn, Table}
-use Rattle.isp_typed.specs.Fine.{FineBlock, FineFirst, FineRange, FineSimple, FineStmt, FineStmts, HoldsArray, foreach_index}
+use Rattle.isp_typed.specs.Fine.{FineBlock, FineFirst, FineRange, FineSimple, FineStmt, FineStmts, HoldsArray}
+use Rattle.isp_typed.specs.Indices.{foreach_index}
 use Rattle.isp_tree.specs.Sound.{IfAny}
 use Rattle.isp_code.specs.Listing.{Routine}
 use Rattle.isp_base.specs.Sets.{Mask}

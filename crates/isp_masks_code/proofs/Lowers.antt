@@ -12,7 +12,7 @@ use Rattle.isp_code.specs.Entries.{parameter_of, parameters_of, result_of}
 use Rattle.isp_code.specs.Listing.{Listing, Routine}
 use Rattle.isp_code.specs.Registers.{table_of, types_in}
 use Rattle.isp_code.specs.Writable.{parts_fit}
-use Rattle.isp_rates.specs.Program.{IsAccepted}
+use Rattle.isp_rates.specs.Accepted.{IsAccepted}
 use Rattle.isp_typed.specs.Fine.{AreParams, FineFunction, all_new, params_of}
 use Rattle.isp_typed.specs.Scoped.{ScopedFunction}
 use Rattle.isp_typed.specs.Typed.{Program, TFunction}

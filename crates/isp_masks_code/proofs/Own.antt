@@ -10,7 +10,8 @@ use Rattle.isp_base.specs.declared.types.Ty.{Ty}
 use Rattle.isp_tree.specs.Sound.{IfAny}
 use Rattle.isp_tree.specs.declared.stmt.Form.{Form}
 use Rattle.isp_tree.specs.declared.stmt.Form.TheVariants.{Plain, Coherent}
-use Rattle.isp_typed.specs.Fine.{HoldsValue, unique_index, foreach_index, FineRange, IsParam, AreParams, IsDeclared, FineExpr, FineFunction, FineValue, FineSimple, FineFirst, FineItem, FineReturned, FineStmt, FineBlock, FineStmts}
+use Rattle.isp_typed.specs.Fine.{HoldsValue, FineRange, IsParam, AreParams, IsDeclared, FineExpr, FineFunction, FineValue, FineSimple, FineFirst, FineItem, FineReturned, FineStmt, FineBlock, FineStmts}
+use Rattle.isp_typed.specs.Indices.{unique_index, foreach_index}
 use Rattle.isp_typed.specs.Typed.{TExpr, t_exprs, ty_of, type_of, TItem, TSimple, TFirst, t_first_declare, t_first_simple, TRange, TStmt, t_block, t_declare, t_simple, t_if, t_if_else, t_while, t_do, t_for, t_foreach}
 use Rattle.isp_typed.specs.Typed.{t_foreach_active, t_foreach_unique, t_unmasked, t_jump, t_return, t_print, t_assert, TBlock, t_braces, TStmts, t_no_stmts, t_stmt_then, TFunction}
 use Rattle.isp_base.specs.declared.signature.Parameter.{Parameter}

@@ -19,7 +19,7 @@ use Rattle.isp_masks_code.proofs.Bodies.{with_layout}
 use Rattle.isp_masks_code.specs.Statements.{body_layout}
 use Rattle.isp_lower_code.specs.Layout.{outside}
 use Rattle.isp_base.specs.Sets.{Mask}
-use Rattle.isp_typed.specs.Fine.{foreach_index}
+use Rattle.isp_typed.specs.Indices.{foreach_index}
 
 module _ (w : Setting) where
   -- what is returned is one of what the function gives

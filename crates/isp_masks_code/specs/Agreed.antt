@@ -2,7 +2,7 @@
 -- accepts it.
 use Rattle.std.specs.Prelude.{◌≡◌, None}
 use Rattle.isp_code.specs.Listing.{Listing}
-use Rattle.isp_rates.specs.Program.{IsAccepted}
+use Rattle.isp_rates.specs.Accepted.{IsAccepted}
 use Rattle.isp_typed.specs.Typed.{Program}
 use Rattle.isp_verify.specs.Faults.{code_fault}
 use Rattle.isp_masks_code.specs.Agreement.{Agrees}

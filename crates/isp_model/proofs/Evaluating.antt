@@ -6,7 +6,7 @@ use Rattle.isp_typed.specs.Typed.{TFunction}
 use Rattle.isp_typed.specs.Views.{function_of, program_of}
 use Rattle.isp_typed.specs.declared.function.Program.{Program}
 use Rattle.isp_typed.specs.declared.function.TypedFunction.{TypedFunction}
-use Rattle.isp_rates.specs.Program.{IsAccepted}
+use Rattle.isp_rates.specs.Accepted.{IsAccepted}
 use Rattle.isp_meaning.specs.Outcomes.{Val}
 use Rattle.isp_meaning.specs.Payloads.{Payload}
 use Rattle.isp_meaning.specs.Runs.{gives_of, meaning, outcome_of, state_of}

@@ -7,8 +7,6 @@ use Rattle.isp_lex.specs.declared.fault.Fault.{Fault}
 use Rattle.isp_lex.specs.declared.fault.Rule.TheVariants.{BadExport}
 use Rattle.isp_lex.specs.Faults.{fault}
 use Rattle.isp_typed.specs.declared.variable.Variable.{Variable}
-use Rattle.isp_typed.specs.Fine.{IsFine}
-use Rattle.isp_typed.specs.Scoped.{IsScoped}
 use Rattle.isp_typed.specs.Typed.{TFunction, Program}
 use Rattle.isp_rates.specs.Breaches.{Unmet, OfAny, OfEach}
 use Rattle.isp_rates.specs.Rates.{goes_to, rate_held}
@@ -32,9 +30,3 @@ FunctionBreach fs g f = ExportBreach g f ⊎ BlockBreach fs g.answer at_start g.
 
 abbrev pub ProgramBreach : Program → Fault → Type 0
 ProgramBreach p = OfEach (FunctionBreach p.functions) p.functions
-
--- what every program is that names, types, rates, exits and exports accept
-pub record IsAccepted (p : Program) : Type 0 where
-  pub fine : IsFine p
-  pub scoped : IsScoped p
-  pub sound : (f : Fault) → ProgramBreach p f → ⊥

@@ -9,7 +9,8 @@ ghost use Rattle.isp_independence.specs.Independent.{AreDependences, Depends, Is
 ghost use Rattle.isp_independence.specs.Reaches.{function_calls};
 ghost use Rattle.isp_independence.specs.Tables.{lists_of};
 ghost use Rattle.isp_rates.specs.Exports.{at_number, entry_from, exports_from};
-ghost use Rattle.isp_rates.specs.Program.{IsAccepted, ProgramBreach};
+ghost use Rattle.isp_rates.specs.Program.{ProgramBreach};
+ghost use Rattle.isp_rates.specs.Accepted.{IsAccepted};
 
 use isp_base::Signature;
 use isp_independence::Dependence;

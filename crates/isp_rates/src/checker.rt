@@ -26,6 +26,8 @@ pub fn check(alloc: Global, typed: Typed) -> Result<Checked, SourceFault>
     ensures accepted { IfOk result (λ c. (f : Fault) → ProgramBreach (program_of typed) f → ⊥) }
     // A refusal is a breach, and none is answered before it.
     ensures refused { IfErr result (λ e. (f : Fault) → e ≡ SourceFault.Refused f → Least (Some f) (ProgramBreach (program_of typed))) }
+    // Memory is asked for only where nothing is to be refused.
+    ensures memory { IfErr result (λ e. e ≡ SourceFault.Memory → (f : Fault) → ProgramBreach (program_of typed) f → ⊥) }
 {
     match program(typed.program()) {
         Some(fault) => Err(SourceFault::Refused(fault)),

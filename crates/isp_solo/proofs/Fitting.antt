@@ -11,7 +11,7 @@ use Rattle.isp_base.specs.declared.types.Elem.{Elem}
 use Rattle.isp_base.specs.declared.types.Value.{Value}
 use Rattle.isp_base.proofs.Gangs.{some_width}
 use Rattle.isp_typed.specs.Typed.{Program, TFunction}
-use Rattle.isp_rates.specs.Program.{IsAccepted}
+use Rattle.isp_rates.specs.Accepted.{IsAccepted}
 use Rattle.isp_independence.specs.Independent.{IsIndependent}
 use Rattle.isp_meaning.specs.Entries.{IsEntry}
 use Rattle.isp_meaning.specs.Outcomes.{Val, Gives, Fails, Stops}

@@ -10,7 +10,7 @@ use Rattle.isp_typed.specs.Typed.{Program as TProgram, TFunction}
 use Rattle.isp_typed.specs.Views.{program_of}
 use Rattle.isp_typed.specs.declared.function.Program.{Program}
 use Rattle.isp_rates.specs.Exports.{entry_from}
-use Rattle.isp_rates.specs.Program.{IsAccepted}
+use Rattle.isp_rates.specs.Accepted.{IsAccepted}
 use Rattle.isp_independence.specs.Independent.{IsIndependent}
 use Rattle.isp_meaning.specs.Entries.{IsEntry}
 use Rattle.isp_solo_meaning.specs.Runs.{solo_run, bound}

@@ -27,7 +27,8 @@ use Rattle.isp_typed.specs.Scoped.{ScopedFunction}
 use Rattle.isp_typed.specs.Typed.{TFunction, Program}
 use Rattle.isp_rates.specs.Breaches.{OfAny, OfEach}
 use Rattle.isp_rates.specs.Rates.{goes_to}
-use Rattle.isp_rates.specs.Program.{ResultBreach, FunctionBreach, IsAccepted}
+use Rattle.isp_rates.specs.Program.{ResultBreach, FunctionBreach}
+use Rattle.isp_rates.specs.Accepted.{IsAccepted}
 use Rattle.isp_independence.specs.Control.{start}
 use Rattle.isp_independence.specs.Independent.{leaves_early_block, IsCalled, IsIndependent}
 use Rattle.isp_independence.specs.Reaches.{block_calls, Reaches, itself, by_call}

@@ -12,7 +12,7 @@ use Rattle.isp_typed.specs.Scoped.{Scope, scope_after, scope_after_stmt}
 use Rattle.isp_typed.specs.Typed.{TExpr, TItem, TSimple, TStmt, TBlock, Program, rate_of}
 use Rattle.isp_typed.specs.declared.variable.Variable.{Variable}
 use Rattle.isp_rates.specs.declared.exits.Within.{Within as Around}
-use Rattle.isp_rates.specs.Program.{IsAccepted}
+use Rattle.isp_rates.specs.Accepted.{IsAccepted}
 use Rattle.isp_independence.specs.Independent.{IsCalled, IsIndependent}
 use Rattle.isp_independence.specs.declared.control.Control.{Control}
 use Rattle.isp_meaning.specs.State.{State, Frame}

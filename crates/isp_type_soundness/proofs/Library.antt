@@ -1,7 +1,8 @@
 -- What the library's functions give fits their types.
 use Rattle.std.specs.Prelude.{◌≡◌, ℕ, ◌-◌, ◌*◌, ◌^◌, ◌<◌, List, [], ◌∷◌, None, Bool, true, false, nat_eq, nat_lt, if◌then◌else◌, ℤ, pos, negsuc, ◌+ℤ◌}
 use Rattle.std.proofs.Common.{refl, arith, pow_pos, ltb-true, ltb-false}
-use Rattle.isp_base.specs.Cross.{widened, instance, within, of_two, or_zero, broadcast, rotate, shift, shuffle, shuffle_two, insert, fold_below, best, neutral, exclusive_scan}
+use Rattle.isp_base.specs.Cross.{instance, within, of_two, or_zero, broadcast, rotate, shift, shuffle, shuffle_two, insert, fold_below, best, neutral, exclusive_scan}
+use Rattle.isp_base.specs.Ranks.{widened}
 use Rattle.isp_base.specs.Maps.{Map}
 use Rattle.isp_base.specs.Sets.{Mask}
 use Rattle.isp_base.specs.Values.{width, number, op_bits}

@@ -19,7 +19,7 @@ use Rattle.isp_base.specs.declared.types.Elem.TheVariants.{Bool as Truth}
 use Rattle.isp_base.proofs.Gangs.{few_width, some_width}
 use Rattle.isp_base.proofs.RankLaws.{same_is}
 use Rattle.isp_base.specs.declared.types.Ty.{Ty}
-use Rattle.isp_rates.specs.Program.{IsAccepted}
+use Rattle.isp_rates.specs.Accepted.{IsAccepted}
 use Rattle.isp_typed.specs.Typed.{Program, TFunction}
 use Rattle.isp_typed.specs.Fine.{AreParams, IsParam, IsDeclared, FineFunction}
 use Rattle.isp_typed.specs.declared.variable.Holds.{Holds}

@@ -10,7 +10,7 @@ use Rattle.isp_base.specs.declared.signature.Argument.{Argument}
 use Rattle.isp_base.specs.declared.types.Elem.{Elem}
 use Rattle.isp_base.specs.declared.types.Value.{Value}
 use Rattle.isp_typed.specs.Typed.{Program, TFunction}
-use Rattle.isp_rates.specs.Program.{IsAccepted}
+use Rattle.isp_rates.specs.Accepted.{IsAccepted}
 use Rattle.isp_meaning.specs.Outcomes.{Val, Gives, Fails, Stops}
 use Rattle.isp_meaning.specs.Payloads.{Payload, sole}
 use Rattle.isp_meaning.specs.Runs.{meaning, state_of}

@@ -7,7 +7,7 @@ use Rattle.isp_lex.specs.declared.fault.Fault.{Fault}
 use Rattle.isp_typed.specs.Fine.{FineExpr}
 use Rattle.isp_typed.specs.Typed.{Program, TExpr, TFunction, rate_of}
 use Rattle.isp_typed.specs.declared.variable.Variable.{Variable}
-use Rattle.isp_rates.specs.Program.{IsAccepted}
+use Rattle.isp_rates.specs.Accepted.{IsAccepted}
 use Rattle.isp_rates.specs.Rates.{ExprBreach}
 use Rattle.isp_meaning.specs.State.{State, Frame}
 use Rattle.isp_meaning.specs.Payloads.{Payload, One, Each}

@@ -6,7 +6,7 @@
 use Rattle.std.specs.Prelude.{◌≡◌, ℕ, ◌+◌, ◌≤◌, ◌<◌, List, [], ◌∷◌, ◌++◌, length, map, take, drop, count_by, slice_get, bytes_eq, Bool, true, false, ◌==◌, ◌&&◌, ◌||◌, not, Option, Some, None, option_map}
 use Rattle.std.specs.List.{All, list_any}
 use Rattle.isp_base.specs.declared.types.Elem.{Elem}
-use Rattle.isp_base.specs.declared.types.Elem.TheVariants.{Bool as Truth, I32, U32, I64}
+use Rattle.isp_base.specs.declared.types.Elem.TheVariants.{Bool as Truth, I32, U32}
 use Rattle.isp_base.specs.declared.types.Rate.{Rate}
 use Rattle.isp_base.specs.declared.types.Rate.TheVariants.{Uniform, Varying}
 use Rattle.isp_base.specs.declared.types.Ty.{Ty}
@@ -23,6 +23,7 @@ use Rattle.isp_typed.specs.declared.variable.ArrayVariable.{ArrayVariable}
 use Rattle.isp_typed.specs.declared.variable.Holds.{Holds}
 use Rattle.isp_typed.specs.declared.variable.Holds.TheVariants as holds
 use Rattle.isp_typed.specs.declared.variable.Variable.{Variable}
+use Rattle.isp_typed.specs.Indices.{foreach_index, unique_index, active_index}
 use Rattle.isp_typed.specs.Library.{parts, part_elem, library_type}
 use Rattle.isp_typed.specs.Nodes.{program_nodes}
 use Rattle.isp_typed.specs.Typed.{TExpr, t_constant, t_program_index, t_place, t_convert, t_cast, t_unary, t_binary, t_compare, t_logic, t_choose, t_call, t_library, t_packed_store}
@@ -63,17 +64,6 @@ pub record HoldsArray (vars : List Variable) (a : ArrayVariable) : Type 0 where
 pub record IsSized (n : ℕ) : Type 0 where
   pub some : 1 ≤ n
   pub few : n ≤ 65536
-
--- the index of a `foreach` is a constant varying int32, that of a `foreach_unique` a constant uniform of the type of its
--- value, that of a `foreach_active` a constant uniform int64
-abbrev pub foreach_index : Variable
-foreach_index = record { holds = holds.Value (ty_of Varying I32); constant = true }
-
-abbrev pub unique_index : Elem → Variable
-unique_index e = record { holds = holds.Value (ty_of Uniform e); constant = true }
-
-abbrev pub active_index : Variable
-active_index = unique_index I64
 
 -- ---- operators
 

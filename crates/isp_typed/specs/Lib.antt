@@ -1,5 +1,6 @@
 pub mod Typed
 pub mod Nodes
+pub mod Indices
 pub mod Fine
 pub mod Scoped
 pub mod Samples

@@ -5,7 +5,7 @@ use Rattle.isp_base.specs.declared.types.Elem.TheVariants.{Bool as Truth, I32}
 use Rattle.isp_base.specs.declared.types.Rate.{Rate}
 use Rattle.isp_base.specs.declared.types.Rate.TheVariants.{Uniform, Varying}
 use Rattle.isp_base.specs.declared.types.Ty.{Ty}
-use Rattle.isp_base.specs.Cross.{widened}
+use Rattle.isp_base.specs.Ranks.{widened}
 use Rattle.isp_typed.specs.declared.library.Library.{Library}
 use Rattle.isp_typed.specs.declared.library.Library.TheVariants.{ReduceAdd, ReduceMin, ReduceMax, ReduceEqual, Any, All, None as NoneTrue, ScanAdd, ScanAnd, ScanOr, Broadcast}
 use Rattle.isp_typed.specs.declared.library.Library.TheVariants.{Rotate, Shift, Shuffle, ShuffleTwo, Extract, Insert, Min, Max, Clamp, Abs, Select}

@@ -34,7 +34,7 @@ use Rattle.isp_exprs.specs.Scopes.{with_name}
 use Rattle.isp_exprs.specs.Callees.{Heading}
 use Rattle.isp_types.specs.Numbering.{range_names, range_variables}
 use Rattle.isp_types.specs.Statements.{range_made, agrees, as_answer}
-use Rattle.isp_typed.specs.Fine.{foreach_index as index}
+use Rattle.isp_typed.specs.Indices.{foreach_index as index}
 use Rattle.isp_exprs.specs.reader.Judge.{judge}
 use Rattle.isp_types.specs.reader.JudgeStmts.{twice, judge_ranges, judge_returned, judge_values}
 use Rattle.isp_exprs.specs.reader.Lists.{and_one}

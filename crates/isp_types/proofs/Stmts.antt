@@ -24,7 +24,7 @@ use Rattle.isp_types.specs.Numbering.{or_nothing, item_names, item_variables, fi
 use Rattle.isp_types.specs.Declarations.{array_sized, with_initial, sized_item}
 use Rattle.isp_types.specs.Simple.{stated, assigned, stepped}
 use Rattle.isp_types.specs.Statements.{as_test, range_made, places, agrees, as_answer}
-use Rattle.isp_typed.specs.Fine.{foreach_index as index, active_index}
+use Rattle.isp_typed.specs.Indices.{foreach_index as index, active_index}
 use Rattle.isp_types.specs.Simple.{no_place}
 use Rattle.isp_types.specs.Nodes.{declared_first, declared_stmt, simple_stmt, if_stmt, if_else_stmt, while_stmt, do_stmt, for_stmt, foreach_stmt, active_stmt, unique_stmt, unmasked_stmt, return_stmt, print_stmt, assert_stmt, braces_made, stmts_made}
 use Rattle.isp_types.specs.Declarations.{item_typing, items_typing, declaration_typing}

@@ -15,7 +15,7 @@ use Rattle.isp_typed.specs.declared.stmt.TypedStmt.TheVariants as typed
 use Rattle.isp_typed.specs.Typed.{TExpr, t_foreach_unique, elem_of}
 use Rattle.isp_typed.specs.Verdicts.{both, made}
 use Rattle.isp_typed.specs.Views.{expr_of, stmt_of}
-use Rattle.isp_typed.specs.Fine.{unique_index}
+use Rattle.isp_typed.specs.Indices.{unique_index}
 use Rattle.isp_exprs.specs.declared.scope.Binding.{Binding}
 use Rattle.isp_exprs.specs.Scopes.{Meaning, next_known, with_name}
 use Rattle.isp_typed.proofs.Verdicts.{both_made}

@@ -15,7 +15,7 @@ use Rattle.isp_typed.specs.declared.variable.Holds.TheVariants as holds
 use Rattle.isp_typed.specs.declared.variable.Variable.{Variable}
 use Rattle.isp_typed.specs.Verdicts.{made}
 use Rattle.isp_typed.specs.Typed.{TExpr, elem_of}
-use Rattle.isp_typed.specs.Fine.{foreach_index as index, active_index, unique_index}
+use Rattle.isp_typed.specs.Indices.{foreach_index as index, active_index, unique_index}
 use Rattle.isp_exprs.specs.declared.scope.Binding.{Binding}
 use Rattle.isp_exprs.specs.declared.words.ValueWords.{ValueWords}
 use Rattle.isp_exprs.specs.Words.{value_said, type_declared}

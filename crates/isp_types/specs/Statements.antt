@@ -12,7 +12,7 @@ use Rattle.isp_lex.specs.Faults.{fault}
 use Rattle.isp_tree.specs.Tree.{Expr, First, first_declare, first_simple, Range, Stmt, block, empty, declare, simple, if_then, if_else, loop_while, loop_do, loop_for, foreach}
 use Rattle.isp_tree.specs.Tree.{foreach_active, foreach_unique, unmasked, jump, returning, print, assert, Block, braces, Stmts, no_stmts, stmt_then}
 use Rattle.isp_typed.specs.declared.variable.Variable.{Variable}
-use Rattle.isp_typed.specs.Fine.{foreach_index as index, active_index}
+use Rattle.isp_typed.specs.Indices.{foreach_index as index, active_index}
 use Rattle.isp_typed.specs.Typed.{TExpr, TFirst, t_first_simple, TRange, TStmt, t_block, t_jump, TBlock, t_braces, TStmts, t_no_stmts}
 use Rattle.isp_exprs.specs.declared.scope.Binding.{Binding}
 use Rattle.isp_exprs.specs.Typing.{Typing, exactly, both, made, provided, perhaps}

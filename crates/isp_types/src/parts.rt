@@ -10,7 +10,7 @@ ghost use Rattle.isp_types.specs.reader.Settings.{within};
 ghost use Rattle.isp_types.specs.Numbering.{first_names, first_variables, index_of, or_active};
 ghost use Rattle.isp_types.specs.Numbering.{range_names, range_variables, unique_names, unique_variables};
 ghost use Rattle.isp_types.specs.Statements.{as_answer, places, range_made};
-ghost use Rattle.isp_typed.specs.Fine.{active_index, foreach_index as index, unique_index};
+ghost use Rattle.isp_typed.specs.Indices.{active_index, foreach_index as index, unique_index};
 ghost use Rattle.isp_exprs.specs.Values.{converted};
 ghost use Rattle.isp_exprs.specs.reader.Judge.{judge};
 ghost use Rattle.isp_types.specs.reader.JudgeStmts.{judge_first, judge_ranges, judge_returned, judge_simple, judge_test};

@@ -1,8 +1,7 @@
 -- What is fine has no fault, and what has no fault is fine.
 use Rattle.std.proofs.Common.{◌≡◌, ◌≢◌, sym, ◌∙◌, ap, ap₂, refl, subst, ℕ, suc, ◌+◌, ◌<◌, List, [], ◌∷◌, length, take, Option, Some, None, Bool, true, not, ◌&&◌, eq-eqb, lt-ltb, arith}
 use Rattle.std.specs.Prelude.{nat_lt, slice_get}
-use Rattle.isp_base.specs.Cross.{widened}
-use Rattle.isp_base.specs.Ranks.{rank, same_elem}
+use Rattle.isp_base.specs.Ranks.{rank, same_elem, widened}
 use Rattle.isp_base.specs.declared.types.Elem.{Elem}
 use Rattle.isp_base.specs.declared.types.Elem.TheVariants.{Bool as Truth, I8, U8, I16, U16, I32, U32, I64, U64}
 use Rattle.isp_code.specs.Fine.{has_value, IsThere, IsWanted, IsWantedArray, IsGiven, OperandFine, AllFine, IsPassed, ArePassed, CallFine, CallsFine}

@@ -1,8 +1,7 @@
 -- What has no fault is fine.
 use Rattle.std.proofs.Common.{◌≡◌, sym, ◌∙◌, refl, subst, ◌<◌, List, [], ◌∷◌, length, map, Option, Some, None, true, false, not, ◌&&◌}
 use Rattle.std.specs.Prelude.{slice_get}
-use Rattle.isp_base.specs.Cross.{widened}
-use Rattle.isp_base.specs.Ranks.{same_elem}
+use Rattle.isp_base.specs.Ranks.{same_elem, widened}
 use Rattle.isp_base.specs.declared.types.Elem.{Elem}
 use Rattle.isp_base.specs.declared.types.Elem.TheVariants.{Bool as Truth}
 use Rattle.isp_code.specs.Fine.{has_value, IsThere, IsWanted, IsWantedArray, IsGiven, OperandFine, AllFine, IsPassed, ArePassed, CallFine, CallsFine}

@@ -2,8 +2,7 @@
 -- instructions in order, last whether control falls off the end.
 use Rattle.std.specs.Prelude.{ℕ, suc, ◌-◌, List, [], ◌∷◌, length, take, bytes_eq, Option, Some, None, Bool, true, false, not, ◌&&◌, ◌==◌, nat_lt, slice_get}
 use Rattle.std.specs.List.{list_any}
-use Rattle.isp_base.specs.Cross.{widened}
-use Rattle.isp_base.specs.Ranks.{same_elem}
+use Rattle.isp_base.specs.Ranks.{same_elem, widened}
 use Rattle.isp_base.specs.declared.types.Elem.{Elem}
 use Rattle.isp_base.specs.declared.types.Elem.TheVariants.{Bool as Truth}
 use Rattle.isp_code.specs.Fine.{has_value, is_word32, is_sum}

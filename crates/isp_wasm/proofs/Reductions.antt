@@ -6,7 +6,8 @@ use Rattle.std.proofs.lemmas.Bool.{ne_eqb}
 use Rattle.std.proofs.lemmas.Int.{ints, int_rem_euclid_is}
 use Rattle.std.proofs.lemmas.Nat.{pow_pos, and_le_l}
 use Rattle.std.proofs.Math.Nat.{add-mod-mod, mod-add-mod, le-mul_of_pos_right}
-use Rattle.isp_base.specs.Cross.{or_zero, instance, fold_below, and_this, any_of, all_of, reduce_equal, best, widened}
+use Rattle.isp_base.specs.Cross.{or_zero, instance, fold_below, and_this, any_of, all_of, reduce_equal, best}
+use Rattle.isp_base.specs.Ranks.{widened}
 use Rattle.isp_base.specs.Maps.{Map, on}
 use Rattle.isp_base.specs.Truths.{is_true}
 use Rattle.isp_base.specs.Values.{width, number, wrap, wrap_to, op_bits, convert_bits}

@@ -1,6 +1,6 @@
 -- The WebAssembly of each instruction.
 use Rattle.std.specs.Prelude.{ℕ, length, zero, suc, ◌+◌, ◌-◌, ◌*◌, ◌/◌, ◌%◌, ◌^◌, Option, Some, None, if◌then◌else◌, slice_get, nat_lt}
-use Rattle.isp_base.specs.Cross.{widened as sum_type}
+use Rattle.isp_base.specs.Ranks.{widened as sum_type}
 use Rattle.isp_base.specs.Sets as Sets
 use Rattle.isp_base.specs.Sets.{everyone, nobody}
 use Rattle.isp_base.specs.Values.{width, wrap}

@@ -10,7 +10,7 @@ use Rattle.isp_code.specs.declared.instr.Instr.TheVariants as instr
 use Rattle.isp_code.specs.declared.instr.JumpTest.TheVariants as jump
 use Rattle.isp_code.specs.declared.instr.MaskInstr.{MaskInstr}
 use Rattle.isp_code.specs.declared.instr.MaskInstr.TheVariants as mask
-use Rattle.isp_base.specs.Cross.{widened as sum_type}
+use Rattle.isp_base.specs.Ranks.{widened as sum_type}
 use Rattle.isp_code.specs.declared.instr.Reduction.{Reduction}
 use Rattle.isp_code.specs.declared.instr.Reduction.TheVariants as reduction
 use Rattle.isp_code.specs.declared.instr.ScalarInstr.{ScalarInstr}

@@ -12,7 +12,8 @@ use Rattle.isp_tree.specs.Tree.{foreach, foreach_active, foreach_unique, unmaske
 use Rattle.isp_typed.specs.declared.variable.Variable.{Variable}
 use Rattle.isp_exprs.specs.Typing.{perhaps}
 use Rattle.isp_typed.specs.Typed.{TExpr, TItem, TFirst, TStmt, TBlock, TStmts}
-use Rattle.isp_typed.specs.Fine.{IsDeclared, foreach_index as index, active_index}
+use Rattle.isp_typed.specs.Fine.{IsDeclared}
+use Rattle.isp_typed.specs.Indices.{foreach_index as index, active_index}
 use Rattle.isp_exprs.specs.declared.scope.Binding.{Binding}
 use Rattle.isp_exprs.specs.declared.words.ValueWords.{ValueWords}
 use Rattle.isp_exprs.specs.Words.{value_said}

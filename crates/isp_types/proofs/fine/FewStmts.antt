@@ -30,7 +30,7 @@ use Rattle.isp_types.specs.Numbering.{or_nothing, item_names, item_variables, fi
 use Rattle.isp_types.specs.Declarations.{item_typing, items_typing, declaration_typing}
 use Rattle.isp_types.specs.Simple.{stated, assigned_by, assignment_operator, target_typing, simple_typing}
 use Rattle.isp_types.specs.Statements.{as_answer, first_typing, test_typing, ranges_typing, values_typing, returned_typing, stmt_typing, block_typing, stmts_typing}
-use Rattle.isp_typed.specs.Fine.{foreach_index as index, active_index}
+use Rattle.isp_typed.specs.Indices.{foreach_index as index, active_index}
 use Rattle.isp_types.specs.Functions.{param_variable, param_names, param_span, body_typing, function_typing, functions_typing}
 use Rattle.isp_types.proofs.fine.Simples.{open_is}
 use Rattle.isp_types.proofs.fine.Passed.{no_ok}

@@ -20,7 +20,8 @@ use Rattle.isp_typed.specs.declared.variable.Holds.{Holds}
 use Rattle.isp_typed.specs.declared.variable.Holds.TheVariants as holds
 use Rattle.isp_typed.specs.declared.variable.Variable.{Variable}
 use Rattle.isp_typed.specs.Typed.{TExpr, TPlace, place_type, TItem, t_with_size, TSimple, TFirst, TRange, TFunction, elem_of}
-use Rattle.isp_typed.specs.Fine.{FineExpr, FinePlace, FineValue, FineTarget, FineItem, FineSimple, FineFirst, FineRange, IsSized, foreach_index as index}
+use Rattle.isp_typed.specs.Fine.{FineExpr, FinePlace, FineValue, FineTarget, FineItem, FineSimple, FineFirst, FineRange, IsSized}
+use Rattle.isp_typed.specs.Indices.{foreach_index as index}
 use Rattle.isp_exprs.specs.declared.scope.Known.{Known}
 use Rattle.isp_exprs.specs.declared.scope.Binding.{Binding}
 use Rattle.isp_exprs.specs.declared.words.ValueWords.{ValueWords}

@@ -12,7 +12,8 @@ use Rattle.isp_tree.specs.Tree.{Expr, First, Simple, Stmt, block, empty, declare
 use Rattle.isp_tree.specs.Tree.{foreach_unique, unmasked, jump, returning, print, assert, Block, braces, Stmts, no_stmts, stmt_then}
 use Rattle.isp_typed.specs.declared.variable.Variable.{Variable}
 use Rattle.isp_typed.specs.Typed.{TExpr, TFirst, TSimple, TStmt, TBlock, TStmts, TFunction, elem_of}
-use Rattle.isp_typed.specs.Fine.{FineValue, FineFirst, FineSimple, FineReturned, FineStmt, FineBlock, FineStmts, active_index, unique_index}
+use Rattle.isp_typed.specs.Fine.{FineValue, FineFirst, FineSimple, FineReturned, FineStmt, FineBlock, FineStmts}
+use Rattle.isp_typed.specs.Indices.{active_index, unique_index}
 use Rattle.isp_exprs.specs.declared.scope.Binding.{Binding}
 use Rattle.isp_exprs.specs.Scopes.{with_name}
 use Rattle.isp_exprs.specs.Callees.{Heading}

@@ -16,7 +16,7 @@ use Rattle.isp_tree.specs.Tree.{with_value, with_size, Declaration, Simple, valu
 use Rattle.isp_typed.specs.declared.variable.ArrayVariable.{ArrayVariable}
 use Rattle.isp_typed.specs.declared.variable.Variable.{Variable}
 use Rattle.isp_typed.specs.Typed.{TExpr, TPlace, place_type, TItem, TSimple, TFirst, TRange, elem_of}
-use Rattle.isp_typed.specs.Fine.{foreach_index as index}
+use Rattle.isp_typed.specs.Indices.{foreach_index as index}
 use Rattle.isp_typed.specs.Scoped.{Scope, declared, ExprIn, PlaceIn, SimpleIn, ItemAt, ItemsAt, FirstAt, RangesAt, number_after, scope_after, number_after_first, scope_after_first}
 use Rattle.isp_exprs.specs.declared.scope.Binding.{Binding}
 use Rattle.isp_exprs.specs.declared.words.ValueWords.{ValueWords}

@@ -13,7 +13,7 @@ use Rattle.isp_tree.specs.Tree.{foreach_unique, unmasked, jump, returning, print
 use Rattle.isp_typed.specs.declared.variable.Variable.{Variable}
 use Rattle.isp_exprs.specs.Typing.{perhaps}
 use Rattle.isp_typed.specs.Typed.{TExpr, TFirst, TSimple, TStmt, TBlock, TStmts, elem_of}
-use Rattle.isp_typed.specs.Fine.{active_index, unique_index}
+use Rattle.isp_typed.specs.Indices.{active_index, unique_index}
 use Rattle.isp_typed.specs.Scoped.{Scope, declared, ExprIn, SimpleIn, number_after, scope_after, number_after_first, scope_after_first, number_after_stmt, number_after_block, number_after_stmts, scope_after_stmt, StmtAt, BlockAt, StmtsAt}
 use Rattle.isp_exprs.specs.declared.scope.Binding.{Binding}
 use Rattle.isp_exprs.specs.Scopes.{with_name}

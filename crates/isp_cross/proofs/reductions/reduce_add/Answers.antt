@@ -5,7 +5,7 @@ use Rattle.std.specs.Simd.Lanes.{sel_l, fold_l}
 use Rattle.isp_base.specs.declared.types.Elem.{Elem}
 use Rattle.isp_base.specs.Rows.{Row}
 use Rattle.isp_base.specs.Values.{width, number, wrap, convert_bits}
-use Rattle.isp_base.specs.Cross.{widened}
+use Rattle.isp_base.specs.Ranks.{widened}
 use Rattle.isp_cross.specs.Lanes.{active}
 use Rattle.isp_cross.proofs.Sums.{widened_bits, sum_is, get_or-wide}
 use Rattle.isp_cross.proofs.reductions.reduce_add.Goals as goal
