@@ -1,11 +1,10 @@
-//! Arguments and answers: what a text is bound to, why it is refused, and what an answer says.
+//! Arguments and answers: what a text is bound to, why it is refused, and what an answer says. What should come out is worked out by hand.
 use crate::operators::elem_named;
-use isp_base::{Argument, Array, Elem, Name, Parameter, Signature, Value, wrap};
+use isp_base::{Argument, Array, Bound, Elem, Name, Parameter, Signature, Value, wrap};
 use isp_bind::{answer, bind};
 use isp_tests_support::{number, parted};
 use std::alloc::{AllocError, Global};
 use std::process::Abort;
-use std::test::Fail;
 
 /// Each line: the parameters, a text, and the refusal, or the answer with the arrays as they were bound and the last value
 /// as the result. Both ends of each type, and one past each; what JSON has beside the whole numbers of 64 bits; members by
@@ -75,80 +74,82 @@ x:int8;[];71 NotObject
 x:int8;{;70 NotJson
 "##;
 
-/// Each line: the type of a result, its bits, and how it is shown.
-const RESULTS: &str = r##"bool 1 true
-int8 128 -128
-uint8 128 128
-int16 32768 -32768
-uint16 32768 32768
-int32 2147483648 -2147483648
-uint32 2147483648 2147483648
-int64 9223372036854775808 -9223372036854775808
-uint64 9223372036854775808 9223372036854775808
+/// Each line: the type of a result, its bits, and the answer.
+const RESULTS: &str = r##"bool 1 {"arrays":{},"result":true}
+int8 128 {"arrays":{},"result":-128}
+uint8 128 {"arrays":{},"result":128}
+int16 32768 {"arrays":{},"result":-32768}
+uint16 32768 {"arrays":{},"result":32768}
+int32 2147483648 {"arrays":{},"result":-2147483648}
+uint32 2147483648 {"arrays":{},"result":2147483648}
+int64 9223372036854775808 {"arrays":{},"result":-9223372036854775808}
+uint64 9223372036854775808 {"arrays":{},"result":9223372036854775808}
 "##;
 
-fn parameter(
-    alloc: Global,
-    name: &str,
-    elem: Elem,
-    is_array: bool,
-) -> Result<Parameter, AllocError> {
-    Ok(Parameter {
-        name: Name::new(String::from_str(alloc, name)?),
+fn parameter(rt: &impl Abort, alloc: Global, name: &str, elem: Elem, is_array: bool) -> Parameter {
+    Parameter {
+        name: Name::new(String::from_str(alloc, name).expect(rt, "memory")),
         elem,
         is_array,
-    })
+    }
 }
 
-/// The parameters that a text names with their types; `[]` stands behind the type of an array.
-pub(crate) fn signature(alloc: Global, words: &str) -> Result<Signature, Fail> {
+// The parameter that a word names with its type; `[]` stands behind the type of an array.
+fn worded(rt: &impl Abort, alloc: Global, word: &str) -> Parameter {
+    let (name, kind) = parted(word, ':');
+    let array = kind.strip_suffix("[]");
+    let elem = elem_named(array.unwrap_or(kind)).expect(rt, "a type of another name");
+    parameter(rt, alloc, name, elem, array.is_some())
+}
+
+/// The parameters that a text names with their types.
+pub(crate) fn signature(rt: &impl Abort, alloc: Global, words: &str) -> Signature {
     let mut params = Vec::new(alloc);
     for word in words.split(' ') {
-        let (name, kind) = parted(word, ':');
-        let array = kind.strip_suffix("[]");
-        let elem = elem_named(array.unwrap_or(kind)).ok_or("a type of another name")?;
-        params.push(parameter(alloc, name, elem, array.is_some())?)?;
+        params.push(worded(rt, alloc, word)).expect(rt, "memory");
     }
-    Ok(Signature {
+    Signature {
         params,
         result: None,
-    })
+    }
 }
 
-// The refusal, or the answer with the arrays as they were bound and the last value as the result.
-fn outcome(alloc: Global, signature: &Signature, text: &str) -> Result<String, Fail> {
-    let bound = match bind(alloc, signature, text) {
-        Ok(bound) => bound,
-        Err(fault) => return Ok(format!(in alloc; "{fault}")?),
-    };
+/// The arrays among arguments, and the last value.
+pub(crate) fn parts(rt: &impl Abort, alloc: Global, bound: Bound) -> (Vec<Array>, Option<Value>) {
     let mut arrays = Vec::new(alloc);
     let mut returned = None;
     for argument in bound.arguments {
         match argument {
-            Argument::Array(array) => arrays.push(array)?,
+            Argument::Array(array) => arrays.push(array).expect(rt, "memory"),
             Argument::Value(value) => returned = Some(value),
         }
     }
-    Ok(answer(alloc, signature, arrays.as_slice(), returned)?)
+    (arrays, returned)
 }
 
-fn compare_text(rt: &impl Abort, alloc: Global, line: &str) -> Result<(), Fail> {
-    let (words, rest) = parted(line, ';');
-    let (text, wanted) = parted(rest, ';');
-    let found = outcome(alloc, &signature(alloc, words)?, text)?;
-    assert!(rt; found.as_str() == wanted, "{line}: {found}");
-    Ok(())
+// The refusal, or the answer with the arrays as they were bound and the last value as the result.
+fn outcome(rt: &impl Abort, alloc: Global, signature: &Signature, text: &str) -> String {
+    match bind(alloc, signature, text) {
+        Ok(bound) => {
+            let (arrays, returned) = parts(rt, alloc, bound);
+            answer(alloc, signature, arrays.as_slice(), returned).expect(rt, "memory")
+        }
+        Err(fault) => format!(in alloc; "{fault}").expect(rt, "memory"),
+    }
 }
 
 #[test]
-fn texts(rt: HostRuntime) -> Result<(), Fail> {
+fn texts(rt: HostRuntime) {
+    let alloc = rt.alloc();
     let mut lines = 0u64;
     for line in TEXTS.lines() {
-        compare_text(&rt, rt.alloc(), line)?;
+        let (words, rest) = parted(line, ';');
+        let (text, wanted) = parted(rest, ';');
+        let found = outcome(&rt, alloc, &signature(&rt, alloc, words), text);
+        assert!(rt; found.as_str() == wanted, "{line}: {found}");
         lines = lines.saturating_add(1);
     }
     assert_eq!(rt; lines, 63);
-    Ok(())
 }
 
 pub(crate) fn push_number(array: &mut Array, number: i128) -> Result<(), AllocError> {
@@ -156,68 +157,73 @@ pub(crate) fn push_number(array: &mut Array, number: i128) -> Result<(), AllocEr
     array.push(wrap(elem, number))
 }
 
-pub(crate) fn array_of(alloc: Global, elem: Elem, numbers: &[i128]) -> Result<Array, AllocError> {
+pub(crate) fn array_of(rt: &impl Abort, alloc: Global, elem: Elem, numbers: &[i128]) -> Array {
     let mut array = Array::empty(alloc, elem);
     for number in numbers {
-        push_number(&mut array, *number)?;
+        push_number(&mut array, *number).expect(rt, "memory");
     }
-    Ok(array)
+    array
 }
 
-// Arrays of each type, whose names are prefixes of one another, by name in byte order.
+// Arrays of each type, whose names are prefixes of one another.
+static ARRAYS: [(&str, Elem, [i128; 2]); 9] = [
+    ("b", Elem::Bool, [0, 1]),
+    ("ab", Elem::I8, [-128, 127]),
+    ("a_", Elem::U8, [0, 255]),
+    ("a", Elem::I16, [-32768, 32767]),
+    ("aa", Elem::U16, [0, 65535]),
+    ("aB", Elem::I32, [-2147483648, 2147483647]),
+    ("a0", Elem::U32, [0, 4294967295]),
+    ("B", Elem::I64, [-9223372036854775808, 9223372036854775807]),
+    ("_", Elem::U64, [0, 18446744073709551615]),
+];
+
+// By name in byte order.
+const OF_ARRAYS: &str =
+    "{\"arrays\":{\"B\":[-9223372036854775808,9223372036854775807],\"_\":[0,18446744073709551615],\"a\":[-32768,32767],\"a0\":[0,4294967295],\"aB\":[-2147483648,2147483647],\"a_\":[0,255],\"aa\":[0,65535],\"ab\":[-128,127],\"b\":[false,true]},\"result\":null}";
+
 #[test]
-fn answer_of_each_type(rt: HostRuntime) -> Result<(), Fail> {
+fn answer_of_each_type(rt: HostRuntime) {
     let alloc = rt.alloc();
     let mut params = Vec::new(alloc);
     let mut arrays = Vec::new(alloc);
-    for (name, elem, numbers) in [
-        ("b", Elem::Bool, [0, 1]),
-        ("ab", Elem::I8, [-128, 127]),
-        ("a_", Elem::U8, [0, 255]),
-        ("a", Elem::I16, [-32768, 32767]),
-        ("aa", Elem::U16, [0, 65535]),
-        ("aB", Elem::I32, [-2147483648, 2147483647]),
-        ("a0", Elem::U32, [0, 4294967295]),
-        ("B", Elem::I64, [-9223372036854775808, 9223372036854775807]),
-        ("_", Elem::U64, [0, 18446744073709551615]),
-    ] {
-        params.push(parameter(alloc, name, elem, true)?)?;
-        arrays.push(array_of(alloc, elem, &numbers)?)?;
+    for (name, elem, numbers) in &ARRAYS {
+        params
+            .push(parameter(&rt, alloc, name, *elem, true))
+            .expect(&rt, "memory");
+        arrays
+            .push(array_of(&rt, alloc, *elem, numbers))
+            .expect(&rt, "memory");
     }
     let signature = Signature {
         params,
         result: None,
     };
-    let text = answer(alloc, &signature, arrays.as_slice(), None)?;
-    assert_eq!(rt;
-        text.as_str(),
-        "{\"arrays\":{\"B\":[-9223372036854775808,9223372036854775807],\"_\":[0,18446744073709551615],\"a\":[-32768,32767],\"a0\":[0,4294967295],\"aB\":[-2147483648,2147483647],\"a_\":[0,255],\"aa\":[0,65535],\"ab\":[-128,127],\"b\":[false,true]},\"result\":null}"
-    );
-    Ok(())
+    let text = answer(alloc, &signature, arrays.as_slice(), None).expect(&rt, "memory");
+    assert!(rt; text.as_str() == OF_ARRAYS, "{text}");
 }
 
-fn compare_result(rt: &impl Abort, alloc: Global, line: &str) -> Result<(), Fail> {
-    let (word, rest) = parted(line, ' ');
-    let (bits, shown) = parted(rest, ' ');
-    let elem = elem_named(word).ok_or("a type of another name")?;
-    let bits = number(bits).ok_or("no number")?;
+// What is answered of a result alone.
+fn answered(rt: &impl Abort, alloc: Global, returned: Value) -> String {
     let signature = Signature {
         params: Vec::new(alloc),
         result: Some(Elem::I8),
     };
-    let text = answer(alloc, &signature, &[], Some(Value { elem, bits }))?;
-    let wanted = format!(in alloc; "{{\"arrays\":{{}},\"result\":{shown}}}")?;
-    assert_eq!(rt; text.as_str(), wanted.as_str());
-    Ok(())
+    answer(alloc, &signature, &[], Some(returned)).expect(rt, "memory")
 }
 
 #[test]
-fn result_of_each_type(rt: HostRuntime) -> Result<(), Fail> {
+fn result_of_each_type(rt: HostRuntime) {
+    let alloc = rt.alloc();
     let mut lines = 0u64;
     for line in RESULTS.lines() {
-        compare_result(&rt, rt.alloc(), line)?;
+        let (word, rest) = parted(line, ' ');
+        let (bits, shown) = parted(rest, ' ');
+        let elem = elem_named(word).expect(&rt, "a type of another name");
+        let bits = number(bits).expect(&rt, "no number");
+        let text = answered(&rt, alloc, Value { elem, bits });
+        assert!(rt; text.as_str() == shown, "{line}: {text}");
         lines = lines.saturating_add(1);
     }
     assert_eq!(rt; lines, 9);
-    Ok(())
 }

@@ -5,9 +5,10 @@ use isp_base::{
     BinOp, Compare, DivideByZero, Elem, UnaryOp, apply, apply_unary, common, compare, convert,
     number, wrap,
 };
-use std::alloc::{AllocError, Global};
+use isp_tests_support::parted;
+use std::alloc::Global;
+use std::cmp::Ordering;
 use std::process::Abort;
-use std::test::Fail;
 use table::TABLE;
 
 // Each comparison, and whether it holds where the first is less, equal and greater.
@@ -20,45 +21,51 @@ static COMPARISONS: [(Compare, bool, bool, bool); 6] = [
     (Compare::GreaterOrEqual, false, true, true),
 ];
 
+// The types and the operators by the words of the table.
+static ELEMS: [(&str, Elem); 9] = [
+    ("bool", Elem::Bool),
+    ("int8", Elem::I8),
+    ("uint8", Elem::U8),
+    ("int16", Elem::I16),
+    ("uint16", Elem::U16),
+    ("int32", Elem::I32),
+    ("uint32", Elem::U32),
+    ("int64", Elem::I64),
+    ("uint64", Elem::U64),
+];
+
+static BINARY: [(&str, BinOp); 10] = [
+    ("add", BinOp::Add),
+    ("sub", BinOp::Sub),
+    ("mul", BinOp::Mul),
+    ("div", BinOp::Div),
+    ("rem", BinOp::Rem),
+    ("and", BinOp::And),
+    ("or", BinOp::Or),
+    ("xor", BinOp::Xor),
+    ("shl", BinOp::Shl),
+    ("shr", BinOp::Shr),
+];
+
+static UNARY: [(&str, UnaryOp); 4] = [
+    ("negate", UnaryOp::Negate),
+    ("invert", UnaryOp::Invert),
+    ("absolute", UnaryOp::Absolute),
+    ("not", UnaryOp::Not),
+];
+
+// What has a name.
+fn named<T: Copy>(table: &[(&str, T)], name: &str) -> Option<T> {
+    for (known, it) in table {
+        if *known == name {
+            return Some(*it);
+        }
+    }
+    None
+}
+
 pub(crate) fn elem_named(name: &str) -> Option<Elem> {
-    match name {
-        "bool" => Some(Elem::Bool),
-        "int8" => Some(Elem::I8),
-        "uint8" => Some(Elem::U8),
-        "int16" => Some(Elem::I16),
-        "uint16" => Some(Elem::U16),
-        "int32" => Some(Elem::I32),
-        "uint32" => Some(Elem::U32),
-        "int64" => Some(Elem::I64),
-        "uint64" => Some(Elem::U64),
-        _ => None,
-    }
-}
-
-fn binary_named(name: &str) -> Option<BinOp> {
-    match name {
-        "add" => Some(BinOp::Add),
-        "sub" => Some(BinOp::Sub),
-        "mul" => Some(BinOp::Mul),
-        "div" => Some(BinOp::Div),
-        "rem" => Some(BinOp::Rem),
-        "and" => Some(BinOp::And),
-        "or" => Some(BinOp::Or),
-        "xor" => Some(BinOp::Xor),
-        "shl" => Some(BinOp::Shl),
-        "shr" => Some(BinOp::Shr),
-        _ => None,
-    }
-}
-
-fn unary_named(name: &str) -> Option<UnaryOp> {
-    match name {
-        "negate" => Some(UnaryOp::Negate),
-        "invert" => Some(UnaryOp::Invert),
-        "absolute" => Some(UnaryOp::Absolute),
-        "not" => Some(UnaryOp::Not),
-        _ => None,
-    }
+    named(&ELEMS, name)
 }
 
 // A number of the table; a dash stands where there is no result.
@@ -69,12 +76,21 @@ fn entry(text: &str) -> Option<u64> {
     }
 }
 
-fn entries(alloc: Global, line: &str) -> Result<Vec<Option<u64>>, AllocError> {
+fn entries(rt: &impl Abort, alloc: Global, line: &str) -> Vec<Option<u64>> {
     let mut list = Vec::new(alloc);
     for text in line.split(' ') {
-        list.push(entry(text))?;
+        list.push(entry(text)).expect(rt, "memory");
     }
-    Ok(list)
+    list
+}
+
+// Entries none of which is a dash.
+fn values(rt: &impl Abort, alloc: Global, entries: &[Option<u64>]) -> Vec<u64> {
+    let mut list = Vec::new(alloc);
+    for entry in entries {
+        list.push(entry.expect(rt, "a dash")).expect(rt, "memory");
+    }
+    list
 }
 
 fn check_binary(rt: &impl Abort, op: BinOp, elem: Elem, ends: &[u64], results: &[Option<u64>]) {
@@ -85,13 +101,9 @@ fn check_binary(rt: &impl Abort, op: BinOp, elem: Elem, ends: &[u64], results: &
     let mut results = results.iter();
     for x in ends {
         for y in ends {
-            let wanted = match results.next() {
-                Some(Some(bits)) => Ok(*bits),
-                _ => Err(DivideByZero),
-            };
-            assert_eq!(rt;
-                apply(op, elem, *x, *y),
-                wanted,
+            let wanted = results.next().copied().flatten();
+            assert!(rt;
+                apply(op, elem, *x, *y).ok() == wanted,
                 "{op:?} on {elem:?} at {x}, {y}"
             );
         }
@@ -101,72 +113,57 @@ fn check_binary(rt: &impl Abort, op: BinOp, elem: Elem, ends: &[u64], results: &
 fn check_unary(rt: &impl Abort, op: UnaryOp, elem: Elem, ends: &[u64], results: &[Option<u64>]) {
     assert_eq!(rt; results.len(), ends.len());
     for (x, result) in ends.iter().zip(results.iter()) {
-        assert_eq!(rt;
-            Some(apply_unary(op, elem, *x)),
-            *result,
-            "{op:?} on {elem:?} at {x}"
-        );
+        let found = Some(apply_unary(op, elem, *x));
+        assert!(rt; found == *result, "{op:?} on {elem:?} at {x}");
     }
 }
 
 fn check_converted(rt: &impl Abort, to: Elem, from: Elem, ends: &[u64], results: &[Option<u64>]) {
     assert_eq!(rt; results.len(), ends.len());
     for (x, result) in ends.iter().zip(results.iter()) {
-        assert_eq!(rt;
-            Some(convert(from, to, *x)),
-            *result,
-            "{from:?} to {to:?} at {x}"
-        );
+        let found = Some(convert(from, to, *x));
+        assert!(rt; found == *result, "{from:?} to {to:?} at {x}");
     }
 }
 
 // What a line of the table says of the values of a type.
-fn check_line(
-    rt: &impl Abort,
-    elem: Elem,
-    ends: &[u64],
-    name: &str,
-    results: &[Option<u64>],
-) -> Result<(), Fail> {
-    if let Some(op) = binary_named(name) {
+fn check_line(rt: &impl Abort, elem: Elem, ends: &[u64], name: &str, results: &[Option<u64>]) {
+    if let Some(op) = named(&BINARY, name) {
         check_binary(rt, op, elem, ends, results);
-    } else if let Some(op) = unary_named(name) {
+    } else if let Some(op) = named(&UNARY, name) {
         check_unary(rt, op, elem, ends, results);
-    } else if let Some(to) = elem_named(name) {
-        check_converted(rt, to, elem, ends, results);
     } else {
-        return Err(Fail::from("a line of another name"));
+        let to = elem_named(name).expect(rt, "a line of another name");
+        check_converted(rt, to, elem, ends, results);
     }
-    Ok(())
+}
+
+// Whether the comparisons of two values, the least and the greatest are as their order says.
+fn is_in_order(elem: Elem, x: u64, y: u64, order: Ordering) -> bool {
+    for (comparison, less, equal, greater) in &COMPARISONS {
+        let wanted = match order {
+            Ordering::Less => *less,
+            Ordering::Equal => *equal,
+            Ordering::Greater => *greater,
+        };
+        if compare(*comparison, elem, x, y) != wanted {
+            return false;
+        }
+    }
+    let (least, greatest) = if order == Ordering::Less {
+        (x, y)
+    } else {
+        (y, x)
+    };
+    apply(BinOp::Min, elem, x, y) == Ok(least) && apply(BinOp::Max, elem, x, y) == Ok(greatest)
 }
 
 // `ends` stand in the order of their numbers.
 fn check_order(rt: &impl Abort, elem: Elem, ends: &[u64]) {
     for (p, x) in ends.iter().enumerate() {
         for (q, y) in ends.iter().enumerate() {
-            for (comparison, less, equal, greater) in &COMPARISONS {
-                let wanted = if p < q {
-                    *less
-                } else if p == q {
-                    *equal
-                } else {
-                    *greater
-                };
-                assert_eq!(rt;
-                    compare(*comparison, elem, *x, *y),
-                    wanted,
-                    "{comparison:?} on {elem:?} at {x}, {y}"
-                );
-            }
-            let (least, greatest) = if p < q { (*x, *y) } else { (*y, *x) };
-            assert_eq!(rt;
-                apply(BinOp::Min, elem, *x, *y),
-                Ok(least),
-                "{elem:?} at {x}, {y}"
-            );
-            assert_eq!(rt;
-                apply(BinOp::Max, elem, *x, *y),
-                Ok(greatest),
+            assert!(rt;
+                is_in_order(elem, *x, *y, p.cmp(&q)),
                 "{elem:?} at {x}, {y}"
             );
         }
@@ -175,52 +172,69 @@ fn check_order(rt: &impl Abort, elem: Elem, ends: &[u64]) {
 
 // Each line of the table: the operators on the values of the type that stands above it.
 #[test]
-fn at_the_ends_of_each_type(rt: HostRuntime) -> Result<(), Fail> {
+fn at_the_ends_of_each_type(rt: HostRuntime) {
     let alloc = rt.alloc();
     let mut elem = Elem::Bool;
     let mut ends = Vec::new(alloc);
     let mut lines = 0u64;
     for line in TABLE.lines() {
-        let Some((name, rest)) = line.split_once(' ') else {
-            return Err(Fail::from("a line of one word"));
-        };
-        let found = entries(alloc, rest)?;
+        let (name, rest) = parted(line, ' ');
+        let found = entries(&rt, alloc, rest);
         match name.strip_prefix("values_of_") {
             Some(type_name) => {
-                elem = elem_named(type_name).unwrap_or(Elem::Bool);
-                ends = found.iter().flatten().copied().collect::<Vec<u64>>(alloc)?;
+                elem = elem_named(type_name).expect(&rt, "a type of another name");
+                ends = values(&rt, alloc, found.as_slice());
                 check_order(&rt, elem, ends.as_slice());
             }
-            None => check_line(&rt, elem, ends.as_slice(), name, found.as_slice())?,
+            None => check_line(&rt, elem, ends.as_slice(), name, found.as_slice()),
         }
         lines = lines.saturating_add(1);
     }
     assert_eq!(rt; lines, 216);
-    Ok(())
 }
+
+// Operators by hand. Bits above the width are not read.
+static BY_HAND: [(BinOp, Elem, u64, u64, Result<u64, DivideByZero>); 6] = [
+    (BinOp::Shr, Elem::I8, 128, 1, Ok(192)),
+    (
+        BinOp::Div,
+        Elem::I32,
+        2147483648,
+        4294967295,
+        Ok(2147483648),
+    ),
+    (BinOp::Rem, Elem::I32, 2147483648, 4294967295, Ok(0)),
+    (BinOp::Rem, Elem::I32, 7, 0, Err(DivideByZero)),
+    (BinOp::Add, Elem::U8, 0x1ff, 0x201, Ok(0)),
+    (BinOp::Rem, Elem::U8, 7, 0x100, Err(DivideByZero)),
+];
 
 #[test]
 fn by_hand(rt: HostRuntime) {
     assert_eq!(rt; number(Elem::I8, wrap(Elem::I8, 200)), -56);
-    assert_eq!(rt; apply(BinOp::Shr, Elem::I8, 128, 1), Ok(192));
-    assert_eq!(rt;
-        apply(BinOp::Div, Elem::I32, 2147483648, 4294967295),
-        Ok(2147483648)
-    );
-    assert_eq!(rt; apply(BinOp::Rem, Elem::I32, 2147483648, 4294967295), Ok(0));
-    assert_eq!(rt; apply(BinOp::Rem, Elem::I32, 7, 0), Err(DivideByZero));
-    // bits above the width are not read
-    assert_eq!(rt; apply(BinOp::Add, Elem::U8, 0x1ff, 0x201), Ok(0));
-    assert_eq!(rt; apply(BinOp::Rem, Elem::U8, 7, 0x100), Err(DivideByZero));
+    for (op, elem, x, y, wanted) in &BY_HAND {
+        assert_eq!(rt;
+            apply(*op, *elem, *x, *y),
+            *wanted,
+            "{op:?} on {elem:?} at {x}, {y}"
+        );
+    }
 }
+
+// Two types, and the one to which both are converted.
+static COMMON: [(Elem, Elem, Elem); 7] = [
+    (Elem::Bool, Elem::Bool, Elem::I32),
+    (Elem::Bool, Elem::I8, Elem::I32),
+    (Elem::U16, Elem::Bool, Elem::I32),
+    (Elem::U32, Elem::Bool, Elem::U32),
+    (Elem::I8, Elem::U8, Elem::U8),
+    (Elem::U8, Elem::I16, Elem::I16),
+    (Elem::U64, Elem::I64, Elem::U64),
+];
 
 #[test]
 fn common_types(rt: HostRuntime) {
-    assert_eq!(rt; common(Elem::Bool, Elem::Bool), Elem::I32);
-    assert_eq!(rt; common(Elem::Bool, Elem::I8), Elem::I32);
-    assert_eq!(rt; common(Elem::U16, Elem::Bool), Elem::I32);
-    assert_eq!(rt; common(Elem::U32, Elem::Bool), Elem::U32);
-    assert_eq!(rt; common(Elem::I8, Elem::U8), Elem::U8);
-    assert_eq!(rt; common(Elem::U8, Elem::I16), Elem::I16);
-    assert_eq!(rt; common(Elem::U64, Elem::I64), Elem::U64);
+    for (x, y, wanted) in &COMMON {
+        assert_eq!(rt; common(*x, *y), *wanted, "{x:?} and {y:?}");
+    }
 }

@@ -25,16 +25,16 @@ pub(crate) fn holds(bound: &Bound, items: &[u64], bits: u64) -> bool {
 #[test]
 fn memory_refused_to_arguments_and_answers(rt: HostRuntime) -> Result<(), Fail> {
     let alloc = rt.alloc();
-    let signature = signature(alloc, "a:int32[] n:int32")?;
+    let signature = signature(&rt, alloc, "a:int32[] n:int32");
     sweep_call(alloc, "bind", || {
         match bind(alloc, &signature, "{\"a\":[1,2,3,4,5],\"n\":5}") {
             Ok(bound) => Tried::answered(holds(&bound, &[1, 2, 3, 4, 5], 5)),
             Err(fault) => Tried::failed(fault == BindFault::Memory),
         }
     })?;
-    let arrays = vec![in alloc; array_of(alloc, Elem::I32, &[2, 3, 4, 5, 6])?]?;
+    let arrays = [array_of(&rt, alloc, Elem::I32, &[2, 3, 4, 5, 6])];
     sweep_call(alloc, "answer", || {
-        match answer(alloc, &signature, arrays.as_slice(), None) {
+        match answer(alloc, &signature, &arrays, None) {
             Ok(text) => {
                 Tried::answered(text.as_str() == "{\"arrays\":{\"a\":[2,3,4,5,6]},\"result\":null}")
             }
