@@ -2,7 +2,7 @@
 use isp_asm::{AsmFault, Fault, Rule, read, write};
 use isp_code::Code;
 use isp_tests_support::{Tried, sweep_call};
-use std::alloc::{AllocError, Global};
+use std::alloc::Global;
 use std::process::Abort;
 use std::test::Fail;
 
@@ -49,89 +49,81 @@ const HEADERS: [(&str, Rule); 6] = [
     ("isp 01 gang 32\n", Rule::NotCanonical),
 ];
 
-// Why a text that begins as this one and stops behind `front` is refused: 60 at the line that is not there, if it may not stop there.
-fn cut_fault(alloc: Global, front: &str) -> Result<Option<Fault>, AllocError> {
-    let lines: Vec<&str> = front.split('\n').collect(alloc)?;
-    if let [.., whole, last] = lines.as_slice() {
-        let word = whole.split_once(' ').unwrap_or((whole, "")).0;
-        if last.is_empty() && matches!(word, "isp" | "place" | "text" | "end") {
-            return Ok(None);
-        }
+// Whether a text may stop here: behind a whole line that is the head, a place, a text or the end of a function.
+fn may_stop(front: &str) -> bool {
+    let Some(lines) = front.strip_suffix('\n') else {
+        return false;
+    };
+    let last = lines.rsplit_once('\n').unwrap_or(("", lines)).1;
+    let word = last.split_once(' ').unwrap_or((last, "")).0;
+    LAST_WORDS.iter().any(|known| *known == word)
+}
+
+// The words of the lines behind which a text may stop.
+const LAST_WORDS: [&str; 4] = ["isp", "place", "text", "end"];
+
+// What is told of a text that begins as one of these and stops behind `front`: 60 at the line that is not there, if it may not stop there.
+fn cut_fault(front: &str) -> Option<AsmFault> {
+    if may_stop(front) {
+        return None;
     }
-    Ok(Some(Fault {
+    Some(AsmFault::Refused(Fault {
         rule: Rule::BadLine,
-        line: lines.len(),
+        line: front.split('\n').count(),
     }))
 }
 
-// Reads the first bytes of a text, each number of them.
-fn cut(rt: &impl Abort, alloc: Global, text: &str) -> Result<(), Fail> {
-    for length in 0..text.len() + 1 {
-        let front = text.get(..length).unwrap_or("");
-        match (read(alloc, front), cut_fault(alloc, front)?) {
-            (Ok(_), wanted) => assert!(rt; wanted.is_none(), "{length}"),
-            (Err(fault), Some(wanted)) => {
-                assert_eq!(rt; fault, AsmFault::Refused(wanted), "{length}");
-            }
-            (Err(_), None) => return Err(Fail::new("a text is refused")),
+// Reads the first bytes of each text, each number of them.
+#[test]
+fn cut_behind_each_byte(rt: HostRuntime) {
+    for text in [TEXT, WIDE] {
+        for length in 0..text.len() + 1 {
+            let front = text.get(..length).unwrap_or("");
+            assert!(rt;
+                read(rt.alloc(), front).err() == cut_fault(front),
+                "{length}"
+            );
         }
     }
-    Ok(())
 }
 
 #[test]
-fn cut_behind_each_byte(rt: HostRuntime) -> Result<(), Fail> {
-    cut(&rt, rt.alloc(), TEXT)?;
-    cut(&rt, rt.alloc(), WIDE)
-}
-
-#[test]
-fn headers_refused(rt: HostRuntime) -> Result<(), Fail> {
+fn headers_refused(rt: HostRuntime) {
     for (text, rule) in HEADERS {
-        let wanted = Fault { rule, line: 1 };
-        match read(rt.alloc(), text) {
-            Ok(_) => return Err(Fail::new("a first line is read")),
-            Err(fault) => assert_eq!(rt; fault, AsmFault::Refused(wanted), "{text}"),
-        }
+        let wanted = AsmFault::Refused(Fault { rule, line: 1 });
+        assert!(rt; read(rt.alloc(), text).err() == Some(wanted), "{text}");
     }
-    Ok(())
 }
 
-// Reads a text with another byte at a place. What is read is written alike.
-fn replace(rt: &impl Abort, alloc: Global, text: &str, place: usize, byte: u8) -> Result<(), Fail> {
-    let mut bytes = Vec::from_slice(alloc, text.as_bytes())?;
+// A text with another byte at a place.
+fn replaced(rt: &impl Abort, alloc: Global, text: &str, place: usize, byte: u8) -> String {
+    let mut bytes = Vec::from_slice(alloc, text.as_bytes()).expect(rt, "memory");
     if let Some(old) = bytes.get_mut(place) {
         *old = byte;
     }
-    let other = String::from_utf8(bytes)?;
-    match read(alloc, other.as_str()) {
-        Ok(code) => {
-            let again = write(alloc, &code)?;
-            assert!(rt; again.as_str() == other.as_str(), "{place}: {byte}");
-        }
-        Err(fault) => assert!(rt; fault != AsmFault::Memory),
+    String::from_utf8(bytes).ok().expect(rt, "a text")
+}
+
+// Reads a text, and writes what is read: alike. No memory is refused.
+fn goes_round(alloc: Global, text: &str) -> bool {
+    match read(alloc, text) {
+        Ok(code) => write(alloc, &code).is_ok_and(|again| again.as_str() == text),
+        Err(fault) => fault != AsmFault::Memory,
     }
-    Ok(())
 }
 
-// Reads a text with each byte replaced by each of 0 to 127.
-fn replace_each(rt: &impl Abort, alloc: Global, text: &str) -> Result<(), Fail> {
-    for place in 0..text.len() {
-        for byte in 0..128u8 {
-            replace(rt, alloc, text, place, byte)?;
+// Reads each text with each byte replaced by each of 0 to 127.
+#[test]
+fn each_byte_replaced(rt: HostRuntime) {
+    let alloc = rt.alloc();
+    for text in [TEXT, WIDE] {
+        for place in 0..text.len() {
+            for byte in 0..128u8 {
+                let other = replaced(&rt, alloc, text, place, byte);
+                assert!(rt; goes_round(alloc, other.as_str()), "{place}: {byte}");
+            }
         }
     }
-    Ok(())
-}
-
-#[test]
-fn each_byte_replaced(rt: HostRuntime) -> Result<(), Fail> {
-    replace_each(&rt, rt.alloc(), TEXT)
-}
-
-#[test]
-fn each_byte_replaced_by_32(rt: HostRuntime) -> Result<(), Fail> {
-    replace_each(&rt, rt.alloc(), WIDE)
 }
 
 // What comes of code that is written: the text, or memory was refused.
@@ -150,6 +142,6 @@ fn memory_refused(rt: HostRuntime) -> Result<(), Fail> {
         Ok(code) => written(alloc, &code, TEXT),
         Err(fault) => Tried::failed(fault == AsmFault::Memory),
     })?;
-    let code = read(alloc, TEXT).map_err(|_| Fail::new("the text is refused"))?;
+    let code = read(alloc, TEXT).ok().expect(&rt, "code");
     sweep_call(alloc, "write", || written(alloc, &code, TEXT))
 }
