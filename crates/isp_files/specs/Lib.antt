@@ -1,0 +1,6 @@
+pub mod Reading
+pub mod Files
+pub mod Npy
+pub mod Images
+pub mod Writing
+pub mod reader
