@@ -7,3 +7,8 @@ mod Library
 mod Prints
 mod Traps
 mod Mixed
+mod Sampled1
+mod Sampled2
+mod Sampled3
+mod Sampled4
+mod Sampled5
