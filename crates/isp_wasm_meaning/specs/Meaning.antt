@@ -6,7 +6,7 @@ use Rattle.isp_wasm_meaning.specs.Digits.{digit, packed}
 use Rattle.isp_wasm_meaning.specs.Syntax.{Shape, I8x16, I16x8, I32x4, I64x2, Size, I32, I64, Whole, Add, Sub, Mul, Bitwise, And, Or, Xor, Shift, Shl, ShrU, ShrS, Test, Eq, Ne, LtU, LtS, Division, DivU, RemU}
 use Rattle.isp_wasm_meaning.specs.Syntax.{Unary, Eqz, Ctz, Wrap, ExtendU, ExtendS, Extend8S, Extend16S, Splat, Extract, ExtendLow, ExtendHigh, Bitmask}
 use Rattle.isp_wasm_meaning.specs.Syntax.{Binary, Of, BitsOf, ShiftOf, Compare, Lanes, CompareLanes, Bits, Replace, Shuffle, Expr, Const32, Const64, Const128, Local, One, Two, Select, Bitselect}
-use Rattle.isp_wasm_meaning.specs.Syntax.{Code, Skip, Then, Set, Load, Store, Divide, If, Block, Loop, Br, BrTable, Return, Call, Write, Fail}
+use Rattle.isp_wasm_meaning.specs.Syntax.{Code, Skip, Unreachable, Then, Set, Load, Store, Divide, If, Block, Loop, Br, BrTable, Return, Call, Write, Fail}
 
 -- ---- numbers
 
@@ -240,10 +240,11 @@ back x s (OutOfFuel t) = OutOfFuel t
 
 -- with this fuel for each loop, and what the calls of functions do
 module _ (fuel : ℕ) (call : ℕ → List ℕ → State → Result) where
-  -- 4.4.5 local.set; 4.4.7 load, store; 4.4.1 binop of div_u and rem_u, which trap at the divisor 0; 4.4.8 block, loop, if, br,
-  -- br_table, return, call; 4.4.10 the two functions of the host
+  -- 4.4.5 local.set; 4.4.7 load, store; 4.4.1 binop of div_u and rem_u, which trap at the divisor 0; 4.4.8 unreachable,
+  -- block, loop, if, br, br_table, return, call; 4.4.10 the two functions of the host
   abbrev pub run : Code → State → Result
   run Skip s = Fell s
+  run Unreachable s = Trapped None s
   run (Then a b) s = then_to (run a s) (run b)
   run (Set x e) s = Fell (set_local x (value s.locals e) s)
   run (Load n x a o) s = inside n (value s.locals a + o) s (Fell (set_local x (loaded n (value s.locals a + o) s.memory) s))

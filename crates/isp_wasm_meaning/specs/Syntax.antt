@@ -92,6 +92,7 @@ pub data Expr : Type 0 where
 
 pub data Code : Type 0 where
   Skip : Code
+  Unreachable : Code
   Then : Code → Code → Code
   -- local.set
   Set : (local : ℕ) → Expr → Code
