@@ -13,8 +13,9 @@ use Rattle.isp_code.specs.declared.instr.VectorInstr.TheVariants as vector
 use Rattle.isp_code.specs.declared.register.Class.{Class}
 use Rattle.isp_code.specs.declared.register.Class.TheVariants as class
 use Rattle.isp_code.specs.declared.register.Register.{Register}
-use Rattle.isp_wasm_meaning.specs.Meaning.{State, Result, Fell, Branched, Returned, Trapped, OutOfFuel, run}
-use Rattle.isp_wasm_meaning.specs.Ladder.{Meets, Whole}
+use Rattle.isp_wasm_meaning.specs.Meaning.{State, Result, Fell, Branched, Returned, Trapped, OutOfFuel, run, then_to}
+use Rattle.isp_wasm_meaning.specs.Syntax.{Unreachable}
+use Rattle.isp_wasm_meaning.specs.Ladder.{Meets, Whole, dispatched}
 use Rattle.isp_wasm_meaning.proofs.Ladders.{meets_then, dispatches}
 use Rattle.isp_wasm.specs.Places.{Setting, Counter, elem}
 use Rattle.isp_wasm.specs.Templates.{lane_checks, lane_stores, own_index, run_index, scalar_code, vector_code, quotients, code_of, code_at, span, rung, function_code}
@@ -184,7 +185,17 @@ module _ (w : Setting) (ready : IsSettled w) (covered : IsCovered w) (thin : All
           (subst (λ m. Gone k c (run fuel call (span w (w.rungs - suc k) (w.heads k) m) s)) (let e : suc (w.heads (suc k) - w.heads k - 1) ≡ w.heads (suc k) - w.heads k = omega (arith, up) in e)
           (last_spans k all (w.heads (suc k) - w.heads k - 1) (w.heads k) (omega (arith, up, ends)) c s st.stands))
 
+  -- nothing is done behind the loop
+  whole_on : (c : Conf) (r : Result) (go : State → Result) → Whole (the_machine w) (w.local Counter) w.rungs fuel fuel c r → Whole (the_machine w) (w.local Counter) w.rungs fuel fuel c (then_to r go)
+  whole_on c (Fell s) go h = absurd (let low = h.stands.low in omega arith)
+  whole_on c (Branched d s) go h = absurd h
+  whole_on c (Returned v s) go h = h
+  whole_on c (Trapped t s) go h = h
+  whole_on c (OutOfFuel s) go h = h
+
   -- the function, from a rung on
   pub function_runs : (c : Conf) (s : State) → s.locals (w.local Counter) < w.rungs → Stands w (w.heads (s.locals (w.local Counter))) c s
       → Whole (the_machine w) (w.local Counter) w.rungs fuel fuel c (run fuel call (function_code w) s)
-  function_runs c s low st = dispatches (the_machine w) (machine_laws w) (w.local Counter) w.rungs fuel call (rung w) rungs c s low (record { low = low; stands = st })
+  function_runs c s low st =
+      whole_on c (run fuel call (dispatched (w.local Counter) (rung w) w.rungs) s) (run fuel call Unreachable)
+      (dispatches (the_machine w) (machine_laws w) (w.local Counter) w.rungs fuel call (rung w) rungs c s low (record { low = low; stands = st }))

@@ -6,5 +6,8 @@ pub mod Standing
 pub mod Thin
 pub mod Agreement
 pub mod Entry
+pub mod Locals
+pub mod Module
+pub mod Kernel
 pub mod Lines
 pub mod Sample

@@ -56,6 +56,10 @@ bytes_of U32 = 4
 bytes_of I64 = 8
 bytes_of U64 = 8
 
+-- how many locals a row of so many lanes of a shape takes
+abbrev pub parts_for : ℕ → wasm.Shape → ℕ
+parts_for lanes s = (lanes + (count s - 1)) / count s
+
 -- A function of some code, as it runs: its arrays, the calls that wait for it, the local of each place; rungs, the first instruction of each, and
 -- the rung that begins at an instruction; and where each store begins, with the type of its elements; where each text lies; and the memory before.
 pub record Setting : Type 0 where
@@ -85,6 +89,5 @@ module _ (w : Setting) where
   abbrev pub shape : Register → wasm.Shape
   shape r = shape_of (elem r)
 
-  -- how many locals a row of lanes of a shape takes
   abbrev pub parts : wasm.Shape → ℕ
-  parts s = (gang + (count s - 1)) / count s
+  parts s = parts_for gang s

@@ -34,7 +34,7 @@ use Rattle.isp_wasm_meaning.specs.Meaning.{of_lanes, flags, count}
 use Rattle.isp_wasm_meaning.specs.Ladder.{dispatched}
 use Rattle.isp_wasm_meaning.specs.Syntax as wasm
 use Rattle.isp_wasm_meaning.specs.Syntax.{Shape, I8x16, Add, Sub, Mul, And, Or, Xor, Eq, Ne, LtU, LtS, DivU, RemU, Eqz, Ctz, Wrap, ExtendU, Splat, Extract, Bitmask, Of, BitsOf, CompareLanes, Bits, Replace, Expr, Const32, Const64, Const128, Local, One, Two, Select, Bitselect}
-use Rattle.isp_wasm_meaning.specs.Syntax.{Code, Skip, Then, Set, Load, Store, Divide, Fail, Write, If, Br, Return}
+use Rattle.isp_wasm_meaning.specs.Syntax.{Code, Skip, Unreachable, Then, Set, Load, Store, Divide, Fail, Write, If, Br, Return}
 use Rattle.isp_wasm.specs.Places.{Setting, gang, text, Counter, Scalar, Vector, Mask, Base, Count, Fresh, Spare, bytes_of, elem, shape, parts, size_of}
 use Rattle.isp_wasm.specs.Words.{constant, below, whole_expr, plain_expr, unary_expr, compare_expr, convert_expr}
 use Rattle.isp_wasm.specs.Rows.{as_cell, lane_at, widened, narrowed, ones, compare_row, unary_row, by_lane, present, plain_row}
@@ -380,5 +380,6 @@ module _ (w : Setting) where
   abbrev pub rung : ℕ → Code
   rung k = span (w.rungs - suc k) (w.heads k) (w.heads (suc k) - w.heads k)
 
+  -- control does not come behind the loop; a function that gives something back is to end so
   abbrev pub function_code : Code
-  function_code = dispatched (w.local Counter) rung w.rungs
+  function_code = Then (dispatched (w.local Counter) rung w.rungs) Unreachable

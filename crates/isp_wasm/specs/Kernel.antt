@@ -1,0 +1,64 @@
+-- A host calls a function of the module of some code: what it lays into memory and passes, and that the outcomes are the
+-- machine's.
+use Rattle.std.specs.Prelude.{◌≡◌, ◌≢◌, ◌⊎◌, ℕ, zero, suc, ◌+◌, ◌*◌, ◌%◌, ◌^◌, ◌<◌, ◌≤◌, List, [], ◌∷◌, length, None, true, slice_index}
+use Rattle.isp_base.specs.Arguments.{rows, row_bits}
+use Rattle.isp_base.specs.Rows.{Row}
+use Rattle.isp_base.specs.Values.{width}
+use Rattle.isp_base.specs.declared.signature.Argument.{Argument}
+use Rattle.isp_base.specs.declared.signature.Argument.TheVariants.{Value as AValue, Array as AnArray}
+use Rattle.isp_base.specs.declared.types.Elem.{Elem}
+use Rattle.isp_base.specs.declared.types.Elem.TheVariants.{Bool as Truth}
+use Rattle.isp_code.specs.Entries.{IsEntry}
+use Rattle.isp_code.specs.Listing.{Listing, Routine}
+use Rattle.isp_code.specs.Machine.{first_conf}
+use Rattle.isp_verify.specs.Faults.{code_fault}
+use Rattle.isp_wasm_meaning.specs.Meaning.{State, called, loaded}
+use Rattle.isp_wasm_meaning.specs.Module.{HasMemory, code_in}
+use Rattle.isp_wasm.specs.Places.{Setting, bytes_of}
+use Rattle.isp_wasm.specs.Entry.{SameOutcomes}
+use Rattle.isp_wasm.specs.Module.{is_covered, numbered, module_of}
+
+-- the type of the b-th array's elements
+abbrev pub row_elem : List Row → ℕ → Elem
+row_elem [] b = Truth
+row_elem (r ∷ rs) zero = r.elem
+row_elem (r ∷ rs) (suc b) = row_elem rs b
+
+-- what is passed, where the arrays begin at these addresses: a value's bits; an array's address and number of elements
+abbrev pub passed : List Argument → List ℕ → List ℕ
+passed [] at = []
+passed (AValue v ∷ xs) at = v.bits % 2 ^ width v.elem ∷ passed xs at
+passed (AnArray a ∷ xs) [] = []
+passed (AnArray a ∷ xs) (b ∷ at) = b ∷ length a.bits ∷ passed xs at
+
+module _ (code : Listing) (xs : List Argument) (at : List ℕ) where
+  -- behind the last byte of an array
+  abbrev pub array_end : ℕ → ℕ
+  array_end b = slice_index at b + length (row_bits (rows xs) b) * bytes_of (row_elem (rows xs) b)
+
+  -- The memory has the module's first bytes. Behind them lies each array, in bytes of its own, element by element, the lowest
+  -- byte first. Nothing is written yet.
+  pub record IsLaidOut (s : State) : Type 0 where
+    pub begins : HasMemory (module_of code) s
+    pub each : length at ≡ length (rows xs)
+    pub behind : (b : ℕ) → b < length at → length (module_of code).memory ≤ slice_index at b
+    pub room : (b : ℕ) → b < length at → array_end b ≤ s.size
+    pub apart : (a b : ℕ) → a < length at → b < length at → a ≢ b → (array_end a ≤ slice_index at b) ⊎ (array_end b ≤ slice_index at a)
+    pub elements : (b e : ℕ) → e < length (row_bits (rows xs) b)
+        → loaded (bytes_of (row_elem (rows xs) b)) (slice_index at b + e * bytes_of (row_elem (rows xs) b)) s.memory ≡ slice_index (row_bits (rows xs) b) e
+    pub elements_fit : (b e : ℕ) → e < length (row_bits (rows xs) b) → slice_index (row_bits (rows xs) b) e < 2 ^ width (row_elem (rows xs) b)
+    pub bytes_fit : (a : ℕ) → s.memory a < 256
+    pub small : s.size ≤ 2 ^ 32
+    pub silent : s.out ≡ []
+
+  -- function f in this call
+  abbrev pub in_call : ℕ → Routine → State → Setting
+  in_call f h s =
+      record (numbered code h) { home = (first_conf code f h xs).home; begins = slice_index at; elems = row_elem (rows xs); before = s.memory }
+
+-- Of accepted code: a function that is exported and covered, with arguments that it takes.
+abbrev pub KernelsAgree : Type 0
+KernelsAgree =
+    (code : Listing) → code_fault code ≡ None → (name : List ℕ) (xs : List Argument) (f : ℕ) (h : Routine) → IsEntry code name xs f h → is_covered code h ≡ true
+    → (at : List ℕ) (s : State) → IsLaidOut code xs at s
+    → SameOutcomes (in_call code xs at f h s) xs (λ n. called (code_in (module_of code)) n f (passed xs at) s)

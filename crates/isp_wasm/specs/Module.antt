@@ -1,0 +1,116 @@
+-- The module that is made of code: its numbers are those of the code, and a function of it is as its code is.
+use Rattle.std.specs.Prelude.{ℕ, zero, suc, ◌+◌, ◌^◌, List, [], ◌∷◌, ◌++◌, length, map, Option, Some, None, Bool, true, false, ◌&&◌, ◌||◌, if◌then◌else◌, nat_eq, nat_lt, slice_index_or}
+use Rattle.std.specs.List.{list_all, list_any}
+use Rattle.isp_base.specs.Types.{gang_width}
+use Rattle.isp_base.specs.declared.types.Elem.{Elem}
+use Rattle.isp_base.specs.declared.types.Elem.TheVariants.{Bool as Truth}
+use Rattle.isp_code.specs.Listing.{Listing, Routine}
+use Rattle.isp_code.specs.Registers.{elem_of}
+use Rattle.isp_code.specs.Entries.{result_of}
+use Rattle.isp_code.specs.declared.function.Local.{Local}
+use Rattle.isp_code.specs.declared.instr.Instr.{Instr}
+use Rattle.isp_code.specs.declared.instr.Instr.TheVariants as instr
+use Rattle.isp_wasm_meaning.specs.Syntax as wasm
+use Rattle.isp_wasm_meaning.specs.Module.{ValueType, I32, I64, V128, Function, Module, unused}
+use Rattle.isp_wasm.specs.Entry.{entry_code}
+use Rattle.isp_wasm.specs.Locals.{param_places, own_places, local_in, position}
+use Rattle.isp_wasm.specs.Places.{Setting, Place, Counter, Scalar, Base, Count, Spare, size_of}
+use Rattle.isp_wasm.specs.Standing.{scalar_register}
+
+-- ---- rungs
+
+abbrev pub goes_to : ℕ → Instr → Bool
+goes_to pc (instr.Jump to) = nat_eq to pc
+goes_to pc (instr.JumpIf t x to) = nat_eq to pc
+goes_to pc i = false
+
+-- a rung begins at the first instruction, and where a jump goes
+abbrev pub is_head : List Instr → ℕ → Bool
+is_head is pc = nat_eq pc 0 || list_any (goes_to pc) is
+
+-- of n instructions from one on, in order
+abbrev pub heads_from : List Instr → ℕ → ℕ → List ℕ
+heads_from is zero pc = []
+heads_from is (suc n) pc = if is_head is pc then pc ∷ heads_from is n (suc pc) else heads_from is n (suc pc)
+
+abbrev pub heads_of : List Instr → List ℕ
+heads_of is = heads_from is (length is) 0
+
+-- ---- memory: the texts, one behind the other
+
+abbrev pub joined : List (List ℕ) → List ℕ
+joined [] = []
+joined (x ∷ xs) = x ++ joined xs
+
+abbrev pub text_start : List (List ℕ) → ℕ → ℕ
+text_start [] t = 0
+text_start (x ∷ xs) zero = 0
+text_start (x ∷ xs) (suc t) = length x + text_start xs t
+
+-- ---- what is covered
+
+-- no call, no array that a function opens, no text of a value
+abbrev pub has_form : Instr → Bool
+has_form (instr.Call c) = false
+has_form (instr.Clear a k) = false
+has_form (instr.PrintScalar x) = false
+has_form (instr.PrintVector x k) = false
+has_form i = true
+
+abbrev pub none_open : List Local → Bool
+none_open [] = true
+none_open (l ∷ ls) = false
+
+-- a function; numbers of instructions and of bytes of text have 32 bits
+abbrev pub is_covered : Listing → Routine → Bool
+is_covered code h = list_all has_form h.code && (none_open h.locals && (nat_lt (length h.code) (2 ^ 32) && nat_lt (length (joined code.texts)) (2 ^ 32)))
+
+module _ (code : Listing) where
+  module _ (h : Routine) where
+    -- the numbers of a function, whichever call it is in
+    abbrev pub numbered : Setting
+    numbered =
+        record {
+          code = code;
+          routine = h;
+          home = record { fn = 0; named = λ a. a; sizes = λ b. 0; opened = 0 };
+          waiting = [];
+          local = local_in (gang_width code.gang) h;
+          rungs = length (heads_of h.code);
+          heads = λ k. slice_index_or (heads_of h.code) k (length h.code);
+          rung_at = position (heads_of h.code);
+          begins = λ b. 0;
+          elems = λ b. Truth;
+          text_at = text_start code.texts;
+          before = λ a. 0;
+        }
+
+    abbrev pub sized : wasm.Size → ValueType
+    sized wasm.I32 = I32
+    sized wasm.I64 = I64
+
+    abbrev pub type_of : Place → ValueType
+    type_of Counter = I32
+    type_of (Scalar r) = sized (size_of (elem_of h (scalar_register r)))
+    type_of (Base a) = I32
+    type_of (Count a) = I64
+    type_of (Spare t j) = sized t
+    type_of p = V128
+
+    abbrev pub given : Option Elem → Option ValueType
+    given None = None
+    given (Some t) = Some (sized (size_of t))
+
+    abbrev pub function_of : Function
+    function_of =
+        if h.exported && is_covered code h then record {
+          export = Some h.name;
+          params = map type_of (param_places h);
+          result = given (result_of h.returns);
+          locals = map type_of (own_places (gang_width code.gang) h);
+          code = entry_code numbered;
+        } else unused
+
+  -- a function for each one of the code, in order; of those that are not exported or not covered there is nothing
+  abbrev pub module_of : Module
+  module_of = record { functions = map function_of code.routines; memory = joined code.texts }
