@@ -75,7 +75,7 @@ now_at [] f b e h = absurd (omega arith)
 now_at (r ∷ rs) f zero e h = tabulate_at (length r.bits) e (f 0) h
 now_at (r ∷ rs) f (suc b) e h = now_at rs (λ b. f (suc b)) b e h
 
-some_row : (rs : List Row) (b e : ℕ) → e < length (row_bits rs b) → b < length rs
+pub some_row : (rs : List Row) (b e : ℕ) → e < length (row_bits rs b) → b < length rs
 some_row [] b e h = absurd (omega arith)
 some_row (r ∷ rs) zero e h = omega arith
 some_row (r ∷ rs) (suc b) e h = let lt = some_row rs b e h in omega arith
@@ -241,9 +241,9 @@ module _ (w : Setting) (ready : IsSettled w) where
             ends = λ m rs x out is. ends_at m rs x out (after w.code m (machine.Runs (first w xs))) refl is;
             traps = λ m t rs out is. traps_at m t rs out (after w.code m (machine.Runs (first w xs))) refl is;
             ends_only = λ n v u e. (let h = agrees.ends_only (suc n) v u (sym (result_is n) ∙ e) in let r = h.2 in
-                (r.steps, rows_now (rows xs) (r.conf).arrays, h.0, ap (outcome (rows xs)) r.ends ∙ ap (outcomes.Ends (rows_now (rows xs) (r.conf).arrays) h.0) (sym r.out_is), h.1));
+                (r.steps, rows_now (rows xs) (r.conf).arrays, h.0, ap (outcome (rows xs)) r.ends ∙ ap (outcomes.Ends (rows_now (rows xs) (r.conf).arrays) h.0) (sym r.out_is), h.1, shows r.conf u r.keeps));
             traps_only = λ n q u e. (let h = agrees.traps_only (suc n) q u (sym (result_is n) ∙ e) in let r = h.2 in
-                (r.steps, rows_now (rows xs) (r.conf).arrays, r.trap, ap (outcome (rows xs)) r.fails ∙ ap (outcomes.Traps r.trap (rows_now (rows xs) (r.conf).arrays)) (sym r.out_is), h.1 ∙ ap Some r.report_is));
+                (r.steps, rows_now (rows xs) (r.conf).arrays, r.trap, ap (outcome (rows xs)) r.fails ∙ ap (outcomes.Traps r.trap (rows_now (rows xs) (r.conf).arrays)) (sym r.out_is), h.1 ∙ ap Some r.report_is, shows r.conf u r.keeps));
             so_far = λ m out is. written_at m out (after w.code m (machine.Runs (first w xs))) refl is;
             goes_on = λ n u e. (let r = agrees.goes_on (suc n) u (sym (result_is n) ∙ e) in (r.steps, r.far, ap (outcome (rows xs)) r.goes ∙ ap outcomes.GoesOn (sym r.out_is)));
           }

@@ -27,4 +27,9 @@ mod Chains
 mod Agreement
 mod Entries
 mod Operands
+mod Numbers
+mod Passing
+mod Heads
+mod TextPlaces
+mod Kernels
 mod Samples

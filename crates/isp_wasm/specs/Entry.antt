@@ -71,9 +71,9 @@ module _ (w : Setting) where
     pub traps : (m : ℕ) (t : Trap) (rs : List Row) (out : List ℕ) → outcome_after w.code w.home.fn w.routine xs m ≡ outcomes.Traps t rs out
         → TrapsSo t rs out (result (suc m))
     pub ends_only : (n : ℕ) (v : Option ℕ) (s : State) → result (suc n) ≡ Returned v s
-        → (m : ℕ) × (rs : List Row) × (x : Option Value) × (outcome_after w.code w.home.fn w.routine xs m ≡ outcomes.Ends rs x s.out) × (v ≡ value_bits x)
+        → (m : ℕ) × (rs : List Row) × (x : Option Value) × (outcome_after w.code w.home.fn w.routine xs m ≡ outcomes.Ends rs x s.out) × (v ≡ value_bits x) × Shows rs s
     pub traps_only : (n : ℕ) (r : Option Report) (s : State) → result (suc n) ≡ Trapped r s
-        → (m : ℕ) × (rs : List Row) × (t : Trap) × (outcome_after w.code w.home.fn w.routine xs m ≡ outcomes.Traps t rs s.out) × (r ≡ Some (report_of w t))
+        → (m : ℕ) × (rs : List Row) × (t : Trap) × (outcome_after w.code w.home.fn w.routine xs m ≡ outcomes.Traps t rs s.out) × (r ≡ Some (report_of w t)) × Shows rs s
     pub goes_on : (n : ℕ) (s : State) → result (suc n) ≡ OutOfFuel s
         → (m : ℕ) × (suc n ≤ m) × (outcome_after w.code w.home.fn w.routine xs m ≡ outcomes.GoesOn s.out)
     -- where the machine goes on, its output so far is the beginning of the call's

@@ -101,15 +101,18 @@ module _ (code : Listing) where
     given None = None
     given (Some t) = Some (sized (size_of t))
 
-    abbrev pub function_of : Function
-    function_of =
-        if h.exported && is_covered code h then record {
+    abbrev pub kernel_of : Function
+    kernel_of =
+        record {
           export = Some h.name;
           params = map type_of (param_places h);
           result = given (result_of h.returns);
           locals = map type_of (own_places (gang_width code.gang) h);
           code = entry_code numbered;
-        } else unused
+        }
+
+    abbrev pub function_of : Function
+    function_of = if h.exported && is_covered code h then kernel_of else unused
 
   -- a function for each one of the code, in order; of those that are not exported or not covered there is nothing
   abbrev pub module_of : Module

@@ -4,6 +4,7 @@
 
 ghost use Rattle.isp_wasm.specs.Agreement.{CallsComeBack, FunctionsAgree};
 ghost use Rattle.isp_wasm.specs.Entry.{EntriesAgree};
+ghost use Rattle.isp_wasm.specs.Kernel.{KernelsAgree};
 ghost use Rattle.isp_wasm.specs.Lines.{FineIsThin};
 
 /// A function in WebAssembly that stands before a rung as the machine stands before an instruction ends, traps and
@@ -27,4 +28,10 @@ pub fn entries_agree()
 /// form has a template, no array is a lane's own, and jumps are to rungs.
 pub fn fine_is_thin()
     ensures { FineIsThin }
+{}
+
+/// The module of accepted code: a function of it that is exported and covered, called by a host that lays its arrays into
+/// memory, has the outcomes of the machine's run, and no others. Each local, rung and text has its number from the code.
+pub fn kernels_agree()
+    ensures { KernelsAgree }
 {}
