@@ -2,8 +2,7 @@
 mod table;
 
 use isp_base::{
-    BinOp, Compare, DivideByZero, Elem, UnaryOp, apply, apply_unary, common, compare, convert,
-    number, wrap,
+    BinOp, Compare, Elem, UnaryOp, apply, apply_unary, common, compare, convert, number, wrap,
 };
 use isp_tests_support::parted;
 use std::alloc::Global;
@@ -193,48 +192,60 @@ fn at_the_ends_of_each_type(rt: HostRuntime) {
     assert_eq!(rt; lines, 216);
 }
 
-// Operators by hand. Bits above the width are not read.
-static BY_HAND: [(BinOp, Elem, u64, u64, Result<u64, DivideByZero>); 6] = [
-    (BinOp::Shr, Elem::I8, 128, 1, Ok(192)),
-    (
-        BinOp::Div,
-        Elem::I32,
-        2147483648,
-        4294967295,
-        Ok(2147483648),
-    ),
-    (BinOp::Rem, Elem::I32, 2147483648, 4294967295, Ok(0)),
-    (BinOp::Rem, Elem::I32, 7, 0, Err(DivideByZero)),
-    (BinOp::Add, Elem::U8, 0x1ff, 0x201, Ok(0)),
-    (BinOp::Rem, Elem::U8, 7, 0x100, Err(DivideByZero)),
-];
+/// Each line, by hand: an operator, a type, two values, and the result, or a dash where it divides by zero. Bits above the
+/// width are not read.
+const BY_HAND: &str = "shr int8 128 1 192
+div int32 2147483648 4294967295 2147483648
+rem int32 2147483648 4294967295 0
+rem int32 7 0 -
+add uint8 511 513 0
+rem uint8 7 256 -
+";
+
+fn try_by_hand(rt: &impl Abort, alloc: Global, line: &str) {
+    let (word, rest) = parted(line, ' ');
+    let (kind, rest) = parted(rest, ' ');
+    let op = named(&BINARY, word).expect(rt, "a line of another name");
+    let elem = elem_named(kind).expect(rt, "a type of another name");
+    match entries(rt, alloc, rest).as_slice() {
+        [Some(x), Some(y), wanted] => {
+            assert!(rt; apply(op, elem, *x, *y).ok() == *wanted, "{line}");
+        }
+        _ => assert!(rt; false, "{line}"),
+    }
+}
 
 #[test]
 fn by_hand(rt: HostRuntime) {
     assert_eq!(rt; number(Elem::I8, wrap(Elem::I8, 200)), -56);
-    for (op, elem, x, y, wanted) in &BY_HAND {
-        assert_eq!(rt;
-            apply(*op, *elem, *x, *y),
-            *wanted,
-            "{op:?} on {elem:?} at {x}, {y}"
-        );
+    let mut lines = 0u64;
+    for line in BY_HAND.lines() {
+        try_by_hand(&rt, rt.alloc(), line);
+        lines = lines.saturating_add(1);
     }
+    assert_eq!(rt; lines, 6);
 }
 
-// Two types, and the one to which both are converted.
-static COMMON: [(Elem, Elem, Elem); 7] = [
-    (Elem::Bool, Elem::Bool, Elem::I32),
-    (Elem::Bool, Elem::I8, Elem::I32),
-    (Elem::U16, Elem::Bool, Elem::I32),
-    (Elem::U32, Elem::Bool, Elem::U32),
-    (Elem::I8, Elem::U8, Elem::U8),
-    (Elem::U8, Elem::I16, Elem::I16),
-    (Elem::U64, Elem::I64, Elem::U64),
-];
+/// Each line, by hand: two types, and the one to which both are converted.
+const COMMON: &str = "bool bool int32
+bool int8 int32
+uint16 bool int32
+uint32 bool uint32
+int8 uint8 uint8
+uint8 int16 int16
+uint64 int64 uint64
+";
 
 #[test]
 fn common_types(rt: HostRuntime) {
-    for (x, y, wanted) in &COMMON {
-        assert_eq!(rt; common(*x, *y), *wanted, "{x:?} and {y:?}");
+    let mut lines = 0u64;
+    for line in COMMON.lines() {
+        let (left, rest) = parted(line, ' ');
+        let (right, wanted) = parted(rest, ' ');
+        let left = elem_named(left).expect(&rt, "a type of another name");
+        let right = elem_named(right).expect(&rt, "a type of another name");
+        assert!(rt; Some(common(left, right)) == elem_named(wanted), "{line}");
+        lines = lines.saturating_add(1);
     }
+    assert_eq!(rt; lines, 7);
 }
