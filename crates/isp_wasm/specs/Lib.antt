@@ -10,4 +10,5 @@ pub mod Locals
 pub mod Module
 pub mod Kernel
 pub mod Lines
+pub mod Brighten
 pub mod Sample
