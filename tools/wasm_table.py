@@ -1,8 +1,9 @@
 #!/usr/bin/env python3
-"""Asks an engine what each operator of isp_wasm_meaning's fragment gives at its edges, and writes the answers as theorems.
+"""Asks an engine what each operator of isp_wasm_meaning's fragment gives at its edges, and what small functions do that turn on its control
+(wasm_control.py), and writes the answers as theorems.
 
-    tools/wasm_table.py             writes crates/isp_wasm_meaning/proofs/Engine.antt
-    tools/wasm_table.py --check     ends with status 1 where it is not what the engine answers
+    tools/wasm_table.py             writes Engine.antt and EngineControl.antt of crates/isp_wasm_meaning/proofs
+    tools/wasm_table.py --check     ends with status 1 where one is not what the engine answers
 
 The engine is Node's; wat2wasm of wabt makes its module of a text (apt-get install nodejs wabt). An operator's function reads its operands from
 memory and writes the result to memory. The theorems are proved by computing with the definitions, whenever the crate is.
@@ -14,8 +15,11 @@ import subprocess
 import sys
 import tempfile
 
-TOP = os.path.dirname(os.path.dirname(os.path.abspath(__file__)))
-FILE = os.path.join(TOP, "crates", "isp_wasm_meaning", "proofs", "Engine.antt")
+sys.dont_write_bytecode = True
+import wasm_control  # noqa: E402
+import written  # noqa: E402
+
+PROOFS = "crates/isp_wasm_meaning/proofs"
 BITS = {"i32": 32, "i64": 64, "v128": 128}
 SHAPES = {"I8x16": ("i8x16", 8), "I16x8": ("i16x8", 16), "I32x4": ("i32x4", 32), "I64x2": ("i64x2", 64)}
 SIZES = {"I32": "i32", "I64": "i64"}
@@ -129,17 +133,22 @@ def text(rows):
     return "\n".join([*lines, ")"])
 
 
-def ask(rows):
-    """Returns the engine's results for the cases of each row."""
-    asked = [[[str(number) for number in given] for given in cases(row)] for row in rows]
+def answers(module, asked, script):
+    """Returns what a script of Node answers of a module's text and of what is asked."""
     with tempfile.TemporaryDirectory() as folder:
         paths = [os.path.join(folder, name) for name in ("it.wat", "it.wasm", "it.json", "it.js")]
-        for path, said in ((paths[0], text(rows)), (paths[2], json.dumps([asked, [BITS[row[4]] for row in rows]])), (paths[3], SCRIPT)):
+        for path, said in ((paths[0], module), (paths[2], json.dumps(asked)), (paths[3], script)):
             with open(path, "w", encoding="utf-8") as file:
                 file.write(said)
         subprocess.run(["wat2wasm", paths[0], "-o", paths[1]], check=True)
         done = subprocess.run(["node", paths[3], paths[1], paths[2]], check=True, capture_output=True, text=True)
     return json.loads(done.stdout)
+
+
+def ask(rows):
+    """Returns the engine's results for the cases of each row."""
+    asked = [[[str(number) for number in given] for given in cases(row)] for row in rows]
+    return answers(text(rows), [asked, [BITS[row[4]] for row in rows]], SCRIPT)
 
 
 SCRIPT = """
@@ -193,16 +202,10 @@ def theorems(rows, results):
 
 
 def main():
-    rows = table()
-    made = theorems(rows, ask(rows))
-    if sys.argv[1:] == ["--check"]:
-        with open(FILE, encoding="utf-8") as file:
-            if file.read() != made:
-                sys.exit("tools/wasm_table.py: proofs/Engine.antt is not what the engine answers")
-        return
-    with open(FILE, "w", encoding="utf-8") as file:
-        file.write(made)
-    print(f"{len(rows)} operators, {sum(len(cases(row)) for row in rows)} cases")
+    rows, functions = table(), wasm_control.table()
+    ends = answers(wasm_control.text(functions), [row[2] for row in functions], wasm_control.SCRIPT)
+    written.put({f"{PROOFS}/Engine.antt": theorems(rows, ask(rows)), f"{PROOFS}/EngineControl.antt": wasm_control.theorems(functions, ends)})
+    print(f"{len(rows)} operators, {sum(len(cases(row)) for row in rows)} cases; {len(functions)} functions, {sum(len(row[2]) for row in functions)} calls")
 
 
 if __name__ == "__main__":

@@ -4,3 +4,4 @@ pub mod Bits
 pub mod Memory
 pub mod Ladders
 mod Engine
+mod EngineControl
