@@ -27,3 +27,10 @@ mod TwinRuns
 mod Decided
 mod Kept
 mod Stayed
+mod Taking
+mod Crossed
+mod Lowest
+mod Scattered
+mod Everyone
+mod Locals
+mod Worked

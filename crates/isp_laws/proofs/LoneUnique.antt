@@ -10,7 +10,7 @@ use Rattle.isp_base.specs.Values.{number, compare_to}
 use Rattle.isp_base.specs.declared.operators.Compare.TheVariants.{Equal}
 use Rattle.isp_base.specs.declared.types.Elem.{Elem}
 use Rattle.isp_base.specs.declared.types.Rate.TheVariants.{Uniform}
-use Rattle.isp_meaning.specs.State.{State, tick}
+use Rattle.isp_meaning.specs.State.{tick}
 use Rattle.isp_meaning.specs.Payloads.{One, converted, except}
 use Rattle.isp_meaning.specs.Places.{written}
 use Rattle.isp_meaning.specs.Rounds.{Round, have, holding, holders, unique_rounds}

@@ -1,6 +1,6 @@
 -- How the runs of a `foreach` deal the tuples of its ranges: each tuple once, to the instance that its number in the last range
--- says, outer numbers first.
-use Rattle.std.specs.Prelude.{◌≡◌, ◌⊎◌, ℕ, ◌<◌, ◌≤◌, ◌%◌, List, [], ◌∷◌, length, map, Some, true, slice_get, ℤ, ◌-ℤ◌, ◌≤ℤ◌, ◌<ℤ◌}
+-- says, a whole gang of them in a run, outer numbers first.
+use Rattle.std.specs.Prelude.{◌≡◌, ◌⊎◌, ℕ, ◌<◌, ◌≤◌, ◌%◌, ◌/◌, List, [], ◌∷◌, length, map, Some, true, slice_get, ℤ, ◌-ℤ◌, ◌≤ℤ◌, ◌<ℤ◌}
 use Rattle.isp_base.specs.Sets.{any}
 use Rattle.isp_meaning.specs.Rounds.{Range, Run, from_zero, runs_of}
 
@@ -16,6 +16,18 @@ abbrev pub instance_of : ℕ → List Range → List ℤ → ℕ
 instance_of gang (r ∷ []) (z ∷ []) = from_zero (z -ℤ r.start) % gang
 instance_of gang (r ∷ rs) (z ∷ zs) = instance_of gang rs zs
 instance_of gang rs zs = 0
+
+-- its numbers of the outer ranges
+abbrev pub outer : List ℤ → List ℤ
+outer [] = []
+outer (z ∷ []) = []
+outer (z ∷ y ∷ zs) = z ∷ outer (y ∷ zs)
+
+-- how many whole gangs lie before its last number
+abbrev pub gangs_before : ℕ → List Range → List ℤ → ℕ
+gangs_before gang (r ∷ []) (z ∷ []) = from_zero (z -ℤ r.start) / gang
+gangs_before gang (r ∷ rs) (z ∷ zs) = gangs_before gang rs zs
+gangs_before gang rs zs = 0
 
 -- outer numbers first
 abbrev pub Before : List ℤ → List ℤ → Type 0
@@ -42,6 +54,11 @@ pub record AreDealt (gang : ℕ) (rs : List Range) : Type 0 where
   pub no_other : (zs : List ℤ) (k p : ℕ) → Deals gang rs zs k p → IsTuple rs zs × (p ≡ instance_of gang rs zs)
   -- no tuple twice
   pub once : (zs : List ℤ) (k l p q : ℕ) → Deals gang rs zs k p → Deals gang rs zs l q → (k ≡ l) × (p ≡ q)
+  -- A run is a whole gang: two tuples are in one run exactly where their outer numbers are the same, and as many gangs lie before the last.
+  pub together : (ys zs : List ℤ) (k l p q : ℕ)
+      → Deals gang rs ys k p → Deals gang rs zs l q → outer ys ≡ outer zs → gangs_before gang rs ys ≡ gangs_before gang rs zs → k ≡ l
+  pub apart : (ys zs : List ℤ) (k p q : ℕ)
+      → Deals gang rs ys k p → Deals gang rs zs k q → (outer ys ≡ outer zs) × (gangs_before gang rs ys ≡ gangs_before gang rs zs)
   -- in order
   pub order : (ys zs : List ℤ) (k l p q : ℕ) → Deals gang rs ys k p → Deals gang rs zs l q → k < l → Before ys zs
 

@@ -7,3 +7,10 @@ pub mod Samples
 pub mod Acts
 pub mod Stays
 pub mod Decides
+pub mod Taken
+pub mod Crossings
+pub mod Offenders
+pub mod Scatters
+pub mod Everybody
+pub mod LocalArrays
+pub mod Works
