@@ -363,7 +363,8 @@ def main():
         else:
             with open(path, "w", encoding="utf-8") as it:
                 it.write(text)
-    print(f"{sum(text.count('= refl') for text in texts.values())} theorems; {len(count)} kinds, each in {TIMES} programs or more" + (f", but {', '.join(few)}" if few else ""))
+    programs, theorems = (sum(text.count(word) for text in texts.values()) for word in (" : Program\n", "= refl"))
+    print(f"{theorems} theorems of {programs} programs; {len(count)} kinds, each in {TIMES} or more" + (f", but {', '.join(few)}" if few else ""))
     if wrong:
         print(f"tools/sample_theorems.py: not what it writes: {', '.join(wrong)}", file=sys.stderr)
     return 1 if wrong or few else 0
