@@ -1,16 +1,15 @@
 #!/usr/bin/env python3
 """Writes crates/isp_tests_machine/src/lines/table.rt: each line of the machine that computes, moves or stores, and what is seen of it.
 
-Each line stands here once, with what it gives by docs/MACHINE.md on lists of whole numbers, at each gang: the scalar that it
+Each line stands here once, as code text, with what it gives by docs/MACHINE.md on lists of whole numbers, at each gang: the scalar that it
 writes; the lanes of m1 of the vector; v1 in the lanes of the mask; or all elements of a0 where it stores. Nothing is taken from the crates.
 
-    python3 tools/line_table.py             writes it; `rt fmt` lays it out
+    python3 tools/line_table.py             writes it
     python3 tools/line_table.py --check     ends with status 1 where it is stale
 """
 import sys
 
 sys.dont_write_bytecode = True
-import instr_fields  # noqa: E402
 import written  # noqa: E402
 
 # Of each four lanes: x in a0 and v1, y in a1, v2 and, as int64, v5; the lanes of m1, true in v0; those of m2, true in v4.
@@ -29,28 +28,28 @@ def quotient(x, y):
 
 
 PLAIN = {
-    "Add": lambda x, y: x + y,
-    "Sub": lambda x, y: x - y,
-    "Mul": lambda x, y: x * y,
-    "And": lambda x, y: x & y,
-    "Or": lambda x, y: x | y,
-    "Xor": lambda x, y: x ^ y,
-    "Shl": lambda x, y: x << y % 32,
-    "Shr": lambda x, y: x >> y % 32,
-    "Min": min,
-    "Max": max,
+    "add": lambda x, y: x + y,
+    "sub": lambda x, y: x - y,
+    "mul": lambda x, y: x * y,
+    "and": lambda x, y: x & y,
+    "or": lambda x, y: x | y,
+    "xor": lambda x, y: x ^ y,
+    "shl": lambda x, y: x << y % 32,
+    "shr": lambda x, y: x >> y % 32,
+    "min": min,
+    "max": max,
 }
-DIVISION = {"Div": quotient, "Rem": lambda x, y: x - y * quotient(x, y)}
-UNARY = {"Negate": lambda x: -x, "Invert": lambda x: ~x, "Absolute": abs}
+DIVISION = {"div": quotient, "rem": lambda x, y: x - y * quotient(x, y)}
+UNARY = {"neg": lambda x: -x, "inv": lambda x: ~x, "abs": abs}
 COMPARE = {
-    "Equal": lambda x, y: x == y,
-    "NotEqual": lambda x, y: x != y,
-    "Less": lambda x, y: x < y,
-    "LessOrEqual": lambda x, y: x <= y,
-    "Greater": lambda x, y: x > y,
-    "GreaterOrEqual": lambda x, y: x >= y,
+    "eq": lambda x, y: x == y,
+    "ne": lambda x, y: x != y,
+    "lt": lambda x, y: x < y,
+    "le": lambda x, y: x <= y,
+    "gt": lambda x, y: x > y,
+    "ge": lambda x, y: x >= y,
 }
-MASKS = {"And": lambda p, q: p and q, "Or": lambda p, q: p or q, "AndNot": lambda p, q: p and not q}
+MASKS = {"mand": lambda p, q: p and q, "mor": lambda p, q: p or q, "mandn": lambda p, q: p and not q}
 
 
 class Gang:
@@ -90,90 +89,86 @@ def text(value):
     return str(value).lower() if isinstance(value, bool) else str(value)
 
 
-def instr(kind, text):
-    """The Rust form of an instruction that is written with its operands in their order."""
-    name, _, operands = text.rstrip(")").partition("(")
-    return instr_fields.instr(kind, name, operands.split(", ") if operands else [])
+def shown(line):
+    """A line, and what shows the register that it writes: its first."""
+    register = line.split()[1]
+    return f"{line}/" + (f"prs {register}" if register[0] == "s" else f"prv v1 {register}" if register[0] == "m" else f"prv {register} m1")
 
 
-def vector(register, text, f):
-    return f"Line::Vector({register}, {instr('VectorInstr', text)})", f
+def row(line, f):
+    return shown(line), f
 
 
-def scalar(register, text, f):
-    return f"Line::Scalar({register}, {instr('ScalarInstr', text)})", f
-
-
-def mask(text, f):
-    return f"Line::Mask(M3, {instr('MaskInstr', text)})", lambda g: g.printed(g.x, f(g))
+def mask(line, f):
+    return shown(line), lambda g: g.printed(g.x, f(g))
 
 
 def stored(line, f):
-    return f"Line::{line}", lambda g: g.printed(f(g), [1] * g.lanes)
+    return f"{line}/prv v8 m0", lambda g: g.printed(f(g), [1] * g.lanes)
 
 
 def vectors():
-    yield vector("V3", "Copy(V1, M1)", lambda g: g.each(lambda x, y: x))
-    yield vector("V6", "Convert(V1, M1)", lambda g: g.each(lambda x, y: bits(x, 8)))
-    for name, f in PLAIN.items():
-        yield vector("V3", f"Binary(Plain::{name}, V1, V2, M1)", lambda g, f=f: g.each(lambda x, y: bits(f(x, y), 32)))
-    for name, f in DIVISION.items():
-        yield f"Line::Divide(Division::{name}, V3, V1, V2, M1, 0)", lambda g, f=f: g.each(f)
-    for name, f in UNARY.items():
-        yield vector("V3", f"Unary(UnaryOp::{name}, V1, M1)", lambda g, f=f: g.each(lambda x, y: f(x)))
-    yield vector("V7", "Unary(UnaryOp::Not, V4, M1)", lambda g: g.printed([not q for q in g.other]))
-    for name, f in COMPARE.items():
-        yield vector("V7", f"Compare(Compare::{name}, V1, V2, M1)", lambda g, f=f: g.each(f))
-    yield vector("V3", "Select(V4, V1, V2, M1)", lambda g: g.printed([x if q else y for x, y, q in zip(g.x, g.y, g.other)]))
-    yield vector("V3", "Splat(S0, M1)", lambda g: g.each(lambda x, y: N))
-    yield vector("V3", "Index(M1)", lambda g: g.printed(range(g.lanes)))
+    yield row("copy v3 v1 m1", lambda g: g.each(lambda x, y: x))
+    yield row("conv v6 v1 m1", lambda g: g.each(lambda x, y: bits(x, 8)))
+    for word, f in PLAIN.items():
+        yield row(f"{word} v3 v1 v2 m1", lambda g, f=f: g.each(lambda x, y: bits(f(x, y), 32)))
+    for word, f in DIVISION.items():
+        yield row(f"{word} v3 v1 v2 m1 p0", lambda g, f=f: g.each(f))
+    for word, f in UNARY.items():
+        yield row(f"{word} v3 v1 m1", lambda g, f=f: g.each(lambda x, y: f(x)))
+    yield row("lnot v7 v4 m1", lambda g: g.printed([not q for q in g.other]))
+    for word, f in COMPARE.items():
+        yield row(f"{word} v7 v1 v2 m1", lambda g, f=f: g.each(f))
+    yield row("sel v3 v4 v1 v2 m1", lambda g: g.printed([x if q else y for x, y, q in zip(g.x, g.y, g.other)]))
+    yield row("splat v3 s0 m1", lambda g: g.each(lambda x, y: N))
+    yield row("index v3 m1", lambda g: g.printed(range(g.lanes)))
 
 
 def scalars():
-    yield scalar("S4", "Constant(-5)", lambda g: "-5")
-    yield scalar("S4", "Copy(S1)", lambda g: text(M))
-    yield scalar("S3", "Convert(S1)", lambda g: text(M))
-    for name, f in UNARY.items():
-        yield scalar("S4", f"Unary(UnaryOp::{name}, S1)", lambda g, f=f: text(f(M)))
-    for name, f in PLAIN.items():
-        yield scalar("S4", f"Binary(Plain::{name}, S0, S1)", lambda g, f=f: text(bits(f(N, M), 32)))
-    for name, f in DIVISION.items():
-        yield f"Line::Divide(Division::{name}, S4, S0, S1, M0, 0)", lambda g, f=f: text(f(N, M))
-    for name, f in COMPARE.items():
-        yield scalar("S5", f"Compare(Compare::{name}, S0, S1)", lambda g, f=f: text(f(N, M)))
-    yield scalar("S5", "Unary(UnaryOp::Not, S5)", lambda g: "true")
-    yield scalar("S4", "Select(S5, S0, S1)", lambda g: text(M))
+    yield row("const s4 -5", lambda g: "-5")
+    yield row("copy s4 s1", lambda g: text(M))
+    yield row("conv s3 s1", lambda g: text(M))
+    for word, f in UNARY.items():
+        yield row(f"{word} s4 s1", lambda g, f=f: text(f(M)))
+    for word, f in PLAIN.items():
+        yield row(f"{word} s4 s0 s1", lambda g, f=f: text(bits(f(N, M), 32)))
+    for word, f in DIVISION.items():
+        yield row(f"{word} s4 s0 s1 m0 p0", lambda g, f=f: text(f(N, M)))
+    for word, f in COMPARE.items():
+        yield row(f"{word} s5 s0 s1", lambda g, f=f: text(f(N, M)))
+    yield row("lnot s5 s5", lambda g: "true")
+    yield row("sel s4 s5 s0 s1", lambda g: text(M))
 
 
 def masks():
-    for name, f in MASKS.items():
-        yield mask(f"Binary(MaskOp::{name}, M1, M2)", lambda g, f=f: [f(p, q) for p, q in zip(g.on, g.other)])
-    yield mask("Copy(M2)", lambda g: g.other)
-    yield mask("Full", lambda g: [1] * g.lanes)
-    yield mask("Off", lambda g: [0] * g.lanes)
-    yield mask("Test(V0, M2)", lambda g: [p and q for p, q in zip(g.on, g.other)])
-    yield mask("Lowest(M2)", lambda g: [lane == g.other.index(1) for lane in range(g.lanes)])
-    yield mask("Range(S2, S6)", lambda g: [lane < 6 for lane in range(g.lanes)])
-    yield scalar("S3", "First(M2)", lambda g: text(g.other.index(1)))
+    for word, f in MASKS.items():
+        yield mask(f"{word} m3 m1 m2", lambda g, f=f: [f(p, q) for p, q in zip(g.on, g.other)])
+    yield mask("mcopy m3 m2", lambda g: g.other)
+    yield mask("mfull m3", lambda g: [1] * g.lanes)
+    yield mask("mnone m3", lambda g: [0] * g.lanes)
+    yield mask("mtest m3 v0 m2", lambda g: [p and q for p, q in zip(g.on, g.other)])
+    yield mask("mlow m3 m2", lambda g: [lane == g.other.index(1) for lane in range(g.lanes)])
+    yield mask("mrange m3 s2 s6", lambda g: [lane < 6 for lane in range(g.lanes)])
+    yield row("mfirst s3 m2", lambda g: text(g.other.index(1)))
 
 
 def across():
-    yield scalar("S3", "Reduce(Reduction::Add, V1, M1)", lambda g: text(sum(g.members)))
-    yield scalar("S4", "Reduce(Reduction::Min, V1, M1)", lambda g: text(min(g.members)))
-    yield scalar("S4", "Reduce(Reduction::Max, V1, M1)", lambda g: text(max(g.members)))
-    yield scalar("S5", "Reduce(Reduction::Equal, V1, M1)", lambda g: text(len(set(g.members)) == 1))
-    yield scalar("S5", "Reduce(Reduction::Any, V4, M1)", lambda g: text(any(q for p, q in zip(g.on, g.other) if p)))
-    yield scalar("S5", "Reduce(Reduction::All, V4, M1)", lambda g: text(all(q for p, q in zip(g.on, g.other) if p)))
-    yield vector("V3", "Scan(Scan::Add, V1, M1)", lambda g: g.scan(lambda a, x: a + x, 0))
-    yield vector("V3", "Scan(Scan::And, V1, M1)", lambda g: g.scan(lambda a, x: a & x, -1))
-    yield vector("V3", "Scan(Scan::Or, V1, M1)", lambda g: g.scan(lambda a, x: a | x, 0))
-    yield vector("V3", "Exchange(Exchange::Broadcast, V1, S0, M1)", lambda g: g.printed([g.read[N % g.lanes]] * g.lanes))
-    yield vector("V3", "Exchange(Exchange::Rotate, V1, S0, M1)", lambda g: g.printed([g.read[(lane + N) % g.lanes] for lane in range(g.lanes)]))
-    yield vector("V3", "Exchange(Exchange::Shift, V1, S0, M1)", lambda g: g.printed([g.read[lane + N] if lane + N < g.lanes else 0 for lane in range(g.lanes)]))
-    yield vector("V3", "Shuffle(V1, V2, M1)", lambda g: g.printed([g.read[y % g.lanes] for y in g.y]))
-    yield vector("V3", "ShuffleTwo(V2, V1, V1, M1)", lambda g: g.printed([beside(g)[x % (2 * g.lanes)] for x in g.x]))
-    yield vector("V3", "Insert(V1, S0, S1, M1)", lambda g: g.printed([M if lane == N % g.lanes else x for lane, x in enumerate(g.x)]))
-    yield scalar("S4", "Extract(V1, S0, M1)", lambda g: text(g.read[N % g.lanes]))
+    yield row("radd s3 v1 m1", lambda g: text(sum(g.members)))
+    yield row("rmin s4 v1 m1", lambda g: text(min(g.members)))
+    yield row("rmax s4 v1 m1", lambda g: text(max(g.members)))
+    yield row("requ s5 v1 m1", lambda g: text(len(set(g.members)) == 1))
+    yield row("rany s5 v4 m1", lambda g: text(any(q for p, q in zip(g.on, g.other) if p)))
+    yield row("rall s5 v4 m1", lambda g: text(all(q for p, q in zip(g.on, g.other) if p)))
+    yield row("sadd v3 v1 m1", lambda g: g.scan(lambda a, x: a + x, 0))
+    yield row("sand v3 v1 m1", lambda g: g.scan(lambda a, x: a & x, -1))
+    yield row("sor v3 v1 m1", lambda g: g.scan(lambda a, x: a | x, 0))
+    yield row("bcast v3 v1 s0 m1", lambda g: g.printed([g.read[N % g.lanes]] * g.lanes))
+    yield row("rot v3 v1 s0 m1", lambda g: g.printed([g.read[(lane + N) % g.lanes] for lane in range(g.lanes)]))
+    yield row("shf v3 v1 s0 m1", lambda g: g.printed([g.read[lane + N] if lane + N < g.lanes else 0 for lane in range(g.lanes)]))
+    yield row("shuf v3 v1 v2 m1", lambda g: g.printed([g.read[y % g.lanes] for y in g.y]))
+    yield row("shuf2 v3 v2 v1 v1 m1", lambda g: g.printed([beside(g)[x % (2 * g.lanes)] for x in g.x]))
+    yield row("ins v3 v1 s0 s1 m1", lambda g: g.printed([M if lane == N % g.lanes else x for lane, x in enumerate(g.x)]))
+    yield row("extr s4 v1 s0 m1", lambda g: text(g.read[N % g.lanes]))
 
 
 def beside(g):
@@ -197,44 +192,32 @@ def packed(g):
 
 
 def memory():
-    yield scalar("S4", "Load(A0, S2, M0, 0)", lambda g: text(g.x[0]))
-    yield vector("V3", "Gather(A0, V5, M1, 0)", lambda g: g.printed([g.x[y] for y in g.y]))
-    yield vector("V3", "LoadRun(A1, S2, M1, 0)", lambda g: g.printed(g.y))
-    yield "Line::PackedLoad(S4, A0, S2, V3, M1, 0)", lambda g: g.printed([g.x[len(g.lower(lane))] for lane in range(g.lanes)])
-    yield stored("Store(A0, S2, S0, M0, 0)", lambda g: [N] + g.x[1:])
-    yield stored("Scatter(A0, V5, V1, M1, 0)", scattered)
-    yield stored("StoreRun(A0, S2, V2, M1, 0)", lambda g: [y if on else x for x, y, on in zip(g.x, g.y, g.on)])
-    yield stored("PackedStore(S4, A0, S2, V2, M1, 0)", packed)
+    yield row("load s4 a0 s2 m0 p0", lambda g: text(g.x[0]))
+    yield row("gather v3 a0 v5 m1 p0", lambda g: g.printed([g.x[y] for y in g.y]))
+    yield row("vload v3 a1 s2 m1 p0", lambda g: g.printed(g.y))
+    yield "pload s4 a0 s2 v3 m1 p0/prv v3 m1", lambda g: g.printed([g.x[len(g.lower(lane))] for lane in range(g.lanes)])
+    yield stored("store a0 s2 s0 m0 p0", lambda g: [N] + g.x[1:])
+    yield stored("scatter a0 v5 v1 m1 p0", scattered)
+    yield stored("vstore a0 s2 v2 m1 p0", lambda g: [y if on else x for x, y, on in zip(g.x, g.y, g.on)])
+    yield stored("pstore s4 a0 s2 v2 m1 p0", packed)
 
 
 HEAD = """//! Lines of the machine, and what is seen of each at gangs of 4, 8, 16 and 32; written by tools/line_table.py.
-use crate::listing::Line;
-use crate::registers::{
-    A0, A1, M0, M1, M2, M3, S0, S1, S2, S3, S4, S5, S6, V0, V1, V2, V3, V4, V5, V6, V7,
-};
-use isp_base::{Compare, UnaryOp};
-use isp_code::{
-    Division, Exchange, MaskInstr, MaskOp, Plain, Reduction, ScalarInstr, Scan, VectorInstr,
-};
 
+/// How many lines there are.
+pub(super) const COUNT: usize = {count};
+
+/// Each line: one of the machine, what shows what it wrote, and what is seen at each gang.
+pub(super) const LINES: &str = r##"{lines}
+"##;
 """
 
 
 def table():
-    """Gives the parts of the table."""
-    yield HEAD
-    for name, what, rows in (
-        ("VECTORS", "of lanes", vectors()),
-        ("SCALARS", "of scalars", scalars()),
-        ("MASKS", "of masks", masks()),
-        ("ACROSS", "across lanes", across()),
-        ("MEMORY", "of arrays", memory()),
-    ):
-        rows = list(rows)
-        yield f"/// Lines {what}.\npub(super) static {name}: [Line<'static>; {len(rows)}] = [\n"
-        yield "".join(f"    {line},\n" for line, _ in rows)
-        texts = "\n".join(" ".join(f(Gang(lanes)) for lanes in (4, 8, 16, 32)) for _, f in rows)
-        yield f'];\n\n/// What is seen of them.\npub(super) const {name}_SEEN: &str = "{texts}";\n\n'
+    """Gives the table."""
+    rows = [it for part in (vectors(), scalars(), masks(), across(), memory()) for it in part]
+    lines = [f"{line}|" + " ".join(f(Gang(lanes)) for lanes in (4, 8, 16, 32)) for line, f in rows]
+    return HEAD.format(count=len(lines), lines="\n".join(lines))
 
 
-written.put({"crates/isp_tests_machine/src/lines/table.rt": "".join(table())})
+written.put({"crates/isp_tests_machine/src/lines/table.rt": table()})

@@ -2,34 +2,18 @@
 #![tactic(auto)]
 
 #[cfg(test)]
-mod calls;
+mod codes;
 #[cfg(test)]
-mod consecutive;
+mod entries;
 #[cfg(test)]
-mod crossed;
-#[cfg(test)]
-mod divisions;
-#[cfg(test)]
-mod jumps;
+mod given;
 #[cfg(test)]
 mod lines;
 #[cfg(test)]
-mod listing;
-#[cfg(test)]
-mod locals;
-#[cfg(test)]
-mod orders;
-#[cfg(test)]
 mod refused;
 #[cfg(test)]
-mod registers;
+mod rest;
 #[cfg(test)]
 mod runs;
 #[cfg(test)]
-mod sights;
-#[cfg(test)]
-mod sprints;
-#[cfg(test)]
-mod texts;
-#[cfg(test)]
-mod turns;
+mod views;

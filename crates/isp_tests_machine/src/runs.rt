@@ -1,214 +1,257 @@
-//! Runs, step by step, and what is seen of each.
-ghost use Rattle.std.specs.Prelude.{◌≡◌};
-ghost use Rattle.isp_base.specs.Types.{gang_width};
+//! Runs of code, step by step, and what is seen of each.
+//!
+//! A record is the lines from `=== ` and its name on: what its functions do, each line behind a dot; the functions as code text, without the first line,
+//! the places and the texts; a line `--`; and a line for each run of `f`. A run has, with a bar between two of them, the gangs that make it; the arguments,
+//! by type and bits; how it is looked at; what is seen; and what stands in the places `…` of the functions. How it is looked at:
+//!
+//! - `steps`: with each of these budgets one after the other, how it stopped, the bits of the result, the output and the arrays;
+//! - `writes`: the same of how it stopped and the output alone;
+//! - `registers`: the same of where it stands and some registers;
+//! - `parts`: after 0, 1, 2 .. instructions, and when it goes on from there to the last of them;
+//! - `turns`: behind how it ends, the instruction that comes next and the scalars 0, 3 and 4, after 0, 1, 2 .. instructions, and from each of these on.
+mod calls;
+mod consecutive;
+mod crossed;
+mod divisions;
+mod jumps;
+mod locals;
+mod orders;
+mod sights;
+mod sprints;
+mod texts;
+mod turns;
 
-use isp_base::{Argument, Array, Bound, Elem, Gang, Trap, TrapKind, Value, low_bits};
-use isp_machine::{Machine, Stop};
+use crate::codes::{filled, gang_of, verified};
+use crate::given::bound;
+use crate::views::View;
+use isp_base::Gang;
+use isp_machine::Machine;
+use isp_tests_support::{number, parted};
 use isp_verify::Verified;
 use std::alloc::Global;
-use std::test::Fail;
+use std::process::Abort;
 
-/// An argument of a run: the bits of a value or of an array's elements.
+/// What is seen after so many further instructions.
 #[derive(Clone, Copy)]
-pub enum Given<'a> {
-    Value(Elem, u64),
-    Array(Elem, &'a [u64]),
+pub(crate) struct Step<'a> {
+    pub budget: u64,
+    pub view: View,
+    pub wanted: &'a str,
 }
 
-/// Why a run stopped. A trap has its kind, the start of its place, and its lane.
+// A run, as its line says it.
 #[derive(Clone, Copy)]
-pub enum Wanted {
-    Running,
-    Ended,
-    Trapped(TrapKind, usize, usize),
+struct Run<'a> {
+    gangs: &'a str,
+    given: &'a str,
+    kind: &'a str,
+    seen: &'a str,
+    fills: &'a str,
 }
 
-/// What is seen of a run that stopped: its output, its arrays, and what it ended with.
-#[derive(Clone, Copy)]
-pub struct Seen<'a> {
-    pub stop: Wanted,
-    pub output: &'a str,
-    pub arrays: &'a [&'a [u64]],
-    pub result: Option<u64>,
-}
-
-fn array(alloc: Global, elem: Elem, items: &[u64]) -> Result<Array, Fail> {
-    let mut array = Array::empty(alloc, elem);
-    for bits in items {
-        let low = low_bits(array.elem(), *bits);
-        array.push(low)?;
-    }
-    Ok(array)
-}
-
-fn argument(alloc: Global, given: &Given) -> Result<Argument, Fail> {
-    match given {
-        Given::Value(elem, bits) => Ok(Argument::Value(Value {
-            elem: *elem,
-            bits: *bits,
-        })),
-        Given::Array(elem, items) => Ok(Argument::Array(array(alloc, *elem, items)?)),
+fn run_of(line: &str) -> Run<'_> {
+    let (gangs, rest) = parted(line, '|');
+    let (given, rest) = parted(rest, '|');
+    let (kind, rest) = parted(rest, '|');
+    let (seen, fills) = parted(rest, '|');
+    Run {
+        gangs,
+        given,
+        kind,
+        seen,
+        fills,
     }
 }
 
-/// The arguments of a run.
-pub fn bound(alloc: Global, given: &[Given]) -> Result<Bound, Fail> {
-    let mut arguments = Vec::new(alloc);
-    for it in given {
-        arguments.push(argument(alloc, it)?)?;
-    }
-    Ok(Bound { arguments })
-}
-
-fn is_trap(trap: Trap, kind: TrapKind, start: usize, lane: usize) -> bool {
-    trap.kind == kind && trap.place.start == start && trap.instance == lane
-}
-
-fn is_wanted(stop: Stop, wanted: Wanted) -> bool {
-    match (stop, wanted) {
-        (Stop::Running, Wanted::Running) => true,
-        (Stop::Ended, Wanted::Ended) => true,
-        (Stop::Trapped(trap), Wanted::Trapped(kind, start, lane)) => {
-            is_trap(trap, kind, start, lane)
-        }
-        _ => false,
-    }
-}
-
-// Whether an array has these elements.
-fn has(array: &Array, items: &[u64]) -> bool {
-    if array.len() != items.len() {
-        return false;
-    }
-    for (place, bits) in items.iter().enumerate() {
-        if place >= array.len() || array.at(place) != *bits {
-            return false;
-        }
-    }
-    true
-}
-
-/// Whether arrays have these elements.
-pub fn have(arrays: &[Array], lists: &[&[u64]]) -> bool {
-    if arrays.len() != lists.len() {
-        return false;
-    }
-    for (array, items) in arrays.iter().zip(lists.iter()) {
-        if !has(array, items) {
-            return false;
-        }
-    }
-    true
-}
-
-fn is_result(value: Option<Value>, bits: Option<u64>) -> bool {
-    match (value, bits) {
-        (None, None) => true,
-        (Some(value), Some(bits)) => value.bits == bits,
-        _ => false,
-    }
-}
-
-/// Whether a run shows this after so many further instructions.
-pub fn shows<const N: usize>(machine: &mut Machine<'_, N>, budget: u64, seen: &Seen) -> bool {
-    is_wanted(machine.run(budget), seen.stop)
-        && machine.output() == seen.output.as_bytes()
-        && have(machine.arrays(), seen.arrays)
-        && is_result(machine.result(), seen.result)
-}
-
-fn shows_all<const N: usize>(machine: &mut Machine<'_, N>, steps: &[(u64, Seen)]) -> bool {
-    for (budget, seen) in steps {
-        if !shows(machine, *budget, seen) {
-            return false;
-        }
-    }
-    true
-}
-
-fn goes_in<const N: usize>(
+// Makes the steps on a machine that has begun.
+fn follow<const N: usize>(
+    rt: &impl Abort,
     alloc: Global,
-    code: &Verified,
-    bound: Bound,
-    steps: &[(u64, Seen)],
-) -> bool
-    requires { N ≡ gang_width code.now.gang }
-{
-    match Machine::<'_, N>::start(alloc, code, "f", bound) {
-        Ok(mut machine) => shows_all(&mut machine, steps),
-        Err((_bound, _fault)) => false,
+    begun: Option<Machine<'_, N>>,
+    steps: &[Step<'_>],
+) {
+    let mut machine = begun.expect(rt, "the run does not begin");
+    for step in steps {
+        let stop = machine.run(step.budget);
+        let seen = step.view.seen(alloc, &machine, stop).expect(rt, "memory");
+        assert!(rt; seen.as_str() == step.wanted, "{seen}, not {}", step.wanted);
     }
 }
 
-/// Whether a run of `f` shows what is said, with these budgets one after the other.
-pub fn goes(
-    alloc: Global,
-    code: &Verified,
-    given: &[Given],
-    steps: &[(u64, Seen)],
-) -> Result<bool, Fail> {
-    let bound = bound(alloc, given)?;
-    let right = match code.gang() {
-        Gang::W4 => goes_in::<4>(alloc, code, bound, steps),
-        Gang::W8 => goes_in::<8>(alloc, code, bound, steps),
-        Gang::W16 => goes_in::<16>(alloc, code, bound, steps),
-        Gang::W32 => goes_in::<32>(alloc, code, bound, steps),
-    };
-    Ok(right)
+/// Makes a run of `f`, and looks at it step by step.
+pub(crate) fn go(rt: &impl Abort, alloc: Global, code: &Verified, given: &str, steps: &[Step<'_>]) {
+    let bound = bound(alloc, given).expect(rt, "no arguments");
+    match code.gang() {
+        Gang::W4 => follow(
+            rt,
+            alloc,
+            Machine::<'_, 4>::start(alloc, code, "f", bound).ok(),
+            steps,
+        ),
+        Gang::W8 => follow(
+            rt,
+            alloc,
+            Machine::<'_, 8>::start(alloc, code, "f", bound).ok(),
+            steps,
+        ),
+        Gang::W16 => follow(
+            rt,
+            alloc,
+            Machine::<'_, 16>::start(alloc, code, "f", bound).ok(),
+            steps,
+        ),
+        Gang::W32 => follow(
+            rt,
+            alloc,
+            Machine::<'_, 32>::start(alloc, code, "f", bound).ok(),
+            steps,
+        ),
+    }
 }
 
-// One run, of `done` instructions, and then of `left`.
-fn is_cut(
-    alloc: Global,
-    code: &Verified,
-    given: &[Given],
-    first: (u64, Seen),
-    second: (u64, Seen),
-) -> Result<bool, Fail> {
-    let steps = [first, second, (0, second.1)];
-    goes(alloc, code, given, &steps)
+// The first word of a step is its budget.
+fn step_of<'a>(rt: &impl Abort, text: &'a str, view: View) -> Step<'a> {
+    let (budget, wanted) = parted(text, ' ');
+    Step {
+        budget: number(budget).expect(rt, "no budget"),
+        view,
+        wanted,
+    }
 }
 
-/// Whether a run of `f` shows `seen[m]` after m instructions, for each m, and its last when it goes
-/// on from there.
-pub fn goes_in_parts(
-    alloc: Global,
-    code: &Verified,
-    given: &[Given],
-    seen: &[Seen],
-) -> Result<bool, Fail> {
-    let Some(last) = seen.last() else {
-        return Ok(false);
-    };
-    let mut left = seen.len() as u64;
-    for (done, it) in seen.iter().enumerate() {
+fn in_steps(rt: &impl Abort, alloc: Global, code: &Verified, run: Run<'_>, view: View) {
+    let mut steps = Vec::new(alloc);
+    for text in run.seen.split(" ; ") {
+        steps.push(step_of(rt, text, view)).expect(rt, "memory");
+    }
+    go(rt, alloc, code, run.given, steps.as_slice());
+}
+
+fn looks<'a>(rt: &impl Abort, alloc: Global, seen: &'a str) -> Vec<&'a str> {
+    seen.split(" ; ").collect(alloc).expect(rt, "memory")
+}
+
+fn whole(budget: u64, wanted: &str) -> Step<'_> {
+    Step {
+        budget,
+        view: View::Whole,
+        wanted,
+    }
+}
+
+fn in_parts(rt: &impl Abort, alloc: Global, code: &Verified, run: Run<'_>) {
+    let texts = looks(rt, alloc, run.seen);
+    let last = texts.last().copied().unwrap_or("");
+    let mut left = texts.len() as u64;
+    for (done, text) in texts.iter().enumerate() {
         left = left.saturating_sub(1);
-        if !is_cut(alloc, code, given, (done as u64, *it), (left, *last))? {
-            return Ok(false);
-        }
-    }
-    Ok(true)
-}
-
-fn writes_in<const N: usize>(alloc: Global, code: &Verified, bound: Bound, output: &str) -> bool
-    requires { N ≡ gang_width code.now.gang }
-{
-    match Machine::<'_, N>::start(alloc, code, "f", bound) {
-        Ok(mut machine) => {
-            is_wanted(machine.run(100), Wanted::Ended) && machine.output() == output.as_bytes()
-        }
-        Err((_bound, _fault)) => false,
+        let steps = [whole(done as u64, *text), whole(left, last), whole(0, last)];
+        go(rt, alloc, code, run.given, &steps);
     }
 }
 
-/// Whether a run of `f` ends within 100 instructions and writes this.
-pub fn writes(alloc: Global, code: &Verified, given: &[Given], output: &str) -> Result<bool, Fail> {
-    let bound = bound(alloc, given)?;
-    let right = match code.gang() {
-        Gang::W4 => writes_in::<4>(alloc, code, bound, output),
-        Gang::W8 => writes_in::<8>(alloc, code, bound, output),
-        Gang::W16 => writes_in::<16>(alloc, code, bound, output),
-        Gang::W32 => writes_in::<32>(alloc, code, bound, output),
-    };
-    Ok(right)
+fn counters(budget: u64, wanted: &str) -> Step<'_> {
+    Step {
+        budget,
+        view: View::Counters,
+        wanted,
+    }
+}
+
+// What is seen after so many instructions, from each before it on, and then how it ends.
+fn from_each(
+    rt: &impl Abort,
+    alloc: Global,
+    code: &Verified,
+    given: &str,
+    texts: &[&str],
+    end: &str,
+) {
+    let last = texts.last().copied().unwrap_or("");
+    let mut left = texts.len() as u64;
+    for (before, earlier) in texts.iter().enumerate() {
+        left = left.saturating_sub(1);
+        let steps = [
+            counters(before as u64, *earlier),
+            counters(left, last),
+            whole(100, end),
+        ];
+        go(rt, alloc, code, given, &steps);
+    }
+}
+
+fn in_turns(rt: &impl Abort, alloc: Global, code: &Verified, run: Run<'_>) {
+    let (end, seen) = run.seen.split_once(" ; ").unwrap_or((run.seen, ""));
+    let texts = looks(rt, alloc, seen);
+    for done in 0..texts.len() {
+        let upto = texts.get(..done + 1).unwrap_or(&[]);
+        from_each(rt, alloc, code, run.given, upto, end);
+    }
+}
+
+// Makes a run by one of its gangs.
+fn try_run(rt: &impl Abort, alloc: Global, code: &Verified, run: Run<'_>) {
+    match run.kind {
+        "parts" => in_parts(rt, alloc, code, run),
+        "turns" => in_turns(rt, alloc, code, run),
+        "writes" => in_steps(rt, alloc, code, run, View::Written),
+        "registers" => in_steps(rt, alloc, code, run, View::Registers),
+        _ => in_steps(rt, alloc, code, run, View::Whole),
+    }
+}
+
+// Makes the run of a line by each of its gangs.
+fn try_line(rt: &impl Abort, alloc: Global, functions: &str, line: &str) {
+    let run = run_of(line);
+    let functions = filled(rt, alloc, functions, run.fills);
+    for width in run.gangs.split(' ') {
+        let code = verified(rt, alloc, gang_of(rt, width), functions.as_str());
+        try_run(rt, alloc, &code, run);
+    }
+}
+
+// Makes the runs of a record, and counts them.
+fn try_record(rt: &impl Abort, alloc: Global, record: &str) -> usize {
+    let (functions, lines) = record.split_once("\n--\n").unwrap_or((record, ""));
+    let (_told, functions) = functions.split_once("\nfunc ").unwrap_or(("", ""));
+    let functions = format!(in alloc; "func {functions}").expect(rt, "memory");
+    let mut count = 0usize;
+    for line in lines.lines() {
+        if !line.starts_with('.') {
+            try_line(rt, alloc, functions.as_str(), line);
+            count = count.saturating_add(1);
+        }
+    }
+    count
+}
+
+// The tables, each with the number of its runs.
+const TABLES: [(&str, usize); 11] = [
+    calls::RUNS,
+    consecutive::RUNS,
+    crossed::RUNS,
+    divisions::RUNS,
+    jumps::RUNS,
+    locals::RUNS,
+    orders::RUNS,
+    sights::RUNS,
+    sprints::RUNS,
+    texts::RUNS,
+    turns::RUNS,
+];
+
+// Makes the runs of a table, of which there are so many.
+fn try_all(rt: &impl Abort, alloc: Global, records: &str, wanted: usize) {
+    let mut count = 0usize;
+    for record in records.split("=== ").skip(1) {
+        count = count.saturating_add(try_record(rt, alloc, record));
+    }
+    assert_eq!(rt; count, wanted);
+}
+
+#[test]
+fn runs_of_the_tables(rt: HostRuntime) {
+    for (records, count) in TABLES {
+        try_all(&rt, rt.alloc(), records, count);
+    }
 }
