@@ -1,9 +1,9 @@
 #!/usr/bin/env python3
 """Writes programs with what is known of their runs as theorems over the definitions of isp_meaning.
 
-    tools/sample_theorems.py            writes crates/isp_tests_meaning/proofs/samples/
-    tools/sample_theorems.py --check    ends with status 1 where the files are not what it writes, or a kind stands in fewer than three theorems
-    tools/sample_theorems.py --trees    compares the trees that tools/typed_tree.py makes with those that another hand wrote, and says how many agree
+    tools/sample_theorems.py            writes crates/isp_tests_meaning/proofs/Sampled1.antt and so on
+    tools/sample_theorems.py --check    ends with status 1 where the files are not what it writes, where a kind is met by fewer than three programs,
+                                        or where tools/typed_tree.py makes another tree than another hand wrote beside a source
 
 The programs, arguments and answers are rows of crates/isp_tests_cases/data, found outside: by an independent implementation of the language, and
 where it has too few by hand. The typed tree is made of the source by tools/typed_tree.py. So many rows are chosen that each kind of expression,
@@ -17,7 +17,7 @@ import os
 import re
 import sys
 
-from gang import Cut, Long, Machine, Trap
+from gang import Long, Machine
 from typed_tree import LIBRARY, Front
 
 TOP = os.path.dirname(os.path.dirname(os.path.abspath(__file__)))
@@ -122,8 +122,10 @@ class Met(Machine):
             return f"{'unary ' if word == 'un' else ''}{e[1]}"
         if word == "index":
             return "element of its own" if self.find(sc, e[1])[2] == "varying" else "element"
+        if word == "call" and e[1] in self.fs:
+            return "call without a value" if self.fs[e[1]]["elem"] == "void" else f"{rate} call"
         if word == "call":
-            return (f"{rate} call" if self.fs[e[1]]["elem"] != "void" else "call without a value") if e[1] in self.fs else f"{e[1]} of three" if e[1] == "shuffle" and len(e[2]) == 3 else e[1]
+            return "shuffle of three" if e[1] == "shuffle" and len(e[2]) == 3 else e[1]
         return {"pi": "programIndex", "pc": "programCount", "paren": "brackets", "cast": "cast", "tern": f"{rate} choice"}[word]
 
     def stmt(self, it, sc):
@@ -159,8 +161,10 @@ class Met(Machine):
             for e in it[2] if word == "print" else [it[1]]:
                 yield f"{self.rate(e, sc)} value in {word}"
             yield word
+        elif word == "return":
+            yield "return" if it[1] is None else "return of a value"
         else:
-            yield {"active": "foreach_active", "unique": "foreach_unique", "expr": "a value alone", "return": "return of a value" if it[-1] else "return"}.get(word, word)
+            yield {"active": "foreach_active", "unique": "foreach_unique", "expr": "a value alone"}.get(word, word)
 
 
 def met(record, run):
@@ -193,6 +197,12 @@ def bits(elem, value):
 
 def row(elem, values):
     return f"(rw {elem} (" + " ∷ ".join([*(str(bits(elem, value)) for value in values), "[]"]) + "))"
+
+
+def argument(variable, value):
+    if variable.size:
+        return f"(AnArray {row(variable.elem, value)})"
+    return f"(AValue (record {{ elem = {variable.elem}; bits = {bits(variable.elem, value)} }}))"
 
 
 def listed(terms):
@@ -233,8 +243,7 @@ def theorems(number, record):
     yield f"abbrev program_{number} : Program"
     yield wrapped(f"program_{number} = pr W{record['gang']} {listed(front.terms)}")
     yield f"\nabbrev arguments_{number} : List Argument"
-    terms = [f"(AnArray {row(it.elem, given[name])})" if it.size else f"(AValue (record {{ elem = {it.elem}; bits = {bits(it.elem, given[name])} }}))" for name, it in params]
-    yield wrapped(f"arguments_{number} = {listed(terms)}")
+    yield wrapped(f"arguments_{number} = {listed(argument(it, given[name]) for name, it in params)}")
     for run in record["chosen"]:
         of = f"{number}_of_{run['turns']}"
         asked = f"program_{number} {entry} {run['turns']} arguments_{number}"
@@ -310,7 +319,8 @@ def files():
         body = "\n".join(line for number, record in enumerate(part, at) for line in theorems(number, record))
         uses = "".join(used(line + "\n", body) for line in USES.strip("\n").split("\n"))
         named = f"Sampled{at // PROGRAMS_A_FILE + 1}"
-        texts[named] = f"-- Programs {at} to {at + len(part) - 1} of rows that were found outside, as theorems. Written by tools/sample_theorems.py.\n{uses}\n{body}"
+        head = f"-- Programs {at} to {at + len(part) - 1} of rows that were found outside, as theorems. Written by tools/sample_theorems.py."
+        texts[named] = f"{head}\n{uses}\n{body}"
     return texts, count
 
 
@@ -334,40 +344,37 @@ def nested(text):
 
 
 def trees():
-    same = other = 0
-    for file in sorted(glob.glob(os.path.join(PROOFS, "*.antt"))):
-        if os.path.basename(file).startswith("Sampled"):
-            continue
+    """Returns how many trees beside a source of the other files are those of tools/typed_tree.py, and the names of those that are not."""
+    same, other = 0, []
+    for file in sorted(it for it in glob.glob(os.path.join(PROOFS, "*.antt")) if not os.path.basename(it).startswith("Sampled")):
         with open(file, encoding="utf-8") as it:
             text = it.read()
         for m in re.finditer(r"((?:^-- [^\n]*\n)+)abbrev program_(\d+) : Program\nprogram_\2 = pr W(\d+) (.*?)\n\n", text, re.M | re.S):
             source = " ".join(line[3:] for line in m[1].strip().split("\n"))
-            agrees = nested(listed(Front(source, int(m[3])).terms)) == nested(m[4])
-            same, other = same + agrees, other + (not agrees)
-            if not agrees:
-                print(f"{os.path.basename(file)}: program_{m[2]} differs")
-    print(f"{same} trees agree with those of another hand, {other} differ")
+            if nested(listed(Front(source, int(m[3])).terms)) == nested(m[4]):
+                same += 1
+            else:
+                other.append(f"program_{m[2]} of {os.path.basename(file)}")
+    return same, other
 
 
 def main():
-    if sys.argv[1:] == ["--trees"]:
-        return trees()
     texts, count = files()
-    few = sorted(f"{kind} {n}" for kind, n in count.items() if n < TIMES)
-    wrong = []
+    wrong = [f"{kind} in {n} programs" for kind, n in sorted(count.items()) if n < TIMES]
     for name, text in texts.items():
         path = os.path.join(PROOFS, f"{name}.antt")
         if sys.argv[1:] == ["--check"]:
             with open(path, encoding="utf-8") as it:
-                wrong += [] if it.read() == text else [name]
+                wrong += [] if it.read() == text else [f"another {name}"]
         else:
             with open(path, "w", encoding="utf-8") as it:
                 it.write(text)
+    same, other = trees()
     programs, theorems = (sum(text.count(word) for text in texts.values()) for word in (" : Program\n", "= refl"))
-    print(f"{theorems} theorems of {programs} programs; {len(count)} kinds, each in {TIMES} or more" + (f", but {', '.join(few)}" if few else ""))
-    if wrong:
-        print(f"tools/sample_theorems.py: not what it writes: {', '.join(wrong)}", file=sys.stderr)
-    return 1 if wrong or few else 0
+    print(f"{theorems} theorems of {programs} programs; {len(count)} kinds, each in {TIMES} or more; {same} trees are those of another hand")
+    for it in wrong + other:
+        print(f"tools/sample_theorems.py: {it}", file=sys.stderr)
+    return 1 if wrong or other else 0
 
 
 if __name__ == "__main__":

@@ -97,7 +97,12 @@ class Variable:
         return f"(ar {self.number} {ty(self.rate, self.elem)} {str(self.constant).lower()})"
 
     def term(self):
-        holds = f"AVariable {ty(self.rate, self.elem)}" if self.size is None else f"Given {self.elem}" if self.size == "given" else f"Local {ty(self.rate, self.elem)} {self.size}"
+        if self.size is None:
+            holds = f"AVariable {ty(self.rate, self.elem)}"
+        elif self.size == "given":
+            holds = f"Given {self.elem}"
+        else:
+            holds = f"Local {ty(self.rate, self.elem)} {self.size}"
         return f"(vr ({holds}) {str(self.constant).lower()})"
 
 
@@ -115,7 +120,7 @@ class Front:
                 self.tokens.append((m.lastgroup, m[0], m.start(), m.end()))
         self.tokens.append(("end", "", place, place))
         self.headings = self.read_headings()
-        self.at, self.terms = 0, []
+        self.at, self.terms, self.answer, self.scopes, self.variables = 0, [], None, [], []
         while self.tokens[self.at][0] != "end":
             self.terms.append(self.function())
 

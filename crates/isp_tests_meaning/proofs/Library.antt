@@ -86,7 +86,7 @@ unfolding digits number_to wrap_to amount not_zero
 work_23_of_0 = refl
 
 -- export void f(uniform signed a[], uniform signed int8 o[], uniform signed int z[], uniform signed int8 n) { int x = rotate((0x5128af78) %
--- (programIndex | 1), 0); { uniform int k1 = 0; cdo { k1++; packed_store_active(&a[1], k1 & k1 | x); } while (k1 < 3); } n = packed_load_active(&a,
+-- (programIndex | 1), 0); { uniform int k1 = 0; cdo { k1++;  packed_store_active(&a[1], k1 & k1 | x); } while (k1 < 3); } n = packed_load_active(&a,
 -- &x); o[programIndex] = x; }
 abbrev program_27 : Program
 program_27 = pr W8 ((fn None None ((vr (Given I32) false) ∷ (vr (Given I8) false) ∷ (vr (Given I32) false) ∷ (vr (AVariable (u I8)) false) ∷

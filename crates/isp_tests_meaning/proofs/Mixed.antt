@@ -232,8 +232,8 @@ work_42_of_0 : work_of program_42 0 0 arguments_42 ≡ 73
 unfolding digits number_to wrap_to amount not_zero
 work_42_of_0 = refl
 
--- signed int64 g0() { uniform unsigned int8 v1 = (unsigned) 2147483648 != (signed int) true, v2 = 0b10101u - 1 != 2 > v1; { uniform int k3 = 0; do {
--- k3++; v2 &= 9; uniform signed int t4[4]; } while (k3 < 2); } return (varying signed int) ~ programIndex; }
+-- signed int64 g0() { uniform unsigned int8 v1 = (unsigned) 2147483648 != (signed int) true, v2 = 0b10101u - 1 != 2 > v1; { uniform int k3 = 0; do { k3++;  v2
+-- &= 9; uniform signed int t4[4]; } while (k3 < 2); } return (varying signed int) ~ programIndex; }
 -- void g1(signed int p5, uniform int8 p6, uniform int32 b7[]) { p6 <<= p6; uniform int32 v8 = (p6 < 3 ? p6 > p6 == b7[1] : 4 || p6 >= p6), v9; }
 -- export void f(uniform int32 a[], uniform int16 o[], uniform int n) { int x = ((signed) 0 ? programIndex : ! programIndex); print("\t%\"% %\n", programIndex | n != n, g0(), (signed) n); if (g0()) return; a[programIndex] += x; }
 abbrev program_51 : Program

@@ -349,7 +349,7 @@ work_35_of_0 = refl
 
 -- void g0(signed n2, uniform int b1[]) { if (n2 <= 0) return; g0(n2 - 1, b1); ; b1[0] /= b1[3] && (uniform int32) b1[3] > b1[1]; }
 -- export uniform int f(uniform signed a[], uniform uint o[], uniform signed int8 z[], uniform int n) { int x = !(n); ++x; z[programIndex] *=
--- all(programIndex > x) | !(n); { int k3 = 0; do { k3++; assert(true); } while (k3 < 1); } o[programIndex] = x; return n ^ n; }
+-- all(programIndex > x) | !(n); { int k3 = 0; do { k3++;  assert(true); } while (k3 < 1); } o[programIndex] = x; return n ^ n; }
 abbrev program_39 : Program
 program_39 = pr W4 ((fn None None ((vr (AVariable (v I32)) false) ∷ (vr (Given I32) false) ∷ [])
     (t_braces (t_stmts ((t_if Plain 2 (t_compare cmp.LessOrEqual (t_place (t_variable 0 (v I32) (s 43 45))) (cn I32 0 (s 49 50)) Varying (s 43 50))
