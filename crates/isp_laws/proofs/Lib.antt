@@ -34,3 +34,4 @@ mod Scattered
 mod Everyone
 mod Locals
 mod Worked
+mod Typed

@@ -14,3 +14,4 @@ pub mod Scatters
 pub mod Everybody
 pub mod LocalArrays
 pub mod Works
+pub mod Typings

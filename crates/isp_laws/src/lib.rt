@@ -14,6 +14,7 @@ mod samples;
 mod scatters;
 mod stays;
 mod taken;
+mod typings;
 mod works;
 
 pub use crossings::{are_combined, are_moved};
@@ -32,4 +33,5 @@ pub use samples::premises_of_samples;
 pub use scatters::the_highest_wins;
 pub use stays::arrays_stay;
 pub use taken::taken_once;
+pub use typings::verdict_is_right;
 pub use works::{work_of_call, work_of_foreach, work_of_if, work_of_loops};
