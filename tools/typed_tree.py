@@ -1,7 +1,7 @@
 """From a source to its typed tree, as a term of isp_typed: a small front in plain Python, for programs that are accepted.
 
-It is written from docs/LANGUAGE.md, and takes nothing from the front of isp but the names of the constructors. tools/sample_theorems.py
-makes theorems with it, and compares its trees with those that another hand wrote.
+It was written beside docs/LANGUAGE.md and isp's own definitions of what is well typed, so it is no independent front. tools/sample_theorems.py makes
+theorems with it, and compares its trees with those of an independent implementation, which printed 108 of them.
 """
 import re
 
