@@ -71,11 +71,11 @@ row_past (r ∷ rs) (suc b) le = row_past rs b (omega (arith, le))
 
 -- ---- what the header says
 
-no_locals : (ls : List Local) → none_open ls ≡ true → ls ≡ []
+pub no_locals : (ls : List Local) → none_open ls ≡ true → ls ≡ []
 no_locals [] e = refl
 no_locals (l ∷ ls) e = absurd cc
 
-exports : (earlier : List Routine) (h : Routine) → header_fits earlier h ≡ true → h.exported ≡ true → can_export h ≡ true
+pub exports : (earlier : List Routine) (h : Routine) → header_fits earlier h ≡ true → h.exported ≡ true → can_export h ≡ true
 exports earlier h fits e =
     ap (λ b. export_fits b h) (sym e)
     ∙ both_first (export_fits h.exported h) (not (h.masks == 0))
@@ -83,7 +83,7 @@ exports earlier h fits e =
 
 -- ---- lines
 
-all_at : (p : Instr → Bool) (is : List Instr) (pc : ℕ) (i : Instr) → list_all p is ≡ true → slice_get is pc ≡ Some i → p i ≡ true
+pub all_at : (p : Instr → Bool) (is : List Instr) (pc : ℕ) (i : Instr) → list_all p is ≡ true → slice_get is pc ≡ Some i → p i ≡ true
 all_at p [] pc i all has = absurd cc
 all_at p (j ∷ is) zero i all has = let same : j ≡ i = cc in ap p (sym same) ∙ both_first (p j) (list_all p is) all
 all_at p (j ∷ is) (suc pc) i all has = all_at p is pc i (both_second (p j) (list_all p is) all) has
@@ -139,19 +139,19 @@ module _ (w : Setting) (no_vector : gives_vector w.routine.returns ≡ false) (h
 -- ---- a call of a function
 
 module _ (code : Listing) (h : Routine) (f : ℕ) (accepted : IsFine code) (found : slice_get code.routines f ≡ Some h) (exported : h.exported ≡ true) (covers : is_covered code h ≡ true) where
-  forms : list_all has_form h.code ≡ true
+  pub forms : list_all has_form h.code ≡ true
   forms = both_first (list_all has_form h.code) (none_open h.locals && (nat_lt (length h.code) (2 ^ 32) && nat_lt (length (joined code.texts)) (2 ^ 32))) covers
 
   rooms : (none_open h.locals && (nat_lt (length h.code) (2 ^ 32) && nat_lt (length (joined code.texts)) (2 ^ 32))) ≡ true
   rooms = both_second (list_all has_form h.code) (none_open h.locals && (nat_lt (length h.code) (2 ^ 32) && nat_lt (length (joined code.texts)) (2 ^ 32))) covers
 
-  none : h.locals ≡ []
+  pub none : h.locals ≡ []
   none = no_locals h.locals (both_first (none_open h.locals) (nat_lt (length h.code) (2 ^ 32) && nat_lt (length (joined code.texts)) (2 ^ 32)) rooms)
 
   sizes_fit : (nat_lt (length h.code) (2 ^ 32) && nat_lt (length (joined code.texts)) (2 ^ 32)) ≡ true
   sizes_fit = both_second (none_open h.locals) (nat_lt (length h.code) (2 ^ 32) && nat_lt (length (joined code.texts)) (2 ^ 32)) rooms
 
-  code_low : length h.code < 2 ^ 32
+  pub code_low : length h.code < 2 ^ 32
   code_low = ltb-true (length h.code) (2 ^ 32) (both_first (nat_lt (length h.code) (2 ^ 32)) (nat_lt (length (joined code.texts)) (2 ^ 32)) sizes_fit)
 
   texts_low : length (joined code.texts) < 2 ^ 32
@@ -160,16 +160,16 @@ module _ (code : Listing) (h : Routine) (f : ℕ) (accepted : IsFine code) (foun
   can : can_export h ≡ true
   can = exports (take f code.routines) h (accepted.headers f h found) exported
 
-  no_vector : list_any is_vector h.params ≡ false
+  pub no_vector : list_any is_vector h.params ≡ false
   no_vector = not-true (list_any is_vector h.params) (both_first (not (list_any is_vector h.params)) (not (gives_vector h.returns)) can)
 
-  gives_none : gives_vector h.returns ≡ false
+  pub gives_none : gives_vector h.returns ≡ false
   gives_none = not-true (gives_vector h.returns) (both_second (not (list_any is_vector h.params)) (not (gives_vector h.returns)) can)
 
   stays_last : stays (slice_get h.code (last h)) ≡ true
   stays_last = accepted.ends f h found
 
-  some_code : 0 < length h.code
+  pub some_code : 0 < length h.code
   some_code = by (cases_lt 0 (length h.code))
     where
       by : (0 < length h.code) ⊎ (length h.code ≤ 0) → 0 < length h.code

@@ -32,4 +32,8 @@ mod Passing
 mod Heads
 mod TextPlaces
 mod Kernels
+mod Typed
+mod LocalTypes
+mod ValidLines
+mod ValidModules
 mod Samples

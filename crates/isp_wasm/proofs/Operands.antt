@@ -26,7 +26,7 @@ use Rattle.isp_wasm.specs.Places.{Setting, elem}
 use Rattle.isp_wasm.specs.Thin.{IsInteger, IsUnary, IsScalar, IsVector, IsArray, IsThin, IsThinScalar, IsThinVector, IsThinMask, IsThinDivision}
 use Rattle.isp_wasm.specs.Lines.{HasArrays, HasTemplate, FineIsThin}
 
-integer : (t : Elem) → t ≢ Truth → IsInteger t
+pub integer : (t : Elem) → t ≢ Truth → IsInteger t
 integer Truth h = absurd (h refl)
 integer I8 h = tt
 integer U8 h = tt

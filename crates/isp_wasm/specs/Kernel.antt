@@ -1,6 +1,7 @@
 -- A host calls a function of the module of some code: what it lays into memory and passes, and that the outcomes are the
 -- machine's.
 use Rattle.std.specs.Prelude.{◌≡◌, ◌≢◌, ◌⊎◌, ℕ, zero, suc, ◌+◌, ◌*◌, ◌%◌, ◌^◌, ◌<◌, ◌≤◌, List, [], ◌∷◌, length, None, true, slice_index}
+use Rattle.std.specs.List.{list_all}
 use Rattle.isp_base.specs.Arguments.{rows, row_bits}
 use Rattle.isp_base.specs.Rows.{Row}
 use Rattle.isp_base.specs.Values.{width}
@@ -14,6 +15,7 @@ use Rattle.isp_code.specs.Machine.{first_conf}
 use Rattle.isp_verify.specs.Faults.{code_fault}
 use Rattle.isp_wasm_meaning.specs.Meaning.{State, called, loaded}
 use Rattle.isp_wasm_meaning.specs.Module.{HasMemory, code_in}
+use Rattle.isp_wasm_meaning.specs.Valid.{is_valid_function}
 use Rattle.isp_wasm.specs.Places.{Setting, bytes_of}
 use Rattle.isp_wasm.specs.Entry.{SameOutcomes}
 use Rattle.isp_wasm.specs.Module.{is_covered, numbered, module_of}
@@ -62,3 +64,7 @@ KernelsAgree =
     (code : Listing) → code_fault code ≡ None → (name : List ℕ) (xs : List Argument) (f : ℕ) (h : Routine) → IsEntry code name xs f h → is_covered code h ≡ true
     → (at : List ℕ) (s : State) → IsLaidOut code xs at s
     → SameOutcomes (in_call code xs at f h s) xs (λ n. called (code_in (module_of code)) n f (passed xs at) s)
+
+-- An engine takes the functions of the module of accepted code, by the types of their operators and locals.
+abbrev pub ModulesValid : Type 0
+ModulesValid = (code : Listing) → code_fault code ≡ None → list_all is_valid_function (module_of code).functions ≡ true

@@ -10,7 +10,7 @@ use Rattle.isp_code.specs.Entries.{result_of}
 use Rattle.isp_code.specs.declared.function.Local.{Local}
 use Rattle.isp_code.specs.declared.instr.Instr.{Instr}
 use Rattle.isp_code.specs.declared.instr.Instr.TheVariants as instr
-use Rattle.isp_wasm_meaning.specs.Syntax as wasm
+use Rattle.isp_wasm_meaning.specs.Valid.{sized}
 use Rattle.isp_wasm_meaning.specs.Module.{ValueType, I32, I64, V128, Function, Module, unused}
 use Rattle.isp_wasm.specs.Entry.{entry_code}
 use Rattle.isp_wasm.specs.Locals.{param_places, own_places, local_in, position}
@@ -84,10 +84,6 @@ module _ (code : Listing) where
           text_at = text_start code.texts;
           before = λ a. 0;
         }
-
-    abbrev pub sized : wasm.Size → ValueType
-    sized wasm.I32 = I32
-    sized wasm.I64 = I64
 
     abbrev pub type_of : Place → ValueType
     type_of Counter = I32

@@ -4,7 +4,7 @@
 
 ghost use Rattle.isp_wasm.specs.Agreement.{CallsComeBack, FunctionsAgree};
 ghost use Rattle.isp_wasm.specs.Entry.{EntriesAgree};
-ghost use Rattle.isp_wasm.specs.Kernel.{KernelsAgree};
+ghost use Rattle.isp_wasm.specs.Kernel.{KernelsAgree, ModulesValid};
 ghost use Rattle.isp_wasm.specs.Lines.{FineIsThin};
 
 /// A function in WebAssembly that stands before a rung as the machine stands before an instruction ends, traps and
@@ -34,4 +34,10 @@ pub fn fine_is_thin()
 /// memory, has the outcomes of the machine's run, and no others. Each local, rung and text has its number from the code.
 pub fn kernels_agree()
     ensures { KernelsAgree }
+{}
+
+/// Each function of the module of accepted code is valid: its operators and locals get values of their types, its branches
+/// go to labels that there are.
+pub fn modules_valid()
+    ensures { ModulesValid }
 {}

@@ -57,20 +57,20 @@ is_unary (ExtendLow I8x16) = false
 is_unary (ExtendHigh I8x16) = false
 is_unary o = true
 
-abbrev pub left_of : Binary → ValueType
-left_of (Of t o) = sized t
-left_of (BitsOf t o) = sized t
-left_of (ShiftOf t o) = sized t
-left_of (Compare t o) = sized t
-left_of o = V128
+abbrev pub first_taken : Binary → ValueType
+first_taken (Of t o) = sized t
+first_taken (BitsOf t o) = sized t
+first_taken (ShiftOf t o) = sized t
+first_taken (Compare t o) = sized t
+first_taken o = V128
 
-abbrev pub right_of : Binary → ValueType
-right_of (Replace s k) = unpacked s
-right_of o = left_of o
+abbrev pub second_taken : Binary → ValueType
+second_taken (Replace s k) = unpacked s
+second_taken o = first_taken o
 
-abbrev pub made_of : Binary → ValueType
-made_of (Compare t o) = I32
-made_of o = left_of o
+abbrev pub given_by : Binary → ValueType
+given_by (Compare t o) = I32
+given_by o = first_taken o
 
 -- there is no i8x16.mul and no i64x2.lt_u
 abbrev pub is_binary : Binary → Bool
@@ -93,7 +93,7 @@ module _ (local : ℕ → Option ValueType) where
   has_type (Const128 n) t = same_type V128 t
   has_type (Local x) t = is_type (local x) t
   has_type (One o x) t = same_type (given o) t && (is_unary o && has_type x (taken o))
-  has_type (Two o x y) t = same_type (made_of o) t && (is_binary o && (has_type x (left_of o) && has_type y (right_of o)))
+  has_type (Two o x y) t = same_type (given_by o) t && (is_binary o && (has_type x (first_taken o) && has_type y (second_taken o)))
   has_type (Select c x y) t = has_type c I32 && (has_type x t && has_type y t)
   has_type (Bitselect x y c) t = same_type V128 t && (has_type x V128 && (has_type y V128 && has_type c V128))
 
