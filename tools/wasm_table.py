@@ -1,11 +1,11 @@
 #!/usr/bin/env python3
-"""Asks an engine what each operator of isp_wasm_meaning's fragment gives at its edges, and what small functions do that turn on its control
-(wasm_control.py), and writes the answers as theorems.
+"""Asks an engine what each operator of isp_wasm_meaning's fragment gives at its edges, what small functions do that turn on its control
+(wasm_control.py), and which functions it takes (wasm_valid.py), and writes the answers as theorems.
 
-    tools/wasm_table.py             writes Engine.antt and EngineControl.antt of crates/isp_wasm_meaning/proofs
+    tools/wasm_table.py             writes Engine.antt, EngineControl.antt and EngineValid.antt of crates/isp_wasm_meaning/proofs
     tools/wasm_table.py --check     ends with status 1 where one is not what the engine answers
 
-The engine is Node's; wat2wasm of wabt makes its module of a text (apt-get install nodejs wabt). An operator's function reads its operands from
+The engine is Node's; wat2wasm and wast2json of wabt make its modules of texts (apt-get install nodejs wabt). An operator's function reads its operands from
 memory and writes the result to memory. The theorems are proved by computing with the definitions, whenever the crate is.
 """
 import itertools
@@ -17,6 +17,7 @@ import tempfile
 
 sys.dont_write_bytecode = True
 import wasm_control  # noqa: E402
+import wasm_valid  # noqa: E402
 import written  # noqa: E402
 
 PROOFS = "crates/isp_wasm_meaning/proofs"
@@ -204,8 +205,11 @@ def theorems(rows, results):
 def main():
     rows, functions = table(), wasm_control.table()
     ends = answers(wasm_control.text(functions), [row[2] for row in functions], wasm_control.SCRIPT)
-    written.put({f"{PROOFS}/Engine.antt": theorems(rows, ask(rows)), f"{PROOFS}/EngineControl.antt": wasm_control.theorems(functions, ends)})
-    print(f"{len(rows)} operators, {sum(len(cases(row)) for row in rows)} cases; {len(functions)} functions, {sum(len(row[2]) for row in functions)} calls")
+    tried = wasm_valid.operators(rows) + wasm_valid.codes()
+    written.put({f"{PROOFS}/Engine.antt": theorems(rows, ask(rows)), f"{PROOFS}/EngineControl.antt": wasm_control.theorems(functions, ends),
+                 f"{PROOFS}/EngineValid.antt": wasm_valid.theorems(tried, wasm_valid.ask(tried))})
+    print(f"{len(rows)} operators, {sum(len(cases(row)) for row in rows)} cases; {len(functions)} functions, {sum(len(row[2]) for row in functions)} calls; "
+          f"{sum(len(row[3]) for row in tried)} functions valid or not")
 
 
 if __name__ == "__main__":

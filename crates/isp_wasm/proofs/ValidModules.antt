@@ -28,7 +28,7 @@ use Rattle.isp_wasm_meaning.specs.Module.{ValueType, V128, Function, unused}
 use Rattle.isp_wasm_meaning.specs.Module as valued
 use Rattle.isp_wasm_meaning.specs.Syntax as wasm
 use Rattle.isp_wasm_meaning.specs.Syntax.{I8x16, I64x2, Code, Set, Block, BrTable, Local, Const128, Unreachable}
-use Rattle.isp_wasm_meaning.specs.Valid.{sized, has_type, is_label, is_valid, is_valid_function}
+use Rattle.isp_wasm_meaning.specs.Valid.{sized, has_type, is_label, is_valid, ends_there, may_end, is_valid_function}
 use Rattle.isp_wasm.specs.Entry.{entry_code}
 use Rattle.isp_wasm.specs.Kernel.{ModulesValid}
 use Rattle.isp_wasm.specs.Locals.{row, param_places, vector_places, mask_places, own_places, local_in}
@@ -50,6 +50,10 @@ both_long (b ∷ x) y = let more = both_long x y in omega (arith, more)
 some_masks : (n : ℕ) → not (n == 0) ≡ true → 0 < n
 some_masks zero e = absurd cc
 some_masks (suc n) e = omega arith
+
+ended : (r : Option ValueType) (c : Code) → ends_there c ≡ true → may_end r c ≡ true
+ended None c e = refl
+ended (Some t) c e = e
 
 -- ---- control
 
@@ -201,9 +205,9 @@ module _ (code : Listing) (h : Routine) (f : ℕ) (accepted : IsFine code) (foun
   pub kernel_valid : is_valid_function (kernel_of code h) ≡ true
   unfolding locals
   kernel_valid =
-      both (is_valid locals (given code h (result_of h.returns)) 0 (entry_code (numbered code h))) true
+      both (is_valid locals (given code h (result_of h.returns)) 0 (entry_code (numbered code h))) (may_end (given code h (result_of h.returns)) (entry_code (numbered code h)))
       (entry_valid (numbered code h) locals (given code h (result_of h.returns)) has_types (gives_back h.returns (gives_none code h f accepted found exported covers)) (forms code h f accepted found exported covers)
-      (λ pc i has. (accepted.lines f h found pc i has).0) (λ k lt. up h.code (length h.code) 0 (length h.code) (omega arith) k lt) (get_or_past (heads_of h.code) (length (heads_of h.code)) (length h.code) (omega arith)) masked) refl
+      (λ pc i has. (accepted.lines f h found pc i has).0) (λ k lt. up h.code (length h.code) 0 (length h.code) (omega arith) k lt) (get_or_past (heads_of h.code) (length (heads_of h.code)) (length h.code) (omega arith)) masked) (ended (given code h (result_of h.returns)) (entry_code (numbered code h)) refl)
 
 -- ---- all of them
 

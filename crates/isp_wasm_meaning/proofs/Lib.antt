@@ -5,3 +5,4 @@ pub mod Memory
 pub mod Ladders
 mod Engine
 mod EngineControl
+mod EngineValid

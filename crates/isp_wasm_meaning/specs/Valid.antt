@@ -134,9 +134,16 @@ module _ (local : ℕ → Option ValueType) where
 -- behind it anything may stand
 abbrev pub ends_there : Code → Bool
 ends_there Unreachable = true
-ends_there (Then a b) = ends_there b
+ends_there (Br k) = true
+ends_there (BrTable ks k e) = true
+ends_there (Return e) = true
+ends_there (Then a b) = ends_there b || ends_there a
 ends_there c = false
 
 -- 3.4.1 a function that gives a value back does not fall off its end
+abbrev pub may_end : Option ValueType → Code → Bool
+may_end None c = true
+may_end (Some t) c = ends_there c
+
 abbrev pub is_valid_function : Function → Bool
-is_valid_function f = is_valid (slice_get (f.params ++ f.locals)) f.result 0 f.code && ends_there f.code
+is_valid_function f = is_valid (slice_get (f.params ++ f.locals)) f.result 0 f.code && may_end f.result f.code
