@@ -36,4 +36,5 @@ mod Typed
 mod LocalTypes
 mod ValidLines
 mod ValidModules
+mod Numbered
 mod Samples

@@ -14,8 +14,7 @@ use Rattle.isp_wasm.specs.Brighten.{brighten, routine}
 use Rattle.isp_wasm.specs.Entry.{SameOutcomes}
 use Rattle.isp_wasm.specs.Kernel.{row_elem, array_end, IsLaidOut, in_call, passed}
 use Rattle.isp_wasm.specs.Places.{bytes_of}
-use Rattle.isp_wasm.specs.Module.{is_covered, function_of, module_of}
-use Rattle.isp_wasm_meaning.specs.Valid.{is_valid_function}
+use Rattle.isp_wasm.specs.Module.{is_covered, module_of}
 use Rattle.isp_wasm.specs.Sample.{pixels, sample_arguments, sample_addresses, sample_state}
 use Rattle.isp_wasm.proofs.Kernels.{kernels_agree}
 
@@ -97,6 +96,3 @@ memory_of r = []
 brightened : memory_of (called (code_in (module_of brighten)) 40 0 (passed sample_arguments sample_addresses) sample_state) ≡ 50 ∷ 60 ∷ 150 ∷ 250 ∷ 255 ∷ 255 ∷ 255 ∷ 255 ∷ 178 ∷ []
 unfolding packed digit wrap_to
 brightened = refl
-
-valid : is_valid_function (function_of brighten routine) ≡ true
-valid = refl

@@ -1,5 +1,6 @@
 -- Each text lies in the first bytes of the memory.
 use Rattle.std.proofs.Common.{◌≡◌, ℕ, zero, suc, ◌+◌, ◌≤◌, List, [], ◌∷◌, ◌++◌, length, refl, ap, ◌∙◌, arith}
+use Rattle.std.proofs.lemmas.List.{length-append}
 use Rattle.std.specs.Prelude.{slice_index_or}
 use Rattle.isp_wasm_meaning.specs.Meaning.{bytes}
 use Rattle.isp_wasm.specs.Module.{joined, text_start}
@@ -23,13 +24,9 @@ module _ (m : ℕ → ℕ) where
       ap (λ b. bytes (length (slice_index_or xs t [])) b m) (let same : a + (length x + text_start xs t) ≡ a + length x + text_start xs t = omega arith in same)
       ∙ text_there xs (a + length x) t (last_part x (joined xs) a e)
 
-both_long : (x y : List ℕ) → length (x ++ y) ≡ length x + length y
-both_long [] y = let same : length y ≡ 0 + length y = omega arith in same
-both_long (b ∷ x) y = let more = both_long x y in omega (arith, more)
-
 -- and ends within them
 pub text_ends : (xs : List (List ℕ)) (t : ℕ) → text_start xs t + length (slice_index_or xs t []) ≤ length (joined xs)
 text_ends [] zero = omega arith
 text_ends [] (suc t) = omega arith
-text_ends (x ∷ xs) zero = let all = both_long x (joined xs) in omega (arith, all)
-text_ends (x ∷ xs) (suc t) = let all = both_long x (joined xs) in let more = text_ends xs t in omega (arith, all, more)
+text_ends (x ∷ xs) zero = let all = length-append x (joined xs) in omega (arith, all)
+text_ends (x ∷ xs) (suc t) = let all = length-append x (joined xs) in let more = text_ends xs t in omega (arith, all, more)

@@ -4,7 +4,7 @@ use Rattle.std.specs.Prelude.{slice_get, slice_index_or, ◌==◌, if◌then◌e
 use Rattle.std.specs.List.{list_all, list_any}
 use Rattle.std.proofs.lemmas.Bool.{cases_lt}
 use Rattle.std.proofs.lemmas.Option.{slice_get-get_or}
-use Rattle.std.proofs.lemmas.List.{get_or_past}
+use Rattle.std.proofs.lemmas.List.{get_or_past, length-append}
 use Rattle.std.proofs.Math.ListN.{get_or}
 use Rattle.isp_base.specs.Sets.{everyone}
 use Rattle.isp_base.specs.Types.{gang_width}
@@ -42,10 +42,6 @@ use Rattle.isp_wasm.proofs.LocalTypes.{Has, has_left, has_right, local_type, row
 use Rattle.isp_wasm.proofs.Passing.{both_second}
 use Rattle.isp_wasm.proofs.Typed.{both}
 use Rattle.isp_wasm.proofs.ValidLines.{HasTypes, Gives, gang_low, few_parts, then_valid, each_valid, set_valid, local_typed, label, line_valid}
-
-both_long : {A : Type 0} (x y : List A) → length (x ++ y) ≡ length x + length y
-both_long [] y = let same : length y ≡ 0 + length y = omega arith in same
-both_long (b ∷ x) y = let more = both_long x y in omega (arith, more)
 
 some_masks : (n : ℕ) → not (n == 0) ≡ true → 0 < n
 some_masks zero e = absurd cc
@@ -139,7 +135,7 @@ module _ (code : Listing) (h : Routine) (f : ℕ) (accepted : IsFine code) (foun
           own_has (Scalar r) (has_right (row (parts_for lanes I64x2) Fresh) (row (length h.scalars) (λ r. Scalar (passed + r)) ++ (vector_places lanes (vectors_of h) 0 ++ mask_places h.masks 0)) (Scalar r)
           (has_left (row (length h.scalars) (λ r. Scalar (passed + r))) (vector_places lanes (vectors_of h) 0 ++ mask_places h.masks 0) (Scalar r)
           (subst (λ n. Has (row (length h.scalars) (λ r. Scalar (passed + r))) (Scalar n)) (let same : passed + (r - passed) ≡ r = omega (arith, le) in same)
-          (row_has (length h.scalars) (λ r. Scalar (passed + r)) (r - passed) (let all = both_long (param_elems class.Scalar h.params) h.scalars in omega (arith, lt, le, all))))))
+          (row_has (length h.scalars) (λ r. Scalar (passed + r)) (r - passed) (let all = length-append (param_elems class.Scalar h.params) h.scalars in omega (arith, lt, le, all))))))
 
   vector_has : (r j : ℕ) → r < length (vectors_of h) → j < parts_for lanes (shape_of (slice_index_or (vectors_of h) r Truth)) → Has places (Vector r j)
   vector_has r j lt l =

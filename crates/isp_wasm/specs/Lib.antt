@@ -7,6 +7,7 @@ pub mod Thin
 pub mod Agreement
 pub mod Entry
 pub mod Locals
+pub mod Numbering
 pub mod Module
 pub mod Kernel
 pub mod Lines

@@ -6,6 +6,7 @@ ghost use Rattle.isp_wasm.specs.Agreement.{CallsComeBack, FunctionsAgree};
 ghost use Rattle.isp_wasm.specs.Entry.{EntriesAgree};
 ghost use Rattle.isp_wasm.specs.Kernel.{KernelsAgree, ModulesValid};
 ghost use Rattle.isp_wasm.specs.Lines.{FineIsThin};
+ghost use Rattle.isp_wasm.specs.Numbering.{LocalsAreNumbered};
 
 /// A function in WebAssembly that stands before a rung as the machine stands before an instruction ends, traps and
 /// writes as the machine does from there, where the code is covered.
@@ -40,4 +41,10 @@ pub fn kernels_agree()
 /// go to labels that there are.
 pub fn modules_valid()
     ensures { ModulesValid }
+{}
+
+/// The numbers of locals as sums, for who writes them: where the parameters, the other scalars, the parts of vectors and of
+/// masks begin.
+pub fn locals_are_numbered()
+    ensures { LocalsAreNumbered }
 {}
