@@ -1,5 +1,5 @@
 -- A kernel of examples/ meets all that the law of kernels asks.
-use Rattle.std.proofs.Common.{◌≡◌, ℕ, zero, suc, ◌+◌, ◌*◌, ◌^◌, ◌<◌, ◌≤◌, ◌⊎◌, inl, inr, [], length, None, true, refl, sym, ap, ◌∙◌, subst, arith, lit≤, List, ◌∷◌}
+use Rattle.std.proofs.Common.{◌≡◌, ℕ, zero, suc, ◌+◌, ◌*◌, ◌^◌, ◌<◌, ◌≤◌, ◌⊎◌, inl, inr, [], length, Option, Some, None, true, refl, sym, ap, ◌∙◌, subst, arith, lit≤, List, ◌∷◌}
 use Rattle.std.specs.Prelude.{slice_index, codes}
 use Rattle.std.proofs.lemmas.Bool.{cases_lt}
 use Rattle.std.proofs.lemmas.List.{get_or_past}
@@ -8,7 +8,7 @@ use Rattle.isp_code.specs.Entries.{IsEntry}
 use Rattle.isp_verify.specs.Faults.{code_fault}
 use Rattle.isp_base.specs.Values.{width, wrap_to}
 use Rattle.isp_wasm_meaning.specs.Digits.{digit, packed}
-use Rattle.isp_wasm_meaning.specs.Meaning.{Result, Returned, called, loaded, bytes}
+use Rattle.isp_wasm_meaning.specs.Meaning.{Report, Result, Returned, Trapped, called, loaded, bytes}
 use Rattle.isp_wasm_meaning.specs.Module.{code_in}
 use Rattle.isp_wasm.specs.Brighten.{brighten, routine}
 use Rattle.isp_wasm.specs.Entry.{SameOutcomes}
@@ -96,3 +96,12 @@ memory_of r = []
 brightened : memory_of (called (code_in (module_of brighten)) 40 0 (passed sample_arguments sample_addresses) sample_state) ≡ 50 ∷ 60 ∷ 150 ∷ 250 ∷ 255 ∷ 255 ∷ 255 ∷ 255 ∷ 178 ∷ []
 unfolding packed digit wrap_to
 brightened = refl
+
+-- where there are to be twelve pixels, the second row ends behind the array: in its lane 1, at bytes 531 to 540 of the source
+abbrev pub report_in : Result → Option Report
+report_in (Trapped r s) = r
+report_in r = None
+
+traps_there : report_in (called (code_in (module_of brighten)) 80 0 (0 ∷ 9 ∷ 12 ∷ 50 ∷ []) sample_state) ≡ Some (record { kind = 1; start = 531; end = 540; instance = 1 })
+unfolding packed digit wrap_to
+traps_there = refl
