@@ -1,11 +1,13 @@
 -- One turn of each loop, by the definition that it computes.
-use Rattle.std.proofs.Common.{◌≡◌, ℕ, zero, suc, ◌+◌, ◌<◌, List, [], ◌∷◌, ◌++◌, length, take, drop, get_or, Bool, true, false, Option, Some, Result, Ok, Err, refl, sym, ap, ◌∙◌, append_assoc, add-one, if◌then◌else◌}
+use Rattle.std.proofs.Common.{◌≡◌, ℕ, zero, suc, ◌+◌, ◌<◌, List, [], ◌∷◌, ◌++◌, length, take, drop, get_or, Bool, true, false, Option, Some, None, Result, Ok, Err, refl, sym, ap, ◌∙◌, append_assoc, add-one, if◌then◌else◌}
 use Rattle.std.specs.Prelude.{bytes_eq, not, replicate}
 use Rattle.std.proofs.lemmas.List.{drop_more}
 use Rattle.isp_base.specs.declared.signature.Parameter.{Parameter}
 use Rattle.isp_base.specs.declared.signature.Argument.{Argument}
 use Rattle.isp_bind.specs.Binding.{is_parameter}
 use Rattle.isp_run_words.specs.Giving.{◌>>=◌, argument_by, argument_of, arguments_by, is_given, stray_from}
+use Rattle.isp_run_words.specs.Saying.{◌>>?◌, product_of, step_of}
+use Rattle.isp_run_words.specs.declared.words.LengthsRead.{LengthsRead}
 use Rattle.isp_run_words.specs.declared.fault.GivenFault.{GivenFault}
 use Rattle.isp_run_words.specs.declared.fault.GivenFault.TheVariants.{Unknown, Twice}
 use Rattle.isp_run_words.specs.declared.given.Given.{Given}
@@ -106,3 +108,15 @@ snoc (suc n) = ap (λ (l : List ℕ). 0 ∷ l) (snoc n)
 
 pub zeros_more : (n : ℕ) → nothing n ++ one_zero ≡ nothing (n + 1)
 zeros_more n = snoc n ∙ ap nothing (sym (add-one n))
+
+-- ---- lengths
+
+read_here : (r : LengthsRead) (bs : List ℕ) (i : ℕ) (b : ℕ) → i < length bs → b ≡ get_or bs i b → product_of r (drop i bs) ≡ (step_of r b >>? (λ s. product_of s (drop (i + 1) bs)))
+read_here r bs i b less is =
+    ap (product_of r) (drop_more bs i b less) ∙ ap (λ (c : ℕ). step_of r c >>? (λ s. product_of s (drop (i + 1) bs))) (sym is)
+
+pub read_next : (r s : LengthsRead) (bs : List ℕ) (i : ℕ) (b : ℕ) → i < length bs → b ≡ get_or bs i b → step_of r b ≡ Some s → product_of r (drop i bs) ≡ product_of s (drop (i + 1) bs)
+read_next r s bs i b less is one = read_here r bs i b less is ∙ ap (λ (o : Option LengthsRead). o >>? (λ s. product_of s (drop (i + 1) bs))) one
+
+pub read_none : (r : LengthsRead) (bs : List ℕ) (i : ℕ) (b : ℕ) → i < length bs → b ≡ get_or bs i b → step_of r b ≡ None → product_of r (drop i bs) ≡ None
+read_none r bs i b less is one = read_here r bs i b less is ∙ ap (λ (o : Option LengthsRead). o >>? (λ s. product_of s (drop (i + 1) bs))) one
