@@ -121,7 +121,7 @@ module _ (old new : Evaluator) where
       ap (λ t. ran r (go_on (go_on (if_so t (f (flag_of old.sets.went)) (went_all (flag_of old.sets.went)) r.state) (left_too old.sets.exits)) (left_too b.value.before))) none
       ∙ ap (ran r) (both_left b.value.before old.sets.exits e (subst (λ (z : Statements). Both z.before old.sets.exits e) ex both) (went_all (flag_of old.sets.went) r.state) ∙ all_and_left e (flag_of old.sets.went) r.state))
 
-block_view : (b : TypedBlock) → block_of b ≡ t_braces (t_stmts (stmts_of b.statements.items)) b.span
+pub block_view : (b : TypedBlock) → block_of b ≡ t_braces (t_stmts (stmts_of b.statements.items)) b.span
 block_view b = fold_out-TypedBlock TStmt TBlock stmt_step block_step b
 
 pub block_comes : (old new : Evaluator) (work : Work) (one : Adds old work 1) (b : Bor TypedBlock) (set : List Bool) (xs : List TypedStmt) (e : Exits)

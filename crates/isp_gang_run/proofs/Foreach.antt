@@ -126,7 +126,7 @@ no_more : {A : Type 0} (xs : List A) → xs ++ [] ≡ xs
 no_more [] = refl
 no_more (x ∷ xs) = ap (λ ys. x ∷ ys) (no_more xs)
 
-seen_more : (xs : List Range) (x : Range) → map range_seen (xs ++ x ∷ []) ≡ map range_seen xs ++ range_seen x ∷ []
+pub seen_more : (xs : List Range) (x : Range) → map range_seen (xs ++ x ∷ []) ≡ map range_seen xs ++ range_seen x ∷ []
 seen_more [] x = refl
 seen_more (y ∷ xs) x = ap (λ ys. range_seen y ∷ ys) (seen_more xs x)
 

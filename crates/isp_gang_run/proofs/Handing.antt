@@ -188,7 +188,7 @@ module _ (old : Evaluator) (c : Bor TypedCall) (set : List Bool) where
 
 -- ---- the function that is called
 
-got : (xs : List TypedFunction) (i : ℕ) → slice_get (map function_of xs) i ≡ option_map function_of (slice_get xs i)
+pub got : (xs : List TypedFunction) (i : ℕ) → slice_get (map function_of xs) i ≡ option_map function_of (slice_get xs i)
 got [] i = refl
 got (x ∷ xs) zero = refl
 got (x ∷ xs) (suc i) = got xs i

@@ -27,3 +27,6 @@ pub mod Openings
 pub mod Settling
 pub mod Fitting
 pub mod Calling
+pub mod Progress
+pub mod FewRuns
+pub mod Fewer

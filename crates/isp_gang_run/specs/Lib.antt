@@ -1,8 +1,10 @@
 pub mod Arms
 pub mod Capped
+pub mod Due
 pub mod Ends
 pub mod Entering
 pub mod Foreach
+pub mod Most
 pub mod Passing
 pub mod Runs
 pub mod Seen

@@ -3,7 +3,8 @@ ghost use Rattle.std.specs.Prelude.{◌≡◌, ◌<◌, ◌-◌, IfErr, OnOk, ma
 ghost use Rattle.isp_base.specs.Cross.{or_zero};
 ghost use Rattle.isp_base.specs.Sets.{flag_of, lowest};
 ghost use Rattle.isp_base.specs.Types.{gang_width};
-ghost use Rattle.isp_typed.specs.Views.{function_of};
+ghost use Rattle.isp_typed.specs.Views.{function_of, program_of};
+ghost use Rattle.isp_gang_run.specs.Due.{Leaves, LeavesOf, body_due, call_due, own};
 ghost use Rattle.isp_gang_run.specs.Passing.{does_call, goes_in};
 ghost use Rattle.isp_gang_run.specs.Seen.{passed_seen};
 ghost use Rattle.isp_gang_run.specs.Tasks.{Comes, Does, Halts, does};
@@ -22,6 +23,7 @@ impl<'a> Evaluator<'a> {
     /// A call: its arguments come first.
     pub fn call(&mut self, call: &'a TypedCall, set: Active) -> Result<(), Stop>
         ensures ok { OnOk result (Does self.old self.new (Task.Call call.entry set)) }
+        ensures fewer { OnOk result (LeavesOf self.old self.new (Task.Call call.entry set)) }
         ensures err { IfErr result (λ e. e ≡ Stop.Memory) }
     {
         self.work.tick();
@@ -45,6 +47,7 @@ impl<'a> Evaluator<'a> {
         set: Active,
     ) -> Result<(), Stop>
         ensures ok { OnOk result (Does self.old self.new (Task.Arguments call.entry rest.entry done set)) }
+        ensures fewer { OnOk result (LeavesOf self.old self.new (Task.Arguments call.entry rest.entry done set)) }
         ensures err { IfErr result (Halts self.old self.new (does self.old (Task.Arguments call.entry rest.entry done set))) }
     {
         match rest {
@@ -85,6 +88,7 @@ impl<'a> Evaluator<'a> {
         set: Active,
     ) -> Result<(), Stop>
         ensures ok { OnOk result (Does self.old self.new (Task.Argument call.entry rest.entry done set)) }
+        ensures fewer { OnOk result (LeavesOf self.old self.new (Task.Argument call.entry rest.entry done set)) }
         ensures err { IfErr result (λ e. e ≡ Stop.Memory) }
     {
         done.push(Passed::Value(self.value))?;
@@ -108,6 +112,7 @@ impl<'a> Evaluator<'a> {
         set: Active,
     ) -> Result<(), Stop>
         ensures ok { OnOk result (Comes self.old self.new (goes_in self.old function place (flag_of set) (map passed_seen passed.now))) }
+        ensures fewer { OnOk result (Leaves self.old self.new (own self.old call_due function)) }
         ensures err { IfErr result (Halts self.old self.new (goes_in self.old function place (flag_of set) (map passed_seen passed.now))) }
     {
         if self.left == 0 {
@@ -136,6 +141,7 @@ impl<'a> Evaluator<'a> {
         requires { 0 < self.old.left }
         ensures ok { OnOk result (Comes self.old self.new (does_call self.old (self.old.left - 1) (function_of function.now) (flag_of set)
             (map passed_seen passed.now))) }
+        ensures fewer { OnOk result (Leaves self.old self.new (body_due (program_of self.old.program.now) self.old.turns (self.old.left - 1) (function_of function.now))) }
         ensures err { IfErr result (λ e. e ≡ Stop.Memory) }
     {
         let begun = Activation::begun(self.alloc, function, passed, &self.here, &set)?;
@@ -156,7 +162,8 @@ impl<'a> Evaluator<'a> {
 
     /// The caller goes on, with its level and its registers.
     pub fn resume(&mut self, caller: Box<Activation<'a>>, left: usize, sets: Sets, set: Active)
-        ensures { Does self.old self.new (Task.Return caller.entry left sets set) }
+        ensures comes { Does self.old self.new (Task.Return caller.entry left sets set) }
+        ensures fewer { LeavesOf self.old self.new (Task.Return caller.entry left sets set) }
     {
         self.value = self.here.answered(&set);
         self.sets = sets;

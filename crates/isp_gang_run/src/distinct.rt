@@ -2,6 +2,8 @@
 ghost use Rattle.std.specs.Prelude.{◌≡◌, IfErr, OnOk};
 ghost use Rattle.isp_base.specs.Sets.{flag_of};
 ghost use Rattle.isp_typed.specs.Views.{expr_of};
+ghost use Rattle.isp_gang_run.specs.Due.{Leaves, LeavesOf, each_due, own, value_due};
+ghost use Rattle.isp_gang_run.specs.Most.{two};
 ghost use Rattle.isp_gang_run.specs.Foreach.{uniques};
 ghost use Rattle.isp_gang_run.specs.Tasks.{Comes, does};
 ghost use Rattle.isp_gang_run.specs.declared.state.Stop.TheVariants as Stop;
@@ -43,6 +45,7 @@ impl<'a> Evaluator<'a> {
         set: Active,
     ) -> Result<(), Stop>
         ensures ok { OnOk result (Comes self.old self.new (uniques self.old index elem (expr_of value.now) body.entry (flag_of set))) }
+        ensures fewer { OnOk result (Leaves self.old self.new (two (own self.old value_due (expr_of value.now)) (own self.old each_due body.entry))) }
         ensures err { IfErr result (λ e. e ≡ Stop.Memory) }
     {
         self.work.tick();
@@ -61,6 +64,7 @@ impl<'a> Evaluator<'a> {
     /// The value was found.
     pub fn unique(&mut self, unique: Box<Unique<'a>>) -> Result<(), Stop>
         ensures ok { OnOk result (Comes self.old self.new (does self.old (Task.Unique unique.entry))) }
+        ensures fewer { OnOk result (LeavesOf self.old self.new (Task.Unique unique.entry)) }
         ensures err { IfErr result (λ e. e ≡ Stop.Memory) }
     {
         let unique = *unique;
@@ -73,6 +77,7 @@ impl<'a> Evaluator<'a> {
     /// The next value's turn, if there is one; afterwards all that came go on.
     pub fn distinct(&mut self, distinct: Box<Distinct<'a>>) -> Result<(), Stop>
         ensures ok { OnOk result (Comes self.old self.new (does self.old (Task.Distinct distinct.entry))) }
+        ensures fewer { OnOk result (LeavesOf self.old self.new (Task.Distinct distinct.entry)) }
         ensures err { IfErr result (λ e. e ≡ Stop.Memory) }
     {
         let Distinct { unique, row } = *distinct;

@@ -100,17 +100,14 @@ impl<'a> Evaluator<'a> {
         Ok(())
     }
 
-    // All tasks, the last one first. More tasks than 64 bits count are refused as memory is.
+    // All tasks, the last one first. Each leaves fewer to be done, so they come to an end.
     fn finish(&mut self) -> Result<(), Stop>
         ensures ok { OnOk result (Ends self.old self.new (rest self.old)) }
         ensures err { IfErr result (Halts self.old self.new (rest self.old)) }
     {
-        for _count in 0..u64::MAX {
-            match self.tasks.pop() {
-                None => return Ok(()),
-                Some(task) => self.act(task)?,
-            }
+        while let Some(task) = self.tasks.pop() {
+            self.act(task)?;
         }
-        Err(Stop::Memory)
+        Ok(())
     }
 }

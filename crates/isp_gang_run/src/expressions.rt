@@ -4,6 +4,7 @@ ghost use Rattle.isp_base.specs.Sets.{flag_of};
 ghost use Rattle.isp_base.specs.declared.trap.Trap.{Trap};
 ghost use Rattle.isp_typed.specs.Views.{expr_of, place_of};
 ghost use Rattle.isp_typed.specs.Typed.{t_place};
+ghost use Rattle.isp_gang_run.specs.Due.{Leaves, LeavesOf, WaitBoth, own, value_due};
 ghost use Rattle.isp_gang_run.specs.Tasks.{Comes, Does, FirstValue, Halts, Reaches, Traps, does, finds};
 ghost use Rattle.isp_gang_run.specs.reader.Kinds.{has_one, has_sides, has_two, is_library};
 ghost use Rattle.isp_gang_run.specs.declared.tasks.Joining.TheVariants as Joining;
@@ -25,6 +26,7 @@ impl<'a> Evaluator<'a> {
     #[tactic(auto, using(crate::proofs::Leaves::memory_halts))]
     pub fn value(&mut self, x: &'a TypedExpr, set: Active) -> Result<(), Stop>
         ensures ok { OnOk result (Does self.old self.new (Task.Value x.entry set)) }
+        ensures fewer { OnOk result (LeavesOf self.old self.new (Task.Value x.entry set)) }
         ensures err { IfErr result (Halts self.old self.new (does self.old (Task.Value x.entry set))) }
     {
         match x {
@@ -56,6 +58,7 @@ impl<'a> Evaluator<'a> {
     fn of_one(&mut self, x: &'a TypedExpr, set: Active) -> Result<(), Stop>
         requires { IsTrue (has_one (expr_of x.now)) }
         ensures ok { OnOk result (Does self.old self.new (Task.Value x.entry set)) }
+        ensures fewer { OnOk result (LeavesOf self.old self.new (Task.Value x.entry set)) }
         ensures err { IfErr result (Halts self.old self.new (does self.old (Task.Value x.entry set))) }
     {
         match x {
@@ -85,6 +88,7 @@ impl<'a> Evaluator<'a> {
     fn of_two(&mut self, x: &'a TypedExpr, set: Active) -> Result<(), Stop>
         requires { IsTrue (has_two (expr_of x.now)) }
         ensures ok { OnOk result (Does self.old self.new (Task.Value x.entry set)) }
+        ensures fewer { OnOk result (LeavesOf self.old self.new (Task.Value x.entry set)) }
         ensures err { IfErr result (Halts self.old self.new (does self.old (Task.Value x.entry set))) }
     {
         match x {
@@ -120,6 +124,7 @@ impl<'a> Evaluator<'a> {
     fn of_sides(&mut self, x: &'a TypedExpr, set: Active) -> Result<(), Stop>
         requires { IsTrue (has_sides (expr_of x.now)) }
         ensures ok { OnOk result (Does self.old self.new (Task.Value x.entry set)) }
+        ensures fewer { OnOk result (LeavesOf self.old self.new (Task.Value x.entry set)) }
         ensures err { IfErr result (Halts self.old self.new (does self.old (Task.Value x.entry set))) }
     {
         match x {
@@ -151,6 +156,7 @@ impl<'a> Evaluator<'a> {
     fn of_library(&mut self, x: &'a TypedExpr, set: Active) -> Result<(), Stop>
         requires { IsTrue (is_library (expr_of x.now)) }
         ensures ok { OnOk result (Does self.old self.new (Task.Value x.entry set)) }
+        ensures fewer { OnOk result (LeavesOf self.old self.new (Task.Value x.entry set)) }
         ensures err { IfErr result (Halts self.old self.new (does self.old (Task.Value x.entry set))) }
     {
         match x {
@@ -184,6 +190,7 @@ impl<'a> Evaluator<'a> {
     // What is held at a place.
     fn place(&mut self, place: &'a TypedPlace, set: Active) -> Result<(), Stop>
         ensures ok { OnOk result (Comes self.old self.new (finds self.old (t_place (place_of place.now)) (flag_of set))) }
+        ensures fewer { OnOk result (Leaves self.old self.new (own self.old value_due (t_place (place_of place.now)))) }
         ensures err { IfErr result (λ e. e ≡ Stop.Memory) }
     {
         self.work.tick();
@@ -224,6 +231,7 @@ impl<'a> Evaluator<'a> {
         set: Active,
     ) -> Result<(), Stop>
         ensures ok { OnOk result (Does self.old self.new (Task.Load array elem span set)) }
+        ensures fewer { OnOk result (LeavesOf self.old self.new (Task.Load array elem span set)) }
         ensures err { IfErr result (λ e. (t : Trap) × (e ≡ Stop.Trapped t) × Traps self.old self.new (Task.Load array elem span set) t) }
     {
         let place = Place::Element {
@@ -239,6 +247,7 @@ impl<'a> Evaluator<'a> {
     // A node counts: its first operand comes first, and then a task.
     fn reach(&mut self, first: &'a TypedExpr, set: Active, after: Task<'a>) -> Result<(), Stop>
         ensures ok { OnOk result (Reaches self.old self.new (Task.Value first.entry set) after.entry) }
+        ensures fewer { OnOk result (WaitBoth self.old self.new (Task.Value first.entry set) after.entry) }
         ensures err { IfErr result (λ e. e ≡ Stop.Memory) }
     {
         self.work.tick();
@@ -250,6 +259,7 @@ impl<'a> Evaluator<'a> {
     #[tactic(auto, using(crate::proofs::Nodes::right_does))]
     pub fn right(&mut self, joining: Joining, right: &'a TypedExpr, set: Active) -> Result<(), Stop>
         ensures ok { OnOk result (Does self.old self.new (Task.Right joining right.entry set)) }
+        ensures fewer { OnOk result (LeavesOf self.old self.new (Task.Right joining right.entry set)) }
         ensures err { IfErr result (λ e. e ≡ Stop.Memory) }
     {
         let left = self.value;
@@ -260,6 +270,7 @@ impl<'a> Evaluator<'a> {
     /// The operator, both operands being found.
     pub fn join(&mut self, joining: Joining, left: Computed, set: Active) -> Result<(), Stop>
         ensures ok { OnOk result (Does self.old self.new (Task.Join joining left set)) }
+        ensures fewer { OnOk result (LeavesOf self.old self.new (Task.Join joining left set)) }
         ensures err { IfErr result (λ e. (t : Trap) × (e ≡ Stop.Trapped t) × Traps self.old self.new (Task.Join joining left set) t) }
     {
         match joining {
@@ -275,6 +286,7 @@ impl<'a> Evaluator<'a> {
     #[tactic(auto, using(crate::proofs::Nodes::operate_does, crate::proofs::Nodes::operate_traps))]
     fn operate(&mut self, operation: Operation, left: Computed, set: Active) -> Result<(), Stop>
         ensures ok { OnOk result (Does self.old self.new (Task.Join (Joining.Operate operation) left set)) }
+        ensures fewer { OnOk result (Leaves self.old self.new 0) }
         ensures err { IfErr result (λ e. (t : Trap) × (e ≡ Stop.Trapped t)
             × Traps self.old self.new (Task.Join (Joining.Operate operation) left set) t) }
     {
@@ -292,7 +304,8 @@ impl<'a> Evaluator<'a> {
     // A comparison, both operands being found.
     #[tactic(auto, using(crate::proofs::Nodes::compare_does))]
     fn compare(&mut self, comparison: Compare, elem: Elem, left: Computed, set: Active)
-        ensures { Does self.old self.new (Task.Join (Joining.Compare comparison elem) left set) }
+        ensures comes { Does self.old self.new (Task.Join (Joining.Compare comparison elem) left set) }
+        ensures fewer { Leaves self.old self.new 0 }
     {
         self.value = compared(comparison, elem, &set, &left, &self.value);
     }
@@ -301,6 +314,7 @@ impl<'a> Evaluator<'a> {
     #[tactic(auto, using(crate::proofs::Nodes::some_value, crate::proofs::Nodes::no_value))]
     fn unless_empty(&mut self, x: &'a TypedExpr, set: Active, after: Task<'a>) -> Result<(), Stop>
         ensures ok { OnOk result (FirstValue self.old self.new (expr_of x.now) (flag_of set) after.entry) }
+        ensures fewer { OnOk result (WaitBoth self.old self.new (Task.Value x.entry set) after.entry) }
         ensures err { IfErr result (λ e. e ≡ Stop.Memory) }
     {
         if any(self.gang(), &set) {
@@ -316,6 +330,7 @@ impl<'a> Evaluator<'a> {
     #[tactic(auto, using(crate::proofs::Nodes::logic_does))]
     pub fn logic(&mut self, logic: Logic, right: &'a TypedExpr, set: Active) -> Result<(), Stop>
         ensures ok { OnOk result (Does self.old self.new (Task.Logic logic right.entry set)) }
+        ensures fewer { OnOk result (LeavesOf self.old self.new (Task.Logic logic right.entry set)) }
         ensures err { IfErr result (λ e. e ≡ Stop.Memory) }
     {
         let left = self.value;
@@ -327,7 +342,8 @@ impl<'a> Evaluator<'a> {
     /// `&&` or `||`, both operands being found.
     #[tactic(auto, using(crate::proofs::Nodes::settle_does))]
     pub fn settle(&mut self, logic: Logic, left: Computed, set: Active)
-        ensures { Does self.old self.new (Task.Settle logic left set) }
+        ensures comes { Does self.old self.new (Task.Settle logic left set) }
+        ensures fewer { LeavesOf self.old self.new (Task.Settle logic left set) }
     {
         self.value = settled(logic, &set, &left, &self.value);
     }
@@ -341,6 +357,7 @@ impl<'a> Evaluator<'a> {
         set: Active,
     ) -> Result<(), Stop>
         ensures ok { OnOk result (Does self.old self.new (Task.Choose then.entry otherwise.entry set)) }
+        ensures fewer { OnOk result (LeavesOf self.old self.new (Task.Choose then.entry otherwise.entry set)) }
         ensures err { IfErr result (λ e. e ≡ Stop.Memory) }
     {
         let test = self.value;
@@ -363,6 +380,7 @@ impl<'a> Evaluator<'a> {
         set: Active,
     ) -> Result<(), Stop>
         ensures ok { OnOk result (Does self.old self.new (Task.Otherwise test otherwise.entry set)) }
+        ensures fewer { OnOk result (LeavesOf self.old self.new (Task.Otherwise test otherwise.entry set)) }
         ensures err { IfErr result (λ e. e ≡ Stop.Memory) }
     {
         let then = self.value;
@@ -374,7 +392,8 @@ impl<'a> Evaluator<'a> {
     /// `?:`, all being found.
     #[tactic(auto, using(crate::proofs::Nodes::select_does))]
     pub fn select(&mut self, test: Computed, then: Computed, set: Active)
-        ensures { Does self.old self.new (Task.Select test then set) }
+        ensures comes { Does self.old self.new (Task.Select test then set) }
+        ensures fewer { LeavesOf self.old self.new (Task.Select test then set) }
     {
         self.value = selected(&set, &test, &then, &self.value);
     }
@@ -382,7 +401,8 @@ impl<'a> Evaluator<'a> {
     /// The value converted to another element type.
     #[tactic(auto, using(crate::proofs::Nodes::convert_does))]
     pub fn convert(&mut self, from: Elem, to: Elem)
-        ensures { Does self.old self.new (Task.Convert from to) }
+        ensures comes { Does self.old self.new (Task.Convert from to) }
+        ensures fewer { LeavesOf self.old self.new (Task.Convert from to) }
     {
         self.value = self.value.converted(from, to);
     }
@@ -390,7 +410,8 @@ impl<'a> Evaluator<'a> {
     /// An operator on the value.
     #[tactic(auto, using(crate::proofs::Nodes::unary_does))]
     pub fn unary(&mut self, operator: UnaryOp, elem: Elem)
-        ensures { Does self.old self.new (Task.Unary operator elem) }
+        ensures comes { Does self.old self.new (Task.Unary operator elem) }
+        ensures fewer { LeavesOf self.old self.new (Task.Unary operator elem) }
     {
         self.value = self.value.unary(operator, elem);
     }

@@ -3,6 +3,7 @@ ghost use Rattle.std.specs.Prelude.{◌≡◌, IfErr, OnOk, map};
 ghost use Rattle.isp_base.specs.Sets.{flag_of};
 ghost use Rattle.isp_typed.specs.Views.{exprs_of};
 ghost use Rattle.isp_gang_values.specs.Seen.{payload_of};
+ghost use Rattle.isp_gang_run.specs.Due.{Leaves, LeavesOf, own, values_due};
 ghost use Rattle.isp_gang_run.specs.Passing.{gathers, gathers_all};
 ghost use Rattle.isp_gang_run.specs.Tasks.{Comes, Does};
 ghost use Rattle.isp_gang_run.specs.declared.state.Stop.TheVariants as Stop;
@@ -26,6 +27,7 @@ impl<'a> Evaluator<'a> {
     ) -> Result<(), Stop>
         ensures ok { OnOk result (Comes self.old self.new (gathers self.old gathering.entry (exprs_of rest.now)
             (map payload_of done.items) (flag_of set))) }
+        ensures fewer { OnOk result (Leaves self.old self.new (own self.old values_due (exprs_of rest.now))) }
         ensures err { IfErr result (λ e. e ≡ Stop.Memory) }
     {
         match rest {
@@ -52,6 +54,7 @@ impl<'a> Evaluator<'a> {
         set: Active,
     ) -> Result<(), Stop>
         ensures ok { OnOk result (Does self.old self.new (Task.Values gathering.entry rest.entry done set)) }
+        ensures fewer { OnOk result (LeavesOf self.old self.new (Task.Values gathering.entry rest.entry done set)) }
         ensures err { IfErr result (λ e. e ≡ Stop.Memory) }
     {
         done.push(self.value)?;
@@ -66,6 +69,7 @@ impl<'a> Evaluator<'a> {
         set: Active,
     ) -> Result<(), Stop>
         ensures ok { OnOk result (Comes self.old self.new (gathers_all self.old gathering.entry (flag_of set) (map payload_of values.now))) }
+        ensures fewer { OnOk result (Leaves self.old self.new 0) }
         ensures err { IfErr result (λ e. e ≡ Stop.Memory) }
     {
         match gathering {

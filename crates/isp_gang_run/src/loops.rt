@@ -1,7 +1,9 @@
 //! Loops whose body runs while a test keeps some.
-ghost use Rattle.std.specs.Prelude.{◌≡◌, IfErr, OnOk, None, Some};
+ghost use Rattle.std.specs.Prelude.{◌≡◌, ◌+◌, IfErr, OnOk, None, Some};
 ghost use Rattle.isp_base.specs.Sets.{flag_of, nobody};
-ghost use Rattle.isp_gang_run.specs.Arms.{enters, enters_by_turn, firsts};
+ghost use Rattle.isp_gang_run.specs.Arms.{enters, enters_by_turn, firsts, looping};
+ghost use Rattle.isp_gang_run.specs.Due.{Leaves, first_due, own, step_due, test_due, turns_due};
+ghost use Rattle.isp_gang_run.specs.Most.{one};
 ghost use Rattle.isp_gang_run.specs.Tasks.{Comes, Halts, ends_on, keeps_on, steps_on, tests_on, turned_on, turns_on};
 ghost use Rattle.isp_gang_run.specs.declared.state.Stop.TheVariants as Stop;
 
@@ -55,6 +57,7 @@ impl<'a> Evaluator<'a> {
         set: Active,
     ) -> Result<(), Stop>
         ensures ok { OnOk result (Comes self.old self.new (enters self.old None (Some test.entry) None body.entry (flag_of set))) }
+        ensures fewer { OnOk result (Leaves self.old self.new (own self.old test_due (looping (Some test.entry) None body.entry) self.old.turns)) }
         ensures err { IfErr result (Halts self.old self.new (enters self.old None (Some test.entry) None body.entry (flag_of set))) }
     {
         self.work.tick();
@@ -77,6 +80,7 @@ impl<'a> Evaluator<'a> {
         set: Active,
     ) -> Result<(), Stop>
         ensures ok { OnOk result (Comes self.old self.new (enters_by_turn self.old (Some test.entry) body.entry (flag_of set))) }
+        ensures fewer { OnOk result (Leaves self.old self.new (own self.old turns_due (looping (Some test.entry) None body.entry) self.old.turns)) }
         ensures err { IfErr result (Halts self.old self.new (enters_by_turn self.old (Some test.entry) body.entry (flag_of set))) }
     {
         self.work.tick();
@@ -101,6 +105,7 @@ impl<'a> Evaluator<'a> {
         set: Active,
     ) -> Result<(), Stop>
         ensures ok { OnOk result (Comes self.old self.new (enters self.old first.entry test.entry step.entry body.entry (flag_of set))) }
+        ensures fewer { OnOk result (Leaves self.old self.new (own self.old first_due first.entry + one (own self.old test_due (looping test.entry step.entry body.entry) self.old.turns))) }
         ensures err { IfErr result (λ e. e ≡ Stop.Memory) }
     {
         self.work.tick();
@@ -116,6 +121,7 @@ impl<'a> Evaluator<'a> {
     #[tactic(auto, using(crate::proofs::Arms::no_first))]
     fn first(&mut self, first: Option<&'a TypedFirst>, set: Active) -> Result<(), Stop>
         ensures ok { OnOk result (Comes self.old self.new (firsts self.old first.entry (flag_of set))) }
+        ensures fewer { OnOk result (Leaves self.old self.new (own self.old first_due first.entry)) }
         ensures err { IfErr result (λ e. e ≡ Stop.Memory) }
     {
         match first {
@@ -133,6 +139,7 @@ impl<'a> Evaluator<'a> {
     // The first part of a `for`.
     fn some_first(&mut self, first: &'a TypedFirst, set: Active) -> Result<(), Stop>
         ensures ok { OnOk result (Comes self.old self.new (firsts self.old (Some first.entry) (flag_of set))) }
+        ensures fewer { OnOk result (Leaves self.old self.new (own self.old first_due (Some first.entry))) }
         ensures err { IfErr result (λ e. e ≡ Stop.Memory) }
     {
         match first {
@@ -154,6 +161,7 @@ impl<'a> Evaluator<'a> {
     #[tactic(auto, using(crate::proofs::Turns::test_goes, crate::proofs::Turns::no_test, crate::proofs::Turns::no_test_halts))]
     pub fn test(&mut self, turning: Turning<'a>) -> Result<(), Stop>
         ensures ok { OnOk result (Comes self.old self.new (tests_on self.old turning.entry)) }
+        ensures fewer { OnOk result (Leaves self.old self.new (own self.old test_due turning.entry.looping turning.entry.left)) }
         ensures err { IfErr result (Halts self.old self.new (tests_on self.old turning.entry)) }
     {
         match turning.looping.test {
@@ -174,6 +182,7 @@ impl<'a> Evaluator<'a> {
     #[tactic(auto, using(crate::proofs::Turns::turns_again, crate::proofs::Turns::turns_halt, crate::proofs::Turns::nobody_kept))]
     pub fn tested(&mut self, turning: Turning<'a>) -> Result<(), Stop>
         ensures ok { OnOk result (Comes self.old self.new (keeps_on self.old turning.entry)) }
+        ensures fewer { OnOk result (Leaves self.old self.new (own self.old turns_due turning.entry.looping turning.entry.left)) }
         ensures err { IfErr result (Halts self.old self.new (keeps_on self.old turning.entry)) }
     {
         let kept = self.value.members(true, &turning.live);
@@ -204,6 +213,7 @@ impl<'a> Evaluator<'a> {
     #[tactic(auto, using(crate::proofs::Turns::turn_goes, crate::proofs::Turns::no_turn))]
     pub fn turn(&mut self, turning: Turning<'a>) -> Result<(), Stop>
         ensures ok { OnOk result (Comes self.old self.new (turns_on self.old turning.entry)) }
+        ensures fewer { OnOk result (Leaves self.old self.new (own self.old turns_due turning.entry.looping turning.entry.left)) }
         ensures err { IfErr result (Halts self.old self.new (turns_on self.old turning.entry)) }
     {
         let Turning {
@@ -233,6 +243,7 @@ impl<'a> Evaluator<'a> {
     #[tactic(auto, using(crate::proofs::Turns::steps_again, crate::proofs::Turns::no_more))]
     pub fn turned(&mut self, turning: Turning<'a>) -> Result<(), Stop>
         ensures ok { OnOk result (Comes self.old self.new (turned_on self.old turning.entry)) }
+        ensures fewer { OnOk result (Leaves self.old self.new (own self.old step_due turning.entry.looping turning.entry.left)) }
         ensures err { IfErr result (λ e. e ≡ Stop.Memory) }
     {
         let live = union(&self.sets.went, &self.sets.exits.continued);
@@ -263,6 +274,7 @@ impl<'a> Evaluator<'a> {
     #[tactic(auto, using(crate::proofs::Turns::step_goes, crate::proofs::Turns::no_step, crate::proofs::Branching::pushes))]
     fn step(&mut self, turning: Turning<'a>) -> Result<(), Stop>
         ensures ok { OnOk result (Comes self.old self.new (steps_on self.old turning.entry)) }
+        ensures fewer { OnOk result (Leaves self.old self.new (own self.old step_due turning.entry.looping turning.entry.left)) }
         ensures err { IfErr result (λ e. e ≡ Stop.Memory) }
     {
         let after = Box::new(self.alloc, turning)?;
@@ -281,7 +293,8 @@ impl<'a> Evaluator<'a> {
     // Those that did not return went on.
     #[tactic(auto, using(crate::proofs::Turns::loop_ends))]
     fn loop_end(&mut self, turning: &Turning<'a>)
-        ensures { Comes self.old self.new (ends_on self.old turning.now) }
+        ensures comes { Comes self.old self.new (ends_on self.old turning.now) }
+        ensures fewer { Leaves self.old self.new 0 }
     {
         let went = without(&turning.all, &turning.returned);
         let Exits {

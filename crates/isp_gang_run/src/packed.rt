@@ -7,6 +7,7 @@ ghost use Rattle.isp_base.specs.Values.{number};
 ghost use Rattle.isp_typed.specs.Views.{base_of};
 ghost use Rattle.isp_meaning.specs.Payloads.{One};
 ghost use Rattle.isp_gang_values.specs.Seen.{payload_of};
+ghost use Rattle.isp_gang_run.specs.Due.{Leaves, LeavesOf, own, packs_due};
 ghost use Rattle.isp_gang_run.specs.Passing.{packs, packs_from};
 ghost use Rattle.isp_gang_run.specs.Tasks.{Comes, Does, Halts, does};
 ghost use Rattle.isp_gang_run.specs.declared.state.Stop.TheVariants as Stop;
@@ -33,6 +34,7 @@ impl<'a> Evaluator<'a> {
         set: Active,
     ) -> Result<(), Stop>
         ensures ok { OnOk result (Comes self.old self.new (packs self.old packing.entry (base_of base.now) span (flag_of set))) }
+        ensures fewer { OnOk result (Leaves self.old self.new (own self.old packs_due packing.entry (base_of base.now))) }
         ensures err { IfErr result (Halts self.old self.new (packs self.old packing.entry (base_of base.now) span (flag_of set))) }
     {
         self.work.tick();
@@ -66,6 +68,7 @@ impl<'a> Evaluator<'a> {
         set: Active,
     ) -> Result<(), Stop>
         ensures ok { OnOk result (Does self.old self.new (Task.Packed packing.entry array elem span set)) }
+        ensures fewer { OnOk result (LeavesOf self.old self.new (Task.Packed packing.entry array elem span set)) }
         ensures err { IfErr result (Halts self.old self.new (does self.old (Task.Packed packing.entry array elem span set))) }
     {
         let first = self.value.sole();
@@ -91,6 +94,7 @@ impl<'a> Evaluator<'a> {
     ) -> Result<(), Stop>
         ensures ok { OnOk result (Comes self.old self.new (packs_from self.old (Packing.Load variable) elements.array
             (number elements.elem elements.first) span (flag_of set))) }
+        ensures fewer { OnOk result (Leaves self.old self.new 0) }
         ensures err { IfErr result (Halts self.old self.new (packs_from self.old (Packing.Load variable) elements.array
             (number elements.elem elements.first) span (flag_of set))) }
     {
@@ -117,6 +121,7 @@ impl<'a> Evaluator<'a> {
     #[tactic(auto, using(crate::proofs::Leaves::memory_halts))]
     pub fn packed_store(&mut self, elements: Elements, span: Span, set: Active) -> Result<(), Stop>
         ensures ok { OnOk result (Does self.old self.new (Task.PackedStore elements span set)) }
+        ensures fewer { OnOk result (LeavesOf self.old self.new (Task.PackedStore elements span set)) }
         ensures err { IfErr result (Halts self.old self.new (does self.old (Task.PackedStore elements span set))) }
     {
         let Elements { array, elem, first } = elements;

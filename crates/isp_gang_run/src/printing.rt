@@ -10,6 +10,7 @@ ghost use Rattle.isp_meaning.specs.Printing as Printing;
 ghost use Rattle.isp_meaning.specs.Printing.{shown_all};
 ghost use Rattle.isp_gang_values.specs.Seen.{map_of, payload_of};
 ghost use Rattle.isp_gang_run.specs.Arms.{prints};
+ghost use Rattle.isp_gang_run.specs.Due.{Leaves};
 ghost use Rattle.isp_gang_run.specs.Tasks.{Comes};
 ghost use Rattle.isp_gang_run.specs.declared.state.Stop.TheVariants as Stop;
 
@@ -154,6 +155,7 @@ impl Evaluator<'_> {
         set: Active,
     ) -> Result<(), Stop>
         ensures ok { OnOk result (Comes self.old self.new (prints self.old text.now shown.now values.now (flag_of set))) }
+        ensures fewer { OnOk result (Leaves self.old self.new 0) }
         ensures err { IfErr result (λ e. e ≡ Stop.Memory) }
     {
         let gang = self.gang();

@@ -1,5 +1,5 @@
 //! Bodies that run over each of a list of sets: `foreach` and `foreach_active`.
-ghost use Rattle.std.specs.Prelude.{◌≡◌, map, IfErr, OnOk, true};
+ghost use Rattle.std.specs.Prelude.{◌≡◌, [], map, IfErr, OnOk, true};
 ghost use Rattle.isp_base.specs.Maps.{on};
 ghost use Rattle.isp_base.specs.Sets.{flag_of};
 ghost use Rattle.isp_base.specs.Types.{gang_width};
@@ -9,6 +9,7 @@ ghost use Rattle.isp_typed.specs.Views.{ranges_of};
 ghost use Rattle.isp_meaning.specs.Rounds.{set_indices};
 ghost use Rattle.isp_gang_values.specs.Left.{indices_now, is_ready, members_now, number_now, numbers_below, range_seen};
 ghost use Rattle.isp_gang_values.specs.Seen.{map_of};
+ghost use Rattle.isp_gang_run.specs.Due.{Leaves, LeavesOf, bounds_due, each_due, own};
 ghost use Rattle.isp_gang_run.specs.Foreach.{actives, begins, bounds_from, foreaches};
 ghost use Rattle.isp_gang_run.specs.Tasks.{Changes, Comes, does};
 ghost use Rattle.isp_gang_run.specs.declared.state.Stop.TheVariants as Stop;
@@ -64,6 +65,7 @@ impl<'a> Evaluator<'a> {
         set: Active,
     ) -> Result<(), Stop>
         ensures ok { OnOk result (Comes self.old self.new (foreaches self.old (ranges_of ranges.now) body.entry (flag_of set))) }
+        ensures fewer { OnOk result (Leaves self.old self.new (own self.old bounds_due (ranges_of ranges.now) [] body.entry)) }
         ensures err { IfErr result (λ e. e ≡ Stop.Memory) }
     {
         self.work.tick();
@@ -82,6 +84,7 @@ impl<'a> Evaluator<'a> {
     ) -> Result<(), Stop>
         ensures ok { OnOk result (Comes self.old self.new (bounds_from self.old (ranges_of rest.now) (map range_seen done.items)
             body.entry (flag_of set))) }
+        ensures fewer { OnOk result (Leaves self.old self.new (own self.old bounds_due (ranges_of rest.now) (map range_seen done.items) body.entry)) }
         ensures err { IfErr result (λ e. e ≡ Stop.Memory) }
     {
         match rest {
@@ -107,6 +110,7 @@ impl<'a> Evaluator<'a> {
     /// The start of a range was found.
     pub fn start(&mut self, bounds: Box<Bounds<'a>>) -> Result<(), Stop>
         ensures ok { OnOk result (Comes self.old self.new (does self.old (Task.Start bounds.entry))) }
+        ensures fewer { OnOk result (LeavesOf self.old self.new (Task.Start bounds.entry)) }
         ensures err { IfErr result (λ e. e ≡ Stop.Memory) }
     {
         let start = self.value.sole();
@@ -119,6 +123,7 @@ impl<'a> Evaluator<'a> {
     /// The end of a range was found.
     pub fn end(&mut self, start: u64, bounds: Box<Bounds<'a>>) -> Result<(), Stop>
         ensures ok { OnOk result (Comes self.old self.new (does self.old (Task.End start bounds.entry))) }
+        ensures fewer { OnOk result (LeavesOf self.old self.new (Task.End start bounds.entry)) }
         ensures err { IfErr result (λ e. e ≡ Stop.Memory) }
     {
         let start = int(start);
@@ -148,6 +153,7 @@ impl<'a> Evaluator<'a> {
         set: Active,
     ) -> Result<(), Stop>
         ensures ok { OnOk result (Comes self.old self.new (begins self.old (map range_seen ranges.items) body.entry (flag_of set))) }
+        ensures fewer { OnOk result (Leaves self.old self.new (own self.old bounds_due [] (map range_seen ranges.items) body.entry)) }
         ensures err { IfErr result (λ e. e ≡ Stop.Memory) }
     {
         let count = counted(self.gang(), ranges.as_slice());
@@ -166,6 +172,7 @@ impl<'a> Evaluator<'a> {
     /// The next run, if there is one; afterwards all that came go on.
     pub fn rounds(&mut self, mut rounds: Box<Rounds<'a>>) -> Result<(), Stop>
         ensures ok { OnOk result (Comes self.old self.new (does self.old (Task.Rounds rounds.entry))) }
+        ensures fewer { OnOk result (LeavesOf self.old self.new (Task.Rounds rounds.entry)) }
         ensures err { IfErr result (λ e. e ≡ Stop.Memory) }
     {
         carry(&mut rounds.ranges);
@@ -183,6 +190,7 @@ impl<'a> Evaluator<'a> {
     fn round(&mut self, mut rounds: Box<Rounds<'a>>) -> Result<(), Stop>
         requires { is_ready rounds.value.ranges.items ≡ true }
         ensures ok { OnOk result (Comes self.old self.new (does self.old (Task.Rounds rounds.entry))) }
+        ensures fewer { OnOk result (LeavesOf self.old self.new (Task.Rounds rounds.entry)) }
         ensures err { IfErr result (λ e. e ≡ Stop.Memory) }
     {
         let gang = self.gang();
@@ -217,6 +225,7 @@ impl<'a> Evaluator<'a> {
         set: Active,
     ) -> Result<(), Stop>
         ensures ok { OnOk result (Comes self.old self.new (actives self.old index body.entry (flag_of set))) }
+        ensures fewer { OnOk result (Leaves self.old self.new (own self.old each_due body.entry)) }
         ensures err { IfErr result (λ e. e ≡ Stop.Memory) }
     {
         self.work.tick();
@@ -234,6 +243,7 @@ impl<'a> Evaluator<'a> {
     /// The next member alone, if there is one; afterwards all that came go on.
     pub fn members(&mut self, members: Box<Members<'a>>) -> Result<(), Stop>
         ensures ok { OnOk result (Comes self.old self.new (does self.old (Task.Members members.entry))) }
+        ensures fewer { OnOk result (LeavesOf self.old self.new (Task.Members members.entry)) }
         ensures err { IfErr result (λ e. e ≡ Stop.Memory) }
     {
         let Members {

@@ -58,7 +58,7 @@ struct Finished<'a> {
 /// Runs a function of a program from arguments that have its signature, where each loop makes at most so many turns each
 /// time it is entered.
 ///
-/// Memory may be refused; so is a run that takes more steps than 64 bits count.
+/// Only memory may be refused.
 pub fn run_function(
     alloc: Global,
     program: &Program,

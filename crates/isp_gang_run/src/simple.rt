@@ -2,6 +2,7 @@
 ghost use Rattle.std.specs.Prelude.{◌≡◌, IfErr, OnOk};
 ghost use Rattle.isp_base.specs.Sets.{flag_of};
 ghost use Rattle.isp_typed.specs.Views.{item_of, place_of};
+ghost use Rattle.isp_gang_run.specs.Due.{Leaves, LeavesOf, item_due, own, target_due, write_due};
 ghost use Rattle.isp_gang_run.specs.Seen.{place_seen};
 ghost use Rattle.isp_gang_run.specs.Tasks.{Comes, Does, Halts, declares, does, targets, writes};
 ghost use Rattle.isp_gang_run.specs.declared.state.Stop.TheVariants as Stop;
@@ -20,6 +21,7 @@ impl<'a> Evaluator<'a> {
     #[tactic(auto, using(crate::proofs::Leaves::memory_halts))]
     pub fn simple(&mut self, simple: &'a TypedSimple, set: Active) -> Result<(), Stop>
         ensures ok { OnOk result (Does self.old self.new (Task.Simple simple.entry set)) }
+        ensures fewer { OnOk result (LeavesOf self.old self.new (Task.Simple simple.entry set)) }
         ensures err { IfErr result (Halts self.old self.new (does self.old (Task.Simple simple.entry set))) }
     {
         self.work.tick();
@@ -75,6 +77,7 @@ impl<'a> Evaluator<'a> {
         set: Active,
     ) -> Result<(), Stop>
         ensures ok { OnOk result (Comes self.old self.new (targets self.old writing.entry (place_of target.now) (flag_of set))) }
+        ensures fewer { OnOk result (Leaves self.old self.new (own self.old target_due writing.entry (place_of target.now))) }
         ensures err { IfErr result (Halts self.old self.new (targets self.old writing.entry (place_of target.now) (flag_of set))) }
     {
         self.work.tick();
@@ -110,6 +113,7 @@ impl<'a> Evaluator<'a> {
         set: Active,
     ) -> Result<(), Stop>
         ensures ok { OnOk result (Does self.old self.new (Task.Indexed target.entry array elem writing.entry set)) }
+        ensures fewer { OnOk result (LeavesOf self.old self.new (Task.Indexed target.entry array elem writing.entry set)) }
         ensures err { IfErr result (Halts self.old self.new (does self.old (Task.Indexed target.entry array elem writing.entry set))) }
     {
         let place = Place::Element {
@@ -130,6 +134,7 @@ impl<'a> Evaluator<'a> {
         set: Active,
     ) -> Result<(), Stop>
         ensures ok { OnOk result (Comes self.old self.new (writes self.old writing.entry (place_of target.now) (place_seen place) (flag_of set))) }
+        ensures fewer { OnOk result (Leaves self.old self.new (own self.old write_due writing.entry)) }
         ensures err { IfErr result (Halts self.old self.new (writes self.old writing.entry (place_of target.now) (place_seen place) (flag_of set))) }
     {
         match writing {
@@ -159,6 +164,7 @@ impl<'a> Evaluator<'a> {
     #[tactic(auto, using(crate::proofs::Leaves::memory_halts, crate::proofs::Assignments::assign_does, crate::proofs::Assignments::assign_halts))]
     pub fn assign(&mut self, place: Place, span: Span, set: Active) -> Result<(), Stop>
         ensures ok { OnOk result (Does self.old self.new (Task.Assign place span set)) }
+        ensures fewer { OnOk result (LeavesOf self.old self.new (Task.Assign place span set)) }
         ensures err { IfErr result (Halts self.old self.new (does self.old (Task.Assign place span set))) }
     {
         checked(self.outside(&place, &set), TrapKind::Index, span)?;
@@ -178,6 +184,7 @@ impl<'a> Evaluator<'a> {
         set: Active,
     ) -> Result<(), Stop>
         ensures ok { OnOk result (Does self.old self.new (Task.Update operation place target.entry set)) }
+        ensures fewer { OnOk result (LeavesOf self.old self.new (Task.Update operation place target.entry set)) }
         ensures err { IfErr result (Halts self.old self.new (does self.old (Task.Update operation place target.entry set))) }
     {
         let Operation {
@@ -201,6 +208,7 @@ impl<'a> Evaluator<'a> {
     #[tactic(auto, using(crate::proofs::Assignments::no_items))]
     pub fn items(&mut self, items: &'a [TypedItem], set: Active) -> Result<(), Stop>
         ensures ok { OnOk result (Does self.old self.new (Task.Items items.entry set)) }
+        ensures fewer { OnOk result (LeavesOf self.old self.new (Task.Items items.entry set)) }
         ensures err { IfErr result (λ e. e ≡ Stop.Memory) }
     {
         match items {
@@ -219,6 +227,7 @@ impl<'a> Evaluator<'a> {
     // A declared item: without a value it is set to 0.
     fn item(&mut self, item: &'a TypedItem, set: Active) -> Result<(), Stop>
         ensures ok { OnOk result (Comes self.old self.new (declares self.old (item_of item.now) (flag_of set))) }
+        ensures fewer { OnOk result (Leaves self.old self.new (own self.old item_due (item_of item.now))) }
         ensures err { IfErr result (λ e. e ≡ Stop.Memory) }
     {
         self.work.tick();
@@ -254,6 +263,7 @@ impl<'a> Evaluator<'a> {
     #[tactic(auto, using(crate::proofs::Assignments::declared_does))]
     pub fn declared(&mut self, number: usize, ty: Ty, set: Active) -> Result<(), Stop>
         ensures ok { OnOk result (Does self.old self.new (Task.Declared number ty set)) }
+        ensures fewer { OnOk result (LeavesOf self.old self.new (Task.Declared number ty set)) }
         ensures err { IfErr result (λ e. e ≡ Stop.Memory) }
     {
         let value = self.value;

@@ -3,6 +3,7 @@ ghost use Rattle.std.specs.Prelude.{◌≡◌, ◌++◌, ◌∷◌, [], ℕ, IfE
 ghost use Rattle.isp_base.specs.Sets.{flag_of, nobody};
 ghost use Rattle.isp_base.specs.Traps.{trap};
 ghost use Rattle.isp_gang_values.specs.declared.computed.Computed.TheVariants as Computed;
+ghost use Rattle.isp_gang_run.specs.Due.{WaitBoth, Waits};
 ghost use Rattle.isp_gang_run.specs.Tasks.{First, all_parts, parts_seen};
 
 use crate::activation::Activation;
@@ -138,6 +139,7 @@ impl<'a> Evaluator<'a> {
     pub fn later(&mut self, task: Task<'a>) -> Result<(), Stop>
         ensures ok { OnOk result (self.new.tasks.items ≡ self.old.tasks.items ++ task.entry ∷ []) }
         ensures rest { OnOk result (self.new ≡ record self.old { tasks = self.new.tasks }) }
+        ensures fewer { OnOk result (Waits self.old self.new task.entry) }
         ensures err { IfErr result (λ e. e ≡ Stop.Memory) }
     {
         self.tasks.push(task)?;
@@ -150,6 +152,7 @@ impl<'a> Evaluator<'a> {
     pub fn both(&mut self, first: Task<'a>, second: Task<'a>) -> Result<(), Stop>
         ensures ok { OnOk result (First self.old self.new first.entry second.entry) }
         ensures rest { OnOk result (self.new ≡ record self.old { tasks = self.new.tasks }) }
+        ensures fewer { OnOk result (WaitBoth self.old self.new first.entry second.entry) }
         ensures err { IfErr result (λ e. e ≡ Stop.Memory) }
     {
         self.later(second)?;

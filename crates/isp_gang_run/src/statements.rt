@@ -1,9 +1,11 @@
 //! What statements do.
-ghost use Rattle.std.specs.Prelude.{◌≡◌, IfErr, OnOk};
+ghost use Rattle.std.specs.Prelude.{◌≡◌, ◌+◌, IfErr, OnOk};
 ghost use Rattle.isp_base.specs.Sets.{flag_of, nobody, union};
-ghost use Rattle.isp_typed.specs.Views.{block_of, expr_of, exprs_of, items_of, simple_of};
+ghost use Rattle.isp_typed.specs.Views.{block_of, expr_of, exprs_of, items_of, simple_of, stmts_of};
 ghost use Rattle.isp_meaning.specs.Statements.{answered, jumped};
 ghost use Rattle.isp_gang_values.specs.Seen.{payload_of};
+ghost use Rattle.isp_gang_run.specs.Due.{Leaves, LeavesAt, LeavesOf, WaitBoth, all_due, block_due, branch_due, give_due, left_after, own, perhaps_due, task_due, value_due, values_due};
+ghost use Rattle.isp_gang_run.specs.Most.{one, two};
 ghost use Rattle.isp_gang_run.specs.Seen.{frame_seen};
 ghost use Rattle.isp_gang_run.specs.Arms.{all_does, chooses, claims, declares_all, gives, jumps, prints_all, unmasks};
 ghost use Rattle.isp_gang_run.specs.Tasks.{Changes, Comes, Halts, blocks, does, left_as, parts_seen, runs, runs_all, runs_then};
@@ -38,6 +40,7 @@ impl<'a> Evaluator<'a> {
     /// A statement over a set.
     pub fn run(&mut self, statement: &'a TypedStmt, set: Active) -> Result<(), Stop>
         ensures ok { OnOk result (Comes self.old self.new (does self.old (Task.Run statement.entry set))) }
+        ensures fewer { OnOk result (LeavesOf self.old self.new (Task.Run statement.entry set)) }
         ensures err { IfErr result (Halts self.old self.new (does self.old (Task.Run statement.entry set))) }
     {
         match statement {
@@ -89,6 +92,7 @@ impl<'a> Evaluator<'a> {
     // Declared items.
     fn declare(&mut self, items: &'a [TypedItem], set: Active) -> Result<(), Stop>
         ensures ok { OnOk result (Comes self.old self.new (declares_all self.old (items_of items.now) (flag_of set))) }
+        ensures fewer { OnOk result (WaitBoth self.old self.new (Task.Items items.entry set) (Task.Went set)) }
         ensures err { IfErr result (λ e. e ≡ Stop.Memory) }
     {
         self.work.tick();
@@ -100,6 +104,7 @@ impl<'a> Evaluator<'a> {
     #[tactic(auto, using(crate::proofs::Arms::all_did))]
     fn all_do(&mut self, simple: &'a TypedSimple, set: Active) -> Result<(), Stop>
         ensures ok { OnOk result (Comes self.old self.new (all_does self.old (simple_of simple.now) (flag_of set))) }
+        ensures fewer { OnOk result (WaitBoth self.old self.new (Task.Simple simple.entry set) (Task.Went set)) }
         ensures err { IfErr result (λ e. e ≡ Stop.Memory) }
     {
         self.both(Task::Simple(simple, set), Task::Went(set))?;
@@ -115,6 +120,7 @@ impl<'a> Evaluator<'a> {
         set: Active,
     ) -> Result<(), Stop>
         ensures ok { OnOk result (Comes self.old self.new (chooses self.old (expr_of test.now) then.entry otherwise.entry (flag_of set))) }
+        ensures fewer { OnOk result (Leaves self.old self.new (two (own self.old value_due (expr_of test.now)) (own self.old branch_due then.entry otherwise.entry))) }
         ensures err { IfErr result (λ e. e ≡ Stop.Memory) }
     {
         self.work.tick();
@@ -131,6 +137,7 @@ impl<'a> Evaluator<'a> {
     // A block over all instances, after which those that came go on.
     fn unmask(&mut self, body: &'a TypedBlock, set: Active) -> Result<(), Stop>
         ensures ok { OnOk result (Comes self.old self.new (unmasks self.old (block_of body.now) (flag_of set))) }
+        ensures fewer { OnOk result (Leaves self.old self.new (own self.old block_due (block_of body.now) + one 0)) }
         ensures err { IfErr result (λ e. e ≡ Stop.Memory) }
     {
         self.work.tick();
@@ -143,7 +150,8 @@ impl<'a> Evaluator<'a> {
     // A `break` or a `continue`.
     #[tactic(auto, using(crate::proofs::Arms::jumped_away))]
     fn jump(&mut self, jump: Jump, set: &Active)
-        ensures { Comes self.old self.new (jumps self.old jump (flag_of set.now)) }
+        ensures comes { Comes self.old self.new (jumps self.old jump (flag_of set.now)) }
+        ensures fewer { Leaves self.old self.new 0 }
     {
         self.work.tick();
         self.leave(jumped(jump, set));
@@ -153,6 +161,7 @@ impl<'a> Evaluator<'a> {
     #[tactic(auto, using(crate::proofs::Arms::gave_nothing, crate::proofs::Arms::gave))]
     fn give(&mut self, value: Option<&'a TypedExpr>, set: Active) -> Result<(), Stop>
         ensures ok { OnOk result (Comes self.old self.new (gives self.old value.entry (flag_of set))) }
+        ensures fewer { OnOk result (Leaves self.old self.new (own self.old give_due value.entry)) }
         ensures err { IfErr result (λ e. e ≡ Stop.Memory) }
     {
         self.work.tick();
@@ -177,6 +186,7 @@ impl<'a> Evaluator<'a> {
         set: Active,
     ) -> Result<(), Stop>
         ensures ok { OnOk result (Comes self.old self.new (prints_all self.old text.now (exprs_of values.now) (flag_of set))) }
+        ensures fewer { OnOk result (Leaves self.old self.new (own self.old values_due (exprs_of values.now))) }
         ensures err { IfErr result (λ e. e ≡ Stop.Memory) }
     {
         self.work.tick();
@@ -189,6 +199,7 @@ impl<'a> Evaluator<'a> {
     // An `assert`: its test comes first.
     fn claim(&mut self, test: &'a TypedExpr, span: Span, set: Active) -> Result<(), Stop>
         ensures ok { OnOk result (Comes self.old self.new (claims self.old (expr_of test.now) span (flag_of set))) }
+        ensures fewer { OnOk result (WaitBoth self.old self.new (Task.Value test.entry set) (Task.Assert span set)) }
         ensures err { IfErr result (λ e. e ≡ Stop.Memory) }
     {
         self.work.tick();
@@ -202,6 +213,7 @@ impl<'a> Evaluator<'a> {
     #[tactic(auto, using(crate::proofs::Branching::run_comes, crate::proofs::Branching::all_go_on))]
     fn run_or_go(&mut self, statement: Option<&'a TypedStmt>, set: Active) -> Result<(), Stop>
         ensures ok { OnOk result (Comes self.old self.new (runs self.old statement.entry (flag_of set))) }
+        ensures fewer { OnOk result (Leaves self.old self.new (own self.old perhaps_due statement.entry)) }
         ensures err { IfErr result (λ e. e ≡ Stop.Memory) }
     {
         match statement {
@@ -222,6 +234,7 @@ impl<'a> Evaluator<'a> {
         after: Task<'a>,
     ) -> Result<(), Stop>
         ensures ok { OnOk result (Comes self.old self.new (runs_then self.old statement.entry (flag_of set) after.entry)) }
+        ensures fewer { OnOk result (LeavesAt (left_after after.entry self.old.left) self.old self.new (own self.old perhaps_due statement.entry + one (own self.old task_due after.entry))) }
         ensures err { IfErr result (λ e. e ≡ Stop.Memory) }
     {
         let some = any(self.gang(), &set);
@@ -240,6 +253,7 @@ impl<'a> Evaluator<'a> {
     #[tactic(auto, using(crate::proofs::Branching::true_branch, crate::proofs::Branching::false_branch, crate::proofs::Branching::first_branch))]
     pub fn branch(&mut self, branches: Box<Branches<'a>>) -> Result<(), Stop>
         ensures ok { OnOk result (Comes self.old self.new (does self.old (Task.Branch branches.entry))) }
+        ensures fewer { OnOk result (LeavesOf self.old self.new (Task.Branch branches.entry)) }
         ensures err { IfErr result (λ e. e ≡ Stop.Memory) }
     {
         let Branches {
@@ -275,6 +289,7 @@ impl<'a> Evaluator<'a> {
     #[tactic(auto, using(crate::proofs::Branching::second_branch))]
     pub fn second(&mut self, branches: Box<Branches<'a>>) -> Result<(), Stop>
         ensures ok { OnOk result (Comes self.old self.new (does self.old (Task.Second branches.entry))) }
+        ensures fewer { OnOk result (LeavesOf self.old self.new (Task.Second branches.entry)) }
         ensures err { IfErr result (λ e. e ≡ Stop.Memory) }
     {
         let first = self.sets;
@@ -285,7 +300,8 @@ impl<'a> Evaluator<'a> {
     /// Both branches were run.
     #[tactic(auto, using(crate::proofs::Branching::united))]
     pub fn unite(&mut self, first: Sets)
-        ensures { Comes self.old self.new (does self.old (Task.Unite first)) }
+        ensures comes { Comes self.old self.new (does self.old (Task.Unite first)) }
+        ensures fewer { LeavesOf self.old self.new (Task.Unite first) }
     {
         let sets = Sets {
             went: union(&first.went, &self.sets.went),
@@ -297,6 +313,7 @@ impl<'a> Evaluator<'a> {
     /// A block: its statements in order.
     pub fn block(&mut self, block: &'a TypedBlock, set: Active) -> Result<(), Stop>
         ensures ok { OnOk result (Comes self.old self.new (blocks self.old (block_of block.now) (flag_of set))) }
+        ensures fewer { OnOk result (Leaves self.old self.new (own self.old block_due (block_of block.now))) }
         ensures err { IfErr result (λ e. e ≡ Stop.Memory) }
     {
         self.work.tick();
@@ -307,6 +324,7 @@ impl<'a> Evaluator<'a> {
     // One statement after the other, where some left before.
     fn statements(&mut self, rest: &'a [TypedStmt], before: Exits, set: Active) -> Result<(), Stop>
         ensures ok { OnOk result (Comes self.old self.new (runs_all self.old rest.now before (flag_of set))) }
+        ensures fewer { OnOk result (Leaves self.old self.new (own self.old all_due (stmts_of rest.now))) }
         ensures err { IfErr result (λ e. e ≡ Stop.Memory) }
     {
         match rest {
@@ -328,6 +346,7 @@ impl<'a> Evaluator<'a> {
     /// A statement was run: the next runs over those that went on, if there are any.
     pub fn went_by(&mut self, statements: Box<Statements<'a>>) -> Result<(), Stop>
         ensures ok { OnOk result (Comes self.old self.new (does self.old (Task.Statements statements.entry))) }
+        ensures fewer { OnOk result (LeavesOf self.old self.new (Task.Statements statements.entry)) }
         ensures err { IfErr result (λ e. e ≡ Stop.Memory) }
     {
         let Statements { rest, before } = *statements;
@@ -350,7 +369,8 @@ impl<'a> Evaluator<'a> {
     /// The result was found.
     #[tactic(auto, using(crate::proofs::Arms::answer_comes))]
     pub fn answer(&mut self, set: Active)
-        ensures { Comes self.old self.new (does self.old (Task.Answer set)) }
+        ensures comes { Comes self.old self.new (does self.old (Task.Answer set)) }
+        ensures fewer { LeavesOf self.old self.new (Task.Answer set) }
     {
         self.keep_answer(&set);
         self.leave(returned(&set));
@@ -376,6 +396,7 @@ impl<'a> Evaluator<'a> {
     #[tactic(auto, using(crate::proofs::Arms::assert_comes, crate::proofs::Arms::assert_halts))]
     pub fn assert(&mut self, span: Span, set: Active) -> Result<(), Stop>
         ensures ok { OnOk result (Comes self.old self.new (does self.old (Task.Assert span set))) }
+        ensures fewer { OnOk result (LeavesOf self.old self.new (Task.Assert span set)) }
         ensures err { IfErr result (Halts self.old self.new (does self.old (Task.Assert span set))) }
     {
         let offender = lowest_false(self.gang(), &set, &self.value);

@@ -1,5 +1,6 @@
 //! What is left to do.
 ghost use Rattle.std.specs.Prelude.{IfErr, IsTrue, OnOk};
+ghost use Rattle.isp_gang_run.specs.Due.{LeavesOf};
 ghost use Rattle.isp_gang_run.specs.Tasks.{Comes, Halts, does};
 ghost use Rattle.isp_gang_run.specs.reader.Kinds.{is_access, is_calling, is_gathering, is_round, is_side, is_turn};
 
@@ -231,6 +232,7 @@ impl<'a> Evaluator<'a> {
     /// Does a task.
     pub fn act(&mut self, task: Task<'a>) -> Result<(), Stop>
         ensures ok { OnOk result (Comes self.old self.new (does self.old task.entry)) }
+        ensures fewer { OnOk result (LeavesOf self.old self.new task.entry) }
         ensures err { IfErr result (Halts self.old self.new (does self.old task.entry)) }
     {
         match task {
@@ -275,6 +277,7 @@ impl<'a> Evaluator<'a> {
     fn choose_side(&mut self, task: Task<'a>) -> Result<(), Stop>
         requires { IsTrue (is_side task) }
         ensures ok { OnOk result (Comes self.old self.new (does self.old task.entry)) }
+        ensures fewer { OnOk result (LeavesOf self.old self.new task.entry) }
         ensures err { IfErr result (Halts self.old self.new (does self.old task.entry)) }
     {
         match task {
@@ -296,6 +299,7 @@ impl<'a> Evaluator<'a> {
     fn access(&mut self, task: Task<'a>) -> Result<(), Stop>
         requires { IsTrue (is_access task) }
         ensures ok { OnOk result (Comes self.old self.new (does self.old task.entry)) }
+        ensures fewer { OnOk result (LeavesOf self.old self.new task.entry) }
         ensures err { IfErr result (Halts self.old self.new (does self.old task.entry)) }
     {
         match task {
@@ -326,6 +330,7 @@ impl<'a> Evaluator<'a> {
     fn gather(&mut self, task: Task<'a>) -> Result<(), Stop>
         requires { IsTrue (is_gathering task) }
         ensures ok { OnOk result (Comes self.old self.new (does self.old task.entry)) }
+        ensures fewer { OnOk result (LeavesOf self.old self.new task.entry) }
         ensures err { IfErr result (Halts self.old self.new (does self.old task.entry)) }
     {
         match task {
@@ -350,6 +355,7 @@ impl<'a> Evaluator<'a> {
     fn pass(&mut self, task: Task<'a>) -> Result<(), Stop>
         requires { IsTrue (is_calling task) }
         ensures ok { OnOk result (Comes self.old self.new (does self.old task.entry)) }
+        ensures fewer { OnOk result (LeavesOf self.old self.new task.entry) }
         ensures err { IfErr result (Halts self.old self.new (does self.old task.entry)) }
     {
         match task {
@@ -379,6 +385,7 @@ impl<'a> Evaluator<'a> {
     fn take_turn(&mut self, task: Task<'a>) -> Result<(), Stop>
         requires { IsTrue (is_turn task) }
         ensures ok { OnOk result (Comes self.old self.new (does self.old task.entry)) }
+        ensures fewer { OnOk result (LeavesOf self.old self.new task.entry) }
         ensures err { IfErr result (Halts self.old self.new (does self.old task.entry)) }
     {
         match task {
@@ -393,6 +400,7 @@ impl<'a> Evaluator<'a> {
     fn run_each(&mut self, task: Task<'a>) -> Result<(), Stop>
         requires { IsTrue (is_round task) }
         ensures ok { OnOk result (Comes self.old self.new (does self.old task.entry)) }
+        ensures fewer { OnOk result (LeavesOf self.old self.new task.entry) }
         ensures err { IfErr result (Halts self.old self.new (does self.old task.entry)) }
     {
         match task {

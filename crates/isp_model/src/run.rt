@@ -14,8 +14,7 @@ use std::alloc::Global;
 /// The run of an exported function from bound arguments, where each loop makes at most so many turns each
 /// time it is entered.
 ///
-/// 50 where no exported function has that name and the arguments' signature; 0 where memory is refused, or where a run
-/// takes more steps than 64 bits count.
+/// 50 where no exported function has that name and the arguments' signature; 0 where memory is refused.
 pub fn evaluate(
     alloc: Global,
     checked: &Checked,
@@ -39,8 +38,7 @@ pub fn evaluate(
 
 /// The work of the run that `evaluate` makes, up to its end, trap or cut: 18,446,744,073,709,551,615 where it is more.
 ///
-/// 50 where no exported function has that name and the arguments' signature; 0 where memory is refused, or where a run
-/// takes more steps than 64 bits count.
+/// 50 where no exported function has that name and the arguments' signature; 0 where memory is refused.
 pub fn work(
     alloc: Global,
     checked: &Checked,

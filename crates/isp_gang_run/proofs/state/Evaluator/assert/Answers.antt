@@ -1,3 +1,6 @@
+use Rattle.isp_gang_run.specs.Due.{due_now}
+use Rattle.isp_gang_run.specs.declared.state.Evaluator.{Evaluator}
+use Rattle.isp_gang_run.proofs.Progress.{same_leaves}
 use Rattle.std.proofs.Common.{refl, ap, ◌∙◌}
 use Rattle.isp_base.specs.Sets.{flag_of}
 use Rattle.isp_base.specs.Types.{gang_width}
@@ -24,3 +27,7 @@ returns-clause-ok c =
     assert_comes old c.leave.new.self c.args.span c.args.set c.lowest_false-offender.result
     (c.lowest_false-offender.ensures ∙ ap (λ g. offender (gang_width g) is_false (flag_of c.args.set) (payload_of old.value)) c.gang.ensures)
     c.all.result c.in_ok-checked.ensures.ok c.all.ensures c.leave.ensures
+
+pub returns-clause-fewer : goal.returns-clause-fewer
+returns-clause-fewer c =
+    same_leaves c.args.self.now c.leave.new.self 0 (ap (λ (e : Evaluator). due_now e) c.leave.ensures)

@@ -1,3 +1,5 @@
+use Rattle.isp_gang_run.proofs.Progress.{leaves_as}
+use Rattle.isp_gang_run.specs.Due.{own, packs_due}
 use Rattle.std.proofs.Common.{sym, ap, ◌∙◌}
 use Rattle.isp_typed.specs.Typed.{TExpr, TPlace, TBase, TArgument, TCall, t_from, type_of}
 use Rattle.isp_typed.specs.Views.{argument_step, base_step, expr_step, place_step, call_step, base_of, expr_of}
@@ -29,3 +31,15 @@ returns-in_ok-both-in-From-clause-ok c =
     ∙ fold-roll-TypedBase TArgument TBase TExpr TPlace TCall argument_step base_step expr_step place_step call_step _
     ∙ ap (λ i. t_from c.in-From.array (expr_of i) c.in-From.span) (sym c.deref-in-From.ensures))
     c.in_ok-both-in-From.ensures.ok
+
+pub returns-in-Whole-clause-fewer : goal.returns-in-Whole-clause-fewer
+returns-in-Whole-clause-fewer c =
+    on_ok c.packed.result (leaves_as c.args.self.now c.packed.new.self c.args.self.now.left (ap (λ (n : TBase). own c.args.self.now packs_due c.args.packing n)
+    (ap base_of (c.in-Whole.is ∙ sym (variant.rolls-Whole c.in-Whole.array c.in-Whole.span)) ∙ fold-roll-TypedBase TArgument TBase TExpr TPlace TCall argument_step base_step expr_step place_step call_step _))) c.packed.ensures.fewer
+
+pub returns-in_ok-both-in-From-clause-fewer : goal.returns-in_ok-both-in-From-clause-fewer
+returns-in_ok-both-in-From-clause-fewer c =
+    leaves_as c.args.self.now c.both.new.self c.args.self.now.left (ap (λ (n : TBase). own c.args.self.now packs_due c.args.packing n)
+    (ap base_of (c.in-From.is ∙ sym (variant.rolls-From c.in-From.array c.in-From.index c.in-From.span))
+    ∙ fold-roll-TypedBase TArgument TBase TExpr TPlace TCall argument_step base_step expr_step place_step call_step _
+    ∙ ap (λ i. t_from c.in-From.array (expr_of i) c.in-From.span) (sym c.deref-in-From.ensures))) c.in_ok-both-in-From.ensures.fewer

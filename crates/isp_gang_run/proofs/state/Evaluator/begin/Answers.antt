@@ -1,8 +1,13 @@
+use Rattle.isp_gang_run.specs.Due.{block_due, own}
+use Rattle.isp_typed.specs.Views.{block_of}
+use Rattle.isp_gang_run.specs.declared.state.Evaluator.{Evaluator}
+use Rattle.isp_gang_run.proofs.Progress.{after_leaves}
 use Rattle.std.proofs.Common.{◌≡◌, ◌-◌, length, map, take, ap, ◌∙◌, arith}
 use Rattle.isp_meaning.specs.State.{below}
 use Rattle.isp_gang_run.specs.Seen.{frame_seen, passed_seen, variables_seen}
 use Rattle.isp_gang_run.specs.declared.activation.Activation.{Activation}
 use Rattle.isp_gang_run.proofs.Handing.{begin_comes}
+use Rattle.isp_gang_run.specs.declared.tasks.Task.TheVariants as task
 use Rattle.isp_gang_run.proofs.state.Evaluator.begin.Goals as goal
 
 pub returns-clause-ok : goal.returns-clause-ok
@@ -16,3 +21,9 @@ returns-clause-ok c =
     (ap frame_seen c.replace-caller.ensures.after ∙ c.in_ok-begun.ensures.frame)
     (λ s. ap (λ (h : Activation). variables_seen h (below n s.arrays) s.out s.work) c.replace-caller.ensures.after ∙ c.in_ok-begun.ensures.state s)
     c.in_ok-block.ensures.ok
+
+pub returns-clause-fewer : goal.returns-clause-fewer
+returns-clause-fewer c =
+    let base : Evaluator = record c.args.self.now { here = c.replace-caller.new.dest; left = c.args.self.now.left - 1; stores = c.truncate.new.self } in
+    after_leaves base c.later.new.self c.block.new.self (task.Return c.in_ok-new.field-0 c.args.self.now.left c.args.self.now.sets c.args.set) (λ e. own e block_due (block_of c.args.function.now.body))
+    c.in_ok-later.ensures.ok c.in_ok-later.ensures.rest c.in_ok-block.ensures.fewer

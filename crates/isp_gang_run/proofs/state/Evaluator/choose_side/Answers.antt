@@ -1,3 +1,4 @@
+use Rattle.isp_gang_run.proofs.Progress.{leaves_ok}
 use Rattle.isp_gang_run.proofs.Acting.{does_ok, refused_err}
 use Rattle.isp_gang_run.proofs.state.Evaluator.choose_side.Goals as goal
 
@@ -12,3 +13,11 @@ returns-in-Otherwise-clause-ok c = does_ok c.args.self.now c.otherwise.new.self 
 
 pub returns-in-Otherwise-clause-err : goal.returns-in-Otherwise-clause-err
 returns-in-Otherwise-clause-err c = refused_err c.args.self.now c.otherwise.new.self c.args.task c.otherwise.result c.otherwise.ensures.err
+
+pub returns-in-Choose-clause-fewer : goal.returns-in-Choose-clause-fewer
+returns-in-Choose-clause-fewer c =
+    leaves_ok c.args.self.now c.choose.new.self c.args.task _ c.in-Choose.is c.choose.result c.choose.ensures.fewer
+
+pub returns-in-Otherwise-clause-fewer : goal.returns-in-Otherwise-clause-fewer
+returns-in-Otherwise-clause-fewer c =
+    leaves_ok c.args.self.now c.otherwise.new.self c.args.task _ c.in-Otherwise.is c.otherwise.result c.otherwise.ensures.fewer

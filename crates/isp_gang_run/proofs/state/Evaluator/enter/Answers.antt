@@ -1,3 +1,5 @@
+use Rattle.isp_gang_run.proofs.Fewer.{enters_as}
+use Rattle.isp_gang_run.proofs.Progress.{leaves_as}
 use Rattle.std.proofs.Common.{◌≡◌, refl, ◌-◌, suc, map, sym, ap, ◌∙◌, arith}
 use Rattle.std.specs.Prelude.{option_map, slice_get}
 use Rattle.isp_base.specs.Cross.{or_zero}
@@ -22,3 +24,9 @@ returns-in-None-clause-err c =
     let more : c.args.self.now.left ≡ suc (c.args.self.now.left - 1) = omega (arith, c.if-self-eq0.false) in
     no_function c.args.self.now c.args.function c.args.place c.args.set (map passed_seen c.args.passed.now) (c.args.self.now.left - 1) more
     (ap (λ xs. slice_get xs c.args.function) (sym c.as_slice.ensures.value) ∙ c.function_at.ensures ∙ ap (option_map (λ f. f.now)) c.in-None.is)
+
+pub returns-in_ok-begin-in-Some-clause-fewer : goal.returns-in_ok-begin-in-Some-clause-fewer
+returns-in_ok-begin-in-Some-clause-fewer c =
+    let more : c.args.self.now.left ≡ suc (c.args.self.now.left - 1) = omega (arith, c.if-self-eq0.false) in
+    leaves_as c.args.self.now c.begin.new.self c.args.self.now.left (enters_as c.args.self.now c.args.function (c.args.self.now.left - 1) c.in-Some.function.now more
+    (ap (λ xs. slice_get xs c.args.function) (sym c.as_slice.ensures.value) ∙ c.function_at.ensures ∙ ap (option_map (λ f. f.now)) c.in-Some.is)) c.in_ok-begin-in-Some.ensures.fewer

@@ -1,3 +1,4 @@
+use Rattle.isp_gang_run.proofs.Progress.{leaves_ok}
 use Rattle.isp_gang_run.proofs.Acting.{does_ok, halts_err, refused_err}
 use Rattle.isp_gang_run.proofs.state.Evaluator.gather.Goals as goal
 
@@ -12,3 +13,11 @@ returns-in-Packed-clause-ok c = does_ok c.args.self.now c.packed.new.self c.args
 
 pub returns-in-Packed-clause-err : goal.returns-in-Packed-clause-err
 returns-in-Packed-clause-err c = halts_err c.args.self.now c.packed.new.self c.args.task _ c.in-Packed.is c.packed.result c.packed.ensures.err
+
+pub returns-in-Values-clause-fewer : goal.returns-in-Values-clause-fewer
+returns-in-Values-clause-fewer c =
+    leaves_ok c.args.self.now c.one_more.new.self c.args.task _ c.in-Values.is c.one_more.result c.one_more.ensures.fewer
+
+pub returns-in-Packed-clause-fewer : goal.returns-in-Packed-clause-fewer
+returns-in-Packed-clause-fewer c =
+    leaves_ok c.args.self.now c.packed.new.self c.args.task _ c.in-Packed.is c.packed.result c.packed.ensures.fewer

@@ -1,3 +1,4 @@
+use Rattle.isp_gang_run.proofs.Progress.{no_more}
 use Rattle.std.proofs.Common.{refl, sym, ap, map, subst, ◌∙◌}
 use Rattle.isp_base.specs.Sets.{flag_of}
 use Rattle.isp_base.specs.Types.{gang_width}
@@ -20,3 +21,7 @@ returns-in-Print-clause-ok c =
     on_ok c.print.result
     (subst (λ g. Comes c.args.self.now c.print.new.self (gathers_all c.args.self.now g (flag_of c.args.set) (map payload_of c.args.values.now))) (sym c.in-Print.is))
     c.print.ensures.ok
+
+pub returns-in-Library-clause-fewer : goal.returns-in-Library-clause-fewer
+returns-in-Library-clause-fewer c =
+    no_more c.args.self.now 0

@@ -1,3 +1,5 @@
+use Rattle.isp_gang_run.specs.Due.{own, value_due}
+use Rattle.isp_gang_run.proofs.Progress.{leaves_as}
 use Rattle.std.proofs.Common.{sym, ap, ◌∙◌}
 use Rattle.isp_typed.specs.Typed.{TExpr, TPlace, TBase, TArgument, TCall, t_exprs, t_library, t_packed_store}
 use Rattle.isp_typed.specs.Views.{argument_step, base_step, expr_step, place_step, call_step, base_of, expr_of, exprs_of}
@@ -61,3 +63,23 @@ returns-in-PackedLoad-clause-err c =
     (ap expr_of (c.in-PackedLoad.is ∙ sym (variant.rolls-PackedLoad c.in-PackedLoad.base c.in-PackedLoad.variable c.in-PackedLoad.span))
     ∙ fold-roll-TypedExpr TArgument TBase TExpr TPlace TCall argument_step base_step expr_step place_step call_step _) h)
     c.base-in-PackedLoad.ensures.err
+
+pub returns-in-Library-clause-fewer : goal.returns-in-Library-clause-fewer
+returns-in-Library-clause-fewer c =
+    on_ok c.values.result (leaves_as c.args.self.now c.values.new.self c.args.self.now.left (ap (λ (n : TExpr). own c.args.self.now value_due n)
+    (ap expr_of (c.in-Library.is ∙ sym (variant.rolls-Library c.in-Library.function c.in-Library.elem c.in-Library.values c.in-Library.ty
+    c.in-Library.span)) ∙ fold-roll-TypedExpr TArgument TBase TExpr TPlace TCall argument_step base_step expr_step place_step call_step _
+    ∙ ap (λ ys. t_library c.in-Library.function c.in-Library.elem (t_exprs (exprs_of ys)) c.in-Library.ty c.in-Library.span) (sym c.as_slice.ensures.value)))) c.values.ensures.fewer
+
+pub returns-in-PackedStore-clause-fewer : goal.returns-in-PackedStore-clause-fewer
+returns-in-PackedStore-clause-fewer c =
+    on_ok c.base.result (leaves_as c.args.self.now c.base.new.self c.args.self.now.left (ap (λ (n : TExpr). own c.args.self.now value_due n)
+    (ap expr_of (c.in-PackedStore.is ∙ sym (variant.rolls-PackedStore c.in-PackedStore.base c.in-PackedStore.value c.in-PackedStore.span))
+    ∙ fold-roll-TypedExpr TArgument TBase TExpr TPlace TCall argument_step base_step expr_step place_step call_step _
+    ∙ ap (λ i. t_packed_store (base_of c.in-PackedStore.base) (expr_of i) c.in-PackedStore.span) (sym c.deref.ensures)))) c.base.ensures.fewer
+
+pub returns-in-PackedLoad-clause-fewer : goal.returns-in-PackedLoad-clause-fewer
+returns-in-PackedLoad-clause-fewer c =
+    on_ok c.base-in-PackedLoad.result (leaves_as c.args.self.now c.base-in-PackedLoad.new.self c.args.self.now.left (ap (λ (n : TExpr). own c.args.self.now value_due n)
+    (ap expr_of (c.in-PackedLoad.is ∙ sym (variant.rolls-PackedLoad c.in-PackedLoad.base c.in-PackedLoad.variable c.in-PackedLoad.span))
+    ∙ fold-roll-TypedExpr TArgument TBase TExpr TPlace TCall argument_step base_step expr_step place_step call_step _))) c.base-in-PackedLoad.ensures.fewer

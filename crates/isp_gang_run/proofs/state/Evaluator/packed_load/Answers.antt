@@ -1,3 +1,5 @@
+use Rattle.isp_gang_run.specs.Due.{due_now}
+use Rattle.isp_gang_run.proofs.Progress.{same_leaves}
 use Rattle.std.proofs.Common.{ℕ, List, Vec, Global, sym, ap, ap₂, ◌∙◌, unsigned_abs}
 use Rattle.isp_base.specs.Cross.{packed_index, rank, packed_outside}
 use Rattle.isp_base.specs.Maps.{Map, on}
@@ -37,3 +39,7 @@ returns-in_err-checked-clause-err c =
     at_err c.from_residual.result c.in_err-checked.field-0.0 (Halts old (record old { work = c.tick.new.self }) (packs_from old (packing.Load c.args.variable) b z c.args.span a)) c.from_residual.ensures.1
     (load_halts old c.args.elements c.args.span c.args.set c.tick.new.self c.tick.ensures c.args.variable c.in_err-checked.field-0.0 h.0
     (sym (ap₂ (λ (g : Gang) (k : ℕ). lowest (gang_width g) (packed_outside k z a)) c.gang.ensures c.extent-count.ensures) ∙ sym c.outside-offender.ensures ∙ h.1) h.2)
+
+pub returns-clause-fewer : goal.returns-clause-fewer
+returns-clause-fewer c =
+    same_leaves c.args.self.now c.write.new.self 0 (ap (λ (e : Evaluator). due_now e) c.in_ok-write.ensures.ok.same)

@@ -1,3 +1,4 @@
+use Rattle.isp_gang_run.proofs.Progress.{no_more}
 use Rattle.std.proofs.Common.{ℕ, sym, ap, ap₂, ◌∙◌}
 use Rattle.isp_base.specs.Access.{scatter}
 use Rattle.isp_base.specs.Maps.{put}
@@ -37,3 +38,7 @@ returns-in_err-checked-clause-err c =
     at_err c.from_residual.result c.in_err-checked.field-0.0 (Halts old old (does old (task.PackedStore c.args.elements c.args.span c.args.set))) c.from_residual.ensures.1
     (store_halts old c.args.elements c.args.span c.args.set c.in_err-checked.field-0.0 h.0
     (sym (ap₂ (λ (g : Gang) (n : ℕ). lowest (gang_width g) (packed_outside n z a)) c.gang-size.ensures c.extent-count.ensures) ∙ sym c.outside-offender.ensures ∙ h.1) h.2)
+
+pub returns-clause-fewer : goal.returns-clause-fewer
+returns-clause-fewer c =
+    no_more c.args.self.now 0

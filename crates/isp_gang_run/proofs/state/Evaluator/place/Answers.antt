@@ -1,5 +1,7 @@
+use Rattle.isp_gang_run.specs.Due.{own, value_due}
+use Rattle.isp_gang_run.proofs.Progress.{leaves_as, no_more}
 use Rattle.std.proofs.Common.{sym, ap, ◌∙◌}
-use Rattle.isp_typed.specs.Typed.{t_element, type_of}
+use Rattle.isp_typed.specs.Typed.{t_element, type_of, t_place}
 use Rattle.isp_typed.specs.Typed.{TExpr, TPlace, TBase, TArgument, TCall}
 use Rattle.isp_typed.specs.Views.{argument_step, base_step, expr_step, place_step, call_step, expr_of, place_of}
 use Rattle.isp_typed.specs.declared.expr.TypedPlace.TheVariants as variant
@@ -21,3 +23,14 @@ returns-in_ok-both-in-Element-clause-ok c =
     ∙ fold-roll-TypedPlace TArgument TBase TExpr TPlace TCall argument_step base_step expr_step place_step call_step _
     ∙ ap (λ i. t_element c.in-Element.array (expr_of i) c.in-Element.ty c.in-Element.span) (sym c.deref-in-Element.ensures))
     c.in_ok-both-in-Element.ensures.ok
+
+pub returns-in-Variable-clause-fewer : goal.returns-in-Variable-clause-fewer
+returns-in-Variable-clause-fewer c =
+    no_more c.args.self.now (own c.args.self.now value_due (t_place (place_of c.args.place.now)))
+
+pub returns-in_ok-both-in-Element-clause-fewer : goal.returns-in_ok-both-in-Element-clause-fewer
+returns-in_ok-both-in-Element-clause-fewer c =
+    leaves_as c.args.self.now c.both.new.self c.args.self.now.left (ap (λ (n : TPlace). own c.args.self.now value_due (t_place n))
+    (ap place_of (c.in-Element.is ∙ sym (variant.rolls-Element c.in-Element.array c.in-Element.index c.in-Element.ty c.in-Element.span))
+    ∙ fold-roll-TypedPlace TArgument TBase TExpr TPlace TCall argument_step base_step expr_step place_step call_step _
+    ∙ ap (λ i. t_element c.in-Element.array (expr_of i) c.in-Element.ty c.in-Element.span) (sym c.deref-in-Element.ensures))) c.in_ok-both-in-Element.ensures.fewer

@@ -6,3 +6,7 @@ pub returns-clause-ok : goal.returns-clause-ok
 returns-clause-ok c =
     let f = c.in_ok-both.ensures.ok in
     record { by = f.by; work = ap (λ (x : Work). x.count) f.work ∙ c.tick.ensures }
+
+pub returns-clause-fewer : goal.returns-clause-fewer
+returns-clause-fewer c =
+    c.in_ok-both.ensures.fewer

@@ -1,4 +1,8 @@
-use Rattle.std.proofs.Common.{◌≡◌, sym, ap, ◌∙◌, false}
+use Rattle.isp_gang_run.proofs.Fewer.{same_runs}
+use Rattle.isp_gang_run.specs.Due.{due_now, own, rounds_due}
+use Rattle.isp_gang_run.specs.declared.state.Evaluator.{Evaluator}
+use Rattle.isp_gang_run.proofs.Progress.{leaves_as, same_leaves}
+use Rattle.std.proofs.Common.{◌≡◌, sym, ap, ◌∙◌, false, Box, Global}
 use Rattle.isp_base.specs.Sets.{flag_of}
 use Rattle.isp_base.specs.Types.{gang_width}
 use Rattle.isp_gang_values.specs.Left.{is_ready, runs_left}
@@ -23,3 +27,14 @@ returns-in_ok-round-clause-ok c =
     (record c.args.rounds { value = record c.deref_mut.result.now { ranges = c.carry.new.ranges } })
     (ap (λ (x : Rounds). x.body) c.deref_mut.ensures.value) (ap (λ (x : Rounds). x.set) c.deref_mut.ensures.value)
     (c.carry.ensures.left g ∙ ap (λ (x : Rounds). runs_left (gang_width g) x.ranges.items) c.deref_mut.ensures.value) c.in_ok-round.ensures.ok
+
+pub returns-else-ready-clause-fewer : goal.returns-else-ready-clause-fewer
+returns-else-ready-clause-fewer c =
+    same_leaves c.args.self.now c.leave.new.self (own c.args.self.now rounds_due c.args.rounds.value) (ap (λ (e : Evaluator). due_now e) c.leave.ensures)
+
+pub returns-in_ok-round-clause-fewer : goal.returns-in_ok-round-clause-fewer
+returns-in_ok-round-clause-fewer c =
+    let g = c.args.self.now.program.now.gang in
+    let d : Box Rounds Global = record c.args.rounds { value = record c.deref_mut.result.now { ranges = c.carry.new.ranges } } in
+    leaves_as c.args.self.now c.round.new.self c.args.self.now.left (same_runs c.args.self.now c.args.rounds d (ap (λ (x : Rounds). x.body) c.deref_mut.ensures.value)
+    (c.carry.ensures.left g ∙ ap (λ (x : Rounds). runs_left (gang_width g) x.ranges.items) c.deref_mut.ensures.value)) c.in_ok-round.ensures.fewer

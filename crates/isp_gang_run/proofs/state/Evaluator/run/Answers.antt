@@ -1,3 +1,6 @@
+use Rattle.isp_gang_run.proofs.Results.{on_ok}
+use Rattle.isp_gang_run.specs.Due.{own, run_due}
+use Rattle.isp_gang_run.proofs.Progress.{leaves_as}
 use Rattle.std.proofs.Common.{refl, sym, ap, ap₂, ◌∙◌}
 use Rattle.std.proofs.Common.{ℕ, List, Option, Bor}
 use Rattle.std.specs.Prelude.{option_map}
@@ -181,4 +184,111 @@ returns-in-Assert-clause-err c = memory_err c.args.self.now c.claim.new.self _ c
 pub returns-in-Jump-clause-ok : goal.returns-in-Jump-clause-ok
 returns-in-Jump-clause-ok c =
     arm c.args.self.now c.jump.new.self c.args.statement c.args.set _ _
-    (ap stmt_of (c.in-Jump.is ∙ sym (variant.rolls-Jump c.in-Jump.jump c.in-Jump.keyword c.in-Jump.span)) ∙ fold-roll-TypedStmt TStmt TBlock stmt_step block_step _) (λ w. refl) c.jump.ensures
+    (ap stmt_of (c.in-Jump.is ∙ sym (variant.rolls-Jump c.in-Jump.jump c.in-Jump.keyword c.in-Jump.span)) ∙ fold-roll-TypedStmt TStmt TBlock stmt_step block_step _) (λ w. refl) c.jump.ensures.comes
+
+pub returns-in-Block-clause-fewer : goal.returns-in-Block-clause-fewer
+returns-in-Block-clause-fewer c =
+    on_ok c.block.result (leaves_as c.args.self.now c.block.new.self c.args.self.now.left (ap (λ (n : TStmt). own c.args.self.now run_due n)
+    (ap stmt_of (c.in-Block.is ∙ sym (variant.rolls-Block c.in-Block.block)) ∙ fold-roll-TypedStmt TStmt TBlock stmt_step block_step _))) c.block.ensures.fewer
+
+pub returns-in-Declare-clause-fewer : goal.returns-in-Declare-clause-fewer
+returns-in-Declare-clause-fewer c =
+    on_ok c.declare.result (leaves_as c.args.self.now c.declare.new.self c.args.self.now.left (ap (λ (n : TStmt). own c.args.self.now run_due n)
+    (ap stmt_of (c.in-Declare.is ∙ sym (variant.rolls-Declare c.in-Declare.items c.in-Declare.span))
+    ∙ fold-roll-TypedStmt TStmt TBlock stmt_step block_step _
+    ∙ ap (λ (ys : List TypedItem). t_declare (items_of ys) c.in-Declare.span) (sym c.as_slice.ensures.value)))) c.declare.ensures.fewer
+
+pub returns-in-Simple-clause-fewer : goal.returns-in-Simple-clause-fewer
+returns-in-Simple-clause-fewer c =
+    on_ok c.all_do.result (leaves_as c.args.self.now c.all_do.new.self c.args.self.now.left (ap (λ (n : TStmt). own c.args.self.now run_due n)
+    (ap stmt_of (c.in-Simple.is ∙ sym (variant.rolls-Simple c.in-Simple.simple c.in-Simple.span)) ∙ fold-roll-TypedStmt TStmt TBlock stmt_step block_step _))) c.all_do.ensures.fewer
+
+pub returns-in-If-clause-fewer : goal.returns-in-If-clause-fewer
+returns-in-If-clause-fewer c =
+    on_ok c.choice.result (leaves_as c.args.self.now c.choice.new.self c.args.self.now.left (ap (λ (n : TStmt). own c.args.self.now run_due n)
+    (ap stmt_of c.in-If.is ∙ if_view c.in-If.form c.in-If.before c.in-If.test c.in-If.then c.in-If.span
+    ∙ ap (λ (k : TypedStmt). t_if c.in-If.form c.in-If.before (expr_of c.in-If.test) (stmt_of k) c.in-If.span) (sym c.deref.ensures)))) c.choice.ensures.fewer
+
+pub returns-in-IfElse-clause-fewer : goal.returns-in-IfElse-clause-fewer
+returns-in-IfElse-clause-fewer c =
+    on_ok c.choice-in-IfElse.result (leaves_as c.args.self.now c.choice-in-IfElse.new.self c.args.self.now.left (ap (λ (n : TStmt). own c.args.self.now run_due n)
+    (ap stmt_of c.in-IfElse.is ∙ if_else_view c.in-IfElse.form c.in-IfElse.before c.in-IfElse.test c.in-IfElse.then c.in-IfElse.otherwise
+    c.in-IfElse.span ∙ ap₂ (λ (k l : TypedStmt). t_if_else c.in-IfElse.form c.in-IfElse.before (expr_of c.in-IfElse.test) (stmt_of k) (stmt_of l)
+    c.in-IfElse.span) (sym c.deref-in-IfElse.ensures) (sym c.deref-in-IfElse-2.ensures)))) c.choice-in-IfElse.ensures.fewer
+
+pub returns-in-While-clause-fewer : goal.returns-in-While-clause-fewer
+returns-in-While-clause-fewer c =
+    on_ok c.enter_while.result (leaves_as c.args.self.now c.enter_while.new.self c.args.self.now.left (ap (λ (n : TStmt). own c.args.self.now run_due n)
+    (ap stmt_of c.in-While.is ∙ while_view c.in-While.form c.in-While.before c.in-While.test c.in-While.body c.in-While.span
+    ∙ ap (λ (k : TypedStmt). t_while c.in-While.form c.in-While.before (expr_of c.in-While.test) (stmt_of k) c.in-While.span)
+    (sym c.deref-in-While.ensures)))) c.enter_while.ensures.fewer
+
+pub returns-in-Do-clause-fewer : goal.returns-in-Do-clause-fewer
+returns-in-Do-clause-fewer c =
+    on_ok c.enter_do.result (leaves_as c.args.self.now c.enter_do.new.self c.args.self.now.left (ap (λ (n : TStmt). own c.args.self.now run_due n)
+    (ap stmt_of c.in-Do.is ∙ do_view c.in-Do.form c.in-Do.before c.in-Do.body c.in-Do.test c.in-Do.span
+    ∙ ap (λ (k : TypedStmt). t_do c.in-Do.form c.in-Do.before (stmt_of k) (expr_of c.in-Do.test) c.in-Do.span) (sym c.deref-in-Do.ensures)))) c.enter_do.ensures.fewer
+
+pub returns-in-For-clause-fewer : goal.returns-in-For-clause-fewer
+returns-in-For-clause-fewer c =
+    on_ok c.enter_for.result (leaves_as c.args.self.now c.enter_for.new.self c.args.self.now.left (ap (λ (n : TStmt). own c.args.self.now run_due n)
+    (ap stmt_of c.in-For.is ∙ for_view c.in-For.form c.in-For.before c.in-For.first c.in-For.test c.in-For.step c.in-For.inside c.in-For.body c.in-For.span
+    ∙ ap₂ (λ (i : Option TFirst) (k : TypedStmt). t_for c.in-For.form c.in-For.before i (option_map expr_of c.in-For.test)
+    (option_map simple_of c.in-For.step) c.in-For.inside (stmt_of k) c.in-For.span)
+    (part_is first_of c.in-For.first c.as_ref.result c.as_ref.ensures.value) (sym c.deref-in-For.ensures)
+    ∙ ap₂ (λ (x : Option TExpr) (p : Option TSimple). t_for c.in-For.form c.in-For.before
+    (option_map (λ (v : Bor TypedFirst). first_of v.now) c.as_ref.result) x p c.in-For.inside (stmt_of c.deref-in-For.result.now) c.in-For.span)
+    (part_is expr_of c.in-For.test c.as_ref-in-For.result c.as_ref-in-For.ensures.value)
+    (part_is simple_of c.in-For.step c.as_ref-in-For-2.result c.as_ref-in-For-2.ensures.value)))) c.enter_for.ensures.fewer
+
+pub returns-in-Foreach-clause-fewer : goal.returns-in-Foreach-clause-fewer
+returns-in-Foreach-clause-fewer c =
+    on_ok c.foreach.result (leaves_as c.args.self.now c.foreach.new.self c.args.self.now.left (ap (λ (n : TStmt). own c.args.self.now run_due n)
+    (ap stmt_of c.in-Foreach.is ∙ foreach_view c.in-Foreach.keyword c.in-Foreach.before c.in-Foreach.ranges c.in-Foreach.body c.in-Foreach.span
+    ∙ ap₂ (λ (rs : List TypedRange) (k : TypedStmt). t_foreach c.in-Foreach.keyword c.in-Foreach.before (ranges_of rs) (stmt_of k)
+    c.in-Foreach.span) (sym c.as_slice-in-Foreach.ensures.value) (sym c.deref-in-Foreach.ensures)))) c.foreach.ensures.fewer
+
+pub returns-in-ForeachActive-clause-fewer : goal.returns-in-ForeachActive-clause-fewer
+returns-in-ForeachActive-clause-fewer c =
+    on_ok c.foreach_active.result (leaves_as c.args.self.now c.foreach_active.new.self c.args.self.now.left (ap (λ (n : TStmt). own c.args.self.now run_due n)
+    (ap stmt_of c.in-ForeachActive.is ∙ active_view c.in-ForeachActive.keyword c.in-ForeachActive.before c.in-ForeachActive.index
+    c.in-ForeachActive.body c.in-ForeachActive.span ∙ ap
+    (λ (k : TypedStmt). t_foreach_active c.in-ForeachActive.keyword c.in-ForeachActive.before c.in-ForeachActive.index (stmt_of k)
+    c.in-ForeachActive.span) (sym c.deref-in-ForeachActive.ensures)))) c.foreach_active.ensures.fewer
+
+pub returns-in-ForeachUnique-clause-fewer : goal.returns-in-ForeachUnique-clause-fewer
+returns-in-ForeachUnique-clause-fewer c =
+    on_ok c.foreach_unique.result (leaves_as c.args.self.now c.foreach_unique.new.self c.args.self.now.left (ap (λ (n : TStmt). own c.args.self.now run_due n)
+    (ap stmt_of c.in-ForeachUnique.is
+    ∙ unique_view c.in-ForeachUnique.keyword c.in-ForeachUnique.before c.in-ForeachUnique.index c.in-ForeachUnique.elem c.in-ForeachUnique.value c.in-ForeachUnique.body c.in-ForeachUnique.span
+    ∙ ap (λ (k : TypedStmt). t_foreach_unique c.in-ForeachUnique.keyword c.in-ForeachUnique.before c.in-ForeachUnique.index c.in-ForeachUnique.elem (expr_of c.in-ForeachUnique.value) (stmt_of k) c.in-ForeachUnique.span) (sym c.deref-in-ForeachUnique.ensures)))) c.foreach_unique.ensures.fewer
+
+pub returns-in-Unmasked-clause-fewer : goal.returns-in-Unmasked-clause-fewer
+returns-in-Unmasked-clause-fewer c =
+    on_ok c.unmask.result (leaves_as c.args.self.now c.unmask.new.self c.args.self.now.left (ap (λ (n : TStmt). own c.args.self.now run_due n)
+    (ap stmt_of (c.in-Unmasked.is ∙ sym (variant.rolls-Unmasked c.in-Unmasked.keyword c.in-Unmasked.body c.in-Unmasked.span)) ∙ fold-roll-TypedStmt TStmt TBlock stmt_step block_step _))) c.unmask.ensures.fewer
+
+pub returns-in-Return-clause-fewer : goal.returns-in-Return-clause-fewer
+returns-in-Return-clause-fewer c =
+    on_ok c.give.result (leaves_as c.args.self.now c.give.new.self c.args.self.now.left (ap (λ (n : TStmt). own c.args.self.now run_due n)
+    (ap stmt_of (c.in-Return.is ∙ sym (variant.rolls-Return c.in-Return.keyword c.in-Return.value c.in-Return.span)) ∙ fold-roll-TypedStmt TStmt TBlock stmt_step block_step _
+    ∙ ap (λ (x : Option TExpr). t_return c.in-Return.keyword x c.in-Return.span)
+    (part_is expr_of c.in-Return.value c.as_ref-in-Return.result c.as_ref-in-Return.ensures.value)))) c.give.ensures.fewer
+
+pub returns-in-Print-clause-fewer : goal.returns-in-Print-clause-fewer
+returns-in-Print-clause-fewer c =
+    on_ok c.print_all.result (leaves_as c.args.self.now c.print_all.new.self c.args.self.now.left (ap (λ (n : TStmt). own c.args.self.now run_due n)
+    (ap stmt_of (c.in-Print.is ∙ sym (variant.rolls-Print c.in-Print.keyword c.in-Print.text c.in-Print.values c.in-Print.span))
+    ∙ fold-roll-TypedStmt TStmt TBlock stmt_step block_step _
+    ∙ ap₂ (λ (bs : List ℕ) (xs : List TypedExpr). t_print c.in-Print.keyword bs (exprs_of xs) c.in-Print.span) (sym c.as_slice-in-Print.ensures)
+    (sym c.as_slice-in-Print-2.ensures.value)))) c.print_all.ensures.fewer
+
+pub returns-in-Assert-clause-fewer : goal.returns-in-Assert-clause-fewer
+returns-in-Assert-clause-fewer c =
+    on_ok c.claim.result (leaves_as c.args.self.now c.claim.new.self c.args.self.now.left (ap (λ (n : TStmt). own c.args.self.now run_due n)
+    (ap stmt_of (c.in-Assert.is ∙ sym (variant.rolls-Assert c.in-Assert.test c.in-Assert.call_span c.in-Assert.span)) ∙ fold-roll-TypedStmt TStmt TBlock stmt_step block_step _))) c.claim.ensures.fewer
+
+pub returns-in-Jump-clause-fewer : goal.returns-in-Jump-clause-fewer
+returns-in-Jump-clause-fewer c =
+    leaves_as c.args.self.now c.jump.new.self c.args.self.now.left (ap (λ (n : TStmt). own c.args.self.now run_due n)
+    (ap stmt_of (c.in-Jump.is ∙ sym (variant.rolls-Jump c.in-Jump.jump c.in-Jump.keyword c.in-Jump.span)) ∙ fold-roll-TypedStmt TStmt TBlock stmt_step block_step _)) c.jump.ensures.fewer

@@ -1,5 +1,7 @@
+use Rattle.isp_gang_run.specs.Due.{own, simple_due}
+use Rattle.isp_gang_run.proofs.Progress.{leaves_as}
 use Rattle.std.proofs.Common.{refl, ap}
-use Rattle.isp_typed.specs.Typed.{t_assign, t_update, t_step}
+use Rattle.isp_typed.specs.Typed.{t_assign, t_update, t_step, TSimple}
 use Rattle.isp_typed.specs.Views.{expr_of, place_of, simple_of}
 use Rattle.isp_gang_run.specs.declared.places.Writing.TheVariants as writing
 use Rattle.isp_gang_run.proofs.Assignments.{simple_value, simple_call, simple_target, simple_target_halts}
@@ -60,3 +62,28 @@ returns-in-Step-clause-err c =
     (place_of c.in-Step.target) (writing.Step (record { operator = c.in-Step.operator; elem = c.in-Step.elem; span = c.in-Step.span }))
     (t_step c.in-Step.operator c.in-Step.elem (place_of c.in-Step.target) c.in-Step.span) e (ap simple_of c.in-Step.is) (λ k. refl) h)
     c.target-in-Step.ensures.err
+
+pub returns-in_ok-both-in-Value-clause-fewer : goal.returns-in_ok-both-in-Value-clause-fewer
+returns-in_ok-both-in-Value-clause-fewer c =
+    leaves_as c.args.self.now c.both.new.self c.args.self.now.left (ap (λ (n : TSimple). own c.args.self.now simple_due n)
+    (ap simple_of c.in-Value.is)) c.in_ok-both-in-Value.ensures.fewer
+
+pub returns-in_ok-both-in-Call-clause-fewer : goal.returns-in_ok-both-in-Call-clause-fewer
+returns-in_ok-both-in-Call-clause-fewer c =
+    leaves_as c.args.self.now c.both-in-Call.new.self c.args.self.now.left (ap (λ (n : TSimple). own c.args.self.now simple_due n)
+    (ap simple_of c.in-Call.is)) c.in_ok-both-in-Call.ensures.fewer
+
+pub returns-in-Assign-clause-fewer : goal.returns-in-Assign-clause-fewer
+returns-in-Assign-clause-fewer c =
+    on_ok c.target.result (leaves_as c.args.self.now c.target.new.self c.args.self.now.left (ap (λ (n : TSimple). own c.args.self.now simple_due n)
+    (ap simple_of c.in-Assign.is))) c.target.ensures.fewer
+
+pub returns-in-Update-clause-fewer : goal.returns-in-Update-clause-fewer
+returns-in-Update-clause-fewer c =
+    on_ok c.target-in-Update.result (leaves_as c.args.self.now c.target-in-Update.new.self c.args.self.now.left (ap (λ (n : TSimple). own c.args.self.now simple_due n)
+    (ap simple_of c.in-Update.is))) c.target-in-Update.ensures.fewer
+
+pub returns-in-Step-clause-fewer : goal.returns-in-Step-clause-fewer
+returns-in-Step-clause-fewer c =
+    on_ok c.target-in-Step.result (leaves_as c.args.self.now c.target-in-Step.new.self c.args.self.now.left (ap (λ (n : TSimple). own c.args.self.now simple_due n)
+    (ap simple_of c.in-Step.is))) c.target-in-Step.ensures.fewer

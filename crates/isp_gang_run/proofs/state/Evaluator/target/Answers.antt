@@ -1,3 +1,5 @@
+use Rattle.isp_gang_run.proofs.Progress.{leaves_as}
+use Rattle.isp_gang_run.specs.Due.{own, target_due}
 use Rattle.std.proofs.Common.{sym, ap, ◌∙◌}
 use Rattle.isp_typed.specs.Typed.{t_element, type_of}
 use Rattle.isp_typed.specs.Typed.{TExpr, TPlace, TBase, TArgument, TCall}
@@ -31,3 +33,15 @@ returns-in_ok-both-in-Element-clause-ok c =
     ∙ fold-roll-TypedPlace TArgument TBase TExpr TPlace TCall argument_step base_step expr_step place_step call_step _
     ∙ ap (λ i. t_element c.in-Element.array (expr_of i) c.in-Element.ty c.in-Element.span) (sym c.deref-in-Element.ensures))
     c.in_ok-both-in-Element.ensures.ok
+
+pub returns-in-Variable-clause-fewer : goal.returns-in-Variable-clause-fewer
+returns-in-Variable-clause-fewer c =
+    on_ok c.placed.result (leaves_as c.args.self.now c.placed.new.self c.args.self.now.left (ap (λ (n : TPlace). own c.args.self.now target_due c.args.writing n)
+    (ap place_of (c.in-Variable.is ∙ sym (variant.rolls-Variable c.in-Variable.number c.in-Variable.ty c.in-Variable.span)) ∙ fold-roll-TypedPlace TArgument TBase TExpr TPlace TCall argument_step base_step expr_step place_step call_step _))) c.placed.ensures.fewer
+
+pub returns-in_ok-both-in-Element-clause-fewer : goal.returns-in_ok-both-in-Element-clause-fewer
+returns-in_ok-both-in-Element-clause-fewer c =
+    leaves_as c.args.self.now c.both.new.self c.args.self.now.left (ap (λ (n : TPlace). own c.args.self.now target_due c.args.writing n)
+    (ap place_of (c.in-Element.is ∙ sym (variant.rolls-Element c.in-Element.array c.in-Element.index c.in-Element.ty c.in-Element.span))
+    ∙ fold-roll-TypedPlace TArgument TBase TExpr TPlace TCall argument_step base_step expr_step place_step call_step _
+    ∙ ap (λ i. t_element c.in-Element.array (expr_of i) c.in-Element.ty c.in-Element.span) (sym c.deref-in-Element.ensures))) c.in_ok-both-in-Element.ensures.fewer

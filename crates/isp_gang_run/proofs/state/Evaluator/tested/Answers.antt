@@ -1,4 +1,6 @@
-use Rattle.std.proofs.Common.{sym, ap, ◌∙◌}
+use Rattle.isp_gang_run.proofs.Progress.{leaves_within}
+use Rattle.isp_gang_run.specs.Due.{own, turns_due}
+use Rattle.std.proofs.Common.{sym, ap, ◌∙◌, arith}
 use Rattle.isp_base.specs.Sets.{any, flag_of}
 use Rattle.isp_base.specs.Types.{gang_width}
 use Rattle.isp_gang_run.specs.Tasks.{Halts, keeps_on}

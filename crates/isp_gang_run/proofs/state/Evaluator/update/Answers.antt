@@ -1,3 +1,5 @@
+use Rattle.isp_gang_run.specs.Due.{due_now}
+use Rattle.isp_gang_run.proofs.Progress.{same_leaves}
 use Rattle.std.proofs.Common.{refl, sym, ap, subst, ◌∙◌}
 use Rattle.isp_base.specs.Access.{is_zero}
 use Rattle.isp_base.specs.Sets.{flag_of}
@@ -44,3 +46,7 @@ returns-in_err-checked-2-clause-err c =
     c.from_residual-in_err-checked-2.ensures.1
     (update_halts_zero c.args.self.now c.args.operation c.args.place c.args.target c.args.set c.args.self.now c.in_err-checked-2.field-0.0 h.0 (sym c.outside.ensures ∙ c.in_ok-checked.ensures.ok)
     (ap (λ g. offender (gang_width g) (is_zero c.args.operation.operator c.args.operation.elem) (flag_of c.args.set) (payload_of c.args.self.now.value)) (sym c.gang.ensures) ∙ sym c.dividing_by_zero-offender.ensures ∙ h.1) refl h.2)
+
+pub returns-clause-fewer : goal.returns-clause-fewer
+returns-clause-fewer c =
+    same_leaves c.args.self.now c.forget.new.self 0 (ap (λ (e : Evaluator). due_now e) c.forget.ensures ∙ ap (λ (e : Evaluator). due_now e) c.in_ok-keep.ensures.ok.same)

@@ -1,3 +1,5 @@
+use Rattle.isp_gang_run.specs.Due.{own, value_due}
+use Rattle.isp_gang_run.proofs.Progress.{leaves_as, no_more}
 use Rattle.std.proofs.Common.{sym, ap, ◌∙◌}
 use Rattle.isp_typed.specs.Typed.{TExpr, TPlace, TBase, TArgument, TCall}
 use Rattle.isp_typed.specs.Views.{argument_step, base_step, expr_step, place_step, call_step, expr_of}
@@ -41,3 +43,21 @@ returns-in-Call-clause-ok c =
 
 pub returns-in-Call-clause-err : goal.returns-in-Call-clause-err
 returns-in-Call-clause-err c = refused_err c.args.self.now c.later.new.self (task.Value c.args.x c.args.set) c.later.result c.later.ensures.err
+
+pub returns-in-Constant-clause-fewer : goal.returns-in-Constant-clause-fewer
+returns-in-Constant-clause-fewer c =
+    no_more c.args.self.now (own c.args.self.now value_due (expr_of c.args.x.now))
+
+pub returns-in-ProgramIndex-clause-fewer : goal.returns-in-ProgramIndex-clause-fewer
+returns-in-ProgramIndex-clause-fewer c =
+    no_more c.args.self.now (own c.args.self.now value_due (expr_of c.args.x.now))
+
+pub returns-in-Place-clause-fewer : goal.returns-in-Place-clause-fewer
+returns-in-Place-clause-fewer c =
+    on_ok c.place.result (leaves_as c.args.self.now c.place.new.self c.args.self.now.left (ap (λ (n : TExpr). own c.args.self.now value_due n)
+    (ap expr_of (c.in-Place.is ∙ sym (variant.rolls-Place c.in-Place.place)) ∙ fold-roll-TypedExpr TArgument TBase TExpr TPlace TCall argument_step base_step expr_step place_step call_step _))) c.place.ensures.fewer
+
+pub returns-in-Call-clause-fewer : goal.returns-in-Call-clause-fewer
+returns-in-Call-clause-fewer c =
+    on_ok c.later.result (leaves_as c.args.self.now c.later.new.self c.args.self.now.left (ap (λ (n : TExpr). own c.args.self.now value_due n)
+    (ap expr_of (c.in-Call.is ∙ sym (variant.rolls-Call c.in-Call.call c.in-Call.ty)) ∙ fold-roll-TypedExpr TArgument TBase TExpr TPlace TCall argument_step base_step expr_step place_step call_step _))) c.later.ensures.fewer
