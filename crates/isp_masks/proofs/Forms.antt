@@ -1,17 +1,14 @@
 -- Lists of statements, one more at a time.
-use Rattle.std.proofs.Common.{◌≡◌, ℕ, ◌+◌, ◌<◌, ◌≤◌, List, [], ◌∷◌, ◌++◌, length, sym, ap, subst, ◌∙◌, arith, false, Bool, not, Option, take, drop, get_or, add-one, zero, suc}
+use Rattle.std.proofs.Common.{◌≡◌, ℕ, ◌+◌, ◌<◌, List, [], ◌∷◌, ◌++◌, length, sym, ap, subst, ◌∙◌, false, Bool, not, Option, take, get_or, add-one}
 use Rattle.std.proofs.Math.Seq.{take-suc}
-use Rattle.std.proofs.lemmas.List.{drop_more, drop_all, map-append}
+use Rattle.std.proofs.lemmas.List.{map-append}
 use Rattle.isp_base.specs.declared.types.Span.{Span}
 use Rattle.isp_base.specs.declared.types.Ty.{Ty}
-use Rattle.isp_lower_code.specs.Asks.{Nothing, Both}
 use Rattle.isp_lower_code.specs.Layout.{Layout}
 use Rattle.isp_lower.specs.declared.types.Body.{Body}
-use Rattle.isp_typed.specs.Nodes.{stmt_nodes, stmts_nodes}
 use Rattle.isp_typed.specs.Typed.{t_stmts}
 use Rattle.isp_typed.specs.Views.{stmt_of, stmts_of}
 use Rattle.isp_typed.specs.declared.stmt.TypedStmt.{TypedStmt}
-use Rattle.isp_masks_code.specs.Asks.{stmt_asks, stmts_asks}
 use Rattle.isp_masks.specs.Awaited.{Awaits, Code, jump_where}
 use Rattle.isp_masks_code.specs.Exits.{all_go_on}
 use Rattle.isp_masks_code.specs.Spots.{Spot}

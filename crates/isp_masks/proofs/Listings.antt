@@ -90,9 +90,9 @@ routine_more callees fs at f old new low is same a x =
 -- The text of code can have the places and the texts, and they are few by the nodes of some functions.
 pub record AreFew (hs : List TFunction) (d : Draft) : Type 0 where
   pub places : list_all place_fits d.places ≡ true
-  pub few_places : length d.places ≤ 4 * nodes_of_all function_nodes hs
+  pub few_places : length d.places ≤ 8 * nodes_of_all function_nodes hs
   pub texts : list_all has_byte d.texts ≡ true
-  pub few_texts : length d.texts ≤ nodes_of_all function_nodes hs
+  pub few_texts : length d.texts ≤ 2 * nodes_of_all function_nodes hs
 
 -- there are none
 pub none_few : (d : Draft) → d.places ≡ [] → d.texts ≡ [] → AreFew [] d

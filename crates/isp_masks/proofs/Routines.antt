@@ -27,6 +27,7 @@ use Rattle.isp_lower.specs.declared.types.Body.{Body}
 use Rattle.isp_lower_code.specs.Tables.{AnyArray}
 use Rattle.isp_lower_code.proofs.Lemmas.{all_grow}
 use Rattle.isp_typed.specs.Fine.{FineFunction}
+use Rattle.isp_typed.specs.Nodes.{block_nodes}
 use Rattle.isp_typed.specs.Typed.{TFunction}
 use Rattle.isp_typed.specs.declared.variable.Holds.{Holds}
 use Rattle.isp_typed.specs.declared.variable.Holds.TheVariants as holds
@@ -37,6 +38,7 @@ use Rattle.isp_registers.specs.Reserved.{Has, IsReserved}
 use Rattle.isp_registers.specs.declared.reserve.Reserve.{Reserve}
 use Rattle.isp_masks.specs.Added.{AddsLowered}
 use Rattle.isp_masks_code.specs.Lowered.{IsLowered}
+use Rattle.isp_masks_code.specs.Again.{block_again}
 use Rattle.isp_masks_code.specs.Asks.{block_asks, result_asks}
 use Rattle.isp_masks_code.specs.Keeping.{KeepsThem, constants_asks}
 use Rattle.isp_masks.specs.AtWork.{next_of}
@@ -147,9 +149,9 @@ lowered fs h g ks z r a b none first grows keeps y name exported params returns 
 pub adds : (h : TFunction) (ks : List Constant) (old d : Draft) (z r : Reserve) (a b : Body) → d ≡ begun h old → a.code.items ≡ d.code → a.places.items ≡ d.places → texts_of a ≡ d.texts → rows_of z.registers ≡ d.rows → z.masks ≡ d.masks
     → Longer z.registers r.registers → z.masks ≤ r.masks → KeepsThem (layout_of (rates_in d.callees) (rows_of r.registers)) ks → Has r (Both (constants_asks 3 ks) (block_asks h.answer h.body 3))
     → Writes a b (body_piece (layout_of (rates_in d.callees) (rows_of r.registers)) ks h)
-    → (fs : List TFunction) → FineFunction fs h
+    → (fs : List TFunction) → FineFunction fs h → block_again h.body ≤ block_nodes h.body
     → AddsLowered h old (record d { places = b.places.items; texts = texts_of b; rows = rows_of r.registers; masks = r.masks; code = b.code.items })
-adds h ks old d z r a b is code places texts rows masks grows more keeps has y fs fine =
+adds h ks old d z r a b is code places texts rows masks grows more keeps has y fs fine twice =
     let l = layout_of (rates_in d.callees) (rows_of r.registers) in
     let three : 3 ≤ r.masks = omega (arith, more, masks ∙ ap (λ (x : Draft). x.masks) is) in
     record {
@@ -161,8 +163,8 @@ adds h ks old d z r a b is code places texts rows masks grows more keeps has y f
       callees = ap (λ (x : Draft). x.callees) is;
       places_fit = block_placed fs h.variables h.answer l h.body fine.body;
       texts_fit = block_told h.body;
-      few_places = block_places_few l h.body;
-      few_texts = block_texts_few fs h.variables h.answer h.body fine.body;
+      few_places = omega (arith, twice, block_places_few l h.body);
+      few_texts = omega (arith, twice, block_texts_few fs h.variables h.answer h.body fine.body);
       lowered = subst (λ fs. IsLowered fs h (routine_with (heading_of h) (rows_of r.registers) r.masks b.code.items) b.places.items (texts_of b))
           (ap (λ (x : Draft). x.callees) is) (lowered d.callees h (routine_with (heading_of h) (rows_of r.registers) r.masks b.code.items) ks
           z.registers r.registers a b (code ∙ ap (λ (x : Draft). x.code) is)

@@ -1,7 +1,7 @@
 -- The words of a text and the values between them, one after the other.
 use Rattle.std.proofs.Common.{◌≡◌, ℕ, suc, ◌+◌, ◌<◌, ◌≤◌, List, [], ◌∷◌, ◌++◌, length, drop, take, get_or, Bool, true, false, refl, sym, ap, subst, ◌∙◌, arith, append_assoc, append-nil}
 use Rattle.std.specs.Prelude.{◌==◌, if◌then◌else◌}
-use Rattle.std.proofs.lemmas.List.{drop_more, drop_all, map-append}
+use Rattle.std.proofs.lemmas.List.{drop_all, map-append}
 use Rattle.isp_base.specs.Prints.{percent}
 use Rattle.isp_base.specs.declared.types.Rate.{Rate}
 use Rattle.isp_base.specs.declared.types.Span.{Span}
@@ -10,7 +10,6 @@ use Rattle.isp_code.specs.declared.instr.Instr.TheVariants as instr
 use Rattle.isp_typed.specs.Typed.{TExpr, t_exprs, type_of}
 use Rattle.isp_typed.specs.Views.{expr_of, exprs_of}
 use Rattle.isp_typed.specs.declared.expr.TypedExpr as rust
-use Rattle.isp_lower_code.specs.Asks.{Ask, Both, Nothing, Number, operand_asks, values_asks}
 use Rattle.isp_lower_code.specs.Code.{expr_code, value_registers, values_code}
 use Rattle.isp_lower_code.specs.Found.{operand, operand_of}
 use Rattle.isp_lower_code.specs.Spans.{expr_places, values_places}

@@ -33,8 +33,8 @@ pub record AddsLowered (h : TFunction) (old new : Draft) : Type 0 where
   pub callees : new.callees ≡ old.callees
   pub places_fit : list_all place_fits places.more ≡ true
   pub texts_fit : list_all has_byte texts.more ≡ true
-  pub few_places : length places.more ≤ 4 * block_nodes h.body
-  pub few_texts : length texts.more ≤ block_nodes h.body
+  pub few_places : length places.more ≤ 8 * block_nodes h.body
+  pub few_texts : length texts.more ≤ 2 * block_nodes h.body
   pub lowered : IsLowered old.callees h routine new.places new.texts
 
 -- each function has its routine, in their order

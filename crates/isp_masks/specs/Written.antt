@@ -30,15 +30,15 @@ use Rattle.isp_registers.specs.declared.numbered.Slot.{Slot}
 use Rattle.isp_lower_code.specs.declared.constant.Constant.{Constant}
 use Rattle.isp_masks_code.specs.Asks.{bounds_asks, loop_asks, measures_asks, places_asks}
 use Rattle.isp_masks_code.specs.Asserts.{assert_code, assert_places}
-use Rattle.isp_masks_code.specs.Exits.{exits_of, both_go_on, leaving_of}
+use Rattle.isp_masks_code.specs.Exits.{all_go_on, exits_of, both_go_on, leaving_of}
 use Rattle.isp_masks_code.specs.Fors.{back_code, first_code, first_places, step_code, step_places, test_places}
 use Rattle.isp_masks_code.specs.Loops.{copy_mask, do_code, is_wide, jump_all, live_code, sift_code, turn_code}
-use Rattle.isp_masks_code.specs.Ranges.{foreach_code, goes_on, last_index, narrow, outer_index, places_slot, range_mask, ranges_code, ranges_places, run_back, run_place, run_step, runs_code, runs_slot, test, wide}
+use Rattle.isp_masks_code.specs.Ranges.{RunBodies, foreach_code, full_code, full_test, goes_on, last_full, last_index, narrow, outer_index, places_slot, ranges_code, ranges_places, rest_run, run_place, runs_code, runs_slot, test, wide}
 use Rattle.isp_masks_code.specs.Rounds.{active_code, unique_code, unmasked_code, values_of}
 use Rattle.isp_masks_code.specs.Sets.{unite}
 use Rattle.isp_masks_code.specs.Spots.{Numbers, Spot as Where, body_spot, past, widely}
 use Rattle.isp_masks.specs.AtWork.{next_of, spot_of}
-use Rattle.isp_masks_code.specs.Statements.{answer_code, behind, block_code, block_places, block_texts, body_code, function_code, if_code, if_else_code, stmt_code, stmt_places, stmt_texts, test_place, turning_code, turns_code, body_layout}
+use Rattle.isp_masks_code.specs.Statements.{answer_code, behind, run_bodies, block_code, block_places, block_texts, body_code, function_code, if_code, if_else_code, stmt_code, stmt_places, stmt_texts, test_place, turning_code, turns_code, body_layout}
 use Rattle.isp_masks_code.specs.declared.exits.Leaving.{Leaving}
 use Rattle.isp_masks.specs.declared.looping.Loop.{Loop}
 use Rattle.isp_masks.specs.declared.looping.Test.{Test}
@@ -259,7 +259,7 @@ sweep_asks it =
     let m = it.place.number in
     let n = it.measures.number in
     let bounds = Both (spare_ask Uniform I64 e) (Both (Number (e + 1)) (spare_ask Uniform I64 (e + 1))) in
-    let place = Both (spare_ask Uniform I64 m) (Both (Number (m + 1)) (Both (spare_ask Uniform I32 (m + 1)) (spare_ask Uniform Truth (m + 1)))) in
+    let place = Both (spare_ask Uniform I64 m) (Both (Number (m + 1)) (Both (spare_ask Uniform I32 (m + 1)) (Both (spare_ask Uniform Truth (m + 1)) (spare_ask Uniform I64 (m + 1))))) in
     Both bounds (Both place (Both (spare_ask Uniform I64 n) (Both (Number (n + 1)) (spare_ask Uniform I64 (n + 1)))))
 
 abbrev pub last_asks : ℕ → Sweep → Ask
@@ -295,37 +295,63 @@ range_step l it by = compute Uniform plain.Add (wide l it.place.number) (wide l 
 abbrev pub index_codes : ℕ → List OuterIndex → List Instr
 index_codes h = map (λ x. splat x.index.number x.value.number h)
 
--- the last range: its beginning, with its place in a register; the next run; its runs behind the test of the first; and all of it
+-- the last range: its beginning, with its place in a register; all indices of a run; its full runs behind the test of the first, its last
+-- run, and all of it
 abbrev pub runs_begin : Layout → Sweep → ℕ → List Instr
-runs_begin l it x = copy Uniform x (wide l it.bounds.number) 0 ∷ range_mask it.masks.number x (wide l (it.bounds.number + 1)) ∷ []
+runs_begin l it x =
+    let m = it.place.number in
+    copy Uniform x (wide l it.bounds.number) 0 ∷ last_full l it.bounds.number m it.measures.number ∷ full_test l x m ∷ []
 
-abbrev pub runs_next : Layout → ℕ → Bool → Sweep → ℕ → ℕ → List Instr
-runs_next l i alone it first top =
-    let n = it.measures.number in
+abbrev pub indices_at : Layout → ℕ → List OuterIndex → Sweep → List Instr
+indices_at l i set it =
     let h = it.masks.number in
-    run_step l (run_place l (l.loaded i) it.place.number) it.bounds.number n h ++ run_back l alone i n h first top
+    index_codes h set ++ last_index l i (run_place l (l.loaded i) it.place.number) it.place.number it.measures.number h
 
-abbrev pub runs_at : Scope → ℕ → TStmt → List OuterIndex → Sweep → Piece
-runs_at on i x set it =
+abbrev pub full_at : Scope → ℕ → TStmt → List OuterIndex → Sweep → Piece
+full_at on i x set it =
     let l = layout on in
     let h = it.masks.number in
-    let own = last_index l i (run_place l (l.loaded i) it.place.number) it.place.number it.measures.number h in
-    record { code = λ pc z. two pc (index_codes h set ++ own) (λ top. body_code (within l i) on.answer x h z top ++ runs_next l i (goes_on (l.loaded i) set) it pc top); places = stmt_places (within l i) x; texts = stmt_texts x }
+    record {
+      code = λ pc z. full_code l (goes_on (l.loaded i) set) (all_go_on x) (indices_at l i set it) i
+          (run_place l (l.loaded i) it.place.number) it.place.number it.measures.number h
+          (body_code (within l i) on.answer x h z) pc;
+      places = stmt_places (within l i) x;
+      texts = stmt_texts x;
+    }
+
+abbrev pub rest_at : Scope → ℕ → TStmt → List OuterIndex → Sweep → Piece
+rest_at on i x set it =
+    let l = layout on in
+    let h = it.masks.number in
+    record {
+      code = λ pc z. rest_run l (indices_at l i set it) (run_place l (l.loaded i) it.place.number) it.bounds.number h
+          (body_code (within l i) on.answer x h z) pc;
+      places = stmt_places (within l i) x;
+      texts = stmt_texts x;
+    }
 
 abbrev pub last_range_at : Scope → ℕ → TStmt → List OuterIndex → Sweep → Piece
 last_range_at on i x set it =
     let l = layout on in
     let h = it.masks.number in
-    record { code = λ pc z. runs_code l (l.loaded i) (index_codes h set) i it.bounds.number it.place.number it.measures.number h (body_code (within l i) on.answer x h z) pc; places = stmt_places (within l i) x; texts = stmt_texts x }
+    let lb = within l i in
+    record {
+      code = λ pc z. runs_code l (l.loaded i) (index_codes h set) i it.bounds.number it.place.number it.measures.number h
+          (run_bodies lb on.answer x h z) pc;
+      places = stmt_places lb x
+          ++ stmt_places lb x;
+      texts = stmt_texts x ++ stmt_texts x;
+    }
 
 -- the ranges from one on; behind the beginning of a turn of the first of them; and the whole
 abbrev pub ranges_at : Scope → List TRange → TStmt → List OuterIndex → Sweep → Piece
 ranges_at on rs x set it =
     let l = layout on in
     let h = it.masks.number in
-    record { code = λ pc z. ranges_code l it.measures.number h (body_code (body_layout l rs) on.answer x h z) rs (index_codes h set) it.bounds.number it.place.number pc; places = stmt_places (body_layout l rs) x; texts = stmt_texts x }
+    let lb = body_layout l rs in
+    record { code = λ pc z. ranges_code l it.measures.number h (run_bodies lb on.answer x h z) rs (index_codes h set) it.bounds.number it.place.number pc; places = stmt_places lb x ++ stmt_places lb x; texts = stmt_texts x ++ stmt_texts x }
 
-abbrev pub outer_turn_code : Layout → ℕ → ℕ → (ℕ → List Instr) → List TRange → List Instr → ℕ → ℕ → ℕ → List Instr
+abbrev pub outer_turn_code : Layout → ℕ → ℕ → RunBodies → List TRange → List Instr → ℕ → ℕ → ℕ → List Instr
 outer_turn_code l n h body [] set e m pc = []
 outer_turn_code l n h body (r ∷ rs) set e m pc =
     convert Uniform (narrow l (m + 1)) (wide l m) 0 ∷ ranges_code l n h body rs (set ++ outer_index l r.index (m + 1) h ∷ []) (e + 1 + 1) (m + 1 + 1) (pc + 1)
@@ -334,16 +360,18 @@ abbrev pub outer_turn_at : Scope → List TRange → TStmt → List OuterIndex �
 outer_turn_at on rs x set it =
     let l = layout on in
     let h = it.masks.number in
-    record { code = λ pc z. outer_turn_code l it.measures.number h (body_code (body_layout l rs) on.answer x h z) rs (index_codes h set) it.bounds.number it.place.number pc; places = stmt_places (body_layout l rs) x; texts = stmt_texts x }
+    let lb = body_layout l rs in
+    record { code = λ pc z. outer_turn_code l it.measures.number h (run_bodies lb on.answer x h z) rs (index_codes h set) it.bounds.number it.place.number pc; places = stmt_places lb x ++ stmt_places lb x; texts = stmt_texts x ++ stmt_texts x }
 
 abbrev pub foreach_at : Scope → List TRange → TStmt → Spot → Piece
 foreach_at on rs x spot =
     let l = layout on in
     let n = spot.slot.number in
+    let lb = body_layout l rs in
     record {
       code = λ pc z. foreach_code l rs pc z.place spot.masks.on.number n
-          (body_code (body_layout l rs) on.answer x (runs_slot n rs) (past (ranges_places l rs) z));
+          (run_bodies lb on.answer x (runs_slot n rs) (past (ranges_places l rs) z));
       places = ranges_places l rs
-          ++ stmt_places (body_layout l rs) x;
-      texts = stmt_texts x;
+          ++ (stmt_places lb x ++ stmt_places lb x);
+      texts = stmt_texts x ++ stmt_texts x;
     }

@@ -1,6 +1,6 @@
 //! What the code of `foreach` has besides its body: what all runs use, the bounds, and of each range its place and its index.
-ghost use Rattle.std.specs.Prelude.{◌≡◌, ◌<◌, ◌+◌, ◌∷◌, [], IfOk, OnOk};
-ghost use Rattle.isp_base.specs.declared.operators.Compare.TheVariants.{Less};
+ghost use Rattle.std.specs.Prelude.{◌≡◌, ◌<◌, ◌+◌, ◌∷◌, [], length, IfOk, OnOk};
+ghost use Rattle.isp_base.specs.declared.operators.Compare.TheVariants.{Less, LessOrEqual};
 ghost use Rattle.isp_base.specs.declared.types.Elem.TheVariants.{Bool as Truth, I32, I64};
 ghost use Rattle.isp_base.specs.declared.types.Rate.TheVariants.{Uniform, Varying};
 ghost use Rattle.isp_code.specs.declared.instr.Instr.TheVariants as instr;
@@ -13,13 +13,13 @@ ghost use Rattle.isp_lower.specs.Emitted.{Appends, Present, layout};
 ghost use Rattle.isp_lower_code.specs.Layout.{mask_register};
 ghost use Rattle.isp_lower_code.specs.Rows.{Variable};
 ghost use Rattle.isp_masks_code.specs.Asks.{bound_asks, bounds_asks, measures_asks};
-ghost use Rattle.isp_masks_code.specs.Ranges.{bound_code, bounds_code, goes_on, lane, lane_numbers, last_index, measures_code, narrow, range_mask, ranges_places, run_back, run_place, run_step, runs_slot, sum_lanes, test, wide};
-ghost use Rattle.isp_masks.specs.Written.{first_sweep, index_codes, inner_sweep, last_asks, place_test, range_begin, range_step, runs_begin, runs_next, sweep_asks};
+ghost use Rattle.isp_masks_code.specs.Ranges.{bound_code, bounds_code, full_back, goes_on, index_step, lane, lane_numbers, last_index, measures_code, narrow, next_from, range_mask, ranges_places, refill, run_place, runs_slot, sum_lanes, test, wide};
+ghost use Rattle.isp_masks.specs.Written.{first_sweep, index_codes, indices_at, inner_sweep, last_asks, place_test, range_begin, range_step, runs_begin, sweep_asks};
 
-use crate::looping::where_some;
+use crate::looping::next;
 use crate::rounds::fill_mask;
 use isp_base::{Compare, Elem, Rate, Ty, number};
-use isp_code::{Instr, MaskInstr, Plain, Reduction, ScalarInstr, VectorInstr};
+use isp_code::{Instr, JumpTest, MaskInstr, Plain, Reduction, ScalarInstr, VectorInstr};
 use isp_lower::{Body, Line, Scope, Site, index as as_index, mask, scalar, vector};
 use isp_registers::{MaskNumber, RegisterNumber, Slot};
 use isp_typed::{TypedExpr, TypedRange};
@@ -166,6 +166,34 @@ fn added(to: RegisterNumber, left: RegisterNumber, right: RegisterNumber) -> Ins
     }
 }
 
+/// A scalar gets what one has beyond another.
+fn subtracted(to: RegisterNumber, left: RegisterNumber, right: RegisterNumber) -> Instr
+    ensures { result ≡ compute Uniform plain.Sub to.number left.number right.number 0 }
+{
+    Instr::Scalar {
+        result: scalar(to),
+        instr: ScalarInstr::Binary {
+            op: Plain::Sub,
+            left: scalar(left),
+            right: scalar(right),
+        },
+    }
+}
+
+/// A scalar gets whether one is at most another.
+fn at_most(to: RegisterNumber, left: RegisterNumber, right: RegisterNumber) -> Instr
+    ensures { result ≡ compare Uniform LessOrEqual to.number left.number right.number 0 }
+{
+    Instr::Scalar {
+        result: scalar(to),
+        instr: ScalarInstr::Compare {
+            op: Compare::LessOrEqual,
+            left: scalar(left),
+            right: scalar(right),
+        },
+    }
+}
+
 /// A scalar gets whether one is less than another.
 fn less(to: RegisterNumber, left: RegisterNumber, right: RegisterNumber) -> Instr
     ensures { result ≡ compare Uniform Less to.number left.number right.number 0 }
@@ -238,7 +266,7 @@ fn added_lanes(
 }
 
 /// A mask gets the lanes whose numbers, added to a place, are below an end.
-fn range_mask(to: MaskNumber, place: RegisterNumber, end: RegisterNumber) -> Instr
+pub(crate) fn range_mask(to: MaskNumber, place: RegisterNumber, end: RegisterNumber) -> Instr
     ensures { result ≡ range_mask to.number place.number end.number }
 {
     Instr::Mask {
@@ -355,11 +383,7 @@ pub(crate) fn go_on(
 // ---- indices
 
 /// The indices of the ranges outside.
-pub(crate) fn outer_indices(
-    b: &mut Body,
-    set: &[OuterIndex],
-    k: MaskNumber,
-) -> Result<(), AllocError>
+fn outer_indices(b: &mut Body, set: &[OuterIndex], k: MaskNumber) -> Result<(), AllocError>
     ensures { OnOk result (Appends b.old b.new (λ pc p. index_codes k.number set.now) []) }
 {
     for x in set {
@@ -381,13 +405,6 @@ pub(crate) fn outer_value(b: &mut Body, on: &Scope, it: Sweep) -> Result<Registe
 
 // ---- the last range, in runs
 
-/// Where the code of a run begins: its indices, and behind them its body.
-#[derive(Clone, Copy)]
-pub(crate) struct RunStart {
-    pub first: usize,
-    pub top: usize,
-}
-
 /// The register of its place: that of a run, if its body counts the lanes of one.
 pub(crate) fn run_place(on: &Scope, variable: usize, it: Sweep) -> RegisterNumber
     requires range { Present on.now (sweep_asks it) }
@@ -401,7 +418,7 @@ pub(crate) fn run_place(on: &Scope, variable: usize, it: Sweep) -> RegisterNumbe
     }
 }
 
-/// Its place is at its start, and a mask has the lanes that are before its end.
+/// Its place is at its start, and whether the run from there has all lanes.
 pub(crate) fn begin_runs(
     b: &mut Body,
     on: &Scope,
@@ -411,14 +428,17 @@ pub(crate) fn begin_runs(
     requires { Present on.now (sweep_asks it) }
     ensures { OnOk result (Appends b.old b.new (λ pc p. runs_begin (layout on.now) it place.number) []) }
 {
+    let second = it.place.next();
+    let last = wide(on, second);
     let end = wide(on, it.bounds.next());
     b.push(moved(place, wide(on, it.bounds)))?;
-    b.push(range_mask(it.masks.mask(), place, end))?;
+    b.push(subtracted(last, end, wide(on, it.measures)))?;
+    b.push(at_most(tested(on, second), place, last))?;
     Ok(())
 }
 
 /// Its index: its place and the lanes' numbers.
-pub(crate) fn last_index(
+fn last_index(
     b: &mut Body,
     on: &Scope,
     variable: usize,
@@ -439,15 +459,21 @@ pub(crate) fn last_index(
     Ok(())
 }
 
-/// The place of the next run, and its lanes.
-fn step_run(b: &mut Body, on: &Scope, it: Sweep, place: RegisterNumber) -> Result<(), AllocError>
-    requires { Present on.now (sweep_asks it) }
-    ensures { OnOk result (Appends b.old b.new (λ pc p. run_step (layout on.now) place.number it.bounds.number it.measures.number it.masks.number) []) }
+/// All indices of a run.
+pub(crate) fn indices(
+    b: &mut Body,
+    on: &Scope,
+    variable: usize,
+    set: &[OuterIndex],
+    it: Sweep,
+) -> Result<(), AllocError>
+    requires range { Present on.now (sweep_asks it) }
+    requires index { Present on.now (last_asks variable it) }
+    ensures { OnOk result (Appends b.old b.new (λ pc p. indices_at (layout on.now) variable set.now it) []) }
 {
-    let end = wide(on, it.bounds.next());
-    let lanes = it.masks.mask();
-    b.push(added(place, place, wide(on, it.measures)))?;
-    b.push(range_mask(lanes, place, end))?;
+    let place = run_place(on, variable, it);
+    outer_indices(b, set, it.masks.mask())?;
+    last_index(b, on, variable, it, place)?;
     Ok(())
 }
 
@@ -459,45 +485,63 @@ pub(crate) fn goes_on(on: &Scope, variable: usize, set: &[OuterIndex]) -> bool
     !on.copies(Rate::Varying, variable) && set.is_empty()
 }
 
-/// Back where somebody is in the next run: to the body behind its index, or to all indices.
-fn back_to_run(
+/// The step of an index that goes on, which the first run jumps over; and where the next run begins: there, or where all
+/// indices are set.
+pub(crate) fn step_index(
     b: &mut Body,
     on: &Scope,
     variable: usize,
     alone: bool,
+    first: usize,
     it: Sweep,
-    start: RunStart,
-) -> Result<(), AllocError>
+) -> Result<usize, AllocError>
     requires range { Present on.now (sweep_asks it) }
     requires index { Present on.now (last_asks variable it) }
-    ensures { OnOk result (Appends b.old b.new (λ pc p. run_back (layout on.now) alone variable it.measures.number it.masks.number start.first start.top) []) }
+    ensures from { IfOk result (λ to. to ≡ next_from alone first (length b.old.code.items)) }
+    ensures added { OnOk result (Appends b.old b.new (λ pc p. index_step (layout on.now) alone variable it.measures.number it.masks.number pc) []) }
 {
-    let k = it.masks.mask();
-    if alone {
-        let own = index(on, variable);
-        b.push(added_lanes(own, own, lane(on, it.measures.next()), k))?;
-        b.add(where_some(k, start.top))?;
-    } else {
-        b.add(where_some(k, start.first))?;
+    if !alone {
+        return Ok(first);
+    }
+    let own = index(on, variable);
+    let at = next(b);
+    b.push(Instr::Jump { target: 0 })?;
+    let step = next(b);
+    b.push(added_lanes(own, own, lane(on, it.measures.next()), it.masks.mask()))?;
+    b.land_always(at);
+    Ok(step)
+}
+
+/// A mask has all lanes again, behind a body that somebody may leave.
+pub(crate) fn fill_again(b: &mut Body, kept: bool, k: MaskNumber) -> Result<(), AllocError>
+    ensures { OnOk result (Appends b.old b.new (λ pc p. refill kept k.number) []) }
+{
+    if !kept {
+        b.push(fill_mask(k))?;
     }
     Ok(())
 }
 
-/// The next run.
-pub(crate) fn next_run(
+/// The place of the next run, and back where it has all lanes.
+pub(crate) fn next_full(
     b: &mut Body,
     on: &Scope,
-    variable: usize,
-    alone: bool,
     it: Sweep,
-    start: RunStart,
+    place: RegisterNumber,
+    to: usize,
 ) -> Result<(), AllocError>
-    requires range { Present on.now (sweep_asks it) }
-    requires index { Present on.now (last_asks variable it) }
-    ensures { OnOk result (Appends b.old b.new (λ pc p. runs_next (layout on.now) variable alone it start.first start.top) []) }
+    requires { Present on.now (sweep_asks it) }
+    ensures { OnOk result (Appends b.old b.new (λ pc p. full_back (layout on.now) place.number it.place.number it.measures.number to) []) }
 {
-    let place = run_place(on, variable, it);
-    step_run(b, on, it, place)?;
-    back_to_run(b, on, variable, alone, it, start)?;
+    let second = it.place.next();
+    let full = tested(on, second);
+    b.push(added(place, place, wide(on, it.measures)))?;
+    b.push(at_most(full, place, wide(on, second)))?;
+    let jump = Instr::JumpIf {
+        test: JumpTest::True,
+        register: scalar(full),
+        target: 0,
+    };
+    b.add(Line::naming(jump, to))?;
     Ok(())
 }

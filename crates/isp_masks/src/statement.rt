@@ -10,7 +10,7 @@ ghost use Rattle.isp_lower_code.specs.Rows.{Variable};
 ghost use Rattle.isp_masks_code.specs.Asks.{block_asks, ranges_asks, step_asks, stmt_asks, test_part_asks, unique_asks};
 ghost use Rattle.isp_masks_code.specs.Ranges.{runs_slot};
 ghost use Rattle.isp_masks.specs.reader.Seen.{block_seen};
-ghost use Rattle.isp_masks.specs.Written.{Writes, active_at, block_at, do_at, entered_at, foreach_at, last_asks, last_range_at, outer_turn_at, passed_at, ranges_at, runs_at, step_in, stmt_at, sweep_asks, sweeps_asks, test_in, turn_at, turning_at, turns_at, unique_at, unmasked_at};
+ghost use Rattle.isp_masks.specs.Written.{Writes, active_at, block_at, do_at, entered_at, foreach_at, full_at, last_asks, last_range_at, outer_turn_at, passed_at, ranges_at, rest_at, step_in, stmt_at, sweep_asks, sweeps_asks, test_in, turn_at, turning_at, turns_at, unique_at, unmasked_at};
 
 use crate::asserting::asserts;
 use crate::awaited::{land_all, leave_room};
@@ -23,8 +23,8 @@ use crate::masks::{Masks, Spot};
 use crate::part::{Part, split};
 use crate::printing::prints;
 use crate::ranges::{
-    OuterIndex, RunStart, Sweep, begin, begin_runs, bounds, go_on, goes_on, index, last_index,
-    measures, next_run, outer_indices, outer_value, run_place, test_place, tested,
+    OuterIndex, Sweep, begin, begin_runs, bounds, fill_again, go_on, goes_on, index, indices,
+    measures, next_full, outer_value, range_mask, run_place, step_index, test_place, tested, wide,
 };
 use crate::returned::returns;
 use crate::rounds::{fill_mask, take_lane};
@@ -422,7 +422,7 @@ fn foreach(
     Ok(())
 }
 
-/// The ranges from one on, and without a range the body.
+/// The ranges from one on, and without a range the body, as often as it stands with one.
 #[cycle(stmt)]
 fn ranges(
     b: &mut Body,
@@ -437,13 +437,16 @@ fn ranges(
     ensures { OnOk result (Writes b.old b.new (ranges_at on.now (ranges_of all.now) (stmt_of body.entry.stmt.now) set.items it)) }
 {
     match all {
-        [] => stmt(b, on, body, Spot::own(it.masks)),
+        [] => {
+            stmt(b, on, body, Spot::own(it.masks))?;
+            stmt(b, on, body, Spot::own(it.masks))
+        }
         [last] => last_range(b, on, last.index, body, set, it),
         _ => outer_range(b, on, all, body, set, it),
     }
 }
 
-/// The last range, in runs of as many numbers as there are lanes.
+/// The last range, in runs of as many numbers as there are lanes: those that have all lanes, then one that has fewer.
 #[cycle(stmt)]
 fn last_range(
     b: &mut Body,
@@ -462,35 +465,65 @@ fn last_range(
     begin_runs(b, on, it, place)?;
     let at = b.code.len();
     b.push(Instr::Jump { target: 0 })?;
-    runs(b, on, variable, body, set, it)?;
-    b.land(at, JumpTest::Off, mask(it.masks.mask()));
+    full_runs(b, on, variable, body, &set, it)?;
+    b.land(at, JumpTest::False, scalar(tested(on, it.place.next())));
+    rest_run(b, on, variable, body, &set, it)?;
     Ok(())
 }
 
-/// Its runs, behind the test of the first: the indices, the body, and the next one.
+/// Its runs that have all lanes, behind the test of the first.
 #[cycle(stmt)]
-fn runs(
+fn full_runs(
     b: &mut Body,
     on: &Scope,
     variable: usize,
     body: Part<'_>,
-    set: Vec<OuterIndex>,
+    set: &[OuterIndex],
     it: Sweep,
 ) -> Result<(), AllocError>
     requires range { Present on.now (sweep_asks it) }
     requires index { Present on.now (last_asks variable it) }
     requires body { Present on.now (stmt_asks on.now.answer (stmt_of body.stmt.now) (it.masks.number + 3)) }
-    ensures { OnOk result (Writes b.old b.new (runs_at on.now variable (stmt_of body.entry.stmt.now) set.items it)) }
+    ensures { OnOk result (Writes b.old b.new (full_at on.now variable (stmt_of body.entry.stmt.now) set.now it)) }
 {
-    let alone = goes_on(on, variable, &set);
+    let all = it.masks.mask();
+    let alone = goes_on(on, variable, set);
     let place = run_place(on, variable, it);
+    b.push(fill_mask(all))?;
     let first = next(b);
-    outer_indices(b, &set, it.masks.mask())?;
-    last_index(b, on, variable, it, place)?;
-    let top = next(b);
+    indices(b, on, variable, set, it)?;
+    let to = step_index(b, on, variable, alone, first, it)?;
     let inner = on.within(variable);
     stmt(b, &inner, body, Spot::own(it.masks))?;
-    next_run(b, on, variable, alone, it, RunStart { first, top })?;
+    fill_again(b, body.all_go_on(), all)?;
+    next_full(b, on, it, place, to)?;
+    Ok(())
+}
+
+/// The run behind them, of the lanes that are left.
+#[cycle(stmt)]
+fn rest_run(
+    b: &mut Body,
+    on: &Scope,
+    variable: usize,
+    body: Part<'_>,
+    set: &[OuterIndex],
+    it: Sweep,
+) -> Result<(), AllocError>
+    requires range { Present on.now (sweep_asks it) }
+    requires index { Present on.now (last_asks variable it) }
+    requires body { Present on.now (stmt_asks on.now.answer (stmt_of body.stmt.now) (it.masks.number + 3)) }
+    ensures { OnOk result (Writes b.old b.new (rest_at on.now variable (stmt_of body.entry.stmt.now) set.now it)) }
+{
+    let lanes = it.masks.mask();
+    let end = wide(on, it.bounds.next());
+    b.push(range_mask(lanes, run_place(on, variable, it), end))?;
+    let at = b.code.len();
+    b.push(Instr::Jump { target: 0 })?;
+    indices(b, on, variable, set, it)?;
+    let inner = on.within(variable);
+    stmt(b, &inner, body, Spot::own(it.masks))?;
+    b.land(at, JumpTest::Off, mask(lanes));
     Ok(())
 }
 

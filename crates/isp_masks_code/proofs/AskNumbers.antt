@@ -104,7 +104,7 @@ module _ (fs : List TFunction) (vars : List Variable) (few : length fs ≤ 16777
   places_numbers : (rs : List TRange) (n : ℕ) → n + 2 * length rs ≤ 4294967200 → HasNumbers (places_asks rs n)
   places_numbers [] n low = tt
   places_numbers (r ∷ rs) n low =
-      ((tt, (tt, (omega (arith, low), (tt, (tt, (tt, tt)))))), (omega (arith, low), places_numbers rs (n + 1 + 1) (omega (arith, low))))
+      ((tt, (tt, (omega (arith, low), (tt, (tt, (tt, (tt, tt))))))), (omega (arith, low), places_numbers rs (n + 1 + 1) (omega (arith, low))))
 
   measures_numbers : (n : ℕ) → n + 2 < 4294967295 → HasNumbers (measures_asks n)
   measures_numbers n low = (tt, (tt, (tt, (omega (arith, low), (tt, (tt, (tt, omega (arith, low))))))))
@@ -203,11 +203,11 @@ bounds_registers : (rs : List TRange) (n : ℕ) → registers_asked (bounds_asks
 bounds_registers [] n = omega arith
 bounds_registers (r ∷ rs) n = omega (arith, index_registers Uniform r.start n, index_registers Uniform r.end (n + 1), bounds_registers rs (n + 1 + 1))
 
-places_registers : (rs : List TRange) (n : ℕ) → registers_asked (places_asks rs n) ≡ 6 * length rs
+places_registers : (rs : List TRange) (n : ℕ) → registers_asked (places_asks rs n) ≡ 7 * length rs
 places_registers [] n = omega arith
 places_registers (r ∷ rs) n = omega (arith, places_registers rs (n + 1 + 1))
 
-ranges_registers : (rs : List TRange) (n : ℕ) → registers_asked (ranges_asks rs n) ≤ 10 * nodes_of_all range_nodes rs + 6
+ranges_registers : (rs : List TRange) (n : ℕ) → registers_asked (ranges_asks rs n) ≤ 11 * nodes_of_all range_nodes rs + 6
 ranges_registers rs n = omega (arith, ranges_some rs, bounds_registers rs (n + 1 + 1), places_registers rs (places_slot n rs))
 
 unique_registers : (i : ℕ) (t : Elem) (e : TExpr) (n : ℕ) → registers_asked (unique_asks i t e n) ≤ 8 * typed_nodes e + 5
@@ -219,7 +219,7 @@ answer_registers (Some t) x n = omega (arith, operand_registers t.rate x n)
 
 module _ (answer : Option Ty) where
   mutual
-    stmt_few : (x : TStmt) (n : ℕ) → registers_asked (stmt_asks answer x n) ≤ 10 * stmt_nodes x
+    stmt_few : (x : TStmt) (n : ℕ) → registers_asked (stmt_asks answer x n) ≤ 11 * stmt_nodes x
     stmt_few (t_block b) n = block_few b n
     stmt_few (t_declare xs s) n = omega (arith, items_registers xs n)
     stmt_few (t_simple x s) n = omega (arith, simple_registers x n)
@@ -243,10 +243,10 @@ module _ (answer : Option Ty) where
     stmt_few (t_print w text xs s) n = omega (arith, values_registers (own_rates xs) (t_exprs xs) n, shown_nodes xs)
     stmt_few (t_assert x c s) n = omega (arith, expr_registers x n, test_none (type_of x).rate n)
 
-    block_few : (b : TBlock) (n : ℕ) → registers_asked (block_asks answer b n) ≤ 10 * block_nodes b
+    block_few : (b : TBlock) (n : ℕ) → registers_asked (block_asks answer b n) ≤ 11 * block_nodes b
     block_few (t_braces xs s) n = omega (arith, stmts_few xs n)
 
-    stmts_few : (xs : TStmts) (n : ℕ) → registers_asked (stmts_asks answer xs n) ≤ 10 * stmts_nodes xs
+    stmts_few : (xs : TStmts) (n : ℕ) → registers_asked (stmts_asks answer xs n) ≤ 11 * stmts_nodes xs
     stmts_few t_no_stmts n = omega arith
     stmts_few (t_stmt_then x xs) n = omega (arith, stmt_few x n, stmts_few xs n)
 

@@ -20,6 +20,7 @@ use Rattle.isp_lower_code.specs.Tables.{IsTyped}
 use Rattle.isp_lower_code.proofs.Lemmas.{none_holds}
 use Rattle.isp_masks_code.specs.Free.{last_index_of}
 use Rattle.isp_masks_code.specs.Named.{AreNamed}
+use Rattle.isp_masks_code.specs.Ranges.{RunBodies}
 use Rattle.isp_masks_code.specs.Spots.{Numbers, Spot, body_spot}
 use Rattle.isp_masks_code.specs.Statements.{body_layout, stmt_code, stmt_places, stmt_texts}
 use Rattle.isp_masks_code.specs.StmtRuns.{EntersAt, StmtRuns}
@@ -137,6 +138,12 @@ pub record RunEnters (w : Setting) (i pc h : ℕ) (a : Mask) (s : State) (c : Co
 abbrev pub RunBodyRuns : Setting → ℕ → ℕ → (ℕ → List Instr) → (Mask → State → Res) → Type 0
 RunBodyRuns w i h code v =
     (a : Mask) (s : State) (c : Conf) (pc q : ℕ) → AreAt w.routine.code pc (code pc) → RunEnters w i pc h a s c q → StmtRuns (in_run w i a (c.scalars (w.layout.place Uniform))) w.turns c (pc + length (code pc)) (body_spot h) q (v a s)
+
+-- of the two codes of a body, and that all go on from it where it is said so
+pub record BodiesRun (w : Setting) (i h : ℕ) (b : RunBodies) (v : Mask → State → Res) : Type 0 where
+  pub full : RunBodyRuns w i h b.full v
+  pub rest : RunBodyRuns w i h b.rest v
+  pub whole : b.kept ≡ true → (a g u ct rt : Mask) (s s1 : State) → v a s ≡ Went s1 g u ct rt → g ≡ a
 
 last_layout : (l : Layout) (rs : List TRange) (i : ℕ) → last_index_of rs ≡ Some i → body_layout l rs ≡ within l i
 last_layout l [] i e = absurd (cc)

@@ -268,6 +268,7 @@ module _ (w : Setting) (ready : IsSettled w) where
             end = ap (number I64) (ok3.spares.scalars_stay I64 (e + 1) (omega arith) ∙ ok2.holds) ∙ widened (sole n);
             low = not_less (sole m);
             high = not_more (sole n);
+            bottom = not_less (sole n);
           },
           ok3.holds,
         );

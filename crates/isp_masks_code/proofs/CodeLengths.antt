@@ -1,5 +1,5 @@
--- The code of statements and of functions is short: it has at most 128 instructions for each node of their trees. It names at most 4
--- places for each, and at most one text.
+-- The code of statements and of functions is short: it has at most 128 instructions for each node of their trees, and as many for one
+-- that stands once more. It names at most 4 places for each, and at most one text.
 use Rattle.std.proofs.Common.{◌≡◌, ℕ, ◌+◌, ◌*◌, ◌≤◌, List, [], ◌∷◌, ◌++◌, length, Bool, true, false, Option, Some, None, refl, ap, arith, length-append}
 use Rattle.std.specs.List.{count_by}
 use Rattle.std.specs.Prelude.{◌==◌}
@@ -29,11 +29,12 @@ use Rattle.isp_masks_code.specs.Fors.{first_code, step_code, first_places, test_
 use Rattle.isp_masks_code.specs.Keeping.{constants_code, keep_steps}
 use Rattle.isp_masks_code.specs.Loops.{endless_code, for_code, is_wide, no_code}
 use Rattle.isp_masks_code.specs.Prints.{own_rates, parts, parts_code, print_code}
-use Rattle.isp_masks_code.specs.Ranges.{bound_code, bounds_code, foreach_code, measures_code, places_slot, ranges_code, ranges_places, runs_slot}
+use Rattle.isp_masks_code.specs.Again.{block_again, stmt_again, stmts_again}
+use Rattle.isp_masks_code.specs.Ranges.{RunBodies, bound_code, bounds_code, foreach_code, measures_code, places_slot, ranges_code, ranges_places, runs_slot}
 use Rattle.isp_masks_code.specs.Rounds.{values_of}
 use Rattle.isp_masks_code.specs.Sets.{leave_code}
 use Rattle.isp_masks_code.specs.Spots.{Numbers, Spot, body_spot, first_spot, past}
-use Rattle.isp_masks_code.specs.Statements.{answer_code, behind, function_code, if_code, if_else_code, rest_code, test_place, block_code, block_places, block_texts, body_layout, returned, stmt_code, stmt_places, stmt_texts, stmts_code, stmts_places, stmts_texts}
+use Rattle.isp_masks_code.specs.Statements.{answer_code, behind, run_bodies, function_code, if_code, if_else_code, rest_code, test_place, block_code, block_places, block_texts, body_layout, returned, stmt_code, stmt_places, stmt_texts, stmts_code, stmts_places, stmts_texts}
 use Rattle.isp_masks_code.proofs.ConstantBodies.{constants_short}
 use Rattle.isp_masks_code.proofs.PieceLengths.{Most, jump_long, fails_long, if_long, if_else_long, do_long, for_long, endless_long, active_long, unique_long, ranges_long}
 use Rattle.isp_masks_code.proofs.Prints.{parts_counted, words_counted}
@@ -96,15 +97,15 @@ module _ (l : Layout) where
       let cc = bounds_code l rs (pc1 + length cb) p2 k (n + 1 + 1) in
       omega (arith, length-append ca (cb ++ cc), length-append cb cc, index_long l Uniform r.start pc p k n, index_long l Uniform r.end pc1 p1 k (n + 1), bounds_long rs (pc1 + length cb) p2 k (n + 1 + 1))
 
-  foreach_long : (rs : List TRange) (pc p k n a : ℕ) (body : ℕ → List Instr) → Most a body → length (foreach_code l rs pc p k n body) ≤ a + 39 * nodes_of_all range_nodes rs + 18
-  foreach_long rs pc p k n a body fa =
+  foreach_long : (rs : List TRange) (pc p k n a : ℕ) (body : RunBodies) → Most a body.full → Most a body.rest → length (foreach_code l rs pc p k n body) ≤ a + a + 40 * nodes_of_all range_nodes rs + 27
+  foreach_long rs pc p k n a body fa fb =
       let h = runs_slot n rs in
       let ca = measures_code l n h in
       let pc1 = pc + length ca in
       let cb = bounds_code l rs pc1 p k (n + 1 + 1) in
       let pc2 = pc1 + length cb in
       let cc = ranges_code l n h body rs [] (n + 1 + 1) (places_slot n rs) pc2 in
-      omega (arith, length-append ca (cb ++ cc), length-append cb cc, bounds_long rs pc1 p k (n + 1 + 1), ranges_long l n h a body rs [] (n + 1 + 1) (places_slot n rs) pc2 fa, ranges_low rs)
+      omega (arith, length-append ca (cb ++ cc), length-append cb cc, bounds_long rs pc1 p k (n + 1 + 1), ranges_long l n h a body rs [] (n + 1 + 1) (places_slot n rs) pc2 fa fb, ranges_low rs)
 
   answer_long : (answer : Option Ty) (x : TExpr) (pc p k n : ℕ) → length (answer_code l answer x pc p k n) ≤ 32 * typed_nodes x
   answer_long None x pc p k n = omega (arith, expr_long l x pc p k n)
@@ -133,7 +134,7 @@ rest_long false (t_stmt_then x xs) k pc a code fa = omega (arith, fa (pc + 1))
 
 module _ (fs : List TFunction) (vars : List Variable) (answer : Option Ty) where
   mutual
-    stmt_long : (l : Layout) (x : TStmt) → FineStmt fs vars answer x → (pc : ℕ) (z : Numbers) (spot : Spot) → length (stmt_code l answer x pc z spot) + 4 ≤ 128 * stmt_nodes x
+    stmt_long : (l : Layout) (x : TStmt) → FineStmt fs vars answer x → (pc : ℕ) (z : Numbers) (spot : Spot) → length (stmt_code l answer x pc z spot) + 4 ≤ 128 * (stmt_nodes x + stmt_again x)
     stmt_long l (t_block b) f pc z spot = body_long l b f pc z spot
     stmt_long l (t_declare xs s) f pc z spot = omega (arith, items_long l xs pc z.place spot.on spot.slot)
     stmt_long l (t_simple x s) f pc z spot = omega (arith, simple_long l x pc z.place spot.on spot.slot)
@@ -143,7 +144,7 @@ module _ (fs : List TFunction) (vars : List Variable) (answer : Option Ty) where
         let first = λ (pc1 : ℕ) (part : Spot). stmt_code l answer x pc1 z1 part in
         let r = (type_of e).rate in
         let y = found l e spot.slot in
-        let h : length (if_code (leaving_of x) g r y (pc + length ca) spot first) ≤ 128 * stmt_nodes x + 7 = if_long (leaving_of x) g r y (pc + length ca) (128 * stmt_nodes x) spot first (λ pc1 part. less (stmt_long l x f.2 pc1 z1 part)) in
+        let h : length (if_code (leaving_of x) g r y (pc + length ca) spot first) ≤ 128 * (stmt_nodes x + stmt_again x) + 7 = if_long (leaving_of x) g r y (pc + length ca) (128 * (stmt_nodes x + stmt_again x)) spot first (λ pc1 part. less (stmt_long l x f.2 pc1 z1 part)) in
         omega (arith, length-append ca (if_code (leaving_of x) g r y (pc + length ca) spot first), expr_long l e pc z.place spot.on spot.slot, h)
     stmt_long l (t_if_else g m e x y s) f pc z spot =
         let z1 = past (expr_places l e) z in
@@ -151,8 +152,8 @@ module _ (fs : List TFunction) (vars : List Variable) (answer : Option Ty) where
         let first = λ (pc1 : ℕ) (part : Spot). stmt_code l answer x pc1 z1 part in
         let second = λ (pc1 : ℕ) (part : Spot). stmt_code l answer y pc1 (behind l x z1) part in
         let code = if_else_code (both_go_on x y) g (type_of e).rate (found l e spot.slot) (pc + length ca) spot first second in
-        let h : length code ≤ 128 * stmt_nodes x + 128 * stmt_nodes y + 8 =
-        if_else_long (both_go_on x y) g (type_of e).rate (found l e spot.slot) (pc + length ca) (128 * stmt_nodes x) (128 * stmt_nodes y) spot first second
+        let h : length code ≤ 128 * (stmt_nodes x + stmt_again x) + 128 * (stmt_nodes y + stmt_again y) + 8 =
+        if_else_long (both_go_on x y) g (type_of e).rate (found l e spot.slot) (pc + length ca) (128 * (stmt_nodes x + stmt_again x)) (128 * (stmt_nodes y + stmt_again y)) spot first second
         (λ pc1 part. less (stmt_long l x f.2 pc1 z1 part)) (λ pc1 part. less (stmt_long l y f.3 pc1 (behind l x z1) part)) in
         omega (arith, length-append ca code, expr_long l e pc z.place spot.on spot.slot, h)
     stmt_long l (t_while g m e x s) f pc z spot =
@@ -160,7 +161,7 @@ module _ (fs : List TFunction) (vars : List Variable) (answer : Option Ty) where
         let z1 = past (expr_places l e) z in
         let p2 = test_place l x None z1 in
         let h =
-        for_long (is_wide g (type_of e).rate) (exits_of x) (type_of e).rate (found l e (n + 3)) pc (32 * typed_nodes e) (32 * typed_nodes e) (128 * stmt_nodes x) 0 spot
+        for_long (is_wide g (type_of e).rate) (exits_of x) (type_of e).rate (found l e (n + 3)) pc (32 * typed_nodes e) (32 * typed_nodes e) (128 * (stmt_nodes x + stmt_again x)) 0 spot
         (λ pc1. expr_code l e pc1 z.place n (n + 3)) (λ pc1. expr_code l e pc1 p2 n (n + 3)) (λ pc1. stmt_code l answer x pc1 z1 (body_spot n)) no_code
         (λ pc1. value_long l e pc1 z.place n (n + 3)) (λ pc1. value_long l e pc1 p2 n (n + 3)) (λ pc1. less (stmt_long l x f.2 pc1 z1 (body_spot n))) (λ pc1. omega arith) in
         omega (arith, h)
@@ -168,7 +169,7 @@ module _ (fs : List TFunction) (vars : List Variable) (answer : Option Ty) where
         let n = spot.slot in
         let p2 = test_place l x None z in
         let h =
-        do_long (is_wide g (type_of e).rate) (exits_of x) (type_of e).rate (found l e (n + 3)) pc (32 * typed_nodes e) (128 * stmt_nodes x) spot
+        do_long (is_wide g (type_of e).rate) (exits_of x) (type_of e).rate (found l e (n + 3)) pc (32 * typed_nodes e) (128 * (stmt_nodes x + stmt_again x)) spot
         (λ pc1. expr_code l e pc1 p2 n (n + 3)) (λ pc1. stmt_code l answer x pc1 z (body_spot n))
         (λ pc1. value_long l e pc1 p2 n (n + 3)) (λ pc1. less (stmt_long l x f.1 pc1 z (body_spot n))) in
         omega (arith, h)
@@ -179,8 +180,8 @@ module _ (fs : List TFunction) (vars : List Variable) (answer : Option Ty) where
         let body = λ (pc2 : ℕ). stmt_code l answer x pc2 z1 (body_spot n) in
         let next = λ (pc2 : ℕ). step_code l step pc2 (behind l x z1).place n (n + 3) in
         let code = endless_code (exits_of x) (pc + length ca) spot body next in
-        let h : length code ≤ 128 * stmt_nodes x + 64 * nodes_of_option step_nodes step + 9 =
-        endless_long (exits_of x) (pc + length ca) (128 * stmt_nodes x) (64 * nodes_of_option step_nodes step) spot body next (λ pc2. less (stmt_long l x f.5 pc2 z1 (body_spot n))) (λ pc2. step_long l step pc2 (behind l x z1).place n (n + 3)) in
+        let h : length code ≤ 128 * (stmt_nodes x + stmt_again x) + 64 * nodes_of_option step_nodes step + 9 =
+        endless_long (exits_of x) (pc + length ca) (128 * (stmt_nodes x + stmt_again x)) (64 * nodes_of_option step_nodes step) spot body next (λ pc2. less (stmt_long l x f.5 pc2 z1 (body_spot n))) (λ pc2. step_long l step pc2 (behind l x z1).place n (n + 3)) in
         omega (arith, length-append ca code, first_long l first pc z.place spot.on n, h)
     stmt_long l (t_for g m first (Some e) step i x s) f pc z spot =
         let n = spot.slot in
@@ -193,27 +194,29 @@ module _ (fs : List TFunction) (vars : List Variable) (answer : Option Ty) where
         let body = λ (pc2 : ℕ). stmt_code l answer x pc2 z2 (body_spot n) in
         let next = λ (pc2 : ℕ). step_code l step pc2 (behind l x z2).place n (n + 3) in
         let code = for_code (is_wide g (type_of e).rate) (exits_of x) (type_of e).rate (found l e (n + 3)) (pc + length ca) spot entry test body next in
-        let h : length code ≤ 32 * typed_nodes e + 32 * typed_nodes e + 128 * stmt_nodes x + 64 * nodes_of_option step_nodes step + 12 =
-        for_long (is_wide g (type_of e).rate) (exits_of x) (type_of e).rate (found l e (n + 3)) (pc + length ca) (32 * typed_nodes e) (32 * typed_nodes e) (128 * stmt_nodes x) (64 * nodes_of_option step_nodes step) spot
+        let h : length code ≤ 32 * typed_nodes e + 32 * typed_nodes e + 128 * (stmt_nodes x + stmt_again x) + 64 * nodes_of_option step_nodes step + 12 =
+        for_long (is_wide g (type_of e).rate) (exits_of x) (type_of e).rate (found l e (n + 3)) (pc + length ca) (32 * typed_nodes e) (32 * typed_nodes e) (128 * (stmt_nodes x + stmt_again x)) (64 * nodes_of_option step_nodes step) spot
         entry test body next (λ pc2. value_long l e pc2 z1.place n (n + 3)) (λ pc2. value_long l e pc2 p2 n (n + 3)) (λ pc2. less (stmt_long l x f.5 pc2 z2 (body_spot n))) (λ pc2. step_long l step pc2 (behind l x z2).place n (n + 3)) in
         omega (arith, length-append ca code, first_long l first pc z.place spot.on n, h)
     stmt_long l (t_foreach w m rs x s) f pc z spot =
+        let lb = body_layout l rs in
+        let k = runs_slot spot.slot rs in
         let z1 = past (ranges_places l rs) z in
-        let at = body_spot (runs_slot spot.slot rs) in
-        let h =
-        foreach_long l rs pc z.place spot.on spot.slot (128 * stmt_nodes x) (λ pc1. stmt_code (body_layout l rs) answer x pc1 z1 at) (λ pc1. less (stmt_long (body_layout l rs) x f.2 pc1 z1 at)) in
+        let room = 128 * (stmt_nodes x + stmt_again x) in
+        let most : (z2 : Numbers) (pc1 : ℕ) → length (stmt_code lb answer x pc1 z2 (body_spot k)) ≤ room = λ z2 pc1. less (stmt_long lb x f.2 pc1 z2 (body_spot k)) in
+        let h = foreach_long l rs pc z.place spot.on spot.slot room (run_bodies lb answer x k z1) (most z1) (most (behind lb x z1)) in
         omega (arith, h)
     stmt_long l (t_foreach_active w m i x s) f pc z spot =
         let at = body_spot (spot.slot + 1) in
         let h =
-        active_long (l.variable Uniform i) pc spot.on spot.slot (128 * stmt_nodes x) (λ pc1. stmt_code l answer x pc1 z at) (λ pc1. less (stmt_long l x f.2 pc1 z at)) in
+        active_long (l.variable Uniform i) pc spot.on spot.slot (128 * (stmt_nodes x + stmt_again x)) (λ pc1. stmt_code l answer x pc1 z at) (λ pc1. less (stmt_long l x f.2 pc1 z at)) in
         omega (arith, h)
     stmt_long l (t_foreach_unique w m i t e x s) f pc z spot =
         let k = spot.on in
         let n = spot.slot in
         let z1 = past (expr_places l e) z in
         let h =
-        unique_long (values_of l (elem_of e) i n) (operand_of l Varying e k n (expr_code l e pc z.place k n)) (operand l Varying e n) pc k n (128 * stmt_nodes x)
+        unique_long (values_of l (elem_of e) i n) (operand_of l Varying e k n (expr_code l e pc z.place k n)) (operand l Varying e n) pc k n (128 * (stmt_nodes x + stmt_again x))
         (λ pc1. stmt_code l answer x pc1 z1 (body_spot (n + 1))) (λ pc1. less (stmt_long l x f.3 pc1 z1 (body_spot (n + 1)))) in
         omega (arith, operand_long l Varying e pc z.place k n, h)
     stmt_long l (t_unmasked w b s) f pc z spot = omega (arith, body_long (outside l) b f (pc + 1) z (body_spot spot.slot))
@@ -230,24 +233,24 @@ module _ (fs : List TFunction) (vars : List Variable) (answer : Option Ty) where
         let y = found l x spot.slot in
         omega (arith, length-append ca (fails_code r y (pc + length ca) p spot.on spot.slot), expr_long l x pc z.place spot.on spot.slot, fails_long r y (pc + length ca) p spot.on spot.slot)
 
-    body_long : (l : Layout) (b : TBlock) → FineBlock fs vars answer b → (pc : ℕ) (z : Numbers) (spot : Spot) → length (block_code l answer b pc z spot) + 4 ≤ 128 * block_nodes b
+    body_long : (l : Layout) (b : TBlock) → FineBlock fs vars answer b → (pc : ℕ) (z : Numbers) (spot : Spot) → length (block_code l answer b pc z spot) + 4 ≤ 128 * (block_nodes b + block_again b)
     body_long l (t_braces xs s) f pc z spot = omega (arith, stmts_long l xs f pc z spot)
 
-    stmts_long : (l : Layout) (xs : TStmts) → FineStmts fs vars answer xs → (pc : ℕ) (z : Numbers) (spot : Spot) → length (stmts_code l answer xs pc z spot) ≤ 128 * stmts_nodes xs
+    stmts_long : (l : Layout) (xs : TStmts) → FineStmts fs vars answer xs → (pc : ℕ) (z : Numbers) (spot : Spot) → length (stmts_code l answer xs pc z spot) ≤ 128 * (stmts_nodes xs + stmts_again xs)
     stmts_long l t_no_stmts f pc z spot = omega arith
     stmts_long l (t_stmt_then x xs) f pc z spot =
         let ca = stmt_code l answer x pc z spot in
         let rest = λ (pc1 : ℕ). stmts_code l answer xs pc1 (behind l x z) spot in
         let code = rest_code (all_go_on x) xs spot.on (pc + length ca) rest in
-        let h : length code ≤ 128 * stmts_nodes xs + 1 = rest_long (all_go_on x) xs spot.on (pc + length ca) (128 * stmts_nodes xs) rest (λ pc1. stmts_long l xs f.1 pc1 (behind l x z) spot) in
+        let h : length code ≤ 128 * (stmts_nodes xs + stmts_again xs) + 1 = rest_long (all_go_on x) xs spot.on (pc + length ca) (128 * (stmts_nodes xs + stmts_again xs)) rest (λ pc1. stmts_long l xs f.1 pc1 (behind l x z) spot) in
         omega (arith, length-append ca code, stmt_long l x f.0 pc z spot, h)
 
-  pub block_long : (l : Layout) (b : TBlock) → FineBlock fs vars answer b → (pc : ℕ) (z : Numbers) (spot : Spot) → length (block_code l answer b pc z spot) ≤ 128 * block_nodes b
+  pub block_long : (l : Layout) (b : TBlock) → FineBlock fs vars answer b → (pc : ℕ) (z : Numbers) (spot : Spot) → length (block_code l answer b pc z spot) ≤ 128 * (block_nodes b + block_again b)
   block_long l b f pc z spot = omega (arith, body_long l b f pc z spot)
 
   -- with the constants that are kept, and the return
   pub function_long : (l : Layout) (ks : List Constant) (b : TBlock) → keep_steps ks ≤ 24 → FineBlock fs vars answer b → (pc : ℕ) (z : Numbers)
-      → length (function_code l answer ks b pc z) ≤ 128 * block_nodes b + 32
+      → length (function_code l answer ks b pc z) ≤ 128 * (block_nodes b + block_again b) + 32
   function_long l ks b le f pc z =
       let ca = constants_code l 3 ks in
       let cb = block_code l answer b (pc + length ca) z first_spot in
@@ -275,7 +278,7 @@ ranges_places_few l (r ∷ rs) =
     omega (arith, length-append (expr_places l r.start) (pb ++ ranges_places l rs), length-append pb (ranges_places l rs), expr_places_few l r.start, expr_places_few l r.end, ranges_places_few l rs)
 
 mutual
-  stmt_places_few : (l : Layout) (x : TStmt) → length (stmt_places l x) ≤ 4 * stmt_nodes x
+  stmt_places_few : (l : Layout) (x : TStmt) → length (stmt_places l x) ≤ 4 * (stmt_nodes x + stmt_again x)
   stmt_places_few l (t_block b) = block_places_few l b
   stmt_places_few l (t_declare xs s) = omega (arith, items_places_few l xs)
   stmt_places_few l (t_simple x s) = omega (arith, simple_places_few l x)
@@ -303,8 +306,8 @@ mutual
         stmt_places_few l x,
       )
   stmt_places_few l (t_foreach w m rs x s) =
-      let pb = stmt_places (body_layout l rs) x in
-      omega (arith, length-append (ranges_places l rs) pb, ranges_places_few l rs, stmt_places_few (body_layout l rs) x)
+      let px = stmt_places (body_layout l rs) x in
+      omega (arith, length-append (ranges_places l rs) (px ++ px), length-append px px, ranges_places_few l rs, stmt_places_few (body_layout l rs) x)
   stmt_places_few l (t_foreach_active w m i x s) = omega (arith, stmt_places_few l x)
   stmt_places_few l (t_foreach_unique w m i t e x s) = omega (arith, length-append (expr_places l e) (stmt_places l x), expr_places_few l e, stmt_places_few l x)
   stmt_places_few l (t_unmasked w b s) = omega (arith, block_places_few (outside l) b)
@@ -314,10 +317,10 @@ mutual
   stmt_places_few l (t_print w text xs s) = omega (arith, values_places_few l (t_exprs xs), values_nodes xs)
   stmt_places_few l (t_assert x c s) = omega (arith, length-append (expr_places l x) (c ∷ []), expr_places_few l x)
 
-  pub block_places_few : (l : Layout) (b : TBlock) → length (block_places l b) ≤ 4 * block_nodes b
+  pub block_places_few : (l : Layout) (b : TBlock) → length (block_places l b) ≤ 4 * (block_nodes b + block_again b)
   block_places_few l (t_braces xs s) = omega (arith, stmts_places_few l xs)
 
-  stmts_places_few : (l : Layout) (xs : TStmts) → length (stmts_places l xs) ≤ 4 * stmts_nodes xs
+  stmts_places_few : (l : Layout) (xs : TStmts) → length (stmts_places l xs) ≤ 4 * (stmts_nodes xs + stmts_again xs)
   stmts_places_few l t_no_stmts = omega arith
   stmts_places_few l (t_stmt_then x xs) = omega (arith, length-append (stmt_places l x) (stmts_places l xs), stmt_places_few l x, stmts_places_few l xs)
 
@@ -325,7 +328,7 @@ mutual
 
 module _ (fs : List TFunction) (vars : List Variable) (answer : Option Ty) where
   mutual
-    stmt_texts_few : (x : TStmt) → FineStmt fs vars answer x → length (stmt_texts x) ≤ stmt_nodes x
+    stmt_texts_few : (x : TStmt) → FineStmt fs vars answer x → length (stmt_texts x) ≤ stmt_nodes x + stmt_again x
     stmt_texts_few (t_block b) f = block_texts_few b f
     stmt_texts_few (t_declare xs s) f = omega arith
     stmt_texts_few (t_simple x s) f = omega arith
@@ -334,7 +337,7 @@ module _ (fs : List TFunction) (vars : List Variable) (answer : Option Ty) where
     stmt_texts_few (t_while g m e x s) f = omega (arith, stmt_texts_few x f.2)
     stmt_texts_few (t_do g m x e s) f = omega (arith, stmt_texts_few x f.1)
     stmt_texts_few (t_for g m first e step i x s) f = omega (arith, stmt_texts_few x f.5)
-    stmt_texts_few (t_foreach w m rs x s) f = omega (arith, stmt_texts_few x f.2)
+    stmt_texts_few (t_foreach w m rs x s) f = omega (arith, length-append (stmt_texts x) (stmt_texts x), stmt_texts_few x f.2)
     stmt_texts_few (t_foreach_active w m i x s) f = omega (arith, stmt_texts_few x f.2)
     stmt_texts_few (t_foreach_unique w m i t e x s) f = omega (arith, stmt_texts_few x f.3)
     stmt_texts_few (t_unmasked w b s) f = omega (arith, block_texts_few b f)
@@ -343,9 +346,9 @@ module _ (fs : List TFunction) (vars : List Variable) (answer : Option Ty) where
     stmt_texts_few (t_print w text xs s) f = omega (arith, words_counted text xs f.0, values_some xs)
     stmt_texts_few (t_assert x c s) f = omega arith
 
-    pub block_texts_few : (b : TBlock) → FineBlock fs vars answer b → length (block_texts b) ≤ block_nodes b
+    pub block_texts_few : (b : TBlock) → FineBlock fs vars answer b → length (block_texts b) ≤ block_nodes b + block_again b
     block_texts_few (t_braces xs s) f = omega (arith, stmts_texts_few xs f)
 
-    stmts_texts_few : (xs : TStmts) → FineStmts fs vars answer xs → length (stmts_texts xs) ≤ stmts_nodes xs
+    stmts_texts_few : (xs : TStmts) → FineStmts fs vars answer xs → length (stmts_texts xs) ≤ stmts_nodes xs + stmts_again xs
     stmts_texts_few t_no_stmts f = omega arith
     stmts_texts_few (t_stmt_then x xs) f = omega (arith, length-append (stmt_texts x) (stmts_texts xs), stmt_texts_few x f.0, stmts_texts_few xs f.1)

@@ -62,7 +62,7 @@ module _ (w : Setting) where
 
   places_fit : (rs : List TRange) (m : ℕ) → Named (places_asks rs m) → RangesTyped w rs m
   places_fit [] m i = tt
-  places_fit (r ∷ rs) m i = (record { place = i.0.1.0; short = i.0.1.1.1.0; index = i.0.0; run = i.0.1.1.1.1.1.1 }, places_fit rs (m + 1 + 1) i.1.1)
+  places_fit (r ∷ rs) m i = (record { place = i.0.1.0; short = i.0.1.1.1.0; tested = i.0.1.1.1.1.1.0; limited = i.0.1.1.1.1.1.1.0; index = i.0.0; run = i.0.1.1.1.1.1.1.1 }, places_fit rs (m + 1 + 1) i.1.1)
 
   ranges_constant : (rs : List TRange) → All (FineRange w.program.functions w.function.variables) rs → RangesConstant w rs
   ranges_constant [] f = tt

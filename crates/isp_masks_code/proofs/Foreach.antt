@@ -11,7 +11,7 @@ use Rattle.isp_meaning.specs.Statements.{ranges}
 use Rattle.isp_lower_code.specs.Runs.{Ok}
 use Rattle.isp_lower_code.specs.Setting.{Setting, IsSettled, gang_of, calls_of, AreAt}
 use Rattle.isp_lower_code.proofs.Lemmas.{are_front, are_back, spares_less}
-use Rattle.isp_masks_code.specs.Ranges.{places_slot, runs_slot, measures_code, bounds_code, ranges_code, ranges_places, foreach_code}
+use Rattle.isp_masks_code.specs.Ranges.{RunBodies, places_slot, runs_slot, measures_code, bounds_code, ranges_code, ranges_places, foreach_code}
 use Rattle.isp_masks_code.specs.Spots.{Spot}
 use Rattle.isp_masks_code.specs.StmtRuns.{AreThree, EntersAt, StmtRuns}
 use Rattle.isp_masks_code.proofs.Bounds.{Measured, bounds_run, measures_run}
@@ -21,21 +21,21 @@ use Rattle.isp_masks_code.proofs.Parts.{ForeachFits}
 use Rattle.isp_masks_code.proofs.RangeRuns.{ranges_run}
 use Rattle.isp_masks_code.proofs.RangesHeld.{AreHeld, measures_on, sets_none}
 use Rattle.isp_masks_code.proofs.Sweeps.{passes_to, passes_all}
-use Rattle.isp_masks_code.proofs.Bodies.{RunBodyRuns}
+use Rattle.isp_masks_code.proofs.Bodies.{BodiesRun}
 use Rattle.isp_masks_code.specs.Free.{last_index_of}
 
 module _ (w : Setting) (ready : IsSettled w) where
-  pub foreach_runs : (rs : List TRange) (pc p : ℕ) (spot : Spot) (q : ℕ) (a : Mask) (s : State) (c : Conf) (counter : ℕ) (code : ℕ → List Instr)
+  pub foreach_runs : (rs : List TRange) (pc p : ℕ) (spot : Spot) (q : ℕ) (a : Mask) (s : State) (c : Conf) (counter : ℕ) (code : RunBodies)
       (body : Mask → State → Res) → w.layout.run ≡ None → last_index_of rs ≡ Some counter → ForeachFits w rs spot.slot
-      → RunBodyRuns w counter (runs_slot spot.slot rs) code body → AreAt w.routine.code pc (foreach_code w.layout rs pc p spot.on spot.slot code)
+      → BodiesRun w counter (runs_slot spot.slot rs) code body → AreAt w.routine.code pc (foreach_code w.layout rs pc p spot.on spot.slot code)
       → AreAt w.code.places p (ranges_places w.layout rs) → AreThree spot → EntersAt w pc spot a s c q
       → StmtRuns w w.turns c (pc + length (foreach_code w.layout rs pc p spot.on spot.slot code)) spot q
       (with_value (ranges (gang_of w) w.frame (calls_of w) rs a (tick s))
       (λ xs s1. rounds body a (foreach_rounds (gang_of w) xs) (record s1 { work = s1.work + counted (gang_of w) 1 xs })))
   foreach_runs rs pc p spot q a s c counter code body none li fit runs has places three b =
       stmt_after w ready w.turns c c1 8 end spot q _ first.comes first.low.spares (λ r lt ne. first.low.masks r lt) three
-      (with_runs w ready c1 pc2 (n + 1 + 1) 3 (8 + q) (λ xs c2. AreHeld w rs xs (n + 1 + 1) c2) (ranges (gang_of w) w.frame (calls_of w) rs a (tick s)) _ end spot
-      (bounds_run w ready rs pc1 p spot.on (n + 1 + 1) (3 + (8 + q)) a (tick s) c1 fit.bounds (are_front w.routine.code pc1 bounds last rest) places
+      (with_runs w ready c1 pc2 (n + 1 + 1) 6 (8 + q) (λ xs c2. AreHeld w rs xs (n + 1 + 1) c2) (ranges (gang_of w) w.frame (calls_of w) rs a (tick s)) _ end spot
+      (bounds_run w ready rs pc1 p spot.on (n + 1 + 1) (6 + (8 + q)) a (tick s) c1 fit.bounds (are_front w.routine.code pc1 bounds last rest) places
       (record {
         at = first.at;
         mask = first.low.masks spot.on three.low_on
@@ -84,7 +84,7 @@ module _ (w : Setting) (ready : IsSettled w) where
       rest : AreAt w.routine.code pc1 (bounds ++ last)
       rest = are_back w.routine.code pc measures (bounds ++ last) has
 
-      after : (xs : List Range) (s1 : State) (ok : Ok w c1 pc2 (n + 1 + 1) (3 + (8 + q)) (AreHeld w rs xs (n + 1 + 1)) s1)
+      after : (xs : List Range) (s1 : State) (ok : Ok w c1 pc2 (n + 1 + 1) (6 + (8 + q)) (AreHeld w rs xs (n + 1 + 1)) s1)
           → StmtRuns w w.turns c1 end spot (8 + q) (rounds body a (foreach_rounds (gang_of w) xs)
           (record s1 { work = s1.work + counted (gang_of w) 1 xs }))
       after xs s1 ok =

@@ -22,6 +22,7 @@ mod Sweeps
 mod Numbered
 mod RangesHeld
 mod LastRuns
+mod FullRuns
 mod RangeRuns
 mod Bounds
 mod Foreach
@@ -61,6 +62,7 @@ mod Constants
 mod FirstRows
 mod Standing
 mod PieceLengths
+mod AgainFew
 mod CodeLengths
 mod Heads
 mod Lowers

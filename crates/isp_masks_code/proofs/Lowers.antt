@@ -40,6 +40,7 @@ use Rattle.isp_masks_code.proofs.FirstRows.{parameters_same, result_row}
 use Rattle.isp_masks_code.proofs.Heads.{names_apart, names_same, new_name, exports, head_fits}
 use Rattle.isp_masks_code.proofs.Made.{made_accepted, made_compiled, made_entry}
 use Rattle.isp_masks_code.proofs.Programs.{program_agrees}
+use Rattle.isp_masks_code.proofs.SmallFunctions.{functions_twice}
 use Rattle.isp_masks_code.proofs.SmallNumbers.{numbers_small}
 use Rattle.isp_masks_code.proofs.Standing.{arrays_stand}
 use Rattle.isp_masks_code.specs.Rated.{BlockRated}
@@ -204,7 +205,8 @@ numbers_fit program code accepted has places texts =
     let fine = fine_at program code accepted has f h.0 h.1 in
     let same = ap length low.code_is in
     let most = function_long program.functions h.0.variables h.0.answer (layout_of (rates_in program.functions) low.rows) low.constants h.0.body low.keeps.short fine.body 0 low.numbers in
-    let short : length g.code ≤ 4294967295 = omega (arith, same, most, nodes_of_one program f h.0 h.1, accepted.fine.few) in
+    let twice = functions_twice program accepted f h.0 h.1 in
+    let short : length g.code ≤ 4294967295 = omega (arith, same, most, twice, nodes_of_one program f h.0 h.1, accepted.fine.few) in
     numbers_small code g places texts short g.code (body_sound code g (bodies program code accepted has f g eg)))
 
 pub lowered_agrees : LoweredAgrees

@@ -77,7 +77,7 @@ module _ (fs : List TFunction) (vars : List Variable) (answer : Option Ty) where
   places_own [] m f = tt
   places_own (r ∷ rs) m f =
       let g = f 0 r (omega arith) in
-      ((index_own r.index g.index, (tt, (tt, (tt, (tt, (tt, tt)))))), (tt, places_own rs (m + 1 + 1) (λ k d lt. f (suc k) d (omega (arith, lt)))))
+      ((index_own r.index g.index, (tt, (tt, (tt, (tt, (tt, (tt, tt))))))), (tt, places_own rs (m + 1 + 1) (λ k d lt. f (suc k) d (omega (arith, lt)))))
 
   ranges_own : (rs : List TRange) (n : ℕ) → All (FineRange fs vars) rs → IsOwn vars answer (ranges_asks rs n)
   ranges_own rs n f = ((tt, (tt, (tt, (tt, (tt, (tt, (tt, tt))))))), (bounds_own rs (n + 1 + 1) f, (places_own rs (places_slot n rs) f, loop_own (runs_slot n rs))))

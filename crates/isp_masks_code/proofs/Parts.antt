@@ -14,7 +14,7 @@ use Rattle.isp_lower_code.specs.Tables.{IsTyped}
 use Rattle.isp_lower_code.proofs.Lemmas.{OperandFits, ExprParts, ValuesParts, SimpleParts, ItemsParts}
 use Rattle.isp_masks_code.specs.Asks.{part_slot, parts_slot}
 use Rattle.isp_masks_code.specs.Prints.{own_rates}
-use Rattle.isp_masks_code.specs.Ranges.{wide, narrow, lane, places_slot, runs_slot}
+use Rattle.isp_masks_code.specs.Ranges.{wide, narrow, test, lane, places_slot, runs_slot}
 use Rattle.isp_masks_code.proofs.Bodies.{with_layout}
 use Rattle.isp_masks_code.specs.Statements.{body_layout}
 use Rattle.isp_lower_code.specs.Layout.{outside}
@@ -60,6 +60,8 @@ module _ (w : Setting) where
   pub record RangeTyped (m i : ℕ) : Type 0 where
     pub place : IsTyped w Uniform (wide w.layout m) I64
     pub short : IsTyped w Uniform (narrow w.layout (m + 1)) I32
+    pub tested : IsTyped w Uniform (test w.layout (m + 1)) Truth
+    pub limited : IsTyped w Uniform (wide w.layout (m + 1)) I64
     pub index : IsTyped w Varying (w.layout.variable Varying i) I32
     pub run : IsTyped w Uniform (w.layout.place Uniform) I64
 

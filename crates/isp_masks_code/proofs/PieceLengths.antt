@@ -11,13 +11,13 @@ use Rattle.isp_tree.specs.declared.stmt.Form.TheVariants.{Plain, Coherent}
 use Rattle.isp_tree.specs.declared.stmt.Jump.{Jump}
 use Rattle.isp_tree.specs.declared.stmt.Jump.TheVariants.{Break, Continue}
 use Rattle.isp_typed.specs.Typed.{TRange}
-use Rattle.isp_lower_code.specs.Instructions.{compute, convert, copy, jump_off, the_others}
+use Rattle.isp_lower_code.specs.Instructions.{compute, convert, copy, jump_off, jump_on, the_others}
 use Rattle.isp_lower_code.specs.Layout.{Layout, mask_register}
 use Rattle.isp_lower_code.specs.Pieces.{guard, two}
 use Rattle.isp_masks_code.specs.Asserts.{fails_code}
 use Rattle.isp_masks_code.specs.Exits.{nobody_leaves}
 use Rattle.isp_masks_code.specs.Loops.{copy_mask, if_needed, enter_code, loop_end_code, jump_all, rejoin_code, turn_code, sift_code, live_code, again_code, next_code, loop_code, tested_code, no_code, do_code, for_code, endless_code}
-use Rattle.isp_masks_code.specs.Ranges.{goes_on, last_index, narrow, outer_index, ranges_code, run_back, run_place, run_step, runs_code, wide}
+use Rattle.isp_masks_code.specs.Ranges.{RunBodies, full_back, full_code, goes_on, index_step, last_index, narrow, next_from, outer_index, ranges_code, refill, rest_run, run_place, runs_code, test, wide}
 use Rattle.isp_masks_code.specs.Rounds.{Values, active_code, rounds_code, take_code, unique_code, value_code}
 use Rattle.isp_masks_code.specs.Sets.{clear_mask, jump_code, jumped_code, unite}
 use Rattle.isp_masks_code.specs.Spots.{Spot, under, widely}
@@ -209,29 +209,53 @@ unique_long v values x pc k n a body fa =
 
 -- ---- ranges, told the indices of those outside
 
+refill_long : (kept : Bool) (h : ℕ) → length (refill kept h) ≤ 1
+refill_long true h = omega arith
+refill_long false h = omega arith
+
 module _ (l : Layout) where
-  back_long : (z : Bool) (i n h first top : ℕ) → length (run_back l z i n h first top) ≤ 2
-  back_long true i n h first top = omega arith
-  back_long false i n h first top = omega arith
+  step_long : (z : Bool) (i n h pc : ℕ) → length (index_step l z i n h pc) ≤ 2
+  step_long true i n h pc = omega arith
+  step_long false i n h pc = omega arith
 
-  runs_long : (loaded : Bool) (set : List Instr) (i e m n h a : ℕ) (body : ℕ → List Instr) (pc : ℕ) → Most a body
-      → length (runs_code l loaded set i e m n h body pc) ≤ a + length set + 10
-  runs_long loaded set i e m n h a body pc fa =
+  full_long : (alone kept : Bool) (own : List Instr) (i x m n h a : ℕ) (body : ℕ → List Instr) (pc : ℕ) → Most a body
+      → length (full_code l alone kept own i x m n h body pc) ≤ a + length own + 7
+  full_long alone kept own i x m n h a body pc fa =
+      let first = pc + 1 in
+      let at = first + length own in
+      let skip = index_step l alone i n h at in
+      let top = at + length skip in
+      let back = full_back l x m n (next_from alone first at) in
+      let turn = body top ++ (refill kept h ++ back) in
+      omega (arith, length-append own (skip ++ turn), length-append skip turn, length-append (body top) (refill kept h ++ back), length-append (refill kept h) back, step_long alone i n h at, refill_long kept h, fa top)
+
+  rest_long : (own : List Instr) (x e h a : ℕ) (body : ℕ → List Instr) (pc : ℕ) → Most a body → length (rest_run l own x e h body pc) ≤ a + length own + 2
+  rest_long own x e h a body pc fa =
+      let top = pc + 1 + 1 + length own in
+      omega (arith, length-append own (body top), fa top)
+
+  runs_long : (loaded : Bool) (set : List Instr) (i e m n h a : ℕ) (body : RunBodies) (pc : ℕ) → Most a body.full → Most a body.rest
+      → length (runs_code l loaded set i e m n h body pc) ≤ a + a + 2 * length set + 19
+  runs_long loaded set i e m n h a body pc fa fb =
       let x = run_place l loaded m in
-      let first = pc + 1 + 1 + 1 in
       let index = last_index l i x m n h in
-      let top = first + length (set ++ index) in
-      let step = run_step l x e n h in
-      let back = run_back l (goes_on loaded set) i n h first top in
-      omega (arith, length-append (set ++ index) (body top ++ (step ++ back)), length-append set index, length-append (body top) (step ++ back), length-append step back, back_long (goes_on loaded set) i n h first top, fa top)
+      let own = set ++ index in
+      let pc3 = pc + 1 + 1 + 1 in
+      let alone = goes_on loaded set in
+      let full = guard (jump_on jump.False (test l (m + 1))) pc3 (full_code l alone body.kept own i x m n h body.full) in
+      let tail = pc3 + length full in
+      omega (arith, length-append set index, length-append full (rest_run l own x e h body.rest tail), full_long alone body.kept own i x m n h a body.full (pc3 + 1) fa, rest_long own x e h a body.rest tail fb)
 
-  pub ranges_long : (n h a : ℕ) (body : ℕ → List Instr) (rs : List TRange) (set : List Instr) (e m pc : ℕ) → Most a body
-      → length (ranges_code l n h body rs set e m pc) ≤ a + length set + 7 * length rs + 10
-  ranges_long n h a body [] set e m pc fa = omega (arith, fa pc)
-  ranges_long n h a body (r ∷ []) set e m pc fa = omega (arith, runs_long (l.loaded r.index) set r.index e m n h a body pc fa)
-  ranges_long n h a body (r ∷ q ∷ rs) set e m pc fa =
+  pub ranges_long : (n h a : ℕ) (body : RunBodies) (rs : List TRange) (set : List Instr) (e m pc : ℕ) → Most a body.full → Most a body.rest
+      → length (ranges_code l n h body rs set e m pc) ≤ a + a + 2 * length set + 8 * length rs + 19
+  ranges_long n h a body [] set e m pc fa fb =
+      let ca = body.full pc in
+      let cb = body.rest (pc + length ca) in
+      omega (arith, length-append ca cb, fa pc, fb (pc + length ca))
+  ranges_long n h a body (r ∷ []) set e m pc fa fb = omega (arith, runs_long (l.loaded r.index) set r.index e m n h a body pc fa fb)
+  ranges_long n h a body (r ∷ q ∷ rs) set e m pc fa fb =
       let one = outer_index l r.index (m + 1) h ∷ [] in
       let p = pc + 1 + 1 + 1 in
       let inside = convert Uniform (narrow l (m + 1)) (wide l m) 0 ∷ ranges_code l n h body (q ∷ rs) (set ++ one) (e + 1 + 1) (m + 1 + 1) (p + 1) in
       let back = compute Uniform plain.Add (wide l m) (wide l m) (wide l (n + 1)) 0 ∷ instr.Jump (pc + 1) ∷ [] in
-      omega (arith, length-append inside back, length-append set one, ranges_long n h a body (q ∷ rs) (set ++ one) (e + 1 + 1) (m + 1 + 1) (p + 1) fa)
+      omega (arith, length-append inside back, length-append set one, ranges_long n h a body (q ∷ rs) (set ++ one) (e + 1 + 1) (m + 1 + 1) (p + 1) fa fb)

@@ -19,22 +19,22 @@ use Rattle.isp_meaning.specs.Outcomes.{Res}
 use Rattle.isp_meaning.specs.Payloads.{One, is_true}
 use Rattle.isp_meaning.specs.Rounds.{Range, Run, Round, rounds, length_of, runs_for, from_on, last_run, with_outer, joined_lists, runs_of, counted}
 use Rattle.isp_meaning.specs.State.{State}
-use Rattle.isp_lower_code.specs.Instructions.{compare, compute, convert, copy, jump_off}
-use Rattle.isp_lower_code.specs.Pieces.{two}
+use Rattle.isp_lower_code.specs.Instructions.{compare, compute, convert, copy}
 use Rattle.isp_lower_code.specs.Layout.{register}
 use Rattle.isp_lower_code.specs.Runs.{Comes}
 use Rattle.isp_lower_code.specs.Setting.{Setting, IsSettled, AreAt, At, Stands, IsOther}
 use Rattle.isp_lower_code.proofs.Lemmas.{are_front, put_same, put_other, comes_on, jumped, jump_comes, jump_at, set_at, set_comes, set_goes, set_spares, set_stands}
 use Rattle.isp_masks_code.specs.Free.{last_index_of}
-use Rattle.isp_masks_code.specs.Ranges.{goes_on, wide, narrow, test, outer_index, last_index, ranges_code, run_back, run_place, run_step}
-use Rattle.isp_masks_code.proofs.Bodies.{RunBodyRuns}
+use Rattle.isp_masks_code.specs.Ranges.{RunBodies, wide, narrow, test, outer_index, ranges_code}
+use Rattle.isp_masks_code.proofs.Bodies.{BodiesRun}
 use Rattle.isp_masks_code.proofs.Counting.{counts_ones, counts_runs, counted_by, turns_cost, map_of_joined, map_of_map}
-use Rattle.isp_masks_code.proofs.LastRuns.{IsRuns, run_place_is, runs_all}
+use Rattle.isp_masks_code.proofs.FullRuns.{runs_all}
+use Rattle.isp_masks_code.proofs.LastRuns.{IsRuns, run_place_is}
 use Rattle.isp_masks_code.proofs.Parts.{RangesTyped}
 use Rattle.isp_masks_code.proofs.RangesHeld.{AreHeld, HasMeasures, Sets, gang, held_on, measures_on, round_after, sets_more, with_index}
 use Rattle.isp_masks_code.proofs.Sweeps.{Low, low_all, low_on, Passes, passes_after, passes_to, IsSweep, sweep_runs}
 
-module _ (w : Setting) (ready : IsSettled w) (body : Mask → State → Res) (all : Mask) (n h counter : ℕ) (code : ℕ → List Instr) (none : w.layout.run ≡ None) (runs : RunBodyRuns w counter h code body) where
+module _ (w : Setting) (ready : IsSettled w) (body : Mask → State → Res) (all : Mask) (n h counter : ℕ) (code : RunBodies) (none : w.layout.run ≡ None) (runs : BodiesRun w counter h code body) where
   -- no variable counts lanes yet
   no_other : (v : ℕ) → IsOther w v
   no_other v j e = let no : None ≡ Some j = sym none ∙ e in absurd (cc)
@@ -49,7 +49,7 @@ module _ (w : Setting) (ready : IsSettled w) (body : Mask → State → Res) (al
       → length set + length rs ≤ 3 → n + 1 < e → e + (length rs + length rs) ≤ m → m + (length rs + length rs) ≤ h → RangesTyped w rs m
       → AreHeld w rs xs e c0 → HasMeasures w n c0 → Sets w h m c0 set before
       → AreAt w.routine.code pc (ranges_code w.layout n h code rs set e m pc) → At w c0 pc → Stands w s c0
-      → 3 + 32 * counted (gang w) 1 xs + q ≤ 32 * s.work
+      → 6 + 32 * counted (gang w) 1 xs + q ≤ 32 * s.work
       → Passes w c0 (pc + length (ranges_code w.layout n h code rs set e m pc)) m q (rounds body all (map (round_after before) (runs_of (gang w) xs)) s)
 
   flipped : (b : Bool) (x y : ℕ) → (if not b then x else y) ≡ (if b then y else x)
@@ -79,15 +79,11 @@ module _ (w : Setting) (ready : IsSettled w) (body : Mask → State → Res) (al
   last_range : (r : TRange) (x : Range) → RangesRun (r ∷ []) (x ∷ [])
   last_range r x li set before e m pc c0 s q few ne em mh typed held measures sets has at st le =
       subst (λ rs. Passes w c0 stop m q (rounds body all rs s)) (sym (map_of_map (round_after before) (last_run (gang w) x) (from_on (gang w) count x.start)))
-      (runs_all w ready none body all n h r.index code own x e m c0 first stop d set before it pc count x.start s c0 q
-      (has.0, (has.1.0, (jump_has, tt))) refl held.0.start held.0.low (counts_runs w.code.gang count x.start x.end refl) at (low_all w m c0) st
-      (omega (arith, le, one-mul count)))
+      (runs_all w ready none n h r.index x e m d set before c0 it code body all own pc stop has refl count x.start s c0 q held.0.start held.0.low
+      (counts_runs w.code.gang count x.start x.end refl) at (low_all w m c0) st (omega (arith, le, one-mul count)))
     where
       d : Bool
       d = w.layout.loaded r.index
-
-      first : ℕ
-      first = pc + 1 + 1 + 1
 
       stop : ℕ
       stop = pc + length (ranges_code w.layout n h code (r ∷ []) set e m pc)
@@ -95,22 +91,10 @@ module _ (w : Setting) (ready : IsSettled w) (body : Mask → State → Res) (al
       count : ℕ
       count = runs_for (gang w) (length_of x)
 
-      own : RunBodyRuns w r.index h code body
-      own = subst (λ j. RunBodyRuns w j h code body) (sym (one_some r.index counter li)) runs
+      own : BodiesRun w r.index h code body
+      own = subst (λ j. BodiesRun w j h code body) (sym (one_some r.index counter li)) runs
 
-      place : ℕ
-      place = run_place w.layout d m
-
-      rest : List Instr
-      rest = two first (set ++ last_index w.layout r.index place m n h) (λ top. code top ++ (run_step w.layout place e n h ++ run_back w.layout (goes_on d set) r.index n h first top))
-
-      ends : first + length rest ≡ stop
-      ends = omega arith
-
-      jump_has : slice_get w.routine.code (pc + 1 + 1) ≡ Some (jump_off h stop)
-      jump_has = has.1.1.0 ∙ ap (λ to. Some (jump_off h to)) ends
-
-      it : IsRuns w n h r.index code x e m d set before c0 first stop
+      it : IsRuns w n h r.index x e m d set before c0
       it = record {
         place = run_place_is w ready none r.index h m d refl (omega (arith, mh)) typed.0.run typed.0.place;
         index = held.0.index;
@@ -118,14 +102,15 @@ module _ (w : Setting) (ready : IsSettled w) (body : Mask → State → Res) (al
         ends = omega (arith, em);
         below = omega (arith, mh);
         high = held.0.high;
+        bottom = held.0.bottom;
         short = typed.0.short;
+        limited = typed.0.limited;
+        tested = typed.0.tested;
         typed = typed.0.index;
         measures = measures;
         the_end = held.0.end;
         sets = sets;
         few = omega (arith, few);
-        has = has.1.1.1;
-        stops = ends;
       }
 
   outer_range : (r q : TRange) (rs : List TRange) (x y : Range) (ys : List Range) → RangesRun (q ∷ rs) (y ∷ ys) → RangesRun (r ∷ q ∷ rs) (x ∷ y ∷ ys)
@@ -133,7 +118,7 @@ module _ (w : Setting) (ready : IsSettled w) (body : Mask → State → Res) (al
       passes_after w ready c0 c1 1 stop' m u _ (begun_comes e m pc c0 below has.0 at) lo1
       (passes_to w ready c1 stop stop' m m (1 + u) _ ends (omega arith)
       (subst (λ rs. Passes w c1 stop m (1 + u) (rounds body all rs s)) lists
-      (sweep_runs w ready body all m (n + 1) 1 x.end inside turn (32 + 32 * cost) (4 + 32 * cost) top stop c1 it count x.start s c1 (1 + u)
+      (sweep_runs w ready body all m (n + 1) 1 x.end inside turn (32 + 32 * cost) (7 + 32 * cost) top stop c1 it count x.start s c1 (1 + u)
       (counts_ones count x.start x.end refl) held.0.low
       (record {
         at = begun_at e m pc c0 below has.0 at;
@@ -231,7 +216,7 @@ module _ (w : Setting) (ready : IsSettled w) (body : Mask → State → Res) (al
           true_so false = refl
 
       turned : (z : ℤ) (s1 : State) (c : Conf) (v : ℕ) → At w c (top + 1 + 1) → Low w m c1 c → number I64 (c.scalars (wide w.layout m)) ≡ z
-          → Stands w s1 c → 4 + 32 * cost + v ≤ 32 * s1.work
+          → Stands w s1 c → 7 + 32 * cost + v ≤ 32 * s1.work
           → Passes w c (top + 1 + 1 + length (inside (top + 1 + 1))) (m + 1) v (rounds body all (turn z) s1)
       turned z s1 c v at1 lo place st1 le1 =
           passes_after w ready c c2 1 (top + 1 + 1 + length (inside (top + 1 + 1))) (m + 1) v _
@@ -263,7 +248,7 @@ module _ (w : Setting) (ready : IsSettled w) (body : Mask → State → Res) (al
           bits : c2.scalars g ≡ wrap I32 z
           bits = put_same c.scalars g b ∙ ap (wrap I32) place
 
-      it : IsSweep w body all m (n + 1) 1 x.end inside turn (32 + 32 * cost) (4 + 32 * cost) top stop c1
+      it : IsSweep w body all m (n + 1) 1 x.end inside turn (32 + 32 * cost) (7 + 32 * cost) top stop c1
       it = record {
         Good = λ z c. Unit {0};
         code = has.1.1.1;

@@ -40,6 +40,7 @@ module _ (w : Setting) where
     pub end : number I64 (c.scalars (wide w.layout (e + 1))) ≡ x.end
     pub low : IsNotLess x.start
     pub high : x.end ≤ℤ pos (2 ^ 31)
+    pub bottom : IsNotLess x.end
 
   abbrev pub AreHeld : List TRange → List Range → ℕ → Conf → Type 0
   AreHeld [] [] e c = Unit {0}
@@ -59,6 +60,7 @@ module _ (w : Setting) where
       end = ap (number I64) (lo.spares.scalars_stay I64 (e + 1) (omega (arith, le))) ∙ h.0.end;
       low = h.0.low;
       high = h.0.high;
+      bottom = h.0.bottom;
     },
     held_on rs xs (e + 1 + 1) m c c1 (omega (arith, le)) lo h.1,
   )

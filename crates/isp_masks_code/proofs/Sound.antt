@@ -31,7 +31,7 @@ use Rattle.isp_masks_code.specs.Sets.{unite, leave_code, jump_code, jumped_code}
 use Rattle.isp_masks_code.specs.declared.exits.Leaving.{Leaving}
 use Rattle.isp_masks_code.specs.declared.exits.Leaving.TheVariants.{Never, Always, Maybe}
 use Rattle.isp_masks_code.specs.Spots.{Numbers, Spot, body_spot, first_spot, past, under, widely}
-use Rattle.isp_masks_code.specs.Statements.{behind, rest_code, parted_code, kept_code, both_kept_code, left_code, wide_code, if_code, if_else_code, answer_code, returned, stmt_places, block_places, stmts_places, stmt_texts, block_texts, stmts_texts, stmt_code, block_code, stmts_code, function_code, body_layout, test_place}
+use Rattle.isp_masks_code.specs.Statements.{behind, run_bodies, rest_code, parted_code, kept_code, both_kept_code, left_code, wide_code, if_code, if_else_code, answer_code, returned, stmt_places, block_places, stmts_places, stmt_texts, block_texts, stmts_texts, stmt_code, block_code, stmts_code, function_code, body_layout, test_place}
 use Rattle.isp_masks_code.specs.Asks.{unique_asks, part_asks, first_asks, step_asks, answer_asks, block_asks, stmt_asks, stmts_asks}
 use Rattle.isp_lower_code.specs.Sound.{AreSound, Links, PartSound, IsRegister, Granted, ExprPresent, HasRegister, HasArray, HasLocal, HasMask}
 use Rattle.isp_lower_code.proofs.Lemmas.{found_there, operand_there, sound_both, copy_sound, here_then, value_sound, part_sound, simple_sound, items_sound, ExprTree, OperandTree, all_grow}
@@ -364,13 +364,19 @@ module _ (code : Listing) (h : Routine) where
           let k = runs_slot n rs in
           let pr = ranges_places l rs in
           let lb = body_layout l rs in
-          let e1 = length-append pr (stmt_places lb x) in
+          let px = stmt_places lb x in
+          let z1 = past pr z in
+          let z2 = behind lb x z1 in
+          let e1 = length-append pr (px ++ px) in
+          let e2 = length-append px px in
+          let t1 = length-append (stmt_texts x) (stmt_texts x) in
           let own : HasMasks (body_spot k) = (f.0.1.1.1.1.0, f.0.1.1.1.1.1.0, f.0.1.1.1.1.1.1) in
           let linked = body_as (λ m. Links fs code h m) l rs links (λ o d. links_same fs l o d links) in
           let granted = body_as (λ m. Granted h m (stmt_asks answer x (k + 3))) l rs f.1 (λ o d. granted_same l o d (stmt_asks answer x (k + 3)) f.1) in
-          foreach_sound code h l fs links rs z.place spot.on n (λ pc1. stmt_code lb answer x pc1 (past pr z) (body_spot k)) is.1 f.0.0 f.0.1.0
-          f.0.1.1.0 lm.0 own.0 (omega (arith, e1, pl)) (λ pc1 lt1. stmt_sound x lb linked pc1 (past pr z) (body_spot k) is.2 granted own
-          (omega (arith, e1, pl)) tx lt1) pc lt
+          foreach_sound code h l fs links rs z.place spot.on n (run_bodies lb answer x k z1) is.1 f.0.0 f.0.1.0
+          f.0.1.1.0 lm.0 own.0 (omega (arith, e1, pl)) (λ pc1 lt1. stmt_sound x lb linked pc1 z1 (body_spot k) is.2 granted own
+          (omega (arith, e1, e2, pl)) (omega (arith, t1, tx)) lt1) (λ pc1 lt1. stmt_sound x lb linked pc1 z2 (body_spot k) is.2 granted own
+          (omega (arith, e1, e2, pl)) (omega (arith, t1, tx)) lt1) pc lt
       stmt_sound (t_foreach_active w g i x sp) l links pc z spot is f lm pl tx lt =
           let n = spot.slot in
           let own : HasMasks (body_spot (n + 1)) = (f.0.1.1.1.1.0, f.0.1.1.1.1.1.0, f.0.1.1.1.1.1.1) in

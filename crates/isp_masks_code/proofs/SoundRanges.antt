@@ -1,7 +1,7 @@
 -- Each instruction of the code of a `foreach` has its operands, where those of its body have.
-use Rattle.std.proofs.Common.{◌≡◌, ℕ, ◌+◌, ◌<◌, ◌≤◌, List, [], ◌∷◌, ◌++◌, length, Option, Some, None, Bool, true, false, refl, sym, ap, ◌∙◌, subst, arith, length-append}
+use Rattle.std.proofs.Common.{◌≡◌, ℕ, ◌+◌, ◌<◌, ◌≤◌, List, [], ◌∷◌, ◌++◌, length, Option, Some, None, Bool, true, false, refl, sym, ap, ◌∙◌, subst, arith, length-append, if◌then◌else◌}
 use Rattle.isp_base.specs.Ranks.{widened}
-use Rattle.isp_base.specs.declared.operators.Compare.TheVariants.{Less}
+use Rattle.isp_base.specs.declared.operators.Compare.TheVariants.{Less, LessOrEqual}
 use Rattle.isp_base.specs.declared.types.Elem.TheVariants.{Bool as Truth, I32, I64}
 use Rattle.isp_base.specs.declared.types.Rate.{Rate}
 use Rattle.isp_base.specs.declared.types.Rate.TheVariants.{Uniform, Varying}
@@ -18,14 +18,15 @@ use Rattle.isp_lower_code.specs.Code.{expr_code}
 use Rattle.isp_lower_code.specs.Found.{convert_to, found}
 use Rattle.isp_lower_code.specs.Instructions.{compare, compute, constant, convert, splat, jump_on}
 use Rattle.isp_lower_code.specs.Known.{constant_of}
-use Rattle.isp_lower_code.specs.Pieces.{two}
+use Rattle.isp_lower_code.specs.Pieces.{guard, two}
 use Rattle.isp_lower_code.specs.Spans.{expr_places}
-use Rattle.isp_lower_code.specs.Layout.{Layout, mask_register}
+use Rattle.isp_lower_code.specs.Layout.{Layout}
 use Rattle.isp_lower_code.specs.Rated.{Reaches}
 use Rattle.isp_lower_code.specs.Sound.{AreSound, Granted, IsRegister, IsSound, Links}
 use Rattle.isp_lower_code.proofs.Lemmas.{sound_both, compare_sound, constant_sound, convert_sound, copy_sound, splat_sound, found_there, value_sound, ExprTree, OperandTree}
 use Rattle.isp_masks_code.specs.Asks.{bound_asks, bounds_asks, measures_asks, place_asks, places_asks}
-use Rattle.isp_masks_code.specs.Ranges.{goes_on, wide, narrow, test, lane, lane_numbers, sum_lanes, range_mask, places_slot, runs_slot, measures_code, bound_code, bounds_code, ranges_places, sweep_code, outer_index, last_index, run_back, run_place, run_step, runs_code, ranges_code, foreach_code}
+use Rattle.isp_masks_code.specs.Ranges.{RunBodies, goes_on, wide, narrow, test, lane, lane_numbers, sum_lanes, range_mask, places_slot, runs_slot, measures_code, bound_code, bounds_code, ranges_places, sweep_code, outer_index, last_index, index_step, next_from, refill, full_back, full_code, full_test, rest_run, run_place, runs_code, ranges_code, foreach_code}
+use Rattle.isp_masks_code.specs.Rounds.{fill_mask}
 use Rattle.isp_masks_code.proofs.Bounds.{bound_is}
 use Rattle.isp_masks_code.proofs.SoundLoops.{HereSound, two_sound}
 use Rattle.isp_masks_code.proofs.Trees.{RangesTree}
@@ -83,28 +84,90 @@ module _ (code : Listing) (h : Routine) (l : Layout) where
 
   -- ---- the last range
 
-  jump_on_sound : (k to : ℕ) → k < h.masks → to < length h.code → IsSound code h (instr.JumpIf jump.On (mask_register k) to)
-  jump_on_sound k to lk lt = (((refl, lk), (lt, tt)), tt)
+  sub_uniform : (d x y : ℕ) → IsRegister h Uniform d I64 → IsRegister h Uniform x I64 → IsRegister h Uniform y I64 → IsSound code h (compute Uniform plain.Sub d x y 0)
+  sub_uniform d x y hd hx hy = (((hd.0, λ e. let f : I64 ≡ Truth = sym hd.1 ∙ e in cc), ((hx.0, hx.1 ∙ sym hd.1), ((hy.0, hy.1 ∙ sym hd.1), tt))), tt)
 
-  back_sound : (b : Bool) (i n k first top : ℕ) → IsRegister h Varying (l.variable Varying i) I32 → IsRegister h Varying (lane l (n + 1)) I32 → k < h.masks → first < length h.code → top < length h.code → AreSound code h (run_back l b i n k first top)
-  back_sound true i n k first top hi hc lk lf lt = (add_varying (l.variable Varying i) (l.variable Varying i) (lane l (n + 1)) k hi hi hc lk, (jump_on_sound k top lk lt, tt))
-  back_sound false i n k first top hi hc lk lf lt = (jump_on_sound k first lk lf, tt)
+  fill_sound : (k : ℕ) → k < h.masks → IsSound code h (fill_mask k)
+  fill_sound k lk = (((refl, lk), tt), tt)
+
+  refill_sound : (kept : Bool) (k : ℕ) → k < h.masks → AreSound code h (refill kept k)
+  refill_sound true k lk = tt
+  refill_sound false k lk = (fill_sound k lk, tt)
+
+  step_sound : (al : Bool) (i n k pc : ℕ) → IsRegister h Varying (l.variable Varying i) I32 → IsRegister h Varying (lane l (n + 1)) I32 → k < h.masks → pc + length (index_step l al i n k pc) < length h.code → AreSound code h (index_step l al i n k pc)
+  step_sound true i n k pc hi hc lk lt = (((omega (arith, lt), tt), tt), (add_varying (l.variable Varying i) (l.variable Varying i) (lane l (n + 1)) k hi hi hc lk, tt))
+  step_sound false i n k pc hi hc lk lt = tt
+
+  from_low : (al : Bool) (first step to : ℕ) → first < to → step + 1 < to → next_from al first step < to
+  from_low true first step to lf ls = ls
+  from_low false first step to lf ls = lf
 
   place_there : (d : Bool) (m : ℕ) → IsRegister h Uniform (l.place Uniform) I64 → IsRegister h Uniform (wide l m) I64 → IsRegister h Uniform (run_place l d m) I64
   place_there false m hp hw = hp
   place_there true m hp hw = hw
 
-  runs_sound : (d : Bool) (set : List Instr) (r : TRange) (rs : List TRange) (e m n k : ℕ) (body : ℕ → List Instr) → 0 < h.masks → k < h.masks
+  -- what the runs of a range use
+  record RunsThere (r : TRange) (x e m n k : ℕ) : Type 0 where
+    some : 0 < h.masks
+    mask : k < h.masks
+    place : IsRegister h Uniform x I64
+    start : IsRegister h Uniform (wide l e) I64
+    end : IsRegister h Uniform (wide l (e + 1)) I64
+    limit : IsRegister h Uniform (wide l (m + 1)) I64
+    tested : IsRegister h Uniform (test l (m + 1)) Truth
+    lanes : IsRegister h Uniform (wide l n) I64
+    index : IsRegister h Varying (l.variable Varying r.index) I32
+    count : IsRegister h Varying (lane l (n + 1)) I32
+
+  module _ (r : TRange) (x e m n k : ℕ) (there : RunsThere r x e m n k) (own : List Instr) (own_sound : AreSound code h own) where
+    test_sound : IsSound code h (full_test l x m)
+    test_sound = compare_sound code h Uniform LessOrEqual I64 (test l (m + 1)) x (wide l (m + 1)) 0 there.tested there.place there.limit there.some
+
+    jump_sound : (b : Bool) (to : ℕ) → to < length h.code → IsSound code h (jump_on (if b then jump.True else jump.False) (test l (m + 1)) to)
+    jump_sound true to lt = (((there.tested.0, there.tested.1), (lt, tt)), tt)
+    jump_sound false to lt = (((there.tested.0, there.tested.1), (lt, tt)), tt)
+
+    full_sound : (al kept : Bool) (body : ℕ → List Instr) → HereSound code h body → HereSound code h (full_code l al kept own r.index x m n k body)
+    full_sound al kept body fb pc lt =
+        let first = pc + 1 in
+        let at = first + length own in
+        let skip = index_step l al r.index n k at in
+        let top = at + length skip in
+        let back = full_back l x m n (next_from al first at) in
+        let turn = body top ++ (refill kept k ++ back) in
+        let e1 = length-append own (skip ++ turn) in
+        let e2 = length-append skip turn in
+        let e3 = length-append (body top) (refill kept k ++ back) in
+        let e4 = length-append (refill kept k) back in
+        let to : next_from al first at < length h.code = from_low al first at (length h.code) (omega (arith, lt)) (omega (arith, lt, e1, e2, e3, e4)) in (
+          fill_sound k there.mask,
+          sound_both code h own (skip ++ turn) own_sound
+              (sound_both code h skip turn (step_sound al r.index n k at there.index there.count there.mask (omega (arith, lt, e1, e2, e3, e4)))
+              (sound_both code h (body top) (refill kept k ++ back) (fb top (omega (arith, lt, e1, e2, e3, e4)))
+              (sound_both code h (refill kept k) back (refill_sound kept k there.mask)
+              (add_uniform x x (wide l n) there.place there.place there.lanes, (test_sound, (jump_sound true (next_from al first at) to, tt)))))),
+        )
+
+    rest_sound : (body : ℕ → List Instr) → HereSound code h body → HereSound code h (rest_run l own x e k body)
+    rest_sound body fb pc lt =
+        let top = pc + 1 + 1 + length own in
+        let e1 = length-append own (body top) in
+        let lanes : IsSound code h (range_mask k x (wide l (e + 1))) = (((refl, there.mask), ((there.place.0, there.place.1), ((there.end.0, there.end.1), tt))), tt) in
+        (lanes, ((((refl, there.mask), (omega (arith, lt), tt)), tt), sound_both code h own (body top) own_sound (fb top (omega (arith, lt, e1)))))
+
+    all_sound : (al kept : Bool) (full rest : ℕ → List Instr) → HereSound code h full → HereSound code h rest
+        → HereSound code h (λ pc. two pc (guard (jump_on jump.False (test l (m + 1))) pc (full_code l al kept own r.index x m n k full)) (rest_run l own x e k rest))
+    all_sound al kept full rest ff fr =
+        two_sound code h (λ pc. guard (jump_on jump.False (test l (m + 1))) pc (full_code l al kept own r.index x m n k full)) (rest_run l own x e k rest)
+        (λ pc lt. (jump_sound false (pc + 1 + length (full_code l al kept own r.index x m n k full (pc + 1))) (omega (arith, lt)), full_sound al kept full ff (pc + 1) (omega (arith, lt)))) (rest_sound rest fr)
+
+  runs_sound : (d : Bool) (set : List Instr) (r : TRange) (rs : List TRange) (e m n k : ℕ) (body : RunBodies) → 0 < h.masks → k < h.masks
       → AreSound code h set → Granted h l (measures_asks n) → Granted h l (bounds_asks (r ∷ rs) e) → Granted h l (place_asks r m)
-      → HereSound code h body → HereSound code h (λ pc. runs_code l d set r.index e m n k body pc)
-  runs_sound d set r rs e m n k body some lk fs fm b p fb pc lt =
+      → HereSound code h body.full → HereSound code h body.rest → HereSound code h (λ pc. runs_code l d set r.index e m n k body pc)
+  runs_sound d set r rs e m n k body some lk fs fm b p ff fr pc lt =
       let x = run_place l d m in
-      let hx = place_there d m p.1.1.1.1.1.1 p.1.0 in
+      let hx = place_there d m p.1.1.1.1.1.1.1 p.1.0 in
       let own = last_index l r.index x m n k in
-      let first = pc + 1 + 1 + 1 in
-      let top = first + length (set ++ own) in
-      let step = run_step l x e n k in
-      let back = run_back l (goes_on d set) r.index n k first top in
       let index : AreSound code h own = (
         convert_sound code h Uniform I32 I64 (narrow l (m + 1)) x 0 p.1.1.1.0 hx some,
         (
@@ -112,27 +175,21 @@ module _ (code : Listing) (h : Routine) (l : Layout) where
           (add_varying (l.variable Varying r.index) (lane l (m + 1)) (lane l n) k p.0 p.1.1.1.1.0 fm.1.0 lk, tt),
         ),
       ) in
-      let lanes : IsSound code h (range_mask k x (wide l (e + 1))) = (((refl, lk), ((hx.0, hx.1), ((b.1.1.0.0.0, b.1.1.0.0.1), tt))), tt) in
-      let e1 = length-append (set ++ own) (body top ++ (step ++ back)) in
-      let e2 = length-append (body top) (step ++ back) in
-      let stepped : AreSound code h (step ++ back) = (add_uniform x x (wide l n) hx hx fm.1.1.0, (lanes, back_sound (goes_on d set) r.index n k first top p.0 fm.1.1.1.1.1.0 lk (omega (arith, e1, lt)) (omega (arith, e1, lt)))) in (
-        copy_sound code h Uniform I64 x (wide l e) 0 hx b.0.0 some,
+      let there : RunsThere r x e m n k = record { some = some; mask = lk; place = hx; start = b.0.0; end = b.1.1.0.0; limit = p.1.1.1.1.1.1.0; tested = p.1.1.1.1.1.0; lanes = fm.1.1.0; index = p.0; count = fm.1.1.1.1.1.0 } in
+      let both = sound_both code h set own fs index in (
+        copy_sound code h Uniform I64 x (wide l e) 0 hx there.start some,
         (
-          lanes,
-          (
-            (((refl, lk), (omega (arith, lt), tt)), tt),
-            sound_both code h (set ++ own) (body top ++ (step ++ back))
-                (sound_both code h set own fs index) (sound_both code h (body top) (step ++ back) (fb top (omega (arith, e1, e2, lt))) stepped),
-          ),
+          sub_uniform (wide l (m + 1)) (wide l (e + 1)) (wide l n) there.limit there.end there.lanes,
+          (test_sound r x e m n k there (set ++ own) both, all_sound r x e m n k there (set ++ own) both (goes_on d set) body.kept body.full body.rest ff fr (pc + 1 + 1 + 1) (omega (arith, lt))),
         ),
       )
 
   -- ---- all of them
 
-  module _ (n k : ℕ) (body : ℕ → List Instr) (some : 0 < h.masks) (lk : k < h.masks) (measures : Granted h l (measures_asks n)) (fb : HereSound code h body) where
+  module _ (n k : ℕ) (body : RunBodies) (some : 0 < h.masks) (lk : k < h.masks) (measures : Granted h l (measures_asks n)) (ff : HereSound code h body.full) (fr : HereSound code h body.rest) where
     ranges_sound : (rs : List TRange) (set : List Instr) (e m : ℕ) → AreSound code h set → Granted h l (bounds_asks rs e) → Granted h l (places_asks rs m) → HereSound code h (λ pc. ranges_code l n k body rs set e m pc)
-    ranges_sound [] set e m fs b p pc lt = fb pc lt
-    ranges_sound (r ∷ []) set e m fs b p pc lt = runs_sound (l.loaded r.index) set r [] e m n k body some lk fs measures b p.0 fb pc lt
+    ranges_sound [] set e m fs b p pc lt = two_sound code h body.full body.rest ff fr pc lt
+    ranges_sound (r ∷ []) set e m fs b p pc lt = runs_sound (l.loaded r.index) set r [] e m n k body some lk fs measures b p.0 ff fr pc lt
     ranges_sound (r ∷ q ∷ rs) set e m fs b p pc lt =
         let outer = outer_index l r.index (m + 1) k ∷ [] in
         let t = test l (m + 1) in
@@ -200,10 +257,10 @@ module _ (code : Listing) (h : Routine) (l : Layout) where
         (sound_both code h cb cr (bound_sound r.end pc1 p1 k (n + 1) is.2 is.3 f.1.1.0 lk (omega (arith, g1, g2, pl)) (omega (arith, e1, e2, lt)))
         (bounds_sound rs pc2 p2 k (n + 1 + 1) is.4 f.1.1.1.1 lk (omega (arith, g1, g2, pl)) (omega (arith, e1, e2, lt))))
 
-    pub foreach_sound : (rs : List TRange) (p k n : ℕ) (body : ℕ → List Instr) → RangesTree fs rs → Granted h l (measures_asks n)
+    pub foreach_sound : (rs : List TRange) (p k n : ℕ) (body : RunBodies) → RangesTree fs rs → Granted h l (measures_asks n)
         → Granted h l (bounds_asks rs (n + 1 + 1)) → Granted h l (places_asks rs (places_slot n rs)) → k < h.masks → runs_slot n rs < h.masks
-        → p + length (ranges_places l rs) ≤ length code.places → HereSound code h body → HereSound code h (λ pc. foreach_code l rs pc p k n body)
-    foreach_sound rs p k n body is fm fb fp lk lh pl f =
+        → p + length (ranges_places l rs) ≤ length code.places → HereSound code h body.full → HereSound code h body.rest → HereSound code h (λ pc. foreach_code l rs pc p k n body)
+    foreach_sound rs p k n body is fm fb fp lk lh pl ff fr =
         two_sound code h (λ pc. measures_code l n (runs_slot n rs))
         (λ pc1. two pc1 (bounds_code l rs pc1 p k (n + 1 + 1))
         (λ pc2. ranges_code l n (runs_slot n rs) body rs [] (n + 1 + 1) (places_slot n rs) pc2))
@@ -211,4 +268,4 @@ module _ (code : Listing) (h : Routine) (l : Layout) where
         (two_sound code h (λ pc1. bounds_code l rs pc1 p k (n + 1 + 1))
         (λ pc2. ranges_code l n (runs_slot n rs) body rs [] (n + 1 + 1) (places_slot n rs) pc2)
         (λ pc1 lt1. bounds_sound rs pc1 p k (n + 1 + 1) is fb lk pl lt1)
-        (ranges_sound n (runs_slot n rs) body (omega (arith, lk)) lh fm f rs [] (n + 1 + 1) (places_slot n rs) tt fb fp))
+        (ranges_sound n (runs_slot n rs) body (omega (arith, lk)) lh fm ff fr rs [] (n + 1 + 1) (places_slot n rs) tt fb fp))

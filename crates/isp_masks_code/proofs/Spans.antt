@@ -66,7 +66,9 @@ module _ (fs : List TFunction) (vars : List Variable) where
           placed_both (first_places l first) (test_places l e ++ (stmt_places l x ++ back)) (first_placed l first f.2)
           (placed_both (test_places l e) (stmt_places l x ++ back) test (placed_both (stmt_places l x) back (stmt_placed l x f.5) (placed_both (step_places l step) (test_places l e) (step_placed l step f.4) test)))
       stmt_placed l (t_foreach w n rs x s) f =
-          placed_both (ranges_places l rs) (stmt_places (body_layout l rs) x) (ranges_placed l rs f.1) (stmt_placed (body_layout l rs) x f.2)
+          let px = stmt_places (body_layout l rs) x in
+          let part = stmt_placed (body_layout l rs) x f.2 in
+          placed_both (ranges_places l rs) (px ++ px) (ranges_placed l rs f.1) (placed_both px px part part)
       stmt_placed l (t_foreach_active w n i x s) f = stmt_placed l x f.2
       stmt_placed l (t_foreach_unique w n i t e x s) f = placed_both (expr_places l e) (stmt_places l x) (expr_placed fs vars l e f.2.0) (stmt_placed l x f.3)
       stmt_placed l (t_unmasked w b s) f = block_placed (outside l) b f
@@ -114,7 +116,7 @@ mutual
   stmt_told (t_while k n e x s) = stmt_told x
   stmt_told (t_do k n x e s) = stmt_told x
   stmt_told (t_for k n first e step i x s) = stmt_told x
-  stmt_told (t_foreach w n rs x s) = stmt_told x
+  stmt_told (t_foreach w n rs x s) = told_both (stmt_texts x) (stmt_texts x) (stmt_told x) (stmt_told x)
   stmt_told (t_foreach_active w n i x s) = stmt_told x
   stmt_told (t_foreach_unique w n i t e x s) = stmt_told x
   stmt_told (t_unmasked w b s) = block_told b

@@ -21,10 +21,10 @@ use Rattle.isp_lower_code.specs.Runs.{Ok}
 use Rattle.isp_lower_code.specs.Setting.{Setting, IsSettled, gang_of, calls_of, AreAt, Holds}
 use Rattle.isp_lower_code.proofs.Lemmas.{are_front, are_back, comes_none, at_to, spares_all, expr_runs, few, enters_less, enters_part, items_run, simple_runs, ExprParts}
 use Rattle.isp_masks_code.specs.Asserts.{fails_code}
-use Rattle.isp_masks_code.specs.Named.{AllNamed, BlockNamed, Named}
+use Rattle.isp_masks_code.specs.Named.{AllNamed, AreNamed, BlockNamed, Named}
 use Rattle.isp_masks_code.specs.Ranges.{ranges_places, runs_slot, places_slot}
 use Rattle.isp_masks_code.specs.Spots.{Numbers, Spot, body_spot, past}
-use Rattle.isp_masks_code.specs.Statements.{behind, rest_code, if_code, if_else_code, stmt_places, stmt_code, block_code, stmts_code, stmt_texts, body_layout}
+use Rattle.isp_masks_code.specs.Statements.{behind, run_bodies, rest_code, if_code, if_else_code, stmt_places, stmt_code, block_code, stmts_code, stmt_texts, body_layout}
 use Rattle.isp_masks_code.specs.Exits.{either_leaves, exits_of, block_exits, nobody_leaves, all_go_on, both_go_on, leaving_of}
 use Rattle.isp_masks_code.specs.StmtRuns.{AreThree, aside, EntersAt, StmtRuns}
 use Rattle.isp_masks_code.proofs.Combine.{part_spot, stmt_after, stmt_less, with_runs, all_runs, plain_ok}
@@ -137,10 +137,18 @@ mutual
       let h = runs_slot spot.slot rs in
       let last = last_there rs fit.0.some in
       let l1 = body_layout w.layout rs in
+      let z1 = past pl z in
+      let px = stmt_places l1 x in
       let own = named_past w.code z pl _ _ names in
-      foreach_runs w ready rs pc z.place spot (0 + q) a s c last.0 _ _ fit.1 last.1 fit.0
-      (foreach_body w ready fit.1 rs last.0 x h (past pl z) last.1 (last_typed w rs last.0 (places_slot spot.slot rs) last.1 fit.0.places) (last_constant w rs last.0 last.1 fit.0.constants) own
-      (λ m k ready1 T s1 c1 pc1 z1 at named1 en. body_runs (with_layout w l1 m k) ready1 x h (past pl z) (stmt_runs x (with_layout w l1 m k) ready1) (fit.2 m k) named1 T s1 c1 pc1 z1 at en))
+      let part = λ (z2 : Numbers) (named : AreNamed w.code z2 px (stmt_texts x)).
+      foreach_body w ready fit.1 rs last.0 x h z2 last.1 (last_typed w rs last.0 (places_slot spot.slot rs) last.1 fit.0.places) (last_constant w rs last.0 last.1 fit.0.constants) named
+      (λ m k ready1 T s1 c1 pc1 y at named1 en. body_runs (with_layout w l1 m k) ready1 x h z2 (stmt_runs x (with_layout w l1 m k) ready1) (fit.2 m k) named1 T s1 c1 pc1 y at en) in
+      foreach_runs w ready rs pc z.place spot (0 + q) a s c last.0 (run_bodies l1 w.frame.answer x h z1) (run (gang_of w) w.frame (calls_of w) w.turns x) fit.1 last.1 fit.0
+      (record {
+        full = part z1 (named_front w.code z1 px px (stmt_texts x) (stmt_texts x) own);
+        rest = part (behind l1 x z1) (named_back w.code z1 px px (stmt_texts x) (stmt_texts x) own);
+        whole = λ e T u1 u2 u3 u4 s1 s2 is. went_whole w ready x T s1 s2 u1 u2 u3 u4 is e;
+      })
       has (are_front w.code.places z.place pl _ names.places_are) three (enters_less w ready pc spot.on spot.slot (0 + q) q a s c (omega arith) b)
   stmt_runs (t_foreach_active v g i x sp) w ready pc z spot q a s c fit has names three b =
       active_runs w ready i pc spot (0 + q) a s c _ _ (body_runs w ready x (spot.slot + 1) z (stmt_runs x w ready) fit names) has three (enters_less w ready pc spot.on spot.slot (0 + q) q a s c (omega arith) b)

@@ -79,7 +79,7 @@ abbrev pub place_asks : TRange → ℕ → Ask
 place_asks r m =
     Both (Register Varying (Variable r.index) I32) (Both (spare_ask Uniform I64 m)
     (Both (Number (m + 1)) (Both (spare_ask Uniform I32 (m + 1))
-    (Both (spare_ask Varying I32 (m + 1)) (Both (spare_ask Uniform Truth (m + 1)) (Register Uniform Place I64))))))
+    (Both (spare_ask Varying I32 (m + 1)) (Both (spare_ask Uniform Truth (m + 1)) (Both (spare_ask Uniform I64 (m + 1)) (Register Uniform Place I64)))))))
 
 abbrev pub places_asks : List TRange → ℕ → Ask
 places_asks [] m = Nothing

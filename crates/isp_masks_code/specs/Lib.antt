@@ -1,5 +1,6 @@
 pub mod Exits
 pub mod Free
+pub mod Again
 pub mod Sets
 pub mod Spots
 pub mod Fors

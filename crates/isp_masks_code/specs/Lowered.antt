@@ -4,6 +4,7 @@ use Rattle.isp_base.specs.declared.types.Span.{Span}
 use Rattle.isp_code.specs.Listing.{Listing, Routine}
 use Rattle.isp_code.specs.Registers.{scalars_of, vectors_of}
 use Rattle.isp_typed.specs.Fine.{FineFunction}
+use Rattle.isp_typed.specs.Nodes.{block_nodes}
 use Rattle.isp_typed.specs.Typed.{Program, TFunction}
 use Rattle.isp_lower_code.specs.Asks.{All}
 use Rattle.isp_lower_code.specs.Callees.{rates_in}
@@ -16,6 +17,7 @@ use Rattle.isp_lower_code.specs.Setting.{AreAt}
 use Rattle.isp_lower_code.specs.Sound.{HasMask}
 use Rattle.isp_lower_code.specs.Tables.{AnyArray}
 use Rattle.isp_lower_code.specs.declared.constant.Constant.{Constant}
+use Rattle.isp_masks_code.specs.Again.{block_again}
 use Rattle.isp_masks_code.specs.Asks.{block_asks}
 use Rattle.isp_masks_code.specs.Keeping.{KeepsThem, constants_asks}
 use Rattle.isp_masks_code.specs.Spots.{Numbers}
@@ -31,6 +33,8 @@ IsFineFunction h = (fs : List TFunction) × FineFunction fs h
 pub record IsSmall (h : TFunction) : Type 0 where
   pub numbers : HasNumbers (block_asks h.answer h.body 3)
   pub registers : length h.variables + registers_asked (block_asks h.answer h.body 3) + 64 ≤ 4294967295
+  -- no node's code stands more than twice
+  pub twice : block_again h.body ≤ block_nodes h.body
 
 -- what the body asks for is the function's own
 abbrev pub BodyIsOwn : TFunction → Type 0

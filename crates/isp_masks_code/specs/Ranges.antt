@@ -1,7 +1,8 @@
--- The code of `foreach`, told the code of its body. Slots n and n + 1 have what all runs use; then each range has two slots, for
--- its start and its end, and behind these two for its place and its index; slot h, behind all, is the first of the body's masks.
+-- The code of `foreach`, told the code of its body, which stands twice: for the runs that have all lanes, and for the one behind
+-- them. Slots n and n + 1 have what all runs use; then each range has two slots, for its start and its end, and behind these two
+-- for its place and its index; slot h, behind all, is the first of the body's masks.
 use Rattle.std.specs.Prelude.{ℕ, ◌+◌, List, [], ◌∷◌, ◌++◌, length, Bool, true, false}
-use Rattle.isp_base.specs.declared.operators.Compare.TheVariants.{Less}
+use Rattle.isp_base.specs.declared.operators.Compare.TheVariants.{Less, LessOrEqual}
 use Rattle.isp_base.specs.declared.types.Elem.TheVariants.{Bool as Truth, I32, I64}
 use Rattle.isp_base.specs.declared.types.Rate.TheVariants.{Uniform, Varying}
 use Rattle.isp_base.specs.declared.types.Span.{Span}
@@ -40,11 +41,27 @@ sum_lanes d x k = instr.Scalar (register Uniform d) (scalar.Reduce reduction.Add
 abbrev pub lane_numbers : ℕ → ℕ → Instr
 lane_numbers d k = instr.Vector (register Varying d) (vector.Index (mask_register k))
 
+-- The code of a body, told where it begins: in runs that have all lanes, and in the last one; and whether nobody leaves it.
+pub record RunBodies : Type 0 where
+  pub full : ℕ → List Instr
+  pub rest : ℕ → List Instr
+  pub kept : Bool
+
 -- The index of the last range goes on from run to run where no other is set with it, and no packed load writes it.
 abbrev pub goes_on : {A : Type 0} → Bool → List A → Bool
 goes_on false [] = true
 goes_on false (x ∷ set) = false
 goes_on true set = false
+
+-- Where the next run that has all lanes begins: at the step of the index, or where all indices are set.
+abbrev pub next_from : Bool → ℕ → ℕ → ℕ
+next_from true first step = step + 1
+next_from false first step = first
+
+-- Mask h has all lanes again, behind a body that somebody may leave.
+abbrev pub refill : Bool → ℕ → List Instr
+refill true h = []
+refill false h = fill_mask h ∷ []
 
 module _ (l : Layout) where
   abbrev pub wide : ℕ → ℕ
@@ -106,32 +123,55 @@ module _ (l : Layout) where
   abbrev pub next_index : ℕ → ℕ → ℕ → Instr
   next_index i n h = compute Varying plain.Add (l.variable Varying i) (l.variable Varying i) (lane (n + 1)) h
 
-  -- the next run: its place and its lanes
-  abbrev pub run_step : ℕ → ℕ → ℕ → ℕ → List Instr
-  run_step x e n h = compute Uniform plain.Add x x (wide n) 0 ∷ range_mask h x (wide (e + 1)) ∷ []
+  -- ---- its runs that have all lanes, under mask h, which has all
 
-  -- where somebody is in it, back to the body behind its index, or to all indices
-  abbrev pub run_back : Bool → ℕ → ℕ → ℕ → ℕ → ℕ → List Instr
-  run_back true i n h first top = next_index i n h ∷ instr.JumpIf jump.On (mask_register h) top ∷ []
-  run_back false i n h first top = instr.JumpIf jump.On (mask_register h) first ∷ []
+  -- the last place with such a run: as many numbers before the end as there are lanes
+  abbrev pub last_full : ℕ → ℕ → ℕ → Instr
+  last_full e m n = compute Uniform plain.Sub (wide (m + 1)) (wide (e + 1)) (wide n) 0
+
+  -- whether the run from the place in register x is one
+  abbrev pub full_test : ℕ → ℕ → Instr
+  full_test x m = compare Uniform LessOrEqual (test (m + 1)) x (wide (m + 1)) 0
+
+  -- Where the index goes on, its step stands before the body, and the first run jumps over it.
+  abbrev pub index_step : Bool → ℕ → ℕ → ℕ → ℕ → List Instr
+  index_step true i n h pc = instr.Jump (pc + 1 + 1) ∷ next_index i n h ∷ []
+  index_step false i n h pc = []
+
+  -- the next run's place, and back where it has all lanes
+  abbrev pub full_back : ℕ → ℕ → ℕ → ℕ → List Instr
+  full_back x m n to =
+      compute Uniform plain.Add x x (wide n) 0 ∷ full_test x m ∷ jump_on jump.True (test (m + 1)) to ∷ []
+
+  -- `own` sets all indices; told whether the last one goes on, and whether nobody leaves the body
+  abbrev pub full_code : Bool → Bool → List Instr → ℕ → ℕ → ℕ → ℕ → ℕ → (ℕ → List Instr) → ℕ → List Instr
+  full_code alone kept own i x m n h body pc =
+      fill_mask h ∷ two (pc + 1) own (λ step. two step (index_step alone i n h step) (λ top. body top ++ (refill kept h ++ full_back x m n (next_from alone (pc + 1) step))))
+
+  -- ---- and the run behind them, under those lanes of it that there are
+
+  abbrev pub rest_run : List Instr → ℕ → ℕ → ℕ → (ℕ → List Instr) → ℕ → List Instr
+  rest_run own x e h body pc =
+      range_mask h x (wide (e + 1)) ∷ guard (jump_off h) (pc + 1) (λ first. two first own body)
 
   -- all runs; `set` are the indices of the ranges outside
-  abbrev pub runs_code : Bool → List Instr → ℕ → ℕ → ℕ → ℕ → ℕ → (ℕ → List Instr) → ℕ → List Instr
+  abbrev pub runs_code : Bool → List Instr → ℕ → ℕ → ℕ → ℕ → ℕ → RunBodies → ℕ → List Instr
   runs_code loaded set i e m n h body pc =
       let x = run_place loaded m in
-      let back = λ (first top : ℕ). run_step x e n h ++ run_back (goes_on loaded set) i n h first top in
-      copy Uniform x (wide e) 0 ∷ range_mask h x (wide (e + 1)) ∷ guard (jump_off h) (pc + 1 + 1) (λ first. two first (set ++ last_index i x m n h) (λ top. body top ++ back first top))
+      let own = set ++ last_index i x m n h in
+      copy Uniform x (wide e) 0 ∷ last_full e m n ∷ full_test x m ∷ two (pc + 1 + 1 + 1)
+      (guard (jump_on jump.False (test (m + 1))) (pc + 1 + 1 + 1) (full_code (goes_on loaded set) body.kept own i x m n h body.full)) (rest_run own x e h body.rest)
 
   -- The ranges from one on, whose bounds begin at slot e and whose places begin at slot m; `set` are the indices of those outside.
-  -- Without a range the body is all.
-  abbrev pub ranges_code : ℕ → ℕ → (ℕ → List Instr) → List TRange → List Instr → ℕ → ℕ → ℕ → List Instr
-  ranges_code n h body [] set e m pc = body pc
+  -- Without a range the two codes of the body are all.
+  abbrev pub ranges_code : ℕ → ℕ → RunBodies → List TRange → List Instr → ℕ → ℕ → ℕ → List Instr
+  ranges_code n h body [] set e m pc = two pc (body.full pc) body.rest
   ranges_code n h body (r ∷ []) set e m pc = runs_code (l.loaded r.index) set r.index e m n h body pc
   ranges_code n h body (r ∷ q ∷ rs) set e m pc =
       sweep_code e m (n + 1) (compare Uniform Less (test (m + 1)) (wide m) (wide (e + 1)) 0) (jump_on jump.False (test (m + 1))) pc
       (λ pc1. convert Uniform (narrow (m + 1)) (wide m) 0 ∷ ranges_code n h body (q ∷ rs) (set ++ outer_index r.index (m + 1) h ∷ []) (e + 1 + 1) (m + 1 + 1) (pc1 + 1))
 
-  abbrev pub foreach_code : List TRange → ℕ → ℕ → ℕ → ℕ → (ℕ → List Instr) → List Instr
+  abbrev pub foreach_code : List TRange → ℕ → ℕ → ℕ → ℕ → RunBodies → List Instr
   foreach_code rs pc p k n body =
       let h = runs_slot n rs in
       two pc (measures_code n h) (λ pc1. two pc1 (bounds_code rs pc1 p k (n + 1 + 1)) (λ pc2. ranges_code n h body rs [] (n + 1 + 1) (places_slot n rs) pc2))

@@ -29,7 +29,7 @@ use Rattle.isp_masks_code.specs.Fors.{back_code, first_code, step_code, first_pl
 use Rattle.isp_masks_code.specs.Loops.{copy_mask, is_wide, jump_all, next_code, turn_code, while_code, for_code, endless_code, do_code}
 use Rattle.isp_masks_code.specs.Keeping.{constants_code}
 use Rattle.isp_masks_code.specs.Prints.{print_code, print_places, print_texts}
-use Rattle.isp_masks_code.specs.Ranges.{foreach_code, ranges_places, runs_slot}
+use Rattle.isp_masks_code.specs.Ranges.{RunBodies, foreach_code, ranges_places, runs_slot}
 use Rattle.isp_masks_code.specs.Rounds.{unmasked_code, active_code, values_of, unique_code}
 use Rattle.isp_masks_code.specs.Sets.{unite, leave_code, jump_code, jumped_code}
 use Rattle.isp_masks_code.specs.Spots.{Numbers, Spot, body_spot, first_spot, past, under, widely}
@@ -107,7 +107,7 @@ abbrev mutual
   stmt_texts (t_while f g e x sp) = stmt_texts x
   stmt_texts (t_do f g x e sp) = stmt_texts x
   stmt_texts (t_for f g first e step i x sp) = stmt_texts x
-  stmt_texts (t_foreach w g rs x sp) = stmt_texts x
+  stmt_texts (t_foreach w g rs x sp) = stmt_texts x ++ stmt_texts x
   stmt_texts (t_foreach_active w g i x sp) = stmt_texts x
   stmt_texts (t_foreach_unique w g i t e x sp) = stmt_texts x
   stmt_texts (t_unmasked w b sp) = block_texts b
@@ -153,7 +153,7 @@ abbrev mutual
   stmt_places l (t_while f g e x sp) = expr_places l e ++ (stmt_places l x ++ expr_places l e)
   stmt_places l (t_do f g x e sp) = stmt_places l x ++ expr_places l e
   stmt_places l (t_for f g first e step i x sp) = first_places l first ++ (test_places l e ++ (stmt_places l x ++ (step_places l step ++ test_places l e)))
-  stmt_places l (t_foreach w g rs x sp) = ranges_places l rs ++ stmt_places (body_layout l rs) x
+  stmt_places l (t_foreach w g rs x sp) = ranges_places l rs ++ (stmt_places (body_layout l rs) x ++ stmt_places (body_layout l rs) x)
   stmt_places l (t_foreach_active w g i x sp) = stmt_places l x
   stmt_places l (t_foreach_unique w g i t e x sp) = expr_places l e ++ stmt_places l x
   stmt_places l (t_unmasked w b sp) = block_places (outside l) b
@@ -215,7 +215,10 @@ abbrev mutual
       (λ pc2. expr_code l e pc2 z1.place n (n + 3)) (λ pc2. expr_code l e pc2 (test_place l x step z2) n (n + 3))
       (λ pc2. stmt_code l answer x pc2 z2 (body_spot n)) (λ pc2. step_code l step pc2 (behind l x z2).place n (n + 3)))
   stmt_code l answer (t_foreach w g rs x sp) pc z spot =
-      foreach_code l rs pc z.place spot.on spot.slot (λ pc1. stmt_code (body_layout l rs) answer x pc1 (past (ranges_places l rs) z) (body_spot (runs_slot spot.slot rs)))
+      let lb = body_layout l rs in
+      let z1 = past (ranges_places l rs) z in
+      let at = body_spot (runs_slot spot.slot rs) in
+      foreach_code l rs pc z.place spot.on spot.slot (record { full = λ pc1. stmt_code lb answer x pc1 z1 at; rest = λ pc1. stmt_code lb answer x pc1 (behind lb x z1) at; kept = all_go_on x })
   stmt_code l answer (t_foreach_active w g i x sp) pc z spot =
       active_code (l.variable Uniform i) pc spot.on spot.slot (λ pc1. stmt_code l answer x pc1 z (body_spot (spot.slot + 1)))
   stmt_code l answer (t_foreach_unique w g i t e x sp) pc z spot =
@@ -242,6 +245,11 @@ module _ (l : Layout) (answer : Option Ty) where
   -- the body of a loop whose masks are n, n + 1 and n + 2
   abbrev pub body_code : TStmt → ℕ → Numbers → ℕ → List Instr
   body_code x n z pc = stmt_code l answer x pc z (body_spot n)
+
+  -- the two codes of the body of a `foreach`, whose masks are n, n + 1 and n + 2
+  abbrev pub run_bodies : TStmt → ℕ → Numbers → RunBodies
+  run_bodies x n z =
+      record { full = body_code x n z; rest = body_code x n (behind l x z); kept = all_go_on x }
 
   -- turns of a loop, from one on
   abbrev pub turning_code : Bool → Exits → Option TExpr → Option TSimple → TStmt → ℕ → ℕ → Numbers → List Instr

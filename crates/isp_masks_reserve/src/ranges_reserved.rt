@@ -54,7 +54,7 @@ pub(crate) fn bounds(r: &mut Reserve, all: &[TypedRange], slot: Slot) -> Result<
     Ok(at)
 }
 
-/// A place, its index, and what its test gives; and the second of their slots.
+/// A place and the last one of a full run, its index, and what its test gives; and the second of their slots.
 fn place(r: &mut Reserve, x: &TypedRange, slot: Slot) -> Result<Slot, AllocError>
     requires { HasNumbers (place_asks (range_of x.now) slot.number) }
     ensures number { IfOk result (λ n. n.number ≡ slot.number + 1) }
@@ -65,6 +65,7 @@ fn place(r: &mut Reserve, x: &TypedRange, slot: Slot) -> Result<Slot, AllocError
     r.spare(Rate::Uniform, Elem::I32, second)?;
     r.spare(Rate::Varying, Elem::I32, second)?;
     r.spare(Rate::Uniform, Elem::Bool, second)?;
+    r.spare(Rate::Uniform, Elem::I64, second)?;
     r.place()?;
     Ok(second)
 }

@@ -1,8 +1,8 @@
-use Rattle.std.proofs.Common.{◌≡◌, ◌≤◌, List, [], ◌∷◌, ◌++◌, length, sym, ap, subst, ◌∙◌, arith, false, not, suc, take, take_all, drop, ◌<◌, ◌+◌, ◌-◌, Bool, Bor, Option}
+use Rattle.std.proofs.Common.{refl, ◌≡◌, ◌≤◌, List, [], ◌∷◌, ◌++◌, length, sym, ap, subst, ◌∙◌, arith, false, not, suc, take, take_all, drop, ◌<◌, ◌+◌, ◌-◌, Bool, Bor, Option}
 use Rattle.std.specs.Prelude.{option_map, slice_set}
 use Rattle.isp_code.specs.declared.instr.Instr.{Instr}
 use Rattle.isp_code.specs.declared.instr.JumpTest.TheVariants as jump
-use Rattle.isp_lower_code.specs.Instructions.{copy, jump_off, jump_on, the_others, where_so}
+use Rattle.isp_lower_code.specs.Instructions.{jump_off, jump_on, the_others, where_so}
 use Rattle.isp_lower_code.specs.Pieces.{guard, two}
 use Rattle.isp_lower.specs.Emitted.{Appends, Present, layout}
 use Rattle.isp_lower.specs.declared.sites.Site.{Site}
@@ -21,11 +21,11 @@ use Rattle.isp_masks_code.specs.Exits.{all_go_on, nobody_leaves}
 use Rattle.isp_masks_code.specs.Fors.{first_code, first_places}
 use Rattle.isp_masks_code.specs.Loops.{copy_mask, jump_all, sift_jump}
 use Rattle.isp_masks_code.specs.Sets.{unite}
-use Rattle.isp_masks_code.specs.Rounds.{value_code, values_of}
+use Rattle.isp_masks_code.specs.Rounds.{fill_mask, value_code, values_of}
 use Rattle.isp_masks_code.specs.Spots.{Numbers, widely}
 use Rattle.isp_masks.specs.AtWork.{next_of, own_spot, spot_of}
-use Rattle.isp_masks_code.specs.Statements.{left_code, stmt_code, stmt_places, stmt_texts, stmts_code, stmts_places, stmts_texts, body_code, body_layout}
-use Rattle.isp_masks.specs.Written.{Piece, Writes, block_at, guarded_at, kept_at, next_at, step_in, stmt_at, test_in, turn_at, turning_at, turns_at, first_sweep, index_codes, outer_turn_at, place_test, range_begin, range_step, ranges_at, runs_at, runs_begin, runs_next}
+use Rattle.isp_masks_code.specs.Statements.{behind, left_code, run_bodies, stmt_code, stmt_places, stmt_texts, stmts_code, stmts_places, stmts_texts, body_code, body_layout}
+use Rattle.isp_masks.specs.Written.{Piece, Writes, block_at, guarded_at, kept_at, next_at, step_in, stmt_at, test_in, turn_at, turning_at, turns_at, first_sweep, index_codes, outer_turn_at, place_test, range_begin, range_step, ranges_at, full_at, indices_at, rest_at, runs_begin}
 use Rattle.isp_masks.proofs.Awaiting.{awaits_end}
 use Rattle.isp_masks.proofs.Forms.{list_step}
 use Rattle.isp_masks.proofs.JumpsWritten.{left_written}
@@ -37,10 +37,12 @@ use Rattle.isp_masks_code.proofs.Lemmas.{block_view, part_is, ranges_low, nodes_
 use Rattle.isp_masks.proofs.Writing.{chosen_of, landed_over, rounds_written, writes_adding, writes_back, writes_past}
 use Rattle.isp_base.specs.declared.types.Rate.TheVariants.{Uniform}
 use Rattle.isp_code.specs.declared.instr.Instr.TheVariants as instr
-use Rattle.isp_masks_code.specs.Ranges.{bounds_code, last_index, measures_code, range_mask, ranges_places, run_place, runs_slot, test, wide}
-use Rattle.isp_masks.proofs.RangesWritten.{foreach_written, goes_on_codes, last_written, outer_written, ranges_count, ranges_outer, sweep_there, sweep_written}
+use Rattle.isp_masks_code.specs.Ranges.{bounds_code, full_back, full_code, refill, measures_code, range_mask, ranges_places, rest_run, run_place, runs_slot, test, wide}
+use Rattle.isp_masks.proofs.RangesWritten.{foreach_written, full_written, goes_on_codes, rest_written, last_written, outer_written, ranges_count, ranges_outer, sweep_there, sweep_written}
 use Rattle.isp_masks_code.specs.Asks.{stmt_asks}
-use Rattle.isp_lower_code.specs.Layout.{mask_register, register, within}
+use Rattle.isp_lower_code.specs.Layout.{Layout, mask_register, register, within}
+use Rattle.isp_base.specs.declared.types.Ty.{Ty}
+use Rattle.isp_masks.specs.declared.masks.Spot.{Spot}
 use Rattle.isp_registers.specs.declared.numbered.MaskNumber.{MaskNumber}
 use Rattle.isp_registers.specs.declared.numbered.Slot.{Slot}
 use Rattle.isp_masks.specs.declared.ranges.OuterIndex.{OuterIndex}
@@ -270,7 +272,8 @@ statement::foreach-returns t c =
     let bound = subst (λ (s : Sweep). Appends c.measures.new.b c.bounds.new.b (λ pc p. bounds_code l rs pc p k s.bounds.number) (ranges_places l rs)) c.first-it.ensures c.in_ok-bounds.ensures in
     let swept = subst (λ (s : Sweep). Writes c.bounds.new.b c.ranges-2.new.b (ranges_at a.on.now rs x c.new-none.result.items s)) c.first-it.ensures c.in_ok-ranges.ensures in
     let none = subst (λ (xs : List OuterIndex). Writes c.bounds.new.b c.ranges-2.new.b (ranges_at a.on.now rs x xs (first_sweep a.spot.slot rs))) c.new-none.ensures.items swept in
-    foreach_written l a.b.now c.measures.new.b c.bounds.new.b c.ranges-2.new.b rs k n (λ z. body_code (body_layout l rs) a.on.now.answer x h z) (stmt_places (body_layout l rs) x) (stmt_texts x) begun bound none
+    let px = stmt_places (body_layout l rs) x in
+    foreach_written l a.b.now c.measures.new.b c.bounds.new.b c.ranges-2.new.b rs k n (λ z. run_bodies (body_layout l rs) a.on.now.answer x h z) (px ++ px) (stmt_texts x ++ stmt_texts x) begun bound none
 
 pub statement::ranges-outer_range-requires : goal.statement::ranges-outer_range-requires
 statement::ranges-outer_range-requires t c =
@@ -281,6 +284,59 @@ statement::ranges-outer_range-requires t c =
     let long : 1 < length a.all.now = omega (arith, least) in
     let some : 0 < length rs = omega (arith, long, count) in
     (omega (arith, c.decreases), (long, (sweep_there a.on.now a.it rs some c.requires.ranges, (c.requires.ranges, c.requires.body))))
+
+pub statement::full_runs-returns : goal.statement::full_runs-returns
+statement::full_runs-returns t c =
+    let a = c.args in
+    let l = layout a.on.now in
+    let lb = within l a.variable in
+    let h = a.it.masks.number in
+    let n = a.it.measures.number in
+    let m = a.it.place.number in
+    let x = stmt_of a.body.stmt.now in
+    let place = run_place l (l.loaded a.variable) m in
+    let own = indices_at l a.variable a.set.now a.it in
+    let piece : Layout → Option Ty → Spot → Piece = λ la an s. record { code = λ pc z. stmt_code la an x pc z (spot_of s); places = stmt_places la x; texts = stmt_texts x } in
+    let all : c.mask-all.result.number ≡ h = ap (λ (k : MaskNumber). k.number) c.mask-all.ensures in
+    let filled = subst (λ i. Appends a.b.now c.push.new.self (λ pc p. i ∷ []) []) (c.fill_mask.ensures ∙ ap fill_mask all) c.in_ok-push.ensures in
+    let bare = subst (λ la. Writes c.step_index.new.b c.stmt.new.b (piece la c.within-inner.result.answer c.own.result)) c.within-inner.ensures.layout c.in_ok-stmt.ensures in
+    let told = subst (λ an. Writes c.step_index.new.b c.stmt.new.b (piece lb an c.own.result)) c.within-inner.ensures.answer bare in
+    let part = subst (λ s. Writes c.step_index.new.b c.stmt.new.b (piece lb a.on.now.answer s)) c.own.ensures told in
+    let again = subst (λ g. Appends c.stmt.new.b c.fill_again.new.b (λ pc p. refill g c.mask-all.result.number) []) c.all_go_on.ensures c.in_ok-fill_again.ensures in
+    let refilled = subst (λ k. Appends c.stmt.new.b c.fill_again.new.b (λ pc p. refill (all_go_on x) k) []) all again in
+    let back = subst (λ y. Appends c.fill_again.new.b c.next_full.new.b (λ pc p. full_back l y m n c.in_ok-to.to) []) c.run_place-place.ensures c.in_ok-next_full.ensures in
+    subst (λ (g : Bool). Writes a.b.now c.next_full.new.b
+    (record {
+      code = λ pc z. full_code l g (all_go_on x) own a.variable place m n h (body_code lb a.on.now.answer x h z) pc;
+      places = stmt_places lb x;
+      texts = stmt_texts x;
+    })) c.goes_on-alone.ensures
+    (full_written l a.b.now c.push.new.self c.indices.new.b c.step_index.new.b c.stmt.new.b c.fill_again.new.b c.next_full.new.b c.goes_on-alone.result (all_go_on x) own a.variable place m n h c.next-first.result c.in_ok-to.to
+    (piece lb a.on.now.answer (own_spot h)) filled c.next-first.ensures c.in_ok-indices.ensures c.in_ok-to.ensures.from c.in_ok-to.ensures.added part refilled back)
+
+pub statement::rest_run-returns : goal.statement::rest_run-returns
+statement::rest_run-returns t c =
+    let a = c.args in
+    let l = layout a.on.now in
+    let lb = within l a.variable in
+    let h = a.it.masks.number in
+    let e = a.it.bounds.number in
+    let x = stmt_of a.body.stmt.now in
+    let place = run_place l (l.loaded a.variable) a.it.place.number in
+    let own = indices_at l a.variable a.set.now a.it in
+    let piece : Layout → Option Ty → Spot → Piece = λ la an s. record { code = λ pc z. stmt_code la an x pc z (spot_of s); places = stmt_places la x; texts = stmt_texts x } in
+    let all : c.mask-lanes.result.number ≡ h = ap (λ (k : MaskNumber). k.number) c.mask-lanes.ensures in
+    let end : c.wide-end.result.number ≡ wide l (e + 1) = c.wide-end.ensures ∙ ap (λ (s : Slot). wide l s.number) c.next.ensures in
+    let mask : c.range_mask.result ≡ range_mask h place (wide l (e + 1)) =
+    c.range_mask.ensures ∙ ap (λ k. range_mask k c.run_place.result.number c.wide-end.result.number) all ∙ ap (λ y. range_mask h y c.wide-end.result.number) c.run_place.ensures ∙ ap (range_mask h place) end in
+    let lanes = subst (λ i. Appends a.b.now c.push.new.self (λ pc p. i ∷ []) []) mask c.in_ok-push.ensures in
+    let bare = subst (λ la. Writes c.indices.new.b c.stmt.new.b (piece la c.within-inner.result.answer c.own.result)) c.within-inner.ensures.layout c.in_ok-stmt.ensures in
+    let told = subst (λ an. Writes c.indices.new.b c.stmt.new.b (piece lb an c.own.result)) c.within-inner.ensures.answer bare in
+    let part = subst (λ s. Writes c.indices.new.b c.stmt.new.b (piece lb a.on.now.answer s)) c.own.ensures told in
+    let after = c.stmt.new.b.code.items in
+    let code = ap (λ r. slice_set after c.len-at.result (instr.JumpIf jump.Off r (length after))) (c.mask.ensures ∙ ap (λ (k : MaskNumber). mask_register k.number) c.mask-lanes.ensures) in
+    rest_written l a.b.now c.push.new.self c.push-2.new.self c.indices.new.b c.stmt.new.b c.land.new.self own place e h (instr.Jump 0) (piece lb a.on.now.answer (own_spot h)) c.len-at.result
+    lanes (c.len-at.ensures ∙ c.push.new.self.code.ok.0) c.in_ok-push-2.ensures c.in_ok-indices.ensures part (c.land.ensures.code ∙ code) c.land.ensures.places c.land.ensures.texts
 
 pub statement::last_range-returns : goal.statement::last_range-returns
 statement::last_range-returns t c =
@@ -293,22 +349,24 @@ statement::last_range-returns t c =
     let i = a.variable in
     let x = stmt_of a.body.stmt.now in
     let set = a.set.items in
+    let lb = within l i in
     let place = run_place l (l.loaded i) m in
-    let lanes = range_mask h place (wide l (e + 1)) in
     let begun = subst (λ y. Appends a.b.now c.begin_runs.new.b (λ pc p. runs_begin l a.it y) []) c.run_place-place.ensures c.in_ok-begin_runs.ensures in
-    let after = c.runs.new.b.code.items in
-    let code = ap (λ r. slice_set after c.len-at.result (instr.JumpIf jump.Off r (length after))) (c.mask-2.ensures ∙ ap (λ (k : MaskNumber). mask_register k.number) c.mask.ensures) in
-    subst (λ (g : Bool). Writes a.b.now c.land.new.self
+    let after = c.full_runs.new.b.code.items in
+    let code = ap (λ r. slice_set after c.len-at.result (instr.JumpIf jump.False r (length after))) (c.scalar.ensures ∙ ap (register Uniform) (c.tested.ensures ∙ ap (λ (s : Slot). test l s.number) c.next.ensures)) in
+    let own = indices_at l i set a.it in
+    let full = subst (λ (zs : List OuterIndex). Writes c.push.new.self c.full_runs.new.b (full_at a.on.now i x zs a.it)) c.deref.ensures.value c.in_ok-full_runs.ensures in
+    let rest = subst (λ (zs : List OuterIndex). Writes c.land.new.self c.rest_run.new.b (rest_at a.on.now i x zs a.it)) c.deref-2.ensures.value c.in_ok-rest_run.ensures in
+    subst (λ (g : Bool). Writes a.b.now c.rest_run.new.b
     (record {
-      code = λ pc z. copy Uniform place (wide l e) 0 ∷ lanes ∷ guard (jump_off h) (pc + 1 + 1)
-          (λ first. two first (index_codes h set ++ last_index l i place m n h)
-          (λ top. body_code (within l i) a.on.now.answer x h z top ++ runs_next l i g a.it first top));
-      places = stmt_places (within l i) x;
+      code = λ pc z. runs_begin l a.it place ++ two (pc + 1 + 1 + 1) (guard (jump_on jump.False (test l (m + 1))) (pc + 1 + 1 + 1) (full_code l g (all_go_on x) own i place m n h (body_code lb a.on.now.answer x h z)))
+          (rest_run l own place e h (body_code lb a.on.now.answer x h (behind lb x z)));
+      places = stmt_places lb x ++ stmt_places lb x;
       texts =
-          stmt_texts x;
+          stmt_texts x ++ stmt_texts x;
     })) (sym (goes_on_codes (l.loaded i) h set))
-    (last_written a.b.now c.begin_runs.new.b c.push.new.self c.runs.new.b c.land.new.self (copy Uniform place (wide l e) 0) lanes (instr.Jump 0) (jump_off h) (runs_at a.on.now i x set a.it) c.len-at.result
-    begun (c.len-at.ensures ∙ c.begin_runs.new.b.code.ok.0) c.in_ok-push.ensures c.in_ok-runs.ensures (c.land.ensures.code ∙ code) c.land.ensures.places c.land.ensures.texts)
+    (last_written a.b.now c.begin_runs.new.b c.push.new.self c.full_runs.new.b c.land.new.self c.rest_run.new.b (runs_begin l a.it place) (instr.Jump 0) (jump_on jump.False (test l (m + 1))) (full_at a.on.now i x set a.it) (rest_at a.on.now i x set a.it) c.len-at.result
+    begun refl (c.len-at.ensures ∙ c.begin_runs.new.b.code.ok.0) c.in_ok-push.ensures full (c.land.ensures.code ∙ code) c.land.ensures.places c.land.ensures.texts rest)
 
 pub statement::outer_range-returns : goal.statement::outer_range-returns
 statement::outer_range-returns t c =
@@ -321,7 +379,7 @@ statement::outer_range-returns t c =
     let rs = ranges_of a.all.now in
     let x = stmt_of a.body.stmt.now in
     let set = index_codes h a.set.items in
-    let body = λ (z : Numbers). body_code (body_layout l rs) a.on.now.answer x h z in
+    let body = λ (z : Numbers). run_bodies (body_layout l rs) a.on.now.answer x h z in
     let many : 1 < length rs = subst (λ i. 1 < i) (sym (ranges_count a.all.now)) c.requires.many in
     let after = c.go_on.new.b.code.items in
     let code = ap (λ r. slice_set after c.len-at.result (instr.JumpIf jump.False r (length after))) (c.scalar.ensures ∙ ap (register Uniform) (c.tested.ensures ∙ ap (λ (s : Slot). test l s.number) c.next-2.ensures)) in

@@ -112,8 +112,11 @@ decreases-statement::outer_turn l = 8 * (stmt_nodes (stmt_of l.body.stmt.now) + 
 abbrev pub decreases-statement::last_range : goal.decreases-statement::last_range
 decreases-statement::last_range l = 8 * stmt_nodes (stmt_of l.body.stmt.now) + 4
 
-abbrev pub decreases-statement::runs : goal.decreases-statement::runs
-decreases-statement::runs l = 8 * stmt_nodes (stmt_of l.body.stmt.now) + 2
+abbrev pub decreases-statement::full_runs : goal.decreases-statement::full_runs
+decreases-statement::full_runs l = 8 * stmt_nodes (stmt_of l.body.stmt.now) + 2
+
+abbrev pub decreases-statement::rest_run : goal.decreases-statement::rest_run
+decreases-statement::rest_run l = 8 * stmt_nodes (stmt_of l.body.stmt.now) + 2
 
 abbrev pub invariant-statement::block-loop-x : goal.invariant-statement::block-loop-x
 invariant-statement::block-loop-x l =

@@ -20,7 +20,7 @@ routines-requires c =
       empty = ap (λ (d : Draft). d.places) c.new-e.ensures;
       empty_texts = ap (λ (d : Draft). d.texts) c.new-e.ensures;
       fine = subst (λ fs. All IsFineFunction (functions_of fs)) (sym are) (λ k d lt. (functions_of c.args.checked.now.functions.items, c.program.ensures.accepted.fine.each k d lt));
-      small = subst (λ fs. All IsSmall (functions_of fs)) (sym are) (functions_small (program_of c.args.checked.now) c.program.ensures.accepted.fine c.program.ensures.accepted.scoped);
+      small = subst (λ fs. All IsSmall (functions_of fs)) (sym are) (functions_small (program_of c.args.checked.now) c.program.ensures.accepted);
       few = subst (λ fs. nodes_of_all function_nodes (functions_of fs) < 16777216) (sym are) c.program.ensures.accepted.fine.few;
     }
 

@@ -25,7 +25,7 @@ returns c =
     (keeps_them _ h.variables h.answer e.reserved.registers m.registers r.registers ks (ap (λ (d : Draft). d.rows) c.in_ok-begin.ensures.begun)
     asked.rows keep (subst (λ zs. keep_steps zs ≤ 24) (sym c.as_slice-kept.ensures.value) c.in_ok-found.ensures))
     (longer_has m r keep.rows (omega arith) (Both (constants_asks 3 ks) (block_asks h.answer h.body 3)) asked.body)
-    c.in_ok-body.ensures c.requires.fine.0 c.requires.fine.1
+    c.in_ok-body.ensures c.requires.fine.0 c.requires.fine.1 c.requires.small.twice
 
 pub reserve-requires-clause-own : goal.reserve-requires-clause-own
 reserve-requires-clause-own c = body_own c.requires.fine.0 (function_of c.args.f.now) c.requires.fine.1

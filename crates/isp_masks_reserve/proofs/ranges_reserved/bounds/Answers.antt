@@ -1,10 +1,10 @@
 use Rattle.std.proofs.Common.{◌∙◌, ◌+◌, ap, drop, sym, subst, arith, length}
-use Rattle.isp_typed.specs.Views.{range_of, ranges_of}
+use Rattle.isp_typed.specs.Views.{ranges_of}
 use Rattle.isp_lower_code.specs.Asks.{Number}
 use Rattle.isp_lower_code.specs.Room.{HasNumbers}
 use Rattle.isp_registers.specs.Reserved.{Gives}
 use Rattle.isp_registers.proofs.Lemmas.{both_given, gives_none}
-use Rattle.isp_masks_code.specs.Asks.{bound_asks, bounds_asks}
+use Rattle.isp_masks_code.specs.Asks.{bounds_asks}
 use Rattle.isp_masks_code.proofs.Lemmas.{numbers_more, ranges_end, ranges_more}
 use Rattle.isp_masks_reserve.proofs.ranges_reserved.bounds.Goals as goal
 

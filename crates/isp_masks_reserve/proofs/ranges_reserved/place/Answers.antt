@@ -12,4 +12,5 @@ returns-clause-gives c =
     (both_given _ _ _ _ _ (rw second at c.next-second.ensures.gives)
     (both_given _ _ _ _ _ (rw second at c.in_ok-spare-2.ensures)
     (both_given _ _ _ _ _ (rw second at c.in_ok-spare-3.ensures)
-    (both_given _ _ _ _ _ (rw second at c.in_ok-spare-4.ensures) c.in_ok-place.ensures)))))
+    (both_given _ _ _ _ _ (rw second at c.in_ok-spare-4.ensures)
+    (both_given _ _ _ _ _ (rw second at c.in_ok-spare-5.ensures) c.in_ok-place.ensures))))))
