@@ -1,0 +1,3 @@
+pub mod Constants
+pub mod Positions
+pub mod Tails

@@ -1,0 +1,5 @@
+pub mod Lines
+pub mod Operands
+pub mod Places
+pub mod Settings
+pub mod reader

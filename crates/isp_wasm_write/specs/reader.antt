@@ -1,0 +1,2 @@
+-- Definitions that only say how the code goes about it. No part of a promise.
+pub mod Tails

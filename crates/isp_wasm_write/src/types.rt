@@ -1,0 +1,50 @@
+//! How the types of elements lie in WebAssembly.
+ghost use Rattle.std.specs.Prelude.{◌≡◌};
+ghost use Rattle.isp_wasm.specs.Places as places;
+ghost use Rattle.isp_wasm.specs.Words as words;
+ghost use Rattle.isp_wasm_binary.specs.Named as named;
+
+use isp_base::Elem;
+use isp_wasm_binary::{Shape, Shift, Size, Test};
+
+/// The size of a local that holds a value.
+pub(crate) fn size_of(elem: Elem) -> Size
+    ensures { named.size result ≡ places.size_of elem }
+{
+    match elem {
+        Elem::I64 | Elem::U64 => Size::I64,
+        _ => Size::I32,
+    }
+}
+
+/// The shape of a vector of values.
+pub(crate) fn shape_of(elem: Elem) -> Shape
+    ensures { named.shape result ≡ places.shape_of elem }
+{
+    match elem {
+        Elem::Bool | Elem::I8 | Elem::U8 => Shape::I8x16,
+        Elem::I16 | Elem::U16 => Shape::I16x8,
+        Elem::I32 | Elem::U32 => Shape::I32x4,
+        Elem::I64 | Elem::U64 => Shape::I64x2,
+    }
+}
+
+/// Below, of signed or of unsigned numbers.
+pub(crate) fn less_of(elem: Elem) -> Test
+    ensures { named.test result ≡ words.less_of elem }
+{
+    match elem {
+        Elem::I8 | Elem::I16 | Elem::I32 | Elem::I64 => Test::LtS,
+        _ => Test::LtU,
+    }
+}
+
+/// A shift to the right, of signed or of unsigned numbers.
+pub(crate) fn right_of(elem: Elem) -> Shift
+    ensures { named.shift result ≡ words.right_of elem }
+{
+    match elem {
+        Elem::I8 | Elem::I16 | Elem::I32 | Elem::I64 => Shift::ShrS,
+        _ => Shift::ShrU,
+    }
+}
