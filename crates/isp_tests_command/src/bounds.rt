@@ -3,7 +3,7 @@ use isp_base::{Argument, Array, Bound, Elem, Gang, Value, low_bits};
 use isp_engine::{BoundReport, Image, StartFault, Stop, compile, execute_bound};
 use isp_tests_support::Hoard;
 use std::alloc::Global;
-use std::test::Fail;
+use std::process::Abort;
 
 // Doubles four elements and adds x, says `y`, and gives one more than x.
 const SHORT: &str =
@@ -13,28 +13,38 @@ const SHORT: &str =
 const ENDLESS: &str =
     "export void f(uniform int a[], uniform int x) { a[1] = x; while (true) print(\"z\"); }";
 
-fn compiled(alloc: Global, text: &str) -> Result<Image, Fail> {
-    compile(alloc, text, Gang::W4).map_err(|_| Fail::from("the source is refused"))
+fn compiled(rt: &impl Abort, alloc: Global, text: &str) -> Image {
+    compile(alloc, text, Gang::W4).ok().expect(rt, "no code")
 }
 
-fn array(alloc: Global) -> Result<Array, Fail> {
+fn array(rt: &impl Abort, alloc: Global) -> Argument {
     let mut array = Array::empty(alloc, Elem::I32);
     for bits in [5u64, 6, 7, 8] {
         let low = low_bits(array.elem(), bits);
-        array.push(low)?;
+        array.push(low).expect(rt, "memory");
     }
-    Ok(array)
+    Argument::Array(array)
 }
 
-// The elements 5, 6, 7 and 8, and the value 3.
-fn bound(alloc: Global) -> Result<Bound, Fail> {
+// The elements 5, 6, 7 and 8.
+fn short(rt: &impl Abort, alloc: Global) -> Bound {
     let mut arguments = Vec::new(alloc);
-    arguments.push(Argument::Array(array(alloc)?))?;
-    arguments.push(Argument::Value(Value {
+    arguments.push(array(rt, alloc)).expect(rt, "memory");
+    Bound { arguments }
+}
+
+// The same, and the value 3.
+fn bound(rt: &impl Abort, alloc: Global) -> Bound {
+    let mut bound = short(rt, alloc);
+    let value = Value {
         elem: Elem::I32,
         bits: 3,
-    }))?;
-    Ok(Bound { arguments })
+    };
+    bound
+        .arguments
+        .push(Argument::Value(value))
+        .expect(rt, "memory");
+    bound
 }
 
 fn has(array: &Array, items: &[u64]) -> bool {
@@ -67,81 +77,78 @@ fn has_left(report: &BoundReport, items: &[u64]) -> bool {
     }
 }
 
+// Whether a run ended with these elements, this output and these bits.
+fn ended(report: &BoundReport, items: &[u64], output: &[u8], bits: u64) -> bool {
+    matches!(report.stop, Stop::Ended)
+        && has_left(report, items)
+        && report.output.as_slice() == output
+        && report.result.is_some_and(|value| value.bits == bits)
+}
+
 // By hand: 2 * 5 + 3, 2 * 6 + 3, 2 * 7 + 3 and 2 * 8 + 3.
 #[test]
-fn a_run(rt: HostRuntime) -> Result<(), Fail> {
+fn a_run(rt: HostRuntime) {
     let alloc = rt.alloc();
-    let image = compiled(alloc, SHORT)?;
-    let Ok(report) = execute_bound(alloc, &image, "f", bound(alloc)?, 1_000) else {
-        return Err(Fail::from("the run is refused"));
-    };
-    assert!(rt; matches!(report.stop, Stop::Ended));
-    assert!(rt; has_left(&report, &[13, 15, 17, 19]));
-    assert!(rt; report.output.as_slice() == b"y".as_slice());
-    match report.result {
-        Some(value) => assert_eq!(rt; value.bits, 4),
-        None => return Err(Fail::from("no result")),
+    let image = compiled(&rt, alloc, SHORT);
+    let report = execute_bound(alloc, &image, "f", bound(&rt, alloc), 1_000);
+    let report = report.ok().expect(&rt, "the run is refused");
+    assert!(rt; ended(&report, &[13, 15, 17, 19], b"y", 4));
+}
+
+// Whether a run is refused with this fault, and as many arguments come back.
+fn is_refused(
+    run: Result<BoundReport, (Bound, StartFault)>,
+    fault: StartFault,
+    count: usize,
+) -> bool {
+    match run {
+        Ok(_report) => false,
+        Err((bound, found)) => {
+            found == fault && bound.arguments.len() == count && (count == 1 || came_back(&bound))
+        }
     }
-    Ok(())
 }
 
 // Another name, and too few arguments.
 #[test]
-fn no_entry(rt: HostRuntime) -> Result<(), Fail> {
+fn no_entry(rt: HostRuntime) {
     let alloc = rt.alloc();
-    let image = compiled(alloc, SHORT)?;
-    match execute_bound(alloc, &image, "g", bound(alloc)?, 1_000) {
-        Ok(_report) => return Err(Fail::from("there is no g")),
-        Err((bound, fault)) => {
-            assert_eq!(rt; fault, StartFault::NoEntry);
-            assert!(rt; came_back(&bound));
-        }
-    }
-    let mut arguments = Vec::new(alloc);
-    arguments.push(Argument::Array(array(alloc)?))?;
-    match execute_bound(alloc, &image, "f", Bound { arguments }, 1_000) {
-        Ok(_report) => Err(Fail::from("f takes two arguments")),
-        Err((bound, fault)) => {
-            assert_eq!(rt; fault, StartFault::NoEntry);
-            assert_eq!(rt; bound.arguments.len(), 1);
-            Ok(())
-        }
-    }
+    let image = compiled(&rt, alloc, SHORT);
+    let named = execute_bound(alloc, &image, "g", bound(&rt, alloc), 1_000);
+    assert!(rt; is_refused(named, StartFault::NoEntry, 2));
+    let given = execute_bound(alloc, &image, "f", short(&rt, alloc), 1_000);
+    assert!(rt; is_refused(given, StartFault::NoEntry, 1));
 }
 
 // Memory is refused before the first instruction.
 #[test]
-fn no_memory(rt: HostRuntime) -> Result<(), Fail> {
+fn no_memory(rt: HostRuntime) {
     let alloc = rt.alloc();
-    let image = compiled(alloc, SHORT)?;
-    let bound = bound(alloc)?;
-    let mut hoard = Hoard::new(alloc)?;
-    assert!(rt; hoard.beside(0).is_ok(), "the pool is too small");
-    match execute_bound(alloc, &image, "f", bound, 1_000) {
-        Ok(_report) => Err(Fail::from("nothing was refused")),
-        Err((bound, fault)) => {
-            assert_eq!(rt; fault, StartFault::Memory);
-            assert!(rt; came_back(&bound));
-            Ok(())
-        }
-    }
+    let image = compiled(&rt, alloc, SHORT);
+    let bound = bound(&rt, alloc);
+    let mut hoard = Hoard::new(alloc).expect(&rt, "memory");
+    hoard.beside(0).expect(&rt, "the pool is too small");
+    let run = execute_bound(alloc, &image, "f", bound, 1_000);
+    assert!(rt; is_refused(run, StartFault::Memory, 2));
 }
 
-// Memory is refused to the output in the middle of a run.
+// Whether memory was refused to the output in the middle of a run that says `z` for ever.
+fn stood_still(report: &BoundReport, items: &[u64]) -> bool {
+    matches!(report.stop, Stop::Memory)
+        && has_left(report, items)
+        && !report.output.is_empty()
+        && report.output.iter().all(|byte| *byte == b'z')
+        && report.result.is_none()
+}
+
 #[test]
-fn memory_in_the_middle(rt: HostRuntime) -> Result<(), Fail> {
+fn memory_in_the_middle(rt: HostRuntime) {
     let alloc = rt.alloc();
-    let image = compiled(alloc, ENDLESS)?;
-    let bound = bound(alloc)?;
-    let mut hoard = Hoard::new(alloc)?;
-    assert!(rt; hoard.beside(65_536).is_ok(), "the pool is too small");
-    let Ok(report) = execute_bound(alloc, &image, "f", bound, 100_000_000) else {
-        return Err(Fail::from("the run does not begin"));
-    };
-    assert!(rt; matches!(report.stop, Stop::Memory));
-    assert!(rt; has_left(&report, &[5, 3, 7, 8]));
-    assert!(rt; !report.output.is_empty());
-    assert!(rt; report.output.iter().all(|byte| *byte == b'z'));
-    assert!(rt; report.result.is_none());
-    Ok(())
+    let image = compiled(&rt, alloc, ENDLESS);
+    let bound = bound(&rt, alloc);
+    let mut hoard = Hoard::new(alloc).expect(&rt, "memory");
+    hoard.beside(65_536).expect(&rt, "the pool is too small");
+    let report = execute_bound(alloc, &image, "f", bound, 100_000_000);
+    let report = report.ok().expect(&rt, "the run does not begin");
+    assert!(rt; stood_still(&report, &[5, 3, 7, 8]));
 }

@@ -1,13 +1,10 @@
 //! The whole program over sinks that fail or take a few bytes. isp_tests_requests has what it
 //! answers to each kind of request.
-ghost use Rattle.std.specs.Prelude.{◌≡◌, false};
-
-use crate::fakes::{Count, Full, Page, Shelf};
+use crate::fakes::{Page, Shelf};
 use isp_asm::{read, write};
 use isp_engine::command;
 use std::alloc::{AllocError, Global};
 use std::process::Abort;
-use std::test::Fail;
 
 const DOUBLE: &str =
     "export void f(uniform int a[]) { a[programIndex] = a[programIndex] * 2 + 1; }";
@@ -36,15 +33,6 @@ pub(crate) const FILES: [(&str, &str); 8] = [
 /// What the runs of double.ispc with four.json send.
 pub(crate) const ANSWER: &str = "{\"arrays\":{\"a\":[11,13,15,17]},\"result\":null}\n";
 
-/// The command words behind `isp`, and what must come out.
-#[derive(Drop)]
-struct Case<'a> {
-    words: &'a str,
-    status: u8,
-    out: &'a str,
-    err: &'a str,
-}
-
 /// The words of a line.
 pub(crate) fn words(alloc: Global, line: &str) -> Result<Vec<String>, AllocError> {
     line.split(' ')
@@ -52,171 +40,175 @@ pub(crate) fn words(alloc: Global, line: &str) -> Result<Vec<String>, AllocError
         .try_collect(alloc)
 }
 
-/// A sink that has so much room, and takes five bytes a write.
-pub(crate) fn page(alloc: Global, room: usize) -> Page
-    ensures { result.has_failed ≡ false }
-{
-    Page {
-        bytes: Vec::new(alloc),
-        room,
-        step: 5,
-        has_failed: false,
+// A request: its words, the files, how many bytes standard output and standard error take, and whether the former then answers 0.
+#[derive(Clone, Copy)]
+struct Request<'a> {
+    line: &'a str,
+    files: &'a [(&'a str, &'a str)],
+    room: usize,
+    err_room: usize,
+    is_quiet: bool,
+}
+
+// A request with the files in memory, and room for all.
+fn asked(line: &str) -> Request<'_> {
+    Request {
+        line,
+        files: &FILES,
+        room: 100_000,
+        err_room: 10_000,
+        is_quiet: false,
     }
 }
 
-// Runs one request with a sink that has so much room, and takes five bytes a write.
-fn run(rt: &impl Abort, alloc: Global, case: &Case<'_>, room: usize) -> Result<(), Fail> {
-    let line = case.words;
-    let words = words(alloc, line)?;
-    let mut out = page(alloc, room);
-    let mut err = page(alloc, 10_000);
-    let files = Shelf { files: &FILES };
+// What comes out of a request.
+#[derive(Drop)]
+struct Answer {
+    status: u8,
+    out: Vec<u8>,
+    err: Vec<u8>,
+}
+
+impl Answer {
+    fn is(&self, status: u8, out: &[u8], err: &[u8]) -> bool {
+        self.status == status && self.out.as_slice() == out && self.err.as_slice() == err
+    }
+}
+
+// Makes a request; the sinks take five bytes a write.
+fn made(rt: &impl Abort, alloc: Global, request: Request<'_>) -> Answer {
+    let words = words(alloc, request.line).expect(rt, "memory");
+    let mut out = Page::new(alloc, request.room, 5);
+    out.is_quiet = request.is_quiet;
+    let mut err = Page::new(alloc, request.err_room, 5);
+    let files = Shelf {
+        files: request.files,
+    };
     let status = command(alloc, words.as_slice(), &files, &mut out, &mut err);
-    assert_eq!(rt; status, case.status, "{line}");
-    assert!(rt; out.bytes.as_slice() == case.out.as_bytes(), "{line}");
-    assert!(rt; err.bytes.as_slice() == case.err.as_bytes(), "{line}");
-    Ok(())
+    Answer {
+        status,
+        out: out.bytes,
+        err: err.bytes,
+    }
 }
 
 // No words: the text of clap begins so. All other words are in isp_tests_requests.
 #[test]
-fn refused_words(rt: HostRuntime) -> Result<(), Fail> {
-    let alloc = rt.alloc();
-    let words = words(alloc, "isp")?;
-    let mut out = Count { bytes: 0 };
-    let mut err = page(alloc, 10_000);
-    let files = Shelf { files: &FILES };
-    let status = command(alloc, words.as_slice(), &files, &mut out, &mut err);
-    assert_eq!(rt; status, 2);
-    assert_eq!(rt; out.bytes, 0);
+fn refused_words(rt: HostRuntime) {
+    let answer = made(&rt, rt.alloc(), asked("isp"));
+    assert_eq!(rt; answer.status, 2);
+    assert!(rt; answer.out.is_empty());
     let beginning = "error: 'isp' requires a subcommand but one was not provided";
-    assert!(rt; err.bytes.starts_with(beginning.as_bytes()));
-    Ok(())
+    assert!(rt; answer.err.starts_with(beginning.as_bytes()));
+}
+
+// Code text that is read and written alike.
+fn goes_round(alloc: Global, text: &str) -> bool {
+    match read(alloc, text) {
+        Ok(code) => write(alloc, &code).is_ok_and(|again| again.as_str() == text),
+        Err(_) => false,
+    }
 }
 
 // The code of a source, written, read and run, does what the source does.
 #[test]
-fn assembled_and_executed_again(rt: HostRuntime) -> Result<(), Fail> {
+fn assembled_and_executed_again(rt: HostRuntime) {
     let alloc = rt.alloc();
-    let words = words(alloc, "isp asm double.ispc")?;
-    let mut out = page(alloc, 10_000);
-    let mut err = page(alloc, 10_000);
-    let files = Shelf { files: &FILES };
-    let status = command(alloc, words.as_slice(), &files, &mut out, &mut err);
-    assert_eq!(rt; status, 0);
-    let text = String::from_utf8(out.bytes)?;
-    let code = read(alloc, text.as_str()).map_err(|_| Fail::from("the text is refused"))?;
-    let again = write(alloc, &code)?;
-    assert!(rt; again.as_str() == text.as_str());
-    execute_text(&rt, alloc, text.as_str())
+    let answer = made(&rt, alloc, asked("isp asm double.ispc"));
+    assert_eq!(rt; answer.status, 0);
+    let text = String::from_utf8(answer.out).ok().expect(&rt, "no text");
+    assert!(rt; goes_round(alloc, text.as_str()));
+    let request = Request {
+        files: &[
+            ("double.isp", text.as_str()),
+            ("four.json", "{\"a\":[5,6,7,8]}"),
+        ],
+        ..asked("isp exec double.isp f four.json")
+    };
+    assert!(rt; made(&rt, alloc, request).is(0, ANSWER.as_bytes(), b""));
 }
 
-// Runs code with the arguments of the stored run, and looks for its answer.
-fn execute_text(rt: &impl Abort, alloc: Global, text: &str) -> Result<(), Fail> {
-    let words = words(alloc, "isp exec double.isp f four.json")?;
-    let mut out = page(alloc, 1000);
-    let mut err = page(alloc, 10_000);
-    let files = Shelf {
-        files: &[("double.isp", text), ("four.json", "{\"a\":[5,6,7,8]}")],
-    };
-    let status = command(alloc, words.as_slice(), &files, &mut out, &mut err);
-    assert_eq!(rt; status, 0);
-    assert!(rt; out.bytes.as_slice() == ANSWER.as_bytes());
-    Ok(())
-}
+// The words, how many bytes standard output takes, and what must come out. With the greatest budget a program that prints for ever ends where the output
+// takes no more; what is printed before a trap goes out.
+const CASES: [(&str, usize, u8, &str, &str); 3] = [
+    (
+        "isp run double.ispc f four.json",
+        7,
+        6,
+        "{\"array",
+        "isp: cannot write\n",
+    ),
+    (
+        "isp run --budget 18446744073709551615 endless.ispc f none.json",
+        10,
+        6,
+        "xxxxxxxxxx",
+        "isp: cannot write\n",
+    ),
+    (
+        "isp run assert.ispc f none.json",
+        1000,
+        3,
+        "a",
+        "isp: trap assert at 30..54, instance 2\n",
+    ),
+];
 
 #[test]
-fn sink_that_fails(rt: HostRuntime) -> Result<(), Fail> {
-    let case = Case {
-        words: "isp run double.ispc f four.json",
-        status: 6,
-        out: "{\"array",
-        err: "isp: cannot write\n",
-    };
-    run(&rt, rt.alloc(), &case, 7)
+fn sinks_that_fail(rt: HostRuntime) {
+    for (line, room, status, out, err) in CASES {
+        let request = Request {
+            room,
+            ..asked(line)
+        };
+        let answer = made(&rt, rt.alloc(), request);
+        assert!(rt; answer.is(status, out.as_bytes(), err.as_bytes()), "{line}");
+    }
 }
 
 // A standard output that takes no more bytes, and says so by 0: 6, as where a write fails.
 #[test]
-fn sink_that_takes_no_byte(rt: HostRuntime) -> Result<(), Fail> {
-    let alloc = rt.alloc();
-    let words = words(alloc, "isp run double.ispc f four.json")?;
+fn sink_that_takes_no_byte(rt: HostRuntime) {
     for room in 0..ANSWER.len() {
-        let mut out = Full {
-            bytes: Vec::new(alloc),
+        let request = Request {
             room,
-            has_failed: false,
+            is_quiet: true,
+            ..asked("isp run double.ispc f four.json")
         };
-        let mut err = page(alloc, 10_000);
-        let files = Shelf { files: &FILES };
-        let status = command(alloc, words.as_slice(), &files, &mut out, &mut err);
-        assert_eq!(rt; status, 6);
-        assert!(rt; out.bytes.as_slice() == &ANSWER.as_bytes()[..room]);
-        assert!(rt; err.bytes.as_slice() == b"isp: cannot write\n".as_slice());
+        let answer = made(&rt, rt.alloc(), request);
+        let out = &ANSWER.as_bytes()[..room];
+        assert!(rt; answer.is(6, out, b"isp: cannot write\n"), "{room}");
     }
-    Ok(())
 }
 
 // A program that prints for ever: what it printed goes out though it does not end, more with a greater budget.
 #[test]
-fn endless_print(rt: HostRuntime) -> Result<(), Fail> {
-    let alloc = rt.alloc();
+fn endless_print(rt: HostRuntime) {
     let mut least = 1;
     for line in [
         "isp run --budget 10000 endless.ispc f none.json",
         "isp run --budget 20000 endless.ispc f none.json",
     ] {
-        let words = words(alloc, line)?;
-        let mut out = page(alloc, 100_000);
-        let mut err = page(alloc, 10_000);
-        let files = Shelf { files: &FILES };
-        let status = command(alloc, words.as_slice(), &files, &mut out, &mut err);
-        assert_eq!(rt; status, 4);
-        assert!(rt; err.bytes.as_slice() == b"isp: budget used\n".as_slice());
-        assert!(rt; out.bytes.iter().all(|byte| *byte == b'x'));
-        assert!(rt; out.bytes.len() >= least);
-        least = out.bytes.len();
+        let answer = made(&rt, rt.alloc(), asked(line));
+        assert!(rt;
+            answer.status == 4 && answer.err.as_slice() == b"isp: budget used\n".as_slice()
+        );
+        assert!(rt; answer.out.iter().all(|byte| *byte == b'x'));
+        assert!(rt; answer.out.len() >= least);
+        least = answer.out.len();
     }
-    Ok(())
-}
-
-// With the greatest budget it ends where the output takes no more.
-#[test]
-fn endless_print_into_ten_bytes(rt: HostRuntime) -> Result<(), Fail> {
-    let case = Case {
-        words: "isp run --budget 18446744073709551615 endless.ispc f none.json",
-        status: 6,
-        out: "xxxxxxxxxx",
-        err: "isp: cannot write\n",
-    };
-    run(&rt, rt.alloc(), &case, 10)
-}
-
-#[test]
-fn print_then_assert(rt: HostRuntime) -> Result<(), Fail> {
-    let case = Case {
-        words: "isp run assert.ispc f none.json",
-        status: 3,
-        out: "a",
-        err: "isp: trap assert at 30..54, instance 2\n",
-    };
-    run(&rt, rt.alloc(), &case, 1000)
 }
 
 // A standard error that takes so many bytes has the first of the line, and the status stays.
 #[test]
-fn line_cut_off(rt: HostRuntime) -> Result<(), Fail> {
-    let alloc = rt.alloc();
+fn line_cut_off(rt: HostRuntime) {
     let line = "isp: trap index at 51..66, instance 3\n".as_bytes();
-    let words = words(alloc, "isp run double.ispc f three.json")?;
     for room in 0..line.len() {
-        let mut out = Count { bytes: 0 };
-        let mut err = page(alloc, room);
-        let files = Shelf { files: &FILES };
-        let status = command(alloc, words.as_slice(), &files, &mut out, &mut err);
-        assert_eq!(rt; status, 3);
-        assert_eq!(rt; out.bytes, 0);
-        assert!(rt; err.bytes.as_slice() == &line[..room]);
+        let request = Request {
+            err_room: room,
+            ..asked("isp run double.ispc f three.json")
+        };
+        let answer = made(&rt, rt.alloc(), request);
+        assert!(rt; answer.is(3, b"", &line[..room]), "{room}");
     }
-    Ok(())
 }

@@ -34,13 +34,29 @@ fn text_of<'a>(files: &[(&'a str, &'a str)], name: &str) -> Option<&'a str>
     None
 }
 
-/// Takes at most `step` bytes a write, and fails once `room` bytes are taken.
+/// Takes at most `step` bytes a write, and none once `room` bytes are taken: then it fails, or answers 0 and no fault.
 #[derive(Drop)]
 pub(crate) struct Page {
     pub bytes: Vec<u8>,
     pub room: usize,
     pub step: usize,
+    /// Whether it answers 0 where it takes none.
+    pub is_quiet: bool,
     pub has_failed: bool,
+}
+
+impl Page {
+    pub(crate) fn new(alloc: Global, room: usize, step: usize) -> Page
+        ensures { result.has_failed ≡ false }
+    {
+        Page {
+            bytes: Vec::new(alloc),
+            room,
+            step,
+            is_quiet: false,
+            has_failed: false,
+        }
+    }
 }
 
 impl Sink for Page {
@@ -52,7 +68,7 @@ impl Sink for Page {
         let count = bytes.len().min(self.room).min(self.step);
         if count == 0 && !bytes.is_empty() {
             self.has_failed = true;
-            return Err(SinkFault);
+            return if self.is_quiet { Ok(0) } else { Err(SinkFault) };
         }
         if self.bytes.extend_from_slice(&bytes[..count]).is_err() {
             self.has_failed = true;
@@ -64,56 +80,5 @@ impl Sink for Page {
 
     fn failed(&self) -> bool {
         self.has_failed
-    }
-}
-
-/// Takes so many bytes, and then none: it answers 0, and no fault.
-#[derive(Drop)]
-pub(crate) struct Full {
-    pub bytes: Vec<u8>,
-    pub room: usize,
-    pub has_failed: bool,
-}
-
-impl Sink for Full {
-    ghost written = { λ f. Some f.bytes.items };
-
-    ghost has_failed = { λ f. f.has_failed };
-
-    fn write(&mut self, bytes: &[u8]) -> Result<usize, SinkFault> {
-        let count = bytes.len().min(self.room);
-        if count == 0 && !bytes.is_empty() {
-            self.has_failed = true;
-            return Ok(0);
-        }
-        if self.bytes.extend_from_slice(&bytes[..count]).is_err() {
-            self.has_failed = true;
-            return Err(SinkFault);
-        }
-        self.room -= count;
-        Ok(count)
-    }
-
-    fn failed(&self) -> bool {
-        self.has_failed
-    }
-}
-
-/// Counts what it takes, and needs no memory.
-#[derive(Drop)]
-pub(crate) struct Count {
-    pub bytes: u64,
-}
-
-impl Sink for Count {
-    ghost has_failed = { λ _. false };
-
-    fn write(&mut self, bytes: &[u8]) -> Result<usize, SinkFault> {
-        self.bytes = self.bytes.wrapping_add(bytes.len() as u64);
-        Ok(bytes.len())
-    }
-
-    fn failed(&self) -> bool {
-        false
     }
 }

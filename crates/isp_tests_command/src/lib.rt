@@ -8,9 +8,9 @@ mod broken;
 #[cfg(test)]
 mod commands;
 #[cfg(test)]
-mod covered;
-#[cfg(test)]
 mod fakes;
+#[cfg(test)]
+mod fronts;
 #[cfg(test)]
 mod meant;
 #[cfg(test)]
@@ -18,6 +18,6 @@ mod reading;
 #[cfg(test)]
 mod refused;
 #[cfg(test)]
-mod runs;
+mod sources;
 #[cfg(test)]
 mod writes;

@@ -3,8 +3,6 @@ use isp_engine::{FileFault, read_source, read_text};
 use std::alloc::Global;
 use std::io;
 use std::io::Read;
-use std::process::Abort;
-use std::test::Fail;
 
 /// Gives its bytes, at most `step` a read. A signal breaks off the read of number `broken`, and the
 /// one of number `failing` fails.
@@ -46,103 +44,56 @@ pub(crate) fn gives(bytes: &[u8], step: usize) -> Wire<'_> {
     }
 }
 
-fn expect(
-    rt: &impl Abort,
-    alloc: Global,
-    wire: &mut Wire<'_>,
-    most: usize,
-    text: Option<&str>,
-) -> Result<(), Fail> {
-    match (read_text(alloc, wire, most), text) {
-        (Ok(found), Some(text)) => assert_eq!(rt; found.as_str(), text),
-        (Err(fault), None) => assert_eq!(rt; fault, FileFault::CannotRead),
-        _ => return Err(Fail::from("read where it is refused, or refused")),
+// Whether what a wire gives is read as a text, or is refused.
+fn is_read(alloc: Global, wire: &mut Wire<'_>, most: usize, text: Option<&str>) -> bool {
+    match read_text(alloc, wire, most) {
+        Ok(found) => Some(found.as_str()) == text,
+        Err(fault) => text.is_none() && fault == FileFault::CannotRead,
     }
-    Ok(())
 }
 
 /// What the wires give.
 pub(crate) const TEXT: &str = "caf\u{e9} = 1;";
 
-#[test]
-fn a_few_bytes_at_a_time(rt: HostRuntime) -> Result<(), Fail> {
-    let alloc = rt.alloc();
-    for step in [1, 2, 4, 5, 9, 10, 11, 100] {
-        expect(
-            &rt,
-            alloc,
-            &mut gives(TEXT.as_bytes(), step),
-            100,
-            Some(TEXT),
-        )?;
-        let text = read_source(alloc, &mut gives(TEXT.as_bytes(), step))?;
-        assert_eq!(rt; text.as_str(), TEXT);
-    }
-    expect(&rt, alloc, &mut gives(b"", 5), 0, Some(""))
-}
+// Its bytes, of which the fourth and the fifth are one character.
+const BYTES: &[u8] = b"caf\xc3\xa9 = 1;";
 
-// A read that a signal broke off is made again, whichever it is.
-#[test]
-fn broken_off(rt: HostRuntime) -> Result<(), Fail> {
-    let alloc = rt.alloc();
-    for broken in 0..5usize {
-        let mut wire = gives(TEXT.as_bytes(), 3);
-        wire.broken = broken;
-        expect(&rt, alloc, &mut wire, 100, Some(TEXT))?;
-        assert_eq!(rt; wire.reads, 6, "with read {broken}");
-    }
-    Ok(())
-}
-
-// Where a read fails nothing is read behind it, though there is more.
-#[test]
-fn failing(rt: HostRuntime) -> Result<(), Fail> {
-    let alloc = rt.alloc();
-    for failing in 0..5usize {
-        let mut wire = gives(TEXT.as_bytes(), 3);
-        wire.failing = failing;
-        expect(&rt, alloc, &mut wire, 100, None)?;
-        assert_eq!(rt; wire.reads, failing + 1);
-    }
-    Ok(())
-}
-
-// As many bytes as may be, and one more.
-#[test]
-fn limit(rt: HostRuntime) -> Result<(), Fail> {
-    let alloc = rt.alloc();
-    let length = TEXT.len();
-    for step in [1, 3, length, 100] {
-        expect(
-            &rt,
-            alloc,
-            &mut gives(TEXT.as_bytes(), step),
-            length,
-            Some(TEXT),
-        )?;
-        expect(
-            &rt,
-            alloc,
-            &mut gives(TEXT.as_bytes(), step),
-            length - 1,
-            None,
-        )?;
-    }
-    Ok(())
-}
+// Bytes, how many of them may be read, and the text that they are, or none where they are refused: as many bytes as may be, and one more; bytes that are no
+// UTF-8.
+static READ: [(&[u8], usize, Option<&str>); 8] = [
+    (b"", 0, Some("")),
+    (BYTES, 100, Some(TEXT)),
+    (BYTES, 10, Some(TEXT)),
+    (BYTES, 9, None),
+    (b"ab\xff", 100, None),
+    (b"ab\xc3", 100, None),
+    (b"\x80ab", 100, None),
+    (b"\xed\xa0\x80", 100, None),
+];
 
 #[test]
-fn no_text(rt: HostRuntime) -> Result<(), Fail> {
+fn a_few_bytes_at_a_time(rt: HostRuntime) {
     let alloc = rt.alloc();
-    for bytes in [
-        b"ab\xff".as_slice(),
-        b"ab\xc3".as_slice(),
-        b"\x80ab".as_slice(),
-        b"\xed\xa0\x80".as_slice(),
-    ] {
-        for step in [1, 2, 100] {
-            expect(&rt, alloc, &mut gives(bytes, step), 100, None)?;
+    for step in [1, 2, 3, 4, 5, 9, 10, 11, 100] {
+        for (bytes, most, text) in &READ {
+            let read = is_read(alloc, &mut gives(bytes, step), *most, *text);
+            assert!(rt; read, "{bytes:?} in {step}");
         }
+        let text = read_source(alloc, &mut gives(TEXT.as_bytes(), step)).expect(&rt, "no text");
+        assert!(rt; text.as_str() == TEXT);
     }
-    Ok(())
+}
+
+// A read that a signal broke off is made again, whichever it is. Where a read fails nothing is read behind it, though there is more.
+#[test]
+fn broken_off_and_failing(rt: HostRuntime) {
+    let alloc = rt.alloc();
+    for number in 0..5usize {
+        let mut broken = gives(TEXT.as_bytes(), 3);
+        broken.broken = number;
+        assert!(rt; is_read(alloc, &mut broken, 100, Some(TEXT)) && broken.reads == 6);
+        let mut failing = gives(TEXT.as_bytes(), 3);
+        failing.failing = number;
+        assert!(rt; is_read(alloc, &mut failing, 100, None) && failing.reads == number + 1);
+    }
 }

@@ -1,18 +1,21 @@
 //! Memory refused to each call of the engine, at each growth.
 ghost use Rattle.std.specs.Prelude.{◌≡◌, false};
 
-use crate::commands::{ANSWER, FILES, page, words};
+use crate::commands::{ANSWER, FILES, words};
 use crate::fakes::{Page, Shelf};
 use crate::reading::{TEXT, gives};
 use crate::writes::{SENT, SHORT, image, runs};
+use isp_asm::write;
 use isp_base::Gang;
 use isp_engine::{
     CodeFault, Ending, FileFault, Image, Report, RunFault, command, compile, execute, front,
     load_code, read_text,
 };
 use isp_lex::SourceFault;
+use isp_masks::lower;
 use isp_tests_support::{INC, LOCAL_ARRAY, Program, Tried, UNIQUE, sweep_call};
 use std::alloc::Global;
+use std::process::Abort;
 use std::test::Fail;
 
 /// More instructions than any of the programs makes.
@@ -67,34 +70,79 @@ fn texted(alloc: Global, image: &Image, text: &str) -> Tried {
     }
 }
 
-fn swept(alloc: Global, program: &Program<'_>) -> Result<(), Fail> {
-    sweep_call(alloc, "front", || {
-        match front(alloc, program.source, Gang::W4) {
-            Ok(checked) => Tried::answered(checked.signature(program.entry).is_some()),
-            Err(fault) => Tried::failed(fault == SourceFault::Memory),
-        }
-    })?;
-    sweep_call(alloc, "compile", || compiled(alloc, program))?;
-    let image = compile(alloc, program.source, Gang::W4)?;
-    sweep_call(alloc, "execute", || executed(alloc, &image, program))?;
-    let text = image.text(alloc)?;
-    sweep_call(alloc, "text", || texted(alloc, &image, text.as_str()))?;
-    sweep_call(alloc, "load_code", || loaded(alloc, text.as_str(), program))
+// What comes of the judgement of a source.
+fn fronted(alloc: Global, program: &Program<'_>) -> Tried {
+    match front(alloc, program.source, Gang::W4) {
+        Ok(checked) => Tried::answered(checked.signature(program.entry).is_some()),
+        Err(fault) => Tried::failed(fault == SourceFault::Memory),
+    }
+}
+
+/// The calls that are tried of a program.
+#[derive(Clone, Copy)]
+enum Call {
+    Front,
+    Lower,
+    Compile,
+    Execute,
+    Text,
+    LoadCode,
+}
+
+const CALLS: [(&str, Call); 6] = [
+    ("front", Call::Front),
+    ("lower", Call::Lower),
+    ("compile", Call::Compile),
+    ("execute", Call::Execute),
+    ("text", Call::Text),
+    ("load_code", Call::LoadCode),
+];
+
+// What comes of the code that a program is lowered to, by its text and its run.
+fn lowered(alloc: Global, program: &Program<'_>) -> Tried {
+    let Ok(checked) = front(alloc, program.source, Gang::W4) else {
+        return Tried::Refused;
+    };
+    let Ok(code) = lower(alloc, &checked) else {
+        return Tried::Refused;
+    };
+    match write(alloc, &code) {
+        Ok(text) => loaded(alloc, text.as_str(), program),
+        Err(_) => Tried::Refused,
+    }
+}
+
+// What comes of a call, beside the code and its text that were made before.
+fn tried(alloc: Global, call: Call, program: &Program<'_>, image: &Image, text: &str) -> Tried {
+    match call {
+        Call::Front => fronted(alloc, program),
+        Call::Lower => lowered(alloc, program),
+        Call::Compile => compiled(alloc, program),
+        Call::Execute => executed(alloc, image, program),
+        Call::Text => texted(alloc, image, text),
+        Call::LoadCode => loaded(alloc, text, program),
+    }
+}
+
+fn swept(rt: &impl Abort, alloc: Global, program: &Program<'_>) -> Result<(), Fail> {
+    let image = compile(alloc, program.source, Gang::W4)
+        .ok()
+        .expect(rt, "no code");
+    let text = image.text(alloc).expect(rt, "memory");
+    for (name, call) in CALLS {
+        sweep_call(alloc, name, || {
+            tried(alloc, call, program, &image, text.as_str())
+        })?;
+    }
+    Ok(())
 }
 
 #[test]
-fn memory_refused_to_inc(rt: HostRuntime) -> Result<(), Fail> {
-    swept(rt.alloc(), &INC)
-}
-
-#[test]
-fn memory_refused_to_a_local_array(rt: HostRuntime) -> Result<(), Fail> {
-    swept(rt.alloc(), &LOCAL_ARRAY)
-}
-
-#[test]
-fn memory_refused_to_unique(rt: HostRuntime) -> Result<(), Fail> {
-    swept(rt.alloc(), &UNIQUE)
+fn memory_refused_to_programs(rt: HostRuntime) -> Result<(), Fail> {
+    for program in &[INC, LOCAL_ARRAY, UNIQUE] {
+        swept(&rt, rt.alloc(), program)?;
+    }
+    Ok(())
 }
 
 #[test]
@@ -134,9 +182,8 @@ fn sent(alloc: Global, image: &Image, out: &mut Page) -> Tried {
 #[test]
 fn memory_refused_to_run_to(rt: HostRuntime) -> Result<(), Fail> {
     let alloc = rt.alloc();
-    let image = image(alloc, SHORT)?;
-    let mut out = page(alloc, 1000);
-    out.bytes.reserve(1000)?;
+    let image = image(&rt, alloc, SHORT);
+    let mut out = page(&rt, alloc);
     sweep_call(alloc, "run_to", || sent(alloc, &image, &mut out))
 }
 
@@ -168,44 +215,18 @@ fn asked(alloc: Global, words: &[String], wanted: &str, out: &mut Page, err: &mu
     }
 }
 
-fn refuse_memory(alloc: Global, line: &str, wanted: &str) -> Result<(), Fail> {
-    let words = words(alloc, line)?;
-    let mut out = page(alloc, 1000);
-    let mut err = page(alloc, 1000);
-    out.bytes.reserve(1000)?;
-    err.bytes.reserve(1000)?;
-    sweep_call(
-        alloc,
-        line,
-        || asked(alloc, words.as_slice(), wanted, &mut out, &mut err),
-    )
-}
-
-#[test]
-fn memory_refused_to_run(rt: HostRuntime) -> Result<(), Fail> {
-    refuse_memory(rt.alloc(), "isp run double.ispc f four.json", ANSWER)
-}
-
-#[test]
-fn memory_refused_to_solo(rt: HostRuntime) -> Result<(), Fail> {
-    refuse_memory(rt.alloc(), "isp solo double.ispc f four.json", ANSWER)
-}
-
-#[test]
-fn memory_refused_to_exec(rt: HostRuntime) -> Result<(), Fail> {
-    refuse_memory(
-        rt.alloc(),
+/// The commands, and what each sends. The code of double.ispc is as docs/MACHINE.md shows it.
+const COMMANDS: [(&str, &str); 5] = [
+    ("isp run double.ispc f four.json", ANSWER),
+    ("isp solo double.ispc f four.json", ANSWER),
+    (
         "isp exec scatter.isp f nines.json",
         "{\"arrays\":{\"a\":[0,1,2,3]},\"result\":null}\n",
-    )
-}
+    ),
+    ("isp check double.ispc", "ok\nf independent\n"),
+    ("isp asm double.ispc", DOUBLE_CODE),
+];
 
-#[test]
-fn memory_refused_to_check(rt: HostRuntime) -> Result<(), Fail> {
-    refuse_memory(rt.alloc(), "isp check double.ispc", "ok\nf independent\n")
-}
-
-/// The code of double.ispc, as docs/MACHINE.md shows it.
 const DOUBLE_CODE: &str = "isp 1 gang 4
 place 51 66
 place 33 48
@@ -228,7 +249,27 @@ ret -
 end
 ";
 
+// A sink that takes five bytes a write, and has its room already.
+fn page(rt: &impl Abort, alloc: Global) -> Page
+    ensures { result.has_failed ≡ false }
+{
+    let mut page = Page::new(alloc, 1000, 5);
+    page.bytes.reserve(1000).expect(rt, "memory");
+    page
+}
+
 #[test]
-fn memory_refused_to_asm(rt: HostRuntime) -> Result<(), Fail> {
-    refuse_memory(rt.alloc(), "isp asm double.ispc", DOUBLE_CODE)
+fn memory_refused_to_commands(rt: HostRuntime) -> Result<(), Fail> {
+    let alloc = rt.alloc();
+    let mut out = page(&rt, alloc);
+    let mut err = page(&rt, alloc);
+    for (line, wanted) in COMMANDS {
+        let words = words(alloc, line).expect(&rt, "memory");
+        sweep_call(
+            alloc,
+            line,
+            || asked(alloc, words.as_slice(), wanted, &mut out, &mut err),
+        )?;
+    }
+    Ok(())
 }
