@@ -65,8 +65,9 @@ def programs(gang):
     ), [{"a": [0] * k, "n": k} for k in lengths(gang)]
     yield "local arrays", (
         "export void f(uniform int a[], uniform int n) { int u[2]; uniform int s[2]; foreach (i = 0 ... n)"
-        " { int t[3]; t[i % 3] = i; u[i % 2] += i; s[0] += 1; a[i] = t[(i + 1) % 3] + t[i % 3] + 1000 * s[0]; } a[0] = u[0] + u[1]; }"
-    ), [{"a": [0] * (k + 1), "n": k} for k in lengths(gang)]
+        " { int t[3]; t[i % 3] = i; u[i % 2] += i; s[0] += 1; a[i] = t[(i + 1) % 3] + t[i % 3] + 1000 * s[0]; }"
+        ' print("% % %\\n", s[0], u[0], u[1]); }'
+    ), [{"a": [0] * k, "n": k} for k in lengths(gang)]
     yield "loops and turns in the body", (
         "export void f(uniform int a[], uniform int n) { foreach (i = 0 ... n) { int k = 0; while (true) { if (k >= i % 4) break; k++; if (k == 2) continue; a[i] += k; }"
         " foreach_active (j) { if (j % 2 == 1) continue; a[i] += 100; } } }"
