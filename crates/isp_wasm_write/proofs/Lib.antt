@@ -1,3 +1,4 @@
 pub mod Constants
+pub mod Each
 pub mod Positions
 pub mod Tails

@@ -1,5 +1,6 @@
 //! A function that is written, and the numbers of its locals.
-ghost use Rattle.std.specs.Prelude.{◌≡◌, ◌<◌, ◌^◌, length, IfSome};
+ghost use Rattle.std.specs.Prelude.{◌≡◌, ◌<◌, ◌≤◌, ◌^◌, length, IfSome};
+ghost use Rattle.isp_base.specs.Types.{gang_width};
 ghost use Rattle.isp_code.specs.Registers.{elem_of};
 ghost use Rattle.isp_wasm.specs.Locals.{name_of, paired, position};
 ghost use Rattle.isp_wasm_write.specs.Places.{place_of};
@@ -109,6 +110,14 @@ impl<'a> Kernel<'a> {
             Some(number) => Some(number as u32),
             None => None,
         }
+    }
+
+    /// The lanes of the gang.
+    pub(crate) fn width(&self) -> u32
+        ensures is { result ≡ gang_width self.now.code.gang }
+        ensures low { result ≤ 32 }
+    {
+        self.code.gang().width() as u32
     }
 
     /// The places in the source, by number.

@@ -3,6 +3,7 @@
 
 mod kernel;
 mod lines;
+mod masks;
 mod memory;
 mod operand;
 mod refusal;

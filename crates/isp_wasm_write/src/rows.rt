@@ -81,8 +81,8 @@ pub fn below_part(out: &mut Bytes, elem: Elem, left: Part, right: Part) -> Resul
     out.binary(Binary::CompareLanes(shape_of(elem), less_of(elem)))
 }
 
-// Behind a part: its bits, each turned.
-fn turned(out: &mut Bytes) -> Result<(), AllocError>
+/// Behind a part: its bits, each turned.
+pub(crate) fn turned(out: &mut Bytes) -> Result<(), AllocError>
     ensures { OnOk result (out.new ≡ out.old ++ (expr_bytes rows.ones ++ binary_bytes (wasm.Bits wasm.Xor))) }
 {
     ones(out)?;
