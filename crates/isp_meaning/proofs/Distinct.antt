@@ -2,7 +2,7 @@
 -- left come as if nobody else were there.
 use Rattle.std.proofs.Common.{◌≡◌, refl, sym, ap, ap₂, ◌∙◌, ℕ, zero, suc, ◌+◌, ◌<◌, ◌≤◌, ◌&&◌, ◌||◌, Bool, true, false, not, List, [], ◌∷◌, ◌++◌, map, Option, Some, None, ⊎_elim, arith, eq-eqb, add-zero}
 use Rattle.std.specs.Prelude.{nat_eq, ℤ, if◌then◌else◌}
-use Rattle.std.specs.List.{All, AllByRecursion}
+use Rattle.std.specs.List.{AllByRecursion}
 use Rattle.std.proofs.Math.Path.{fun_ext}
 use Rattle.std.proofs.lemmas.Bool.{cases_eq, cases_lt, cond-true, ne_eqb}
 use Rattle.std.proofs.lemmas.Bool.Decides.{Decides-int_eq}
@@ -15,7 +15,7 @@ use Rattle.isp_base.specs.Values.{number, convert_bits, compare_to}
 use Rattle.isp_base.specs.declared.operators.Compare.TheVariants.{Equal}
 use Rattle.isp_base.specs.declared.types.Elem.{Elem}
 use Rattle.isp_base.specs.declared.types.Rate.TheVariants.{Uniform}
-use Rattle.isp_meaning.specs.State.{State, tick}
+use Rattle.isp_meaning.specs.State.{tick}
 use Rattle.isp_meaning.specs.Payloads.{One, bit, converted, except}
 use Rattle.isp_meaning.specs.Places.{written}
 use Rattle.isp_meaning.specs.Rounds.{Round, if_listed, members, have, holding, holders, firsts, round_of_value, unique_rounds}

@@ -1,4 +1,4 @@
--- That nothing happens for no instance, what a branch is that nobody takes, and what the work counts.
+-- What a branch is that nobody takes, and what the work counts.
 use Rattle.std.specs.Prelude.{◌≡◌, ℕ, List, [], ◌∷◌, Bool, false}
 use Rattle.std.proofs.Common.{refl, sym, ap, ◌∙◌}
 use Rattle.isp_base.specs.Values.{number_to, wrap_to}
@@ -13,10 +13,7 @@ use Rattle.isp_meaning.specs.Outcomes.{Val, Gives, Res, with_value, both_sides, 
 use Rattle.isp_meaning.specs.Statements.{run, branches}
 use Rattle.isp_meaning.specs.Runs.{work_of}
 use Rattle.isp_meaning.specs.Samples.{doubles, does_nothing, row}
-use Rattle.isp_meaning.specs.Laws.{NobodyActs, IdleBranches, CountsWork}
-
-pub nobody_acts : NobodyActs
-nobody_acts gang frame calls most x a s e = ap (λ t. if_so t (run gang frame calls most x a) (went_all a) s) e
+use Rattle.isp_meaning.specs.Laws.{IdleBranches, CountsWork}
 
 -- whichever the branch is that no member takes
 module _ (gang : ℕ) (a : Mask) (s1 : State) (c : Map) where

@@ -1,6 +1,5 @@
 -- What holds of every program.
 --     MoreTurns     a run that is over stays so, and the output of a run that is cut is the beginning of a later one's
---     NobodyActs    over an empty set nothing happens
 --     FourSets      the sets of a statement are disjoint and make up the set that it ran over
 --     OthersStay    nothing of an instance outside the set changes
 --     EachHasOne    each member of the set has a value
@@ -21,7 +20,7 @@ use Rattle.isp_typed.specs.Typed.{t_unmasked, t_jump, t_return, t_print, t_asser
 use Rattle.isp_meaning.specs.State.{State, Frame, tick}
 use Rattle.isp_base.specs.Types.{gang_width}
 use Rattle.isp_meaning.specs.Payloads.{Payload, One, Each, bit, is_true}
-use Rattle.isp_meaning.specs.Outcomes.{Val, Gives, Fails, Stops, Res, Went, Trapped, Cut, went_all, unless_empty}
+use Rattle.isp_meaning.specs.Outcomes.{Val, Gives, Fails, Stops, Res, Went, Trapped, Cut}
 use Rattle.isp_meaning.specs.Calls.{calls_at}
 use Rattle.isp_meaning.specs.Expressions.{Calls, value}
 use Rattle.isp_meaning.specs.Statements.{run}
@@ -36,11 +35,6 @@ Later (GoesOn out) o = IsPrefix out (out_of o)
 -- the run of more turns is later than the run of fewer
 abbrev pub MoreTurns : Type 0
 MoreTurns = (program : Program) (f n m : ℕ) (xs : List Argument) → n ≤ m → Later (run_of program f n xs) (run_of program f m xs)
-
--- a statement over a set without members leaves the state as it is
-abbrev pub NobodyActs : Type 0
-NobodyActs =
-    (gang : ℕ) (frame : Frame) (calls : Calls) (most : ℕ) (x : TStmt) (a : Mask) (s : State) → any gang a ≡ false → unless_empty gang a s (run gang frame calls most x) ≡ went_all a s
 
 -- each instance is in one of the four sets if it is in the set that ran, and else in none
 abbrev pub Parted : Mask → Res → Type 0

@@ -1,6 +1,6 @@
 //! What holds of every program. No code is run here: each function carries a law in its contract.
 ghost use Rattle.isp_meaning.specs.Distinct.{EachValueOnce};
-ghost use Rattle.isp_meaning.specs.Laws.{CountsWork, EachHasOne, FourSets, IdleBranches, MoreTurns, NobodyActs, OthersStay};
+ghost use Rattle.isp_meaning.specs.Laws.{CountsWork, EachHasOne, FourSets, IdleBranches, MoreTurns, OthersStay};
 ghost use Rattle.isp_meaning.specs.Loads.{VariablesStay};
 ghost use Rattle.isp_meaning.specs.Nodes.{StraightWork};
 
@@ -8,11 +8,6 @@ ghost use Rattle.isp_meaning.specs.Nodes.{StraightWork};
 /// run that is cut is the beginning of its output for every greater number.
 pub fn more_turns()
     ensures { MoreTurns }
-{}
-
-/// A statement over a set of instances without members does nothing: the state stays as it is.
-pub fn nobody_acts()
-    ensures { NobodyActs }
 {}
 
 /// A branch of an `if` that no instance takes is left out, where the test has a value in each instance: with any other

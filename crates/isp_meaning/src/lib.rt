@@ -4,6 +4,6 @@
 mod laws;
 
 pub use laws::{
-    counts_work, each_has_one, each_value_once, four_sets, idle_branches, more_turns, nobody_acts,
-    others_stay, straight_work, variables_stay,
+    counts_work, each_has_one, each_value_once, four_sets, idle_branches, more_turns, others_stay,
+    straight_work, variables_stay,
 };
