@@ -127,9 +127,6 @@ pub enum Gang {
 }
 
 impl Gang {
-    /// Every gang, the smallest first.
-    pub const ALL: [Gang; 4] = [Gang::W4, Gang::W8, Gang::W16, Gang::W32];
-
     /// The gang of so many instances, if there is one.
     pub fn of_width(width: usize) -> Option<Gang>
         ensures some { (g : Gang) → result ≡ Some g → gang_width g ≡ width }

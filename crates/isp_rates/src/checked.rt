@@ -1,13 +1,11 @@
 //! Checked programs.
-ghost use Rattle.std.specs.Prelude.{◌≡◌, ◌&&◌, ℕ, IfErr, IsSome, List, OnOk, Option, bytes_eq, filter, find, map, option_map, slice_get};
+ghost use Rattle.std.specs.Prelude.{◌≡◌, ◌&&◌, ℕ, IfErr, IsSome, List, OnOk, Option, bytes_eq, filter, find, option_map, slice_get};
 ghost use Rattle.std.specs.BTreeMap.{get_by_text};
 ghost use Rattle.isp_lex.specs.declared.fault.Fault.{Fault};
-ghost use Rattle.isp_typed.specs.Views.{functions_of, program_of};
+ghost use Rattle.isp_typed.specs.Views.{program_of};
 ghost use Rattle.isp_independence.specs.declared.dependence.Dependence.{Dependence};
 ghost use Rattle.isp_independence.specs.Dependences.{IsFirst};
 ghost use Rattle.isp_independence.specs.Independent.{AreDependences, Depends, IsIndependent};
-ghost use Rattle.isp_independence.specs.Reaches.{function_calls};
-ghost use Rattle.isp_independence.specs.Tables.{lists_of};
 ghost use Rattle.isp_rates.specs.Exports.{at_number, entry_from, exports_from};
 ghost use Rattle.isp_rates.specs.Program.{ProgramBreach};
 ghost use Rattle.isp_rates.specs.Accepted.{IsAccepted};
@@ -22,8 +20,6 @@ use std::marker::Model;
 #[derive(Drop)]
 pub struct Checked {
     typed: Typed,
-    /// For each function the numbers of those that it calls.
-    calls: Vec<Vec<usize>>,
     /// For each function the first breach of it as an independent entry.
     dependences: Vec<Option<Dependence>>,
     /// The numbers of the exported functions, in the order of the text.
@@ -36,12 +32,10 @@ impl Model for Checked {
     ghost use Rattle.isp_lex.specs.declared.fault.Fault.{Fault};
     ghost use Rattle.isp_typed.specs.declared.function.Program.{Program};
     ghost use Rattle.isp_typed.specs.contracts.function.TypedFunction as function_code;
-    ghost use Rattle.std.specs.Prelude.{◌≡◌, ℕ, List, map};
+    ghost use Rattle.std.specs.Prelude.{◌≡◌, ℕ, List};
     ghost use Rattle.std.specs.BTreeMap.{get_by_text};
-    ghost use Rattle.isp_typed.specs.Views.{functions_of, program_of};
+    ghost use Rattle.isp_typed.specs.Views.{program_of};
     ghost use Rattle.isp_independence.specs.Independent.{AreDependences};
-    ghost use Rattle.isp_independence.specs.Reaches.{function_calls};
-    ghost use Rattle.isp_independence.specs.Tables.{lists_of};
     ghost use Rattle.isp_rates.specs.Exports.{entry_from, exports_from};
     ghost use Rattle.isp_rates.specs.Program.{ProgramBreach};
     ghost use Rattle.std.specs.Coded.{codes};
@@ -52,17 +46,7 @@ impl Model for Checked {
 
     ghost view = { λ c. c.typed };
 
-    ghost invariant = { λ c. ((f : Fault) → ProgramBreach (program_of c.typed) f → ⊥) × (lists_of c.calls.items ≡ map function_calls (functions_of c.typed.functions.items)) × AreDependences (program_of c.typed) c.dependences.items × (c.exports.items ≡ exports_from 0 c.typed.functions.items) × ((w : List ℕ) → get_by_text c.entries w ≡ entry_from w 0 c.typed.functions.items) };
-}
-
-/// One of several lists.
-fn list_at(lists: &[Vec<usize>], place: usize) -> Option<&[usize]>
-    ensures { option_map (λ s. s.now) result ≡ slice_get (lists_of lists.now) place }
-{
-    match lists.get(place) {
-        Some(list) => Some(list.as_slice()),
-        None => None,
-    }
+    ghost invariant = { λ c. ((f : Fault) → ProgramBreach (program_of c.typed) f → ⊥) × AreDependences (program_of c.typed) c.dependences.items × (c.exports.items ≡ exports_from 0 c.typed.functions.items) × ((w : List ℕ) → get_by_text c.entries w ≡ entry_from w 0 c.typed.functions.items) };
 }
 
 /// One of several numbers.
@@ -96,13 +80,11 @@ impl Checked {
     /// A program in which no breach is.
     pub(crate) fn new(
         typed: Typed,
-        calls: Vec<Vec<usize>>,
         dependences: Vec<Option<Dependence>>,
         exports: Vec<usize>,
         entries: BTreeMap<String, usize>,
     ) -> Checked
         requires sound { (f : Fault) → ProgramBreach (program_of typed) f → ⊥ }
-        requires calls { lists_of calls.items ≡ map function_calls (functions_of typed.functions.items) }
         requires dependences { AreDependences (program_of typed) dependences.items }
         requires exports { exports.items ≡ exports_from 0 typed.functions.items }
         requires entries { (w : List ℕ) → get_by_text entries w ≡ entry_from w 0 typed.functions.items }
@@ -110,7 +92,6 @@ impl Checked {
     {
         Checked {
             typed,
-            calls,
             dependences,
             exports,
             entries,
@@ -124,14 +105,6 @@ impl Checked {
         ensures accepted { IsAccepted (program_of self.now) }
     {
         self.typed.program()
-    }
-
-    /// The numbers of the functions that a function calls, by its number, each call once and in the order in
-    /// which the parts of a body are evaluated: `f(g())` gives g and then f. None past the last function.
-    pub fn calls(&self, function: usize) -> Option<&[usize]>
-        ensures { option_map (λ s. s.now) result ≡ option_map function_calls (slice_get (functions_of self.now.functions.items) function) }
-    {
-        list_at(&self.calls, function)
     }
 
     /// The numbers of the exported functions, in the order of the text.

@@ -37,7 +37,7 @@ pub fn check(alloc: Global, typed: Typed) -> Result<Checked, SourceFault>
             let dependences = dependences(alloc, typed.program(), &calls)?;
             let exports = exports(alloc, functions)?;
             let entries = entries(alloc, functions)?;
-            Ok(Checked::new(typed, calls, dependences, exports, entries))
+            Ok(Checked::new(typed, dependences, exports, entries))
         }
     }
 }

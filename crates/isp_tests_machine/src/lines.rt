@@ -10,6 +10,9 @@ use std::alloc::Global;
 use std::process::Abort;
 use table::{COUNT, LINES};
 
+// Each gang, in the order of what a row shows.
+const GANGS: [Gang; 4] = [Gang::W4, Gang::W8, Gang::W16, Gang::W32];
+
 // What a line reads stands in registers before, and what it wrote is shown.
 const CODE: &str = "func f export void
 par s i32 n
@@ -58,8 +61,8 @@ fn try_line(rt: &impl Abort, alloc: Global, gang: Gang, fills: &str, seen: &str)
 
 // A line of the table, and what shows what it wrote, at each gang.
 fn try_each(rt: &impl Abort, alloc: Global, fills: &str, seen: &str) {
-    assert_eq!(rt; seen.split(' ').count(), Gang::ALL.len(), "{fills}");
-    for (gang, text) in Gang::ALL.iter().zip(seen.split(' ')) {
+    assert_eq!(rt; seen.split(' ').count(), GANGS.len(), "{fills}");
+    for (gang, text) in GANGS.iter().zip(seen.split(' ')) {
         try_line(rt, alloc, *gang, fills, text);
     }
 }

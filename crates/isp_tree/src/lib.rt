@@ -14,5 +14,5 @@ pub use stmt::{
     Assignment, Block, Change, Declaration, First, Form, Item, Jump, Range, Simple, Size, Stmt,
     Tiling,
 };
-pub use tree::{DEPTH_LIMIT, NODE_LIMIT, Tree};
+pub use tree::{DEPTH_LIMIT, Tree};
 pub use types::{Base, Qualifier, TypeWords, Word};

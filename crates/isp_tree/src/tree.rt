@@ -12,16 +12,12 @@ use std::marker::Model;
 /// node of an expression.
 pub const DEPTH_LIMIT: usize = 128;
 
-/// How many nodes a tree has at most: functions, parameters, statements, declared items, ranges and
-/// nodes of expressions.
-pub const NODE_LIMIT: usize = 1_048_576;
-
 /// A program: its functions in the order of the text. Contracts see the list of them.
 ///
 /// Each tree is sound: its spans are places of a text of at most 1,048,576 bytes, its names are words
 /// that are not reserved, its numbers are values of their types, a declaration has an item, a
-/// `foreach` one to three ranges; it is no deeper than `DEPTH_LIMIT`, and has no more nodes than
-/// `NODE_LIMIT`.
+/// `foreach` one to three ranges; it is no deeper than `DEPTH_LIMIT`, and has at most
+/// 1,048,576 nodes: functions, parameters, statements, declared items, ranges and nodes of expressions.
 #[derive(Drop)]
 pub struct Tree {
     functions: Vec<Function>,

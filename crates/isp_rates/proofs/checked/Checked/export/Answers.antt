@@ -12,7 +12,7 @@ returns-in-Some c =
     ap Some c.as_str.ensures
     ∙ ap (option_map named) (export_found c.args.self.now.functions.items c.deref.result.now c.deref-2.result.now c.args.k c.number_at.result _
     (c.deref.ensures.value ∙ ap (λ (p : Program). p.functions.items) c.program.ensures.same)
-    (c.deref-2.ensures.value ∙ (c.self.invariant.3 ∙ ap (λ (p : Program). exports_from 0 p.functions.items) c.self.view_is))
+    (c.deref-2.ensures.value ∙ (c.self.invariant.2 ∙ ap (λ (p : Program). exports_from 0 p.functions.items) c.self.view_is))
     c.number_at.ensures c.in-Some.ensures)
 
 pub returns-in-None : goal.returns-in-None
@@ -20,5 +20,5 @@ returns-in-None c =
     let named = λ (f : TypedFunction). f.name in
     ap (option_map named) (export_found c.args.self.now.functions.items c.deref.result.now c.deref-2.result.now c.args.k c.number_at.result _
     (c.deref.ensures.value ∙ ap (λ (p : Program). p.functions.items) c.program.ensures.same)
-    (c.deref-2.ensures.value ∙ (c.self.invariant.3 ∙ ap (λ (p : Program). exports_from 0 p.functions.items) c.self.view_is))
+    (c.deref-2.ensures.value ∙ (c.self.invariant.2 ∙ ap (λ (p : Program). exports_from 0 p.functions.items) c.self.view_is))
     c.number_at.ensures c.in-None.ensures)

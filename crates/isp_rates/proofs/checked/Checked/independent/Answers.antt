@@ -9,12 +9,12 @@ use Rattle.isp_rates.proofs.checked.Checked.independent.Goals as goal
 
 pub returns-in-Some-clause-err : goal.returns-in-Some-clause-err
 returns-in-Some-clause-err c = λ f e.
-    let kept = subst (λ (p : Program). AreDependences (program_of p) c.self.inside.dependences.items) c.self.view_is c.self.invariant.2 in
+    let kept = subst (λ (p : Program). AreDependences (program_of p) c.self.inside.dependences.items) c.self.view_is c.self.invariant.1 in
     (kept_breach c.args.self.now c.self.inside.dependences.items c.args.entry.now f (Some c.in-Some.dependence) kept e
     (λ o k. c.in-Some.ensures f o (c.entry.ensures ∙ e) (ap (λ (z : List (Option Dependence)). slice_get z f) c.deref.ensures.value ∙ k))).by
 
 pub returns-in-None-clause-ok : goal.returns-in-None-clause-ok
 returns-in-None-clause-ok c = λ f e.
-    let kept = subst (λ (p : Program). AreDependences (program_of p) c.self.inside.dependences.items) c.self.view_is c.self.invariant.2 in
+    let kept = subst (λ (p : Program). AreDependences (program_of p) c.self.inside.dependences.items) c.self.view_is c.self.invariant.1 in
     (kept_breach c.args.self.now c.self.inside.dependences.items c.args.entry.now f None kept e
     (λ o k. c.in-None.ensures f o (c.entry.ensures ∙ e) (ap (λ (z : List (Option Dependence)). slice_get z f) c.deref.ensures.value ∙ k))).by
