@@ -5,7 +5,7 @@ mod program;
 
 pub use isp_tree::{
     Argument, Assignment, Base, Block, Change, DEPTH_LIMIT, Declaration, Expr, First, Form,
-    Function, Item, Jump, Linkage, Operator, Param, Place, Prefix, Qualifier, Range,
-    Simple, Size, Stmt, Tiling, Tree, TypeWords, Word,
+    Function, Item, Jump, Linkage, Operator, Param, Place, Prefix, Qualifier, Range, Simple, Size,
+    Stmt, Tiling, Tree, TypeWords, Word,
 };
 pub use program::{one_tree, parse};
