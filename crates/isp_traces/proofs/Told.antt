@@ -58,5 +58,6 @@ counted_run code name xs budget old now k counts r starts ne gives stops result 
       routine = starts.routine;
       entry = starts.entry;
       tells = subst (λ (s : State). Tells (outcome (rows xs) s) r) at (told (rows xs) k (state now) r m.1 (stops, result, arrays, output));
+      arrays = subst (λ (s : State). r.arrays.items ≡ rows_now (rows xs) (conf s).arrays) at arrays;
       counts = subst (λ (z : Counts). AreCounts code (Runs first) budget z) (sym same) (subst (λ (s : State). AreCounts code s budget counts) starts.state_is (subst (λ (l : Listing). AreCounts l (state old) budget counts) starts.code_is m.2));
     }

@@ -1,13 +1,14 @@
 -- What a counted run answers.
 use Rattle.std.specs.Prelude.{◌≡◌, ℕ, ◌<◌, List, None}
+use Rattle.isp_base.specs.Arguments.{rows, rows_now}
 use Rattle.isp_base.specs.Outcomes.{Outcome, Ends, Traps, GoesOn}
 use Rattle.isp_base.specs.declared.signature.Argument.{Argument}
 use Rattle.isp_code.specs.Conf.{Runs}
 use Rattle.isp_code.specs.Entries.{IsEntry}
 use Rattle.isp_code.specs.Listing.{Listing, Routine}
-use Rattle.isp_code.specs.Machine.{first_conf, outcome_after}
+use Rattle.isp_code.specs.Machine.{after, first_conf, outcome_after}
 use Rattle.isp_machine.specs.Kept.{Kept, state}
-use Rattle.isp_machine.specs.Runs.{AtRefusal, Made, RunGives}
+use Rattle.isp_machine.specs.Runs.{AtRefusal, Made, RunGives, conf}
 use Rattle.isp_machine.specs.declared.stop.Stop.{Stop}
 use Rattle.isp_machine.specs.declared.stop.Stop.TheVariants.{Running, Trapped, Ended, Memory}
 use Rattle.isp_traces.specs.Tallies.{AreCounts}
@@ -35,4 +36,6 @@ pub record CountedRun (code : Listing) (name : List ℕ) (xs : List Argument) (b
   pub routine : Routine
   pub entry : IsEntry code name xs function routine
   pub tells : Tells (outcome_after code function routine xs budget) r
+  -- also of a run that goes on
+  pub arrays : r.arrays.items ≡ rows_now (rows xs) (conf (after code budget (Runs (first_conf code function routine xs)))).arrays
   pub counts : AreCounts code (Runs (first_conf code function routine xs)) budget r.counts
