@@ -18,8 +18,11 @@ HEAD = """. Programs by a gang of 32: those of the other files, where a gang of 
 . Found by an evaluator in Python, tools/gang.py, which agrees with every run of the other files. Written by tools/wide_rows.py.
 """
 WIDE = 32
-# What stands in these files is not the work of a run, or is run by 32 already.
-LEFT_OUT = ("arguments.rows", "programs.rows", "kernels.rows", "wide.rows", "wide_programs.rows")
+# What stands in these files is not the work of a run, is run by 32 already, or is worked out by hand for its own gang.
+LEFT_OUT = (
+    "arguments.rows", "programs.rows", "kernels.rows", "wide.rows", "wide_programs.rows",
+    "accesses.rows", "alone.rows", "budgets.rows", "foreach.rows", "worked.rows",
+)
 ALL = "export void f(uniform int a[]) { int x = programIndex + 1; a[programIndex] = %s; }"
 SOME = "export void f(uniform int a[]) { int x = programIndex + 1; if (%s) a[programIndex] = %s; }"
 UPPER, LOWER, EDGES = "programIndex >= 16", "programIndex < 16", "programIndex % 31 == 0"

@@ -4,7 +4,7 @@ use isp_base::{Argument, Array, Bound, Value, low_bits};
 use isp_bind::{answer, bind};
 use isp_engine::front;
 use isp_rates::Checked;
-use isp_solo::{SoloReport, one_by_one};
+use isp_solo::{EvalFault, SoloReport, one_by_one};
 use isp_solo_run::arrays::Arrays;
 use isp_solo_run::running::{Ending, run_alone};
 use std::alloc::{AllocError, Global};
@@ -44,11 +44,14 @@ pub(crate) fn upward(alloc: Global, case: &Case<'_>) -> Result<String, AllocErro
         return String::from_str(alloc, "refused");
     };
     match one_by_one(alloc, &checked, case.entry, &bound, case.turns) {
+        Err(EvalFault::NotIndependent(it)) => {
+            format!(in alloc; "rule {} at {}", it.rule.number(), it.span)
+        }
         Err(fault) => format!(in alloc; "{fault}"),
         Ok(SoloReport::Trapped(trap)) => format!(in alloc; "{trap}"),
-        Ok(SoloReport::Cut(instance)) => format!(in alloc; "cut by instance {instance}"),
+        Ok(SoloReport::Cut(instance)) => format!(in alloc; "cut {instance}"),
         Ok(SoloReport::Clash { parameter, element }) => {
-            format!(in alloc; "a clash at {element} of {parameter}")
+            format!(in alloc; "clash {parameter} {element}")
         }
         Ok(SoloReport::Ended { arrays, result }) => {
             ended(alloc, &checked, case.entry, arrays.as_slice(), result)

@@ -2,12 +2,74 @@
 use crate::alone::{downward, upward};
 use crate::found::Found;
 use crate::ways::{
-    accepted, compiled, evaluated, executed, is_read_back, lines_with, sent, worked,
+    accepted, compiled, evaluated, executed, goes_on, is_read_back, left, lines_with, sent, worked,
 };
 use isp_base::Gang;
 use isp_engine::compile;
 use isp_tests_support::{Marked, number, parted, spelt_out};
 use std::alloc::{AllocError, Global};
+
+/// How far a text is judged: by names, types and rates, or to its code.
+#[derive(Clone, Copy)]
+enum Way {
+    Front,
+    Code,
+}
+
+/// What a line says, by its first word.
+#[derive(Clone, Copy)]
+enum Word {
+    /// Something for the reader alone.
+    Nothing,
+    Source,
+    Gang,
+    Entry,
+    Arguments,
+    Turns,
+    Work,
+    Budget,
+    Running,
+    Code,
+    Lines,
+    Writes,
+    Frame,
+    Alone,
+    Takes(Way),
+    Refuses(Way),
+    /// What must come out of a run.
+    Comes,
+}
+
+const WORDS: [(&str, Word); 19] = [
+    (".", Word::Nothing),
+    ("", Word::Nothing),
+    ("source", Word::Source),
+    ("gang", Word::Gang),
+    ("entry", Word::Entry),
+    ("arguments", Word::Arguments),
+    ("turns", Word::Turns),
+    ("work", Word::Work),
+    ("budget", Word::Budget),
+    ("running", Word::Running),
+    ("code", Word::Code),
+    ("lines", Word::Lines),
+    ("writes", Word::Writes),
+    ("frame", Word::Frame),
+    ("alone", Word::Alone),
+    ("accepts", Word::Takes(Way::Front)),
+    ("compiles", Word::Takes(Way::Code)),
+    ("refuses", Word::Refuses(Way::Front)),
+    ("rejects", Word::Refuses(Way::Code)),
+];
+
+fn word_of(text: &str) -> Word {
+    for (known, word) in &WORDS {
+        if *known == text {
+            return *word;
+        }
+    }
+    Word::Comes
+}
 
 /// How many cases were tried, and a line for each thing in which one does not come to what it says.
 #[derive(Drop)]
@@ -36,6 +98,8 @@ pub(crate) struct Case<'a> {
     pub turns: u64,
     /// The work of the run, where it is said.
     pub work: Option<u64>,
+    /// How many instructions the code may run, where it is said.
+    pub budget: Option<u64>,
     output: String,
     /// How the last run was to end.
     ending: String,
@@ -58,6 +122,7 @@ impl<'a> Case<'a> {
             arguments: String::new(alloc),
             turns: 0,
             work: None,
+            budget: None,
             output: String::new(alloc),
             ending: String::new(alloc),
             frame: "…",
@@ -66,23 +131,47 @@ impl<'a> Case<'a> {
 
     /// Takes a line. One that says what must come out is tried, and what differs is added.
     pub(crate) fn follow(&mut self, line: &'a str, tried: &mut Tried) -> Result<(), AllocError> {
-        let (word, rest) = line.split_once(' ').unwrap_or((line, ""));
-        match word {
-            "." | "" => {}
-            "source" => self.take(rest)?,
-            "gang" => self.widen(rest, tried)?,
-            "entry" => self.entry = rest,
-            "arguments" => self.arguments = spelt_out(self.alloc, rest)?,
-            "turns" => self.turns = number(rest).unwrap_or(0),
-            "work" => self.count(rest, tried)?,
-            "code" => self.measure(rest, tried)?,
-            "writes" => self.output = spelt_out(self.alloc, rest)?,
-            "frame" => self.frame = rest,
-            "alone" => self.compare_alone(tried)?,
-            "accepts" | "refuses" | "compiles" => self.judge(word, rest, tried)?,
-            _ => self.compare(word, rest, tried)?,
+        let (word, rest) = parted(line, ' ');
+        match word_of(word) {
+            Word::Nothing => Ok(()),
+            Word::Source => self.take(rest),
+            Word::Gang => self.widen(rest, tried),
+            Word::Entry => {
+                self.entry = rest;
+                Ok(())
+            }
+            Word::Arguments => {
+                self.arguments = spelt_out(self.alloc, rest)?;
+                Ok(())
+            }
+            Word::Turns => {
+                self.turns = number(rest).unwrap_or(0);
+                Ok(())
+            }
+            Word::Work => self.count(rest, tried),
+            Word::Budget => {
+                self.budget = number(rest);
+                Ok(())
+            }
+            Word::Running => self.run_on(rest, tried),
+            Word::Code => self.measure(rest, tried),
+            Word::Lines => self.count_lines(rest, tried),
+            Word::Writes => {
+                self.output = spelt_out(self.alloc, rest)?;
+                Ok(())
+            }
+            Word::Frame => {
+                self.frame = rest;
+                Ok(())
+            }
+            Word::Alone => self.compare_alone(rest, tried),
+            Word::Takes(way) => self.judge(way, "", rest, tried),
+            Word::Refuses(way) => {
+                let (fault, text) = parted(rest, '|');
+                self.judge(way, fault, text, tried)
+            }
+            Word::Comes => self.compare(word, rest, tried),
         }
-        Ok(())
     }
 
     fn take(&mut self, source: &str) -> Result<(), AllocError> {
@@ -100,28 +189,35 @@ impl<'a> Case<'a> {
         Ok(())
     }
 
-    // Tries a line that judges a text.
-    fn judge(&mut self, word: &str, rest: &str, tried: &mut Tried) -> Result<(), AllocError> {
-        let (fault, text) = match word {
-            "refuses" => parted(rest, '|'),
-            _ => ("", rest),
-        };
+    // Tries a text inside the frame: its fault, none if it is empty.
+    fn judge(
+        &mut self,
+        way: Way,
+        fault: &str,
+        text: &str,
+        tried: &mut Tried,
+    ) -> Result<(), AllocError> {
         let (before, after) = parted(self.frame, '…');
         let framed = format!(in self.alloc; "{before}{text}{after}")?;
         self.take(framed.as_str())?;
-        let wanted = match fault {
-            "" => String::from_str(self.alloc, "accepted")?,
-            _ => format!(in self.alloc; "{fault} at {}..{}", self.marked.start, self.marked.end)?,
-        };
-        let found = match word {
-            "accepts" | "refuses" => accepted(self.alloc, self)?,
-            _ => compiled(self.alloc, self)?,
+        let wanted = self.wanted_fault(fault)?;
+        let found = match way {
+            Way::Front => accepted(self.alloc, self)?,
+            Way::Code => compiled(self.alloc, self)?,
         };
         tried.cases = tried.cases.saturating_add(1);
         if found != wanted {
             tried.differ(format!(in self.alloc; "{text}: {found}, not {wanted}")?)?;
         }
         Ok(())
+    }
+
+    // What is told of a source with a fault at its place, or without one.
+    fn wanted_fault(&self, fault: &str) -> Result<String, AllocError> {
+        if fault.is_empty() {
+            return String::from_str(self.alloc, "accepted");
+        }
+        format!(in self.alloc; "{fault} at {}..{}", self.marked.start, self.marked.end)
     }
 
     // Tries a line that says the work of the run.
@@ -149,6 +245,20 @@ impl<'a> Case<'a> {
                 "{}: {found} {word} in {lines} lines",
                 self.name
             )?)?;
+        }
+        Ok(())
+    }
+
+    // Tries a line that says how many lines of the code's text begin with a word.
+    fn count_lines(&self, rest: &str, tried: &mut Tried) -> Result<(), AllocError> {
+        let (wanted, word) = parted(rest, ' ');
+        tried.cases = tried.cases.saturating_add(1);
+        let found = match lines_with(self.alloc, self, word) {
+            Some((found, _lines)) => Some(found),
+            None => None,
+        };
+        if found.is_none() || found != number(wanted) {
+            tried.differ(format!(in self.alloc; "{}: not {rest} but {found:?}", self.name)?)?;
         }
         Ok(())
     }
@@ -183,12 +293,13 @@ impl<'a> Case<'a> {
             tried.differ(format!(in self.alloc; "{}: {found}, not {wanted}", self.name)?)?;
         }
         if wanted.has_run() {
-            self.run_code(&wanted, tried)?;
+            self.run_code(&found, &wanted, tried)?;
             self.run_alone(&wanted, tried)?;
         }
         self.ending = wanted.ending;
         self.output = String::new(self.alloc);
         self.work = None;
+        self.budget = None;
         Ok(())
     }
 
@@ -208,18 +319,53 @@ impl<'a> Case<'a> {
         Ok(())
     }
 
-    // Tries a line that says that the instances one by one end as the gang did.
-    fn compare_alone(&self, tried: &mut Tried) -> Result<(), AllocError> {
+    // What the instances must come to one by one: what a line says, or as the gang did.
+    fn wanted_alone(&self, told: &str) -> Result<String, AllocError> {
+        let (word, rest) = parted(told, ' ');
+        match word {
+            "" => String::from_str(self.alloc, self.ending.as_str()),
+            "rule" => {
+                format!(in self.alloc; "{told} at {}..{}", self.marked.start, self.marked.end)
+            }
+            _ => Ok(self.wanted(word, rest)?.ending),
+        }
+    }
+
+    // Tries a line that says what the instances come to one by one.
+    fn compare_alone(&self, told: &str, tried: &mut Tried) -> Result<(), AllocError> {
         tried.cases = tried.cases.saturating_add(1);
+        let wanted = self.wanted_alone(told)?;
         let found = upward(self.alloc, self)?;
-        if found != self.ending {
-            tried.differ(format!(in self.alloc; "{}: one by one {found}", self.name)?)?;
+        if found != wanted {
+            tried.differ(format!(in self.alloc;
+                "{}: one by one {found}, not {wanted}",
+                self.name
+            )?)?;
         }
         Ok(())
     }
 
-    // Tries the code of a case: its text, its report, and what goes out while it runs.
-    fn run_code(&self, wanted: &Found, tried: &mut Tried) -> Result<(), AllocError> {
+    // Tries a line that says after how many instructions the code goes on, and has written nothing.
+    fn run_on(&self, budgets: &str, tried: &mut Tried) -> Result<(), AllocError> {
+        for budget in budgets.split(' ') {
+            tried.cases = tried.cases.saturating_add(1);
+            if !goes_on(self.alloc, self, number(budget)) {
+                tried.differ(format!(in self.alloc;
+                    "{}: the code does not go on after {budget}",
+                    self.name
+                )?)?;
+            }
+        }
+        Ok(())
+    }
+
+    // Tries the code of a case: its text, its report, what goes out while it runs, and the arrays that it leaves at a trap, which are the evaluator's.
+    fn run_code(
+        &self,
+        evaluated: &Found,
+        wanted: &Found,
+        tried: &mut Tried,
+    ) -> Result<(), AllocError> {
         let name = self.name;
         let Ok(image) = compile(self.alloc, self.marked.source.as_str(), self.gang) else {
             return tried.differ(format!(in self.alloc; "{name}: no code")?);
@@ -238,6 +384,9 @@ impl<'a> Case<'a> {
         let out = sent(self.alloc, self, &image, wanted);
         if !out.is_some_and(|bytes| wanted.sends(bytes.as_slice())) {
             tried.differ(format!(in self.alloc; "{name}: other bytes go out, not {wanted}")?)?;
+        }
+        if wanted.is_trap() && left(self.alloc, self, &image, wanted)? != evaluated.arrays {
+            tried.differ(format!(in self.alloc; "{name}: the code leaves other arrays")?)?;
         }
         Ok(())
     }

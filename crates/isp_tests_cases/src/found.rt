@@ -32,6 +32,11 @@ impl Found {
         ending.starts_with("ends ") || ending.starts_with("trap ") || ending == "cut "
     }
 
+    /// Whether this is a trap.
+    pub(crate) fn is_trap(&self) -> bool {
+        self.ending.as_str().starts_with("trap ")
+    }
+
     /// Whether so much went out: all that is written, and behind an end its answer and a line feed; where it goes on, the beginning.
     pub(crate) fn sends(&self, bytes: &[u8]) -> bool {
         if self.ending.as_str() == "cut " {

@@ -4,7 +4,9 @@ use crate::found::Found;
 use isp_asm::write;
 use isp_base::{Bound, Signature};
 use isp_bind::{answer, bind};
-use isp_engine::{Ending, Image, Kept, Report, compile, execute, front, load_code, run_to};
+use isp_engine::{
+    Ending, Image, Kept, Report, compile, execute, execute_bound, front, load_code, run_to,
+};
 use isp_lex::SourceFault;
 use isp_model::{Outcome, evaluate, work};
 use isp_rates::Checked;
@@ -116,15 +118,16 @@ fn told(alloc: Global, signature: &Signature, outcome: Outcome) -> Result<Found,
     }
 }
 
-// How many instructions the code of a case may run: 32 for each unit of work, and 32, are enough for an end. A run that is cut goes on
-// for as many instructions at least as a loop may make turns.
+// How many instructions the code of a case may run, if the case does not say: 32 for each unit of work, and 32, are enough for an end. A run that is
+// cut goes on for as many instructions at least as a loop may make turns.
 fn budget(case: &Case<'_>, wanted: &Found) -> u64 {
     if wanted.ending.as_str() == "cut " {
         return case.turns;
     }
-    match case.work {
-        Some(work) => work.saturating_mul(32).saturating_add(32),
-        None => AMPLE,
+    match (case.budget, case.work) {
+        (Some(budget), _) => budget,
+        (None, Some(work)) => work.saturating_mul(32).saturating_add(32),
+        (None, None) => AMPLE,
     }
 }
 
@@ -161,6 +164,38 @@ pub(crate) fn sent(
     )
     .ok()?;
     Some(out.bytes)
+}
+
+/// The arrays that the code of a case leaves, as an answer without a result; empty where its entry or its arguments are refused.
+pub(crate) fn left(
+    alloc: Global,
+    case: &Case<'_>,
+    image: &Image,
+    wanted: &Found,
+) -> Result<String, AllocError> {
+    let Some(signature) = image.verified().signature(case.entry) else {
+        return Ok(String::new(alloc));
+    };
+    let Ok(bound) = bind(alloc, signature, case.arguments.as_str()) else {
+        return Ok(String::new(alloc));
+    };
+    match execute_bound(alloc, image, case.entry, bound, budget(case, wanted)) {
+        Ok(report) => answer(alloc, signature, report.arrays.as_slice(), None),
+        Err((_bound, _fault)) => Ok(String::new(alloc)),
+    }
+}
+
+/// Whether the code of a case goes on after so many instructions, and has written nothing.
+pub(crate) fn goes_on(alloc: Global, case: &Case<'_>, budget: Option<u64>) -> bool {
+    let (Some(budget), Ok(image)) = (
+        budget,
+        compile(alloc, case.marked.source.as_str(), case.gang),
+    ) else {
+        return false;
+    };
+    execute(alloc, &image, case.entry, case.arguments.as_str(), budget).is_ok_and(|report| {
+        report.ending == Ending::Running && report.answer.is_none() && report.output.is_empty()
+    })
 }
 
 /// Whether the text of code is that of the code which is read from it.

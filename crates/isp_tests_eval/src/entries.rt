@@ -1,12 +1,13 @@
 //! Entries that are not there.
-use crate::rows::front;
 use isp_base::{Bound, Gang};
 use isp_bind::bind;
+use isp_lex::{SourceFault, lex};
 use isp_model::{EvalFault, evaluate, work};
-use isp_rates::Checked;
+use isp_rates::{Checked, check};
+use isp_syntax::parse;
+use isp_types::resolve;
 use std::alloc::Global;
 use std::process::Abort;
-use std::test::Fail;
 
 /// Functions that differ in their parameters and results alone, and one that is not exported.
 const TEXT: &str =
@@ -43,6 +44,13 @@ struct Asked<'a> {
     json: &'a str,
 }
 
+/// The program of a source.
+pub(crate) fn front(alloc: Global, source: &str, gang: Gang) -> Result<Checked, SourceFault> {
+    let tokens = lex(alloc, source)?;
+    let tree = parse(alloc, &tokens)?;
+    check(alloc, resolve(alloc, &tree, gang)?)
+}
+
 fn read(line: &str) -> Option<Asked<'_>> {
     let (word, rest) = line.split_once(' ')?;
     let (entry, rest) = rest.split_once(' ')?;
@@ -55,11 +63,13 @@ fn read(line: &str) -> Option<Asked<'_>> {
     })
 }
 
-fn bound(alloc: Global, checked: &Checked, asked: Asked<'_>) -> Result<Bound, Fail> {
-    match checked.signature(asked.given) {
-        Some(signature) => Ok(bind(alloc, signature, asked.json)?),
-        None => Err(Fail::from("no such function")),
-    }
+fn bound(rt: &impl Abort, alloc: Global, checked: &Checked, asked: Asked<'_>) -> Bound {
+    let signature = checked
+        .signature(asked.given)
+        .expect(rt, "no such function");
+    bind(alloc, signature, asked.json)
+        .ok()
+        .expect(rt, "not bound")
 }
 
 // Whether the entry is found.
@@ -78,42 +88,28 @@ fn is_counted(alloc: Global, checked: &Checked, entry: &str, bound: &Bound) -> b
     )
 }
 
-fn same(rt: &impl Abort, asked: Asked<'_>, found: bool) {
-    assert!(rt;
-        found == asked.takes,
-        "{} with the arguments of {}",
-        asked.entry,
-        asked.given
-    );
-}
-
-fn compare(rt: &impl Abort, alloc: Global, checked: &Checked, line: &str) -> Result<(), Fail> {
-    let Some(asked) = read(line) else {
-        return Err(Fail::from("a line that says too little"));
-    };
-    let bound = bound(alloc, checked, asked)?;
-    same(rt, asked, is_found(alloc, checked, asked.entry, &bound));
-    same(rt, asked, is_counted(alloc, checked, asked.entry, &bound));
-    Ok(())
+// Whether the entry is there in both, or in neither, as a line says.
+fn is_as_told(alloc: Global, checked: &Checked, asked: Asked<'_>, bound: &Bound) -> bool {
+    is_found(alloc, checked, asked.entry, bound) == asked.takes
+        && is_counted(alloc, checked, asked.entry, bound) == asked.takes
 }
 
 #[test]
-fn entries_that_are_not_there(rt: HostRuntime) -> Result<(), Fail> {
+fn entries_that_are_not_there(rt: HostRuntime) {
     let alloc = rt.alloc();
-    let checked = front(alloc, TEXT, Gang::W4)?;
-    let mut left: usize = 19;
+    let checked = front(alloc, TEXT, Gang::W4).ok().expect(&rt, "no program");
+    let mut count = 0usize;
     for line in LINES.lines() {
-        compare(&rt, alloc, &checked, line)?;
-        left = left.saturating_sub(1);
+        let asked = read(line).expect(&rt, "a line that says too little");
+        let bound = bound(&rt, alloc, &checked, asked);
+        assert!(rt; is_as_told(alloc, &checked, asked, &bound), "{line}");
+        count = count.saturating_add(1);
     }
-    assert_eq!(rt; left, 0);
-    Ok(())
+    assert_eq!(rt; count, 19);
 }
 
 #[test]
-fn refusal_as_text(rt: HostRuntime) -> Result<(), Fail> {
-    let alloc = rt.alloc();
-    let text = format!(in alloc; "{}", EvalFault::NoEntry)?;
+fn refusal_as_text(rt: HostRuntime) {
+    let text = format!(in rt.alloc(); "{}", EvalFault::NoEntry).expect(&rt, "memory");
     assert_eq!(rt; text.as_str(), "50 NoEntry");
-    Ok(())
 }

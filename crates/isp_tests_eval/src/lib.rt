@@ -1,15 +1,7 @@
-//! Programs of the whole language, run by the evaluator, against what comes out by the language's rules.
+//! The evaluator's entries, and the memory that it and the calls before it ask for.
 #![tactic(auto)]
 
 #[cfg(test)]
 mod entries;
 #[cfg(test)]
-mod marks;
-#[cfg(test)]
-mod programs;
-#[cfg(test)]
 mod refused;
-#[cfg(test)]
-mod rows;
-#[cfg(test)]
-mod tables;

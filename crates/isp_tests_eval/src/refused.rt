@@ -1,5 +1,5 @@
 //! Memory refused to the front's last two calls, to the evaluator and to the count of work, at each growth.
-use crate::rows::front;
+use crate::entries::front;
 use isp_base::{Bound, Gang};
 use isp_bind::{answer, bind};
 use isp_lex::{SourceFault, lex};
@@ -12,6 +12,7 @@ use isp_tests_support::{
 use isp_typed::Typed;
 use isp_types::resolve;
 use std::alloc::Global;
+use std::process::Abort;
 use std::test::Fail;
 
 const TURNS: u64 = 1000;
@@ -26,11 +27,13 @@ const WORKS: [(Program<'static>, u64); 2] = [
     (UNIQUE, 15),
 ];
 
-fn bound(alloc: Global, checked: &Checked, program: &Program<'_>) -> Result<Bound, Fail> {
-    match checked.signature(program.entry) {
-        Some(signature) => Ok(bind(alloc, signature, program.arguments)?),
-        None => Err(Fail::from("no such function")),
-    }
+fn bound(rt: &impl Abort, alloc: Global, checked: &Checked, program: &Program<'_>) -> Bound {
+    let signature = checked
+        .signature(program.entry)
+        .expect(rt, "no such function");
+    bind(alloc, signature, program.arguments)
+        .ok()
+        .expect(rt, "not bound")
 }
 
 // What comes of a run, by its answer and its output.
@@ -70,88 +73,118 @@ fn rated(alloc: Global, program: &Program<'_>, bound: &Bound, typed: Typed) -> T
     }
 }
 
-fn resolves(
-    alloc: Global,
-    program: &Program<'_>,
-    tree: &Tree,
-    bound: &Bound,
-    hoard: &mut Hoard,
-    bytes: usize,
-) -> Result<Tried, Fail> {
-    hoard.beside(bytes)?;
-    let first = resolve(alloc, tree, Gang::W4);
+/// What a call is tried with, made before.
+#[derive(Clone, Copy)]
+struct Given<'a> {
+    program: &'a Program<'a>,
+    tree: &'a Tree,
+    checked: &'a Checked,
+    bound: &'a Bound,
+}
+
+fn resolves(alloc: Global, given: Given<'_>, hoard: &mut Hoard) -> Result<Tried, Fail> {
+    let first = resolve(alloc, given.tree, Gang::W4);
     hoard.ample();
     match first {
-        Ok(typed) => Ok(rated(alloc, program, bound, typed)),
+        Ok(typed) => Ok(rated(alloc, given.program, given.bound, typed)),
         Err(SourceFault::Memory) => {
-            let typed = resolve(alloc, tree, Gang::W4)?;
-            Ok(rated(alloc, program, bound, typed).retried())
+            let typed = resolve(alloc, given.tree, Gang::W4)?;
+            Ok(rated(alloc, given.program, given.bound, typed).retried())
         }
         Err(SourceFault::Refused(_fault)) => Ok(Tried::Wrong),
     }
 }
 
 // Where memory is refused the program is lost, and its rates are asked of a new one.
-fn checks(
-    alloc: Global,
-    program: &Program<'_>,
-    tree: &Tree,
-    bound: &Bound,
-    hoard: &mut Hoard,
-    bytes: usize,
-) -> Result<Tried, Fail> {
-    let typed = resolve(alloc, tree, Gang::W4)?;
+fn checks(alloc: Global, given: Given<'_>, hoard: &mut Hoard, bytes: usize) -> Result<Tried, Fail> {
+    let typed = resolve(alloc, given.tree, Gang::W4)?;
     hoard.beside(bytes)?;
     let first = check(alloc, typed);
     hoard.ample();
     match first {
-        Ok(checked) => Ok(judged(alloc, program, &checked, bound)),
+        Ok(checked) => Ok(judged(alloc, given.program, &checked, given.bound)),
         Err(SourceFault::Memory) => {
-            let typed = resolve(alloc, tree, Gang::W4)?;
-            Ok(rated(alloc, program, bound, typed).retried())
+            let typed = resolve(alloc, given.tree, Gang::W4)?;
+            Ok(rated(alloc, given.program, given.bound, typed).retried())
         }
         Err(SourceFault::Refused(_fault)) => Ok(Tried::Wrong),
     }
 }
 
-fn evaluates(
-    alloc: Global,
-    program: &Program<'_>,
-    checked: &Checked,
-    bound: &Bound,
-    hoard: &mut Hoard,
-    bytes: usize,
-) -> Result<Tried, Fail> {
-    hoard.beside(bytes)?;
-    let first = evaluate(alloc, checked, program.entry, bound, TURNS);
+fn evaluates(alloc: Global, given: Given<'_>, hoard: &mut Hoard) -> Tried {
+    let program = given.program;
+    let first = evaluate(alloc, given.checked, program.entry, given.bound, TURNS);
     hoard.ample();
     match first {
-        Ok(outcome) => Ok(ended(alloc, checked, program, &outcome)),
-        Err(EvalFault::Memory) => Ok(judged(alloc, program, checked, bound).retried()),
-        Err(_) => Ok(Tried::Wrong),
+        Ok(outcome) => ended(alloc, given.checked, program, &outcome),
+        Err(EvalFault::Memory) => judged(alloc, program, given.checked, given.bound).retried(),
+        Err(_) => Tried::Wrong,
     }
 }
 
-fn swept(alloc: Global, program: &Program<'_>) -> Result<(), Fail> {
-    let tokens = lex(alloc, program.source)?;
-    let tree = parse(alloc, &tokens)?;
-    let checked = front(alloc, program.source, Gang::W4)?;
-    let bound = bound(alloc, &checked, program)?;
-    sweep(alloc, "resolve", |hoard, bytes| {
-        resolves(alloc, program, &tree, &bound, hoard, bytes)
-    })?;
-    sweep(alloc, "check", |hoard, bytes| {
-        checks(alloc, program, &tree, &bound, hoard, bytes)
-    })?;
-    sweep(alloc, "evaluate", |hoard, bytes| {
-        evaluates(alloc, program, &checked, &bound, hoard, bytes)
-    })
+/// The calls that are tried.
+#[derive(Clone, Copy)]
+enum Call {
+    Resolve,
+    Check,
+    Evaluate,
+}
+
+const TRIED: [(&str, Call); 3] = [
+    ("resolve", Call::Resolve),
+    ("check", Call::Check),
+    ("evaluate", Call::Evaluate),
+];
+
+fn attempt(
+    alloc: Global,
+    call: Call,
+    given: Given<'_>,
+    hoard: &mut Hoard,
+    bytes: usize,
+) -> Result<Tried, Fail> {
+    match call {
+        Call::Check => checks(alloc, given, hoard, bytes),
+        Call::Resolve => {
+            hoard.beside(bytes)?;
+            resolves(alloc, given, hoard)
+        }
+        Call::Evaluate => {
+            hoard.beside(bytes)?;
+            Ok(evaluates(alloc, given, hoard))
+        }
+    }
+}
+
+fn sweep_calls(alloc: Global, given: Given<'_>) -> Result<(), Fail> {
+    for (name, call) in TRIED {
+        sweep(alloc, name, |hoard, bytes| {
+            attempt(alloc, call, given, hoard, bytes)
+        })?;
+    }
+    Ok(())
+}
+
+fn swept(rt: &impl Abort, alloc: Global, program: &Program<'_>) -> Result<(), Fail> {
+    let tokens = lex(alloc, program.source).ok().expect(rt, "no words");
+    let tree = parse(alloc, &tokens).ok().expect(rt, "no tree");
+    let checked = front(alloc, program.source, Gang::W4)
+        .ok()
+        .expect(rt, "no program");
+    let bound = bound(rt, alloc, &checked, program);
+    let given = Given {
+        program,
+        tree: &tree,
+        checked: &checked,
+        bound: &bound,
+    };
+    sweep_calls(alloc, given)
 }
 
 #[test]
 fn memory_refused_to_rows(rt: HostRuntime) -> Result<(), Fail> {
     for program in &[INC, LOCAL_ARRAY, COUNTER] {
-        swept(rt.alloc(), program)?;
+        swept(&rt, rt.alloc(), program)?;
     }
     Ok(())
 }
@@ -159,22 +192,28 @@ fn memory_refused_to_rows(rt: HostRuntime) -> Result<(), Fail> {
 #[test]
 fn memory_refused_to_unique_and_calls(rt: HostRuntime) -> Result<(), Fail> {
     for program in &[UNIQUE, CALLS] {
-        swept(rt.alloc(), program)?;
+        swept(&rt, rt.alloc(), program)?;
     }
     Ok(())
+}
+
+fn counted(alloc: Global, checked: &Checked, bound: &Bound, entry: &str, wanted: u64) -> Tried {
+    match work(alloc, checked, entry, bound, TURNS) {
+        Ok(count) => Tried::answered(count == wanted),
+        Err(fault) => Tried::failed(matches!(fault, EvalFault::Memory)),
+    }
 }
 
 #[test]
 fn memory_refused_to_work(rt: HostRuntime) -> Result<(), Fail> {
     let alloc = rt.alloc();
     for (program, wanted) in &WORKS {
-        let checked = front(alloc, program.source, Gang::W4)?;
-        let bound = bound(alloc, &checked, program)?;
+        let checked = front(alloc, program.source, Gang::W4)
+            .ok()
+            .expect(&rt, "no program");
+        let bound = bound(&rt, alloc, &checked, program);
         sweep_call(alloc, "work", || {
-            match work(alloc, &checked, program.entry, &bound, TURNS) {
-                Ok(count) => Tried::answered(count == *wanted),
-                Err(fault) => Tried::failed(matches!(fault, EvalFault::Memory)),
-            }
+            counted(alloc, &checked, &bound, program.entry, *wanted)
         })?;
     }
     Ok(())

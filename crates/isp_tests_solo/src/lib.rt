@@ -1,11 +1,7 @@
-//! Entries whose instances run one by one, against what comes out by the rules.
+//! Entries whose instances run one by one: those that are not there, and memory that is refused. What the instances come to is in isp_tests_cases.
 #![tactic(auto)]
 
 #[cfg(test)]
-mod examples;
+mod entries;
 #[cfg(test)]
 mod refused;
-#[cfg(test)]
-mod rows;
-#[cfg(test)]
-mod table;

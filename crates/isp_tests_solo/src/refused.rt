@@ -1,11 +1,12 @@
 //! Memory refused to the instances, at each growth.
-use crate::rows::{bound, front};
-use isp_base::{Gang, Span};
+use crate::entries::{bound, checked};
+use isp_base::{Bound, Span};
 use isp_bind::answer;
 use isp_rates::Checked;
 use isp_solo::{EvalFault, SoloReport, one_by_one};
 use isp_tests_support::{Hoard, INC, Program, Tried, UNIQUE, sweep_call};
 use std::alloc::Global;
+use std::process::Abort;
 use std::test::Fail;
 
 /// Its runs take memory for variables, local arrays, calls, a `foreach`, marks and touches. g(x) is x; a becomes 5 + 0, 6 + 1, 7 + 2.
@@ -35,38 +36,45 @@ fn ended(alloc: Global, checked: &Checked, program: &Program<'_>, report: &SoloR
     }
 }
 
+fn tried(alloc: Global, checked: &Checked, program: &Program<'_>, bound: &Bound) -> Tried {
+    match one_by_one(alloc, checked, program.entry, bound, 0) {
+        Ok(report) => ended(alloc, checked, program, &report),
+        Err(fault) => Tried::failed(matches!(fault, EvalFault::Memory)),
+    }
+}
+
 #[test]
 fn memory_refused_to_one_by_one(rt: HostRuntime) -> Result<(), Fail> {
     let alloc = rt.alloc();
     for program in &[INC, CALLS] {
-        let checked = front(alloc, program.source, Gang::W4)?;
-        let bound = bound(alloc, &checked, program.entry, program.arguments)?;
+        let checked = checked(&rt, alloc, program.source);
+        let bound = bound(&rt, alloc, &checked, program.entry, program.arguments);
         sweep_call(alloc, "one_by_one", || {
-            match one_by_one(alloc, &checked, program.entry, &bound, 0) {
-                Ok(report) => ended(alloc, &checked, program, &report),
-                Err(fault) => Tried::failed(matches!(fault, EvalFault::Memory)),
-            }
+            tried(alloc, &checked, program, &bound)
         })?;
     }
     Ok(())
 }
 
-// The entry breaks rule 1 by its `foreach_unique`: that is told where no memory is given.
+// Whether an entry breaks rule 1 by its `foreach_unique`.
+fn breaks_rule_1(report: Result<SoloReport, EvalFault>) -> bool {
+    match report {
+        Err(EvalFault::NotIndependent(found)) => {
+            found.rule.number() == 1 && found.span == Span { start: 58, end: 72 }
+        }
+        _ => false,
+    }
+}
+
+// That is told where no memory is given.
 #[test]
-fn refused_without_memory(rt: HostRuntime) -> Result<(), Fail> {
+fn refused_without_memory(rt: HostRuntime) {
     let alloc = rt.alloc();
-    let checked = front(alloc, UNIQUE.source, Gang::W4)?;
-    let bound = bound(alloc, &checked, UNIQUE.entry, UNIQUE.arguments)?;
-    let mut hoard = Hoard::new(alloc)?;
-    hoard.beside(0)?;
+    let checked = checked(&rt, alloc, UNIQUE.source);
+    let bound = bound(&rt, alloc, &checked, UNIQUE.entry, UNIQUE.arguments);
+    let mut hoard = Hoard::new(alloc).expect(&rt, "memory");
+    hoard.beside(0).expect(&rt, "the pool is too small");
     let report = one_by_one(alloc, &checked, UNIQUE.entry, &bound, 0);
     hoard.ample();
-    match report {
-        Err(EvalFault::NotIndependent(dependence)) => {
-            assert_eq!(rt; dependence.rule.number(), 1);
-            assert!(rt; dependence.span == Span { start: 58, end: 72 });
-            Ok(())
-        }
-        _ => Err(Fail::from("not refused, or for want of memory")),
-    }
+    assert!(rt; breaks_rule_1(report));
 }

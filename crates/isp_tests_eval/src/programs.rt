@@ -1,9 +1,0 @@
-//! The programs of the table, each run.
-use crate::rows::compare_all;
-use crate::tables::worked;
-use std::test::Fail;
-
-#[test]
-fn worked_examples(rt: HostRuntime) -> Result<(), Fail> {
-    compare_all(&rt, rt.alloc(), worked::ROWS, worked::COUNT)
-}
