@@ -1,0 +1,6 @@
+mod Ones
+mod Told
+mod Alones
+mod Steadies
+mod Counts
+mod Linears

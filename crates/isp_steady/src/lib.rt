@@ -1,0 +1,7 @@
+//! What is the same in all instances of a `foreach`'s body, and what counts on from one to the next: definitions, and laws
+//! that they hold. No code is run.
+#![tactic(auto)]
+
+mod values;
+
+pub use values::{linear_counts_on, steady_gives_one};
