@@ -73,7 +73,7 @@ factor : (v w : ℕ) → v ≤ w → 2 ^ w ≡ 2 ^ (w - v) * 2 ^ v
 factor v w h = ap (λ n. 2 ^ n) (let e : w ≡ w - v + v = omega arith in e) ∙ pow-add 2 (w - v) v
 
 -- counted on, then wrapped once more
-counted_wraps : (t : Elem) (y : ℤ) (p : ℕ) → counted_on t (wrap t y) p ≡ wrap t (y +ℤ pos p)
+pub counted_wraps : (t : Elem) (y : ℤ) (p : ℕ) → counted_on t (wrap t y) p ≡ wrap t (y +ℤ pos p)
 counted_wraps t y p = near_wraps (width t) _ _ (near_plus (width t) (number t (wrap t y)) y (pos p) (near_value t y))
 
 pub cut_counts : (from to : Elem) (u p : ℕ) → cuts from to ≡ true → converted from to (counted_on from u p) ≡ counted_on to (converted from to u) p

@@ -4,3 +4,5 @@ mod Alones
 mod Steadies
 mod Counts
 mod Linears
+mod Standing
+mod Untouched

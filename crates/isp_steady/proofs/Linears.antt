@@ -30,8 +30,8 @@ use Rattle.isp_meaning.proofs.Members.{none_all, no_lowest}
 use Rattle.isp_steady.specs.Known.{Known, Unknown, Steady, Linear, IsAsKnown, IsInside, counted_on, elem_at, type_in}
 use Rattle.isp_steady.specs.Steady.{steady}
 use Rattle.isp_steady.specs.Linear.{linear_read, one_counts, linear, linear_place}
-use Rattle.isp_steady.specs.Values.{Sole, Comes, Traps, ComesTo, LinearCountsOn}
-use Rattle.isp_steady.proofs.Ones.{both, IsOne, spread_one, map1_on, map2_on}
+use Rattle.isp_steady.specs.Values.{IsCounted, IsOne, Sole, Comes, Traps, ComesTo, LinearCountsOn}
+use Rattle.isp_steady.proofs.Ones.{both, spread_one, map1_on, map2_on, on_same}
 use Rattle.isp_steady.proofs.Told.{read_one, sole, IsBy, bind_by}
 use Rattle.isp_steady.proofs.Alones.{alone_linear, one_of}
 use Rattle.isp_steady.proofs.Steadies.{value_is, steady_as}
@@ -52,19 +52,7 @@ offender_never gang f a (Each x) h = no_lowest gang (where_true f x) (none_all g
     by None = refl
     by (Some y) = h y
 
--- what the members have is decided by the members
-on_same : (a : Mask) (g h : Lanes) → ((p : ℕ) → a p ≡ true → g p ≡ h p) → on a g ≡ on a h
-on_same a g h k = fun_ext (λ p. by p (a p) refl)
-  where
-    by : (p : ℕ) (t : Bool) → a p ≡ t → (if t then Some (g p) else None) ≡ (if t then Some (h p) else None)
-    by p true e = ap Some (k p e)
-    by p false e = refl
-
 module _ (a : Mask) where
-  -- the values in each member
-  abbrev pub IsRow : Elem → ℕ → Payload → Type 0
-  IsRow t u m = m ≡ Each (on a (counted_on t u))
-
   row_then_one : (f : ℕ → ℕ → ℕ) (g : Lanes) (w : ℕ) (m n : Payload) → m ≡ Each (on a g) → IsOne a w n → joined f a m n ≡ Each (on a (λ p. f (g p) w))
   row_then_one f g w m n e k = ap (λ z. joined f a z n) e ∙ ap (λ z. Each (map2 f (on a g) z)) (spread_one a w n k) ∙ ap Each (map2_on a f g (λ p. w))
 
@@ -80,7 +68,7 @@ module _ (gang : ℕ) (fs : List TFunction) (vars : List AVariable) (frame : Fra
   told = sole frame scalars
 
   abbrev Row : Elem → Sole → Val Payload → Type 0
-  Row t = IsBy gang a there (IsRow a t)
+  Row t = IsBy gang a there (IsCounted t a)
 
   abbrev One_is : Sole → Val Payload → Type 0
   One_is = IsBy gang a there (IsOne a)
@@ -97,7 +85,7 @@ module _ (gang : ℕ) (fs : List TFunction) (vars : List AVariable) (frame : Fra
   held_elem v t h = ap type_in h.is
 
   read_row : (r : Rate) (v : ℕ) (e : Elem) (k : Known) → known v ≡ k → linear_read r k ≡ true → elem_at vars v ≡ e → (s : State) → s.varying ≡ there
-      → IsRow a e (read_one frame scalars r v s) (variable r v a (tick s))
+      → IsCounted e a (read_one frame scalars r v s) (variable r v a (tick s))
   read_row Uniform v e k is h same s j = absurd (cc)
   read_row Varying v e Unknown is h same s j = absurd (cc)
   read_row Varying v e Steady is h same s j = absurd (cc)
@@ -109,8 +97,8 @@ module _ (gang : ℕ) (fs : List TFunction) (vars : List AVariable) (frame : Fra
 
   sum_row : (x y : TExpr) (t : Ty) (sp : Span) → elem_of x ≡ t.elem → Rows x → Ones y → Rows (t_binary Add x y t sp)
   sum_row x y t sp e h k s j =
-      bind_by gang a there (IsRow a (elem_of x)) (IsRow a t.elem) _ _ _ _ (h (tick s) j)
-      (λ u m s1 i j1. bind_by gang a there (IsOne a) (IsRow a t.elem) _ _ _ _ (k s1 j1)
+      bind_by gang a there (IsCounted (elem_of x) a) (IsCounted t.elem a) _ _ _ _ (h (tick s) j)
+      (λ u m s1 i j1. bind_by gang a there (IsOne a) (IsCounted t.elem a) _ _ _ _ (k s1 j1)
       (λ w n s2 i2 j2. subst (λ o. Row t.elem (Comes (op_bits Add t.elem u w) s2) (checked o Divide sp s2 (joined (op_bits Add t.elem) a m n)))
       (sym (offender_never gang (is_zero Add t.elem) a n (λ z. refl))) (
         row_then_one a (op_bits Add t.elem) (counted_on t.elem u) w m n (i ∙ ap (λ f. Each (on a (counted_on f u))) e) i2
@@ -121,8 +109,8 @@ module _ (gang : ℕ) (fs : List TFunction) (vars : List AVariable) (frame : Fra
 
   sum_row_left : (x y : TExpr) (t : Ty) (sp : Span) → elem_of y ≡ t.elem → Ones x → Rows y → Rows (t_binary Add x y t sp)
   sum_row_left x y t sp e h k s j =
-      bind_by gang a there (IsOne a) (IsRow a t.elem) _ _ _ _ (h (tick s) j)
-      (λ w m s1 i j1. bind_by gang a there (IsRow a (elem_of y)) (IsRow a t.elem) _ _ _ _ (k s1 j1)
+      bind_by gang a there (IsOne a) (IsCounted t.elem a) _ _ _ _ (h (tick s) j)
+      (λ w m s1 i j1. bind_by gang a there (IsCounted (elem_of y) a) (IsCounted t.elem a) _ _ _ _ (k s1 j1)
       (λ u n s2 i2 j2. subst (λ o. Row t.elem (Comes (op_bits Add t.elem w u) s2) (checked o Divide sp s2 (joined (op_bits Add t.elem) a m n)))
       (sym (offender_never gang (is_zero Add t.elem) a n (λ z. refl))) (
         one_then_row a (op_bits Add t.elem) (counted_on t.elem u) w m n i (i2 ∙ ap (λ f. Each (on a (counted_on f u))) e)
@@ -133,8 +121,8 @@ module _ (gang : ℕ) (fs : List TFunction) (vars : List AVariable) (frame : Fra
 
   less_row : (x y : TExpr) (t : Ty) (sp : Span) → elem_of x ≡ t.elem → Rows x → Ones y → Rows (t_binary Sub x y t sp)
   less_row x y t sp e h k s j =
-      bind_by gang a there (IsRow a (elem_of x)) (IsRow a t.elem) _ _ _ _ (h (tick s) j)
-      (λ u m s1 i j1. bind_by gang a there (IsOne a) (IsRow a t.elem) _ _ _ _ (k s1 j1)
+      bind_by gang a there (IsCounted (elem_of x) a) (IsCounted t.elem a) _ _ _ _ (h (tick s) j)
+      (λ u m s1 i j1. bind_by gang a there (IsOne a) (IsCounted t.elem a) _ _ _ _ (k s1 j1)
       (λ w n s2 i2 j2. subst (λ o. Row t.elem (Comes (op_bits Sub t.elem u w) s2) (checked o Divide sp s2 (joined (op_bits Sub t.elem) a m n)))
       (sym (offender_never gang (is_zero Sub t.elem) a n (λ z. refl))) (
         row_then_one a (op_bits Sub t.elem) (counted_on t.elem u) w m n (i ∙ ap (λ f. Each (on a (counted_on f u))) e) i2
@@ -173,7 +161,7 @@ module _ (gang : ℕ) (fs : List TFunction) (vars : List AVariable) (frame : Fra
     rows (t_place q) f e s j = place_rows q f e s j
     rows (t_convert t x) f e s j =
         let k = both _ _ e in
-        bind_by gang a there (IsRow a (elem_of x)) (IsRow a t) _ _ _ _ (rows x f.0 k.0 s j)
+        bind_by gang a there (IsCounted (elem_of x) a) (IsCounted t a) _ _ _ _ (rows x f.0 k.0 s j)
         (λ u m s1 i j1. (
           ap (mapped (converted (elem_of x) t)) i ∙ ap Each (map1_on a (converted (elem_of x) t) (counted_on (elem_of x) u))
               ∙ ap (λ g. Each (on a g)) (fun_ext (λ p. cut_counts (elem_of x) t u p k.1)),
@@ -198,13 +186,13 @@ module _ (gang : ℕ) (fs : List TFunction) (vars : List AVariable) (frame : Fra
     place_rows (t_variable v t sp) f e s j = (read_row t.rate v t.elem (known v) refl e (held_elem v t f) s j, refl, j)
     place_rows (t_element b i t sp) f e s j = absurd (cc)
 
-  comes_to : (t : Elem) (o : Sole) (v : Val Payload) → Row t o v → ComesTo gang (counted_on t) a o v
-  comes_to t (Comes u s) (Gives m s1) h = (ap (spread a) h.0, h.1)
+  comes_to : (t : Elem) (o : Sole) (v : Val Payload) → Row t o v → ComesTo gang (IsCounted t) a o v
+  comes_to t (Comes u s) (Gives m s1) h = (h.0, h.1)
   comes_to t (Comes u s) (Fails x s1) h = absurd h
   comes_to t (Comes u s) (Stops s1) h = absurd h
   comes_to t (Traps kind sp s) v h = h
 
-  pub linear_comes : (x : TExpr) → FineExpr fs vars x → linear known x ≡ true → (s : State) → s.varying ≡ there → ComesTo gang (counted_on (elem_of x)) a (told x s) (value gang frame calls x a s)
+  pub linear_comes : (x : TExpr) → FineExpr fs vars x → linear known x ≡ true → (s : State) → s.varying ≡ there → ComesTo gang (IsCounted (elem_of x)) a (told x s) (value gang frame calls x a s)
   linear_comes x f e s h = comes_to (elem_of x) (told x s) _ (rows x f e s h)
 
 pub linear_counts_on : LinearCountsOn

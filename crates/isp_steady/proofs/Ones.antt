@@ -9,17 +9,13 @@ use Rattle.isp_typed.specs.declared.variable.Logic.{Logic}
 use Rattle.isp_meaning.specs.Payloads.{Payload, One, Each, is_true, is_false, spread, nothing, mapped, joined, kept_by, first_of_two, layer, selected, offender, if_fails}
 use Rattle.isp_meaning.specs.Library.{chosen_one, chosen_by}
 use Rattle.isp_meaning.specs.Expressions.{needs, settled}
+use Rattle.isp_steady.specs.Values.{IsOne}
 use Rattle.isp_meaning.proofs.Members.{none_all, no_lowest, no_member}
 
 -- both of two tests are true
 pub both : (b c : Bool) → (b && c) ≡ true → (b ≡ true) × (c ≡ true)
 both true c e = (refl, e)
 both false c e = absurd (cc)
-
--- a value of each member of a set, as one for all or one in each
-abbrev pub IsOne : Mask → ℕ → Payload → Type 0
-IsOne a u (One y) = y ≡ u
-IsOne a u (Each f) = f ≡ on a (λ p. u)
 
 module _ (a : Mask) where
   at_each1 : (f : ℕ → ℕ) (t : Bool) (x : ℕ) → each1 f (if t then Some x else None) ≡ (if t then Some (f x) else None)
@@ -163,3 +159,11 @@ has_lowest gang a some = by (lowest gang a) refl
     by : (o : Option ℕ) → lowest gang a ≡ o → o ≡ Some (or_zero o)
     by None e = absurd (let h : any gang a ≡ false = no_member gang a e in let k = some in cc)
     by (Some p) e = refl
+
+-- what the members have is decided by the members
+pub on_same : (a : Mask) (g h : Lanes) → ((p : ℕ) → a p ≡ true → g p ≡ h p) → on a g ≡ on a h
+on_same a g h k = fun_ext (λ p. by p (a p) refl)
+  where
+    by : (p : ℕ) (t : Bool) → a p ≡ t → (if t then Some (g p) else None) ≡ (if t then Some (h p) else None)
+    by p true e = ap Some (k p e)
+    by p false e = refl

@@ -26,8 +26,8 @@ use Rattle.isp_meaning.specs.Library.{library_value, argument}
 use Rattle.isp_meaning.specs.Expressions.{Calls, value, values, needs, settled}
 use Rattle.isp_steady.specs.Known.{Known, Unknown, Steady, Linear, IsAsKnown}
 use Rattle.isp_steady.specs.Steady.{steady_read, is_shared, by_itself, steady, steady_place, all_steady}
-use Rattle.isp_steady.specs.Values.{Sole, Comes, Traps, ComesTo, the_same, SteadyGivesOne}
-use Rattle.isp_steady.proofs.Ones.{both, IsOne, spread_one, mapped_one, joined_one, kept_one, offender_one, settled_needed, settled_left, selected_first, selected_second, chosen_of}
+use Rattle.isp_steady.specs.Values.{IsOne, Sole, Comes, Traps, ComesTo, SteadyGivesOne}
+use Rattle.isp_steady.proofs.Ones.{both, spread_one, mapped_one, joined_one, kept_one, offender_one, settled_needed, settled_left, selected_first, selected_second, chosen_of}
 use Rattle.isp_steady.proofs.Told.{then_one, checked_one, nth, library_one, read_one, sole, sole_place, soles, IsBy, bind_by, bind_bind, bind_same, checked_fails, later_all, later_none}
 use Rattle.isp_steady.proofs.Alones.{alone_steady}
 
@@ -200,13 +200,13 @@ module _ (gang : ℕ) (frame : Frame) (calls : Calls) (known : ℕ → Known) (s
         (bind_is _ _ _ _ (value_is x l.0 s h) (λ u m s1 i j. subst (Is (soles frame scalars xs s1 (λ us s2. go (u ∷ us) s2))) (sym (bind_bind (values gang frame calls xs a s1) _ does))
         (values_are xs l.1 s1 j (λ us s2. go (u ∷ us) s2) (λ ms s2. does (m ∷ ms) s2) (λ us ms s2 i2 j2. k (u ∷ us) (m ∷ ms) s2 (i, i2) j2))))
 
-  comes_to : (o : Sole) (v : Val Payload) → Is o v → ComesTo gang the_same a o v
-  comes_to (Comes u s) (Gives m s1) h = (spread_one a u m h.0, h.1)
+  comes_to : (o : Sole) (v : Val Payload) → Is o v → ComesTo gang IsOne a o v
+  comes_to (Comes u s) (Gives m s1) h = (h.0, h.1)
   comes_to (Comes u s) (Fails t s1) h = absurd h
   comes_to (Comes u s) (Stops s1) h = absurd h
   comes_to (Traps kind sp s) v h = h
 
-  steady_comes : (x : TExpr) → steady known x ≡ true → (s : State) → s.varying ≡ there → ComesTo gang the_same a (told x s) (value gang frame calls x a s)
+  steady_comes : (x : TExpr) → steady known x ≡ true → (s : State) → s.varying ≡ there → ComesTo gang IsOne a (told x s) (value gang frame calls x a s)
   steady_comes x e s h = comes_to (told x s) _ (value_is x e s h)
 
 -- a variable that is known to be steady

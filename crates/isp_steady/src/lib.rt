@@ -2,6 +2,10 @@
 //! that they hold. No code is run.
 #![tactic(auto)]
 
+mod rows;
+mod unset;
 mod values;
 
+pub use rows::stand_in_a_row;
+pub use unset::stays_unset;
 pub use values::{linear_counts_on, steady_gives_one};
