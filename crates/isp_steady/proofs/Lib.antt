@@ -6,3 +6,4 @@ mod Counts
 mod Linears
 mod Standing
 mod Untouched
+mod Scoping

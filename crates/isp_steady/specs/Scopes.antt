@@ -12,7 +12,7 @@ use Rattle.isp_base.specs.Values.{wrap}
 use Rattle.isp_base.specs.declared.types.Elem.TheVariants.{I32}
 use Rattle.isp_base.specs.declared.types.Rate.{Rate}
 use Rattle.isp_base.specs.declared.types.Rate.TheVariants.{Uniform, Varying}
-use Rattle.isp_typed.specs.Fine.{FineExpr, HoldsValue}
+use Rattle.isp_typed.specs.Fine.{FineItem}
 use Rattle.isp_typed.specs.Typed.{Program, TExpr, TFunction, TItem, t_plain, t_with_value, t_with_size, TStmt, TStmts, elem_of, ty_of}
 use Rattle.isp_typed.specs.declared.variable.Variable.{Variable}
 use Rattle.isp_meaning.specs.State.{State, Frame, tick}
@@ -23,11 +23,11 @@ use Rattle.isp_meaning.specs.Expressions.{Calls, value}
 use Rattle.isp_meaning.specs.Simple.{item}
 use Rattle.isp_meaning.specs.Statements.{run, run_all}
 use Rattle.isp_meaning.specs.Rounds.{Range, Run, runs_of, set_indices}
-use Rattle.isp_steady.specs.Known.{Known, Unknown, Steady, Linear, is_known, IsInside, AreAsKnown, elem_at}
+use Rattle.isp_steady.specs.Known.{Known, Unknown, Steady, Linear, is_known, IsInside, IsPart, AreAsKnown, elem_at}
 use Rattle.isp_steady.specs.Steady.{steady}
 use Rattle.isp_steady.specs.Linear.{linear}
 use Rattle.isp_steady.specs.Alone.{alone, lent}
-use Rattle.isp_steady.specs.Assigns.{assigns, all_assign}
+use Rattle.isp_steady.specs.Assigns.{item_sets, assigns, all_assign}
 
 -- ---- indices
 
@@ -86,6 +86,56 @@ learned sets known (t_with_value v t x sp) = put known v (if sets v then Unknown
 learned sets known (t_plain v t sp) = put known v Unknown
 learned sets known (t_with_size b sp) = known
 
--- known variables are not set by some code
+-- with the scalar of what it declares
+abbrev pub with_scalar : TItem → ℕ → (ℕ → ℕ) → ℕ → ℕ
+with_scalar (t_with_value v t x sp) u scalars = put scalars v u
+with_scalar (t_plain v t sp) u scalars = scalars
+with_scalar (t_with_size b sp) u scalars = scalars
+
+-- that scalar is what the scalar expression gives, where something is known of the variable then
+abbrev pub IsItsScalar : ℕ → Frame → Calls → (ℕ → Bool) → (ℕ → Known) → (ℕ → ℕ) → TItem → ℕ → Mask → State → Type 0
+IsItsScalar gang frame calls sets known scalars (t_with_value v t x sp) u a s =
+    is_known (if sets v then Unknown else known_at t.rate known x) ≡ true
+    → (s1 : State) × (value gang frame calls (alone x) a (lent known scalars (tick s)) ≡ Gives (One u) s1)
+IsItsScalar gang frame calls sets known scalars (t_plain v t sp) u a s = Unit {0}
+IsItsScalar gang frame calls sets known scalars (t_with_size b sp) u a s = Unit {0}
+
+-- where the item does not trap
+abbrev pub LearnsBy : (ℕ → State → Type 0) → Val Done → Type 0
+LearnsBy P (Gives d s1) = (u : ℕ) × P u s1
+LearnsBy P (Fails trap s1) = Unit {0}
+LearnsBy P (Stops s1) = Unit {0}
+
+-- no known variable is among these
 abbrev pub AreUnset : (ℕ → Known) → (ℕ → Bool) → Type 0
 AreUnset known sets = (v : ℕ) → is_known (known v) ≡ true → sets v ≡ false
+
+-- In a program that names and types accept, where the item sets no variable that is known already.
+abbrev pub ItemIsKnown : Type 0
+ItemIsKnown =
+    (program : Program) (most left : ℕ) (frame : Frame) (vars : List Variable) (known : ℕ → Known) (scalars : ℕ → ℕ) (sets : ℕ → Bool) (x : TItem) (a : Mask) (s : State)
+    → FineItem program.functions vars x
+    → any (gang_width program.gang) a ≡ true
+    → IsInside (gang_width program.gang) a
+    → AreUnset known (item_sets x)
+    → AreAsKnown vars known scalars a s
+    → LearnsBy (λ u s1. AreAsKnown vars (learned sets known x) (with_scalar x u scalars) a s1 × IsItsScalar (gang_width program.gang) frame (calls_at program most left) sets known scalars x u a s)
+      (item (gang_width program.gang) frame (calls_at program most left) x a s)
+
+-- ---- what is known stays so
+
+abbrev pub KnownBy : (State → Type 0) → Res → Type 0
+KnownBy P (Went s1 g b c r) = P s1
+KnownBy P (Trapped t s1) = Unit {0}
+KnownBy P (Cut s1) = Unit {0}
+
+-- Code runs over any set, of those members or of others.
+pub record StaysKnown : Type 0 where
+  pub statement : (program : Program) (most left : ℕ) (frame : Frame) (vars : List Variable) (known : ℕ → Known) (scalars : ℕ → ℕ) (x : TStmt) (a b : Mask) (s : State)
+      → AreUnset known (assigns x) → AreAsKnown vars known scalars a s
+      → KnownBy (AreAsKnown vars known scalars a) (run (gang_width program.gang) frame (calls_at program most left) most x b s)
+  pub statements : (program : Program) (most left : ℕ) (frame : Frame) (vars : List Variable) (known : ℕ → Known) (scalars : ℕ → ℕ) (xs : TStmts) (a b : Mask) (s : State)
+      → AreUnset known (all_assign xs) → AreAsKnown vars known scalars a s
+      → KnownBy (AreAsKnown vars known scalars a) (run_all (gang_width program.gang) frame (calls_at program most left) most xs b s)
+  -- and of each part of the members
+  pub part : (vars : List Variable) (known : ℕ → Known) (scalars : ℕ → ℕ) (a b : Mask) (s : State) → IsPart b a → AreAsKnown vars known scalars a s → AreAsKnown vars known scalars b s

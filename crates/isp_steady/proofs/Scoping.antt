@@ -1,0 +1,298 @@
+-- What is known on the way through the body of a `foreach` is so.
+use Rattle.std.specs.Prelude.{◌≡◌, ◌⊎◌, ℕ, zero, suc, List, [], ◌∷◌, ◌++◌, map, Option, Some, None, Bool, true, false, ◌||◌, nat_eq, if◌then◌else◌, ℤ, pos, ◌+ℤ◌}
+use Rattle.std.proofs.Common.{refl, sym, ap, ap₂, ◌∙◌, subst, ⊎_elim, arith, eq-eqb}
+use Rattle.std.proofs.lemmas.Bool.{ne_eqb, cases_eq}
+use Rattle.std.proofs.lemmas.Int.{ints}
+use Rattle.isp_base.specs.Maps.{Lanes, Map, on, over, or_old, put}
+use Rattle.isp_base.specs.Sets.{Mask, any}
+use Rattle.isp_base.specs.Types.{gang_width}
+use Rattle.isp_base.specs.Values.{number, wrap}
+use Rattle.isp_base.specs.declared.types.Elem.{Elem}
+use Rattle.isp_base.specs.declared.types.Elem.TheVariants.{I32}
+use Rattle.isp_base.specs.declared.types.Rate.{Rate}
+use Rattle.isp_base.specs.declared.types.Rate.TheVariants.{Uniform, Varying}
+use Rattle.isp_base.specs.declared.types.Ty.{Ty}
+use Rattle.isp_base.specs.declared.types.Span.{Span}
+use Rattle.isp_typed.specs.Fine.{FineExpr, FineItem, HoldsValue}
+use Rattle.isp_typed.specs.Typed.{Program, TExpr, TItem, t_plain, t_with_value, t_with_size, TStmt, TStmts, elem_of}
+use Rattle.isp_typed.specs.declared.variable.Variable.{Variable}
+use Rattle.isp_meaning.specs.State.{State, Frame, tick}
+use Rattle.isp_meaning.specs.Payloads.{Payload, One, Each, spread}
+use Rattle.isp_meaning.specs.Outcomes.{Val, Gives, Fails, Stops, Res, Went, Trapped, Cut, Done, bind}
+use Rattle.isp_meaning.specs.Places.{written}
+use Rattle.isp_meaning.specs.Calls.{calls_at}
+use Rattle.isp_meaning.specs.Expressions.{Calls, value}
+use Rattle.isp_meaning.specs.Simple.{item, cleared}
+use Rattle.isp_meaning.specs.Statements.{run, run_all}
+use Rattle.isp_meaning.specs.Rounds.{Range, Run, last_run, with_outer, joined_lists, runs_of, from_on, runs_for, length_of, set_indices}
+use Rattle.isp_meaning.specs.Loads.{loads, KeepsBy}
+use Rattle.isp_meaning.proofs.Loads.{variables_stay}
+use Rattle.isp_steady.specs.Known.{Known, Unknown, Steady, Linear, is_known, IsInside, IsPart, IsAsKnown, AreAsKnown, counted_on, elem_at, type_in}
+use Rattle.isp_steady.specs.Steady.{steady}
+use Rattle.isp_steady.specs.Linear.{linear}
+use Rattle.isp_steady.specs.Alone.{alone, lent}
+use Rattle.isp_steady.specs.Values.{Sole, Comes, Traps, IsOne, IsCounted, ComesTo, over_set}
+use Rattle.isp_steady.specs.Assigns.{item_sets, assigns, all_assign, IsUnset, UnsetBy}
+use Rattle.isp_steady.specs.Scopes.{known_indices, index_scalars, is_among, AreApart, AreInt, EachRun, IndicesAreKnown, known_value, known_at, learned, with_scalar, IsItsScalar, LearnsBy, AreUnset, ItemIsKnown, KnownBy, StaysKnown}
+use Rattle.isp_steady.proofs.Ones.{spread_one}
+use Rattle.isp_steady.proofs.Counts.{counted_wraps}
+use Rattle.isp_steady.proofs.Steadies.{steady_gives_one}
+use Rattle.isp_steady.proofs.Linears.{linear_counts_on}
+use Rattle.isp_steady.proofs.Untouched.{statement_stays, statements_stay}
+
+-- ---- fewer members, and other states
+
+part_is : (k : Known) (t : Elem) (u : ℕ) (x : Lanes) (a b : Mask) → IsPart b a → IsAsKnown k t u x a → IsAsKnown k t u x b
+part_is Unknown t u x a b h k = tt
+part_is Steady t u x a b h k = λ p i. k p (h p i)
+part_is Linear t u x a b h k = λ p i. k p (h p i)
+
+parts_are : (vars : List Variable) (known : ℕ → Known) (scalars : ℕ → ℕ) (a b : Mask) (s : State) → IsPart b a → AreAsKnown vars known scalars a s → AreAsKnown vars known scalars b s
+parts_are vars known scalars a b s h are v = part_is (known v) (elem_at vars v) (scalars v) (s.varying v) a b h (are v)
+
+-- where each known variable is as it was
+still_is : (k : Known) (t : Elem) (u : ℕ) (x y : Lanes) (a : Mask) → (is_known k ≡ true → y ≡ x) → IsAsKnown k t u x a → IsAsKnown k t u y a
+still_is Unknown t u x y a h k = tt
+still_is Steady t u x y a h k = subst (λ z. IsAsKnown Steady t u z a) (sym (h refl)) k
+still_is Linear t u x y a h k = subst (λ z. IsAsKnown Linear t u z a) (sym (h refl)) k
+
+stays_by : (vars : List Variable) (known : ℕ → Known) (scalars : ℕ → ℕ) (a : Mask) (s : State) (r : Res) → ((v : ℕ) → is_known (known v) ≡ true → UnsetBy v s r) → AreAsKnown vars known scalars a s
+    → KnownBy (AreAsKnown vars known scalars a) r
+stays_by vars known scalars a s (Went s1 g b c r) h are = λ v. still_is (known v) (elem_at vars v) (scalars v) (s.varying v) (s1.varying v) a (λ e. (h v e).1) (are v)
+stays_by vars known scalars a s (Trapped t s1) h are = tt
+stays_by vars known scalars a s (Cut s1) h are = tt
+
+pub stays_known : StaysKnown
+stays_known =
+    record {
+      statement = λ program most left frame vars known scalars x a b s unset are. stays_by vars known scalars a s _ (λ v e. statement_stays v program most left frame x b s (unset v e)) are;
+      statements = λ program most left frame vars known scalars xs a b s unset are. stays_by vars known scalars a s _ (λ v e. statements_stay v program most left frame xs b s (unset v e)) are;
+      part = parts_are;
+    }
+
+-- ---- one variable is written
+
+-- what is written for the members is there
+over_at : (a : Mask) (g : Lanes) (m : Map) (old : Lanes) (p : ℕ) → m ≡ on a g → a p ≡ true → over m old p ≡ g p
+over_at a g m old p e h = ap (λ f. or_old (f p) (old p)) e ∙ ap (λ t. or_old (if t then Some (g p) else None) (old p)) h
+
+put_as : (vars : List Variable) (known : ℕ → Known) (scalars : ℕ → ℕ) (v : ℕ) (k : Known) (u : ℕ) (y : Lanes) (a : Mask) (s : State) → IsAsKnown k (elem_at vars v) u y a
+    → ((w : ℕ) → IsAsKnown (known w) (elem_at vars w) (scalars w) (s.varying w) a) → (w : ℕ)
+    → IsAsKnown (put known v k w) (elem_at vars w) (put scalars v u w) (put s.varying v y w) a
+put_as vars known scalars v k u y a s h are w =
+    ⊎_elim (λ (e : w ≡ v). here e (nat_eq w v) (eq-eqb w v e)) (λ ne. there (nat_eq w v) (ne_eqb w v ne)) (cases_eq w v)
+  where
+    here : w ≡ v → (b : Bool) → b ≡ true → IsAsKnown (if b then k else known w) (elem_at vars w) (if b then u else scalars w) (if b then y else s.varying w) a
+    here e true is = subst (λ z. IsAsKnown k (elem_at vars z) u y a) (sym e) h
+    here e false is = absurd (cc)
+    there : (b : Bool) → b ≡ false → IsAsKnown (if b then k else known w) (elem_at vars w) (if b then u else scalars w) (if b then y else s.varying w) a
+    there true is = absurd (cc)
+    there false is = are w
+
+-- and nothing is known of it then
+put_unknown : (vars : List Variable) (known : ℕ → Known) (scalars : ℕ → ℕ) (v : ℕ) (y : Lanes) (a : Mask) (s : State) → ((w : ℕ) → IsAsKnown (known w) (elem_at vars w) (scalars w) (s.varying w) a) → (w : ℕ)
+    → IsAsKnown (put known v Unknown w) (elem_at vars w) (scalars w) (put s.varying v y w) a
+put_unknown vars known scalars v y a s are w = by (nat_eq w v)
+  where
+    by : (b : Bool) → IsAsKnown (if b then Unknown else known w) (elem_at vars w) (scalars w) (if b then y else s.varying w) a
+    by true = tt
+    by false = are w
+
+-- ---- indices
+
+abbrev numbers : List (ℕ × (ℕ → ℤ)) → List ℕ
+numbers [] = []
+numbers (x ∷ xs) = x.0 ∷ numbers xs
+
+-- the last counts on, the others are the same in all instances
+abbrev CountOn : List (ℕ × (ℕ → ℤ)) → Type 0
+CountOn [] = Unit {0}
+CountOn (x ∷ []) = (p : ℕ) → x.1 p ≡ x.1 0 +ℤ pos p
+CountOn (x ∷ y ∷ ys) = ((p : ℕ) → x.1 p ≡ x.1 0) × CountOn (y ∷ ys)
+
+module _ (a : Mask) where
+  abbrev set_one : ℕ × (ℕ → ℤ) → State → State
+  set_one x s = written Varying x.0 a (Each (on a (λ p. wrap I32 (x.1 p)))) s
+
+  put_rest : (f : ℕ → Lanes) (d : ℕ) (y : Lanes) (w : ℕ) → nat_eq w d ≡ false → put f d y w ≡ f w
+  put_rest f d y w e = ap (λ b. if b then y else f w) e
+
+  neither : (b c : Bool) → (b || c) ≡ false → (b ≡ false) × (c ≡ false)
+  neither true c e = absurd (cc)
+  neither false c e = (refl, e)
+
+  -- others are as they were
+  set_other : (xs : List (ℕ × (ℕ → ℤ))) (w : ℕ) → is_among w (numbers xs) ≡ false → (s : State) → (set_indices a xs s).varying w ≡ s.varying w
+  set_other [] w e s = refl
+  set_other (x ∷ xs) w e s =
+      let n = neither _ _ e in
+      set_other xs w n.1 (set_one x s) ∙ put_rest s.varying x.0 (over (on a (λ p. wrap I32 (x.1 p))) (s.varying x.0)) w n.0
+
+  module _ (vars : List Variable) where
+    one_known : (x : ℕ × (ℕ → ℤ)) → ((p : ℕ) → x.1 p ≡ x.1 0 +ℤ pos p) → elem_at vars x.0 ≡ I32 → (s : State) → IsAsKnown Linear (elem_at vars x.0) (wrap I32 (x.1 0)) (over (on a (λ p. wrap I32 (x.1 p))) (s.varying x.0)) a
+    one_known x h t s =
+        subst (λ e. IsAsKnown Linear e (wrap I32 (x.1 0)) (over (on a (λ p. wrap I32 (x.1 p))) (s.varying x.0)) a) (sym t)
+        (λ p i. over_at a (λ q. wrap I32 (x.1 q)) _ (s.varying x.0) p refl i ∙ ap (wrap I32) (h p) ∙ sym (counted_wraps I32 (x.1 0) p))
+
+    indices_known : (xs : List (ℕ × (ℕ → ℤ))) → CountOn xs → AreApart (numbers xs) → AreInt vars (numbers xs) → (s : State) → (w : ℕ)
+        → IsAsKnown (known_indices (numbers xs) w) (elem_at vars w) (index_scalars xs w) ((set_indices a xs s).varying w) a
+    indices_known [] h k t s w = tt
+    indices_known (x ∷ []) h k t s w =
+        put_as vars (λ v. Unknown) (λ v. 0) x.0 Linear (wrap I32 (x.1 0)) (over (on a (λ p. wrap I32 (x.1 p))) (s.varying x.0)) a s (one_known x h t.0 s) (λ v. tt) w
+    indices_known (x ∷ y ∷ ys) h k t s w =
+        ⊎_elim (λ (e : w ≡ x.0). here e (nat_eq w x.0) (eq-eqb w x.0 e)) (λ ne. there (nat_eq w x.0) (ne_eqb w x.0 ne) (indices_known (y ∷ ys) h.1 k.1 t.1 (set_one x s) w)) (cases_eq w x.0)
+      where
+        after : State
+        after = set_indices a (y ∷ ys) (set_one x s)
+        value_here : (p : ℕ) → a p ≡ true → after.varying x.0 p ≡ wrap I32 (x.1 0)
+        value_here p i =
+            ap (λ f. f p) (set_other (y ∷ ys) x.0 k.0 (set_one x s)) ∙ ap (λ b. (if b then over (on a (λ q. wrap I32 (x.1 q))) (s.varying x.0) else s.varying x.0) p) (eq-eqb x.0 x.0 refl)
+            ∙ over_at a (λ q. wrap I32 (x.1 q)) _ (s.varying x.0) p refl i ∙ ap (wrap I32) (h.0 p)
+        here : w ≡ x.0 → (b : Bool) → b ≡ true → IsAsKnown (if b then Steady else known_indices (numbers (y ∷ ys)) w) (elem_at vars w) (if b then wrap I32 (x.1 0) else index_scalars (y ∷ ys) w) (after.varying w) a
+        here e true is = λ p i. ap (λ z. after.varying z p) e ∙ value_here p i
+        here e false is = absurd (cc)
+        there : (b : Bool) → b ≡ false → IsAsKnown (known_indices (numbers (y ∷ ys)) w) (elem_at vars w) (index_scalars (y ∷ ys) w) (after.varying w) a
+            → IsAsKnown (if b then Steady else known_indices (numbers (y ∷ ys)) w) (elem_at vars w) (if b then wrap I32 (x.1 0) else index_scalars (y ∷ ys) w) (after.varying w) a
+        there true is i = absurd (cc)
+        there false is i = i
+
+-- each run sets the indices of the ranges so
+record IsRun (is : List ℕ) (x : Run) : Type 0 where
+  pub named : numbers x.indices ≡ is
+  pub counts : CountOn x.indices
+
+join_runs : (P : Run → Type 0) (xs ys : List Run) → EachRun P xs → EachRun P ys → EachRun P (xs ++ ys)
+join_runs P [] ys h k = k
+join_runs P (x ∷ xs) ys h k = (h.0, join_runs P xs ys h.1 k)
+
+of_each : (P Q : Run → Type 0) (xs : List Run) → ((x : Run) → P x → Q x) → EachRun P xs → EachRun Q xs
+of_each P Q [] f h = tt
+of_each P Q (x ∷ xs) f h = (f x h.0, of_each P Q xs f h.1)
+
+last_runs : (gang : ℕ) (r : Range) (zs : List ℤ) → EachRun (IsRun (r.index ∷ [])) (map (last_run gang r) zs)
+last_runs gang r [] = tt
+last_runs gang r (z ∷ zs) = (record { named = refl; counts = λ p. omega (arith, ints) }, last_runs gang r zs)
+
+outer_counts : (i j : ℕ) (is : List ℕ) (z : ℤ) (xs : List (ℕ × (ℕ → ℤ))) → numbers xs ≡ j ∷ is → CountOn xs → CountOn ((i, λ p. z) ∷ xs)
+outer_counts i j is z [] e h = absurd (cc)
+outer_counts i j is z (y ∷ ys) e h = (λ p. refl, h)
+
+outer_runs : (i j : ℕ) (is : List ℕ) (z : ℤ) (xs : List Run) → EachRun (IsRun (j ∷ is)) xs → EachRun (IsRun (i ∷ j ∷ is)) (map (with_outer i z) xs)
+outer_runs i j is z [] h = tt
+outer_runs i j is z (x ∷ xs) h = (record { named = ap (λ ks. i ∷ ks) h.0.named; counts = outer_counts i j is z x.indices h.0.named h.0.counts }, outer_runs i j is z xs h.1)
+
+joined_runs : (i j : ℕ) (is : List ℕ) (xs : List Run) (zs : List ℤ) → EachRun (IsRun (j ∷ is)) xs → EachRun (IsRun (i ∷ j ∷ is)) (joined_lists (map (λ z. map (with_outer i z) xs) zs))
+joined_runs i j is xs [] h = tt
+joined_runs i j is xs (z ∷ zs) h = join_runs (IsRun (i ∷ j ∷ is)) (map (with_outer i z) xs) _ (outer_runs i j is z xs h) (joined_runs i j is xs zs h)
+
+runs_are : (gang : ℕ) (rs : List Range) → EachRun (IsRun (map (λ r. r.index) rs)) (runs_of gang rs)
+runs_are gang [] = tt
+runs_are gang (r ∷ []) = last_runs gang r (from_on gang (runs_for gang (length_of r)) r.start)
+runs_are gang (r ∷ q ∷ rs) = joined_runs r.index q.index (map (λ y. y.index) rs) (runs_of gang (q ∷ rs)) (from_on 1 (length_of r) r.start) (runs_are gang (q ∷ rs))
+
+pub indices_are_known : IndicesAreKnown
+indices_are_known gang vars rs apart int =
+    let is = map (λ r. r.index) rs in
+    of_each (IsRun is) _ (runs_of gang rs)
+        (λ x h s v. subst (λ ks. IsAsKnown (known_indices ks v) (elem_at vars v) (index_scalars x.indices v) ((set_indices x.members x.indices s).varying v) x.members) h.named
+        (indices_known x.members vars x.indices h.counts (subst AreApart (sym h.named) apart) (subst (AreInt vars) (sym h.named) int) s v)) (runs_are gang rs)
+
+-- ---- declared variables
+
+held_elem : (vars : List Variable) (v : ℕ) (t : Ty) → HoldsValue vars v t → elem_at vars v ≡ t.elem
+held_elem vars v t h = ap type_in h.is
+
+-- nothing is known of what is written
+forget : (vars : List Variable) (known : ℕ → Known) (scalars : ℕ → ℕ) (v u : ℕ) (r : Rate) (m : Payload) (a : Mask) (s : State) → AreAsKnown vars known scalars a s
+    → AreAsKnown vars (put known v Unknown) (put scalars v u) a (written r v a m s)
+forget vars known scalars v u Varying m a s are w = put_as vars known scalars v Unknown u (over (spread a m) (s.varying v)) a s tt are w
+forget vars known scalars v u Uniform m a s are w = by (nat_eq w v)
+  where
+    by : (b : Bool) → IsAsKnown (if b then Unknown else known w) (elem_at vars w) (if b then u else scalars w) (s.varying w) a
+    by true = tt
+    by false = are w
+
+forget_only : (vars : List Variable) (known : ℕ → Known) (scalars : ℕ → ℕ) (v : ℕ) (r : Rate) (m : Payload) (a : Mask) (s : State) → AreAsKnown vars known scalars a s
+    → AreAsKnown vars (put known v Unknown) scalars a (written r v a m s)
+forget_only vars known scalars v Varying m a s are w = put_unknown vars known scalars v (over (spread a m) (s.varying v)) a s are w
+forget_only vars known scalars v Uniform m a s are w = by (nat_eq w v)
+  where
+    by : (b : Bool) → IsAsKnown (if b then Unknown else known w) (elem_at vars w) (scalars w) (s.varying w) a
+    by true = tt
+    by false = are w
+
+module _ (program : Program) (most left : ℕ) (frame : Frame) (vars : List Variable) (known : ℕ → Known) (scalars : ℕ → ℕ) (a : Mask) (s : State)
+    (some : any (gang_width program.gang) a ≡ true) (inside : IsInside (gang_width program.gang) a) (are : AreAsKnown vars known scalars a s)
+    (v : ℕ) (t : Ty) (x : TExpr) (held : HoldsValue vars v t) (fine : FineExpr program.functions vars x) (type : elem_of x ≡ t.elem) (unset : AreUnset known (loads x)) where
+  abbrev gang : ℕ
+  gang = gang_width program.gang
+
+  abbrev calls : Calls
+  calls = calls_at program most left
+
+  abbrev behind_it : Known → ℕ → State → Type 0
+  behind_it k u s1 =
+      AreAsKnown vars (put known v k) (put scalars v u) a s1 × (is_known k ≡ true → (s2 : State) × (value gang frame calls (alone x) a (lent known scalars (tick s)) ≡ Gives (One u) s2))
+
+  abbrev Goal : Rate → Known → Val Payload → Type 0
+  Goal r k w = LearnsBy (behind_it k) (bind w (λ m s1. Gives tt (written r v a m s1)))
+
+  -- what is known is so behind the value
+  behind_value : (m : Payload) (s2 : State) → KeepsBy (loads x) (tick s) (Gives m s2) → AreAsKnown vars known scalars a s2
+  behind_value m s2 keeps w = still_is (known w) (elem_at vars w) (scalars w) (s.varying w) (s2.varying w) a (λ e. keeps.1 w (unset w e)) (are w)
+
+  unknown_goal : (r : Rate) (w : Val Payload) → KeepsBy (loads x) (tick s) w → Goal r Unknown w
+  unknown_goal r (Gives m s2) keeps = (0, (forget vars known scalars v 0 r m a s2 (behind_value m s2 keeps), λ e. absurd (cc)))
+  unknown_goal r (Fails trap s2) keeps = tt
+  unknown_goal r (Stops s2) keeps = tt
+
+  steady_goal : (o : Sole) (w : Val Payload) → KeepsBy (loads x) (tick s) w → ComesTo gang IsOne a o w
+      → value gang frame calls (alone x) a (lent known scalars (tick s)) ≡ over_set gang (lent known scalars) a o → Goal Varying Steady w
+  steady_goal (Comes u s1) (Gives m s2) keeps h e =
+      (u, (put_as vars known scalars v Steady u (over (spread a m) (s2.varying v)) a s2 (λ p i. over_at a (λ q. u) (spread a m) (s2.varying v) p (spread_one a u m h.0) i)
+      (behind_value m s2 keeps), λ _. (lent known scalars s1, e)))
+  steady_goal (Comes u s1) (Fails trap s2) keeps h e = absurd h
+  steady_goal (Comes u s1) (Stops s2) keeps h e = absurd h
+  steady_goal (Traps kind sp s1) w keeps h e = subst (Goal Varying Steady) (sym h) tt
+
+  linear_goal : (o : Sole) (w : Val Payload) → KeepsBy (loads x) (tick s) w → ComesTo gang (IsCounted (elem_of x)) a o w
+      → value gang frame calls (alone x) a (lent known scalars (tick s)) ≡ over_set gang (lent known scalars) a o → Goal Varying Linear w
+  linear_goal (Comes u s1) (Gives m s2) keeps h e =
+      (u, (put_as vars known scalars v Linear u (over (spread a m) (s2.varying v)) a s2
+      (λ p i. over_at a (counted_on (elem_of x) u) (spread a m) (s2.varying v) p (ap (spread a) h.0) i ∙ ap (λ f. counted_on f u p) (type ∙ sym (held_elem vars v t held)))
+      (behind_value m s2 keeps), λ _. (lent known scalars s1, e)))
+  linear_goal (Comes u s1) (Fails trap s2) keeps h e = absurd h
+  linear_goal (Comes u s1) (Stops s2) keeps h e = absurd h
+  linear_goal (Traps kind sp s1) w keeps h e = subst (Goal Varying Linear) (sym h) tt
+
+  abbrev now : Val Payload
+  now = value gang frame calls x a (tick s)
+
+  keeps_now : KeepsBy (loads x) (tick s) now
+  keeps_now = variables_stay program most left frame x a (tick s)
+
+  by_value : (c : Bool) → steady known x ≡ c → (d : Bool) → linear known x ≡ d → Goal Varying (known_value c d) now
+  by_value true e d k = let law = steady_gives_one gang vars frame calls known scalars x a (tick s) e are in steady_goal law.0 now keeps_now (law.1 a (λ p i. i) some) (law.2 a some)
+  by_value false e true k =
+      let law = linear_counts_on program.gang program.functions vars frame calls known scalars x a (tick s) fine k inside are in
+      linear_goal law.0 now keeps_now (law.1 a (λ p i. i) some) (law.2 a some)
+  by_value false e false k = unknown_goal Varying now keeps_now
+
+  declared_goal : (b : Bool) (r : Rate) → Goal r (if b then Unknown else known_at r known x) now
+  declared_goal true r = unknown_goal r now keeps_now
+  declared_goal false Uniform = unknown_goal Uniform now keeps_now
+  declared_goal false Varying = by_value (steady known x) refl (linear known x) refl
+
+either_left : (b c : Bool) → (b || c) ≡ false → b ≡ false
+either_left true c e = absurd (cc)
+either_left false c e = refl
+
+pub item_is_known : ItemIsKnown
+item_is_known program most left frame vars known scalars sets (t_plain v t sp) a s fine some inside unset are = (0, (forget_only vars known scalars v t.rate (One 0) a (tick s) are, tt))
+item_is_known program most left frame vars known scalars sets (t_with_value v t x sp) a s fine some inside unset are =
+    declared_goal program most left frame vars known scalars a s some inside are v t x fine.0 fine.1.0 fine.1.1 (λ w e. either_left _ _ (unset w e)) (sets v) t.rate
+item_is_known program most left frame vars known scalars sets (t_with_size b sp) a s fine some inside unset are = (0, (by b.ty.rate, tt))
+  where
+    by : (r : Rate) → AreAsKnown vars known scalars a (cleared frame r b.number a (tick s))
+    by Uniform = are
+    by Varying = are
