@@ -7,3 +7,4 @@ mod Linears
 mod Standing
 mod Untouched
 mod Scoping
+mod Declaring

@@ -1,5 +1,5 @@
 -- A linear expression counts on from what is told without a set, or traps for the lowest.
-use Rattle.std.specs.Prelude.{◌≡◌, ℕ, ◌≤◌, List, Option, Some, None, Bool, true, false, if◌then◌else◌}
+use Rattle.std.specs.Prelude.{◌≡◌, ℕ, ◌≤◌, List, Option, Some, None, Bool, true, false}
 use Rattle.std.proofs.Common.{refl, sym, ap, ◌∙◌, subst, ⊎_elim, arith}
 use Rattle.std.proofs.Math.Path.{fun_ext}
 use Rattle.isp_base.specs.Access.{is_zero}
@@ -22,7 +22,7 @@ use Rattle.isp_typed.specs.Typed.{TExpr, t_constant, t_program_index, t_place, t
 use Rattle.isp_typed.specs.Typed.{t_packed_store, t_packed_load, TPlace, t_variable, t_element, TFunction, elem_of}
 use Rattle.isp_typed.specs.declared.variable.Variable.{Variable as AVariable}
 use Rattle.isp_meaning.specs.State.{State, Frame, tick}
-use Rattle.isp_meaning.specs.Payloads.{Payload, One, Each, spread, mapped, joined, converted, if_fails, offender}
+use Rattle.isp_meaning.specs.Payloads.{Payload, One, Each, mapped, joined, converted, if_fails, offender}
 use Rattle.isp_meaning.specs.Outcomes.{Val, Gives, Fails, Stops, checked}
 use Rattle.isp_meaning.specs.Places.{variable}
 use Rattle.isp_meaning.specs.Expressions.{Calls, value}

@@ -1,48 +1,30 @@
 -- What is known on the way through the body of a `foreach` is so.
-use Rattle.std.specs.Prelude.{◌≡◌, ◌⊎◌, ℕ, zero, suc, List, [], ◌∷◌, ◌++◌, map, Option, Some, None, Bool, true, false, ◌||◌, nat_eq, if◌then◌else◌, ℤ, pos, ◌+ℤ◌}
-use Rattle.std.proofs.Common.{refl, sym, ap, ap₂, ◌∙◌, subst, ⊎_elim, arith, eq-eqb}
+use Rattle.std.specs.Prelude.{◌≡◌, ℕ, List, [], ◌∷◌, ◌++◌, map, Some, None, Bool, true, false, ◌||◌, nat_eq, if◌then◌else◌, ℤ, pos, ◌+ℤ◌}
+use Rattle.std.proofs.Common.{refl, sym, ap, ◌∙◌, subst, ⊎_elim, arith, eq-eqb}
 use Rattle.std.proofs.lemmas.Bool.{ne_eqb, cases_eq}
 use Rattle.std.proofs.lemmas.Int.{ints}
 use Rattle.isp_base.specs.Maps.{Lanes, Map, on, over, or_old, put}
-use Rattle.isp_base.specs.Sets.{Mask, any}
-use Rattle.isp_base.specs.Types.{gang_width}
-use Rattle.isp_base.specs.Values.{number, wrap}
+use Rattle.isp_base.specs.Sets.{Mask}
+use Rattle.isp_base.specs.Values.{wrap}
 use Rattle.isp_base.specs.declared.types.Elem.{Elem}
 use Rattle.isp_base.specs.declared.types.Elem.TheVariants.{I32}
-use Rattle.isp_base.specs.declared.types.Rate.{Rate}
-use Rattle.isp_base.specs.declared.types.Rate.TheVariants.{Uniform, Varying}
-use Rattle.isp_base.specs.declared.types.Ty.{Ty}
-use Rattle.isp_base.specs.declared.types.Span.{Span}
-use Rattle.isp_typed.specs.Fine.{FineExpr, FineItem, HoldsValue}
-use Rattle.isp_typed.specs.Typed.{Program, TExpr, TItem, t_plain, t_with_value, t_with_size, TStmt, TStmts, elem_of}
+use Rattle.isp_base.specs.declared.types.Rate.TheVariants.{Varying}
 use Rattle.isp_typed.specs.declared.variable.Variable.{Variable}
-use Rattle.isp_meaning.specs.State.{State, Frame, tick}
-use Rattle.isp_meaning.specs.Payloads.{Payload, One, Each, spread}
-use Rattle.isp_meaning.specs.Outcomes.{Val, Gives, Fails, Stops, Res, Went, Trapped, Cut, Done, bind}
+use Rattle.isp_meaning.specs.State.{State}
+use Rattle.isp_meaning.specs.Payloads.{Each}
+use Rattle.isp_meaning.specs.Outcomes.{Res, Went, Trapped, Cut}
 use Rattle.isp_meaning.specs.Places.{written}
-use Rattle.isp_meaning.specs.Calls.{calls_at}
-use Rattle.isp_meaning.specs.Expressions.{Calls, value}
-use Rattle.isp_meaning.specs.Simple.{item, cleared}
-use Rattle.isp_meaning.specs.Statements.{run, run_all}
 use Rattle.isp_meaning.specs.Rounds.{Range, Run, last_run, with_outer, joined_lists, runs_of, from_on, runs_for, length_of, set_indices}
-use Rattle.isp_meaning.specs.Loads.{loads, KeepsBy}
-use Rattle.isp_meaning.proofs.Loads.{variables_stay}
-use Rattle.isp_steady.specs.Known.{Known, Unknown, Steady, Linear, is_known, IsInside, IsPart, IsAsKnown, AreAsKnown, counted_on, elem_at, type_in}
-use Rattle.isp_steady.specs.Steady.{steady}
-use Rattle.isp_steady.specs.Linear.{linear}
-use Rattle.isp_steady.specs.Alone.{alone, lent}
-use Rattle.isp_steady.specs.Values.{Sole, Comes, Traps, IsOne, IsCounted, ComesTo, over_set}
-use Rattle.isp_steady.specs.Assigns.{item_sets, assigns, all_assign, IsUnset, UnsetBy}
-use Rattle.isp_steady.specs.Scopes.{known_indices, index_scalars, is_among, AreApart, AreInt, EachRun, IndicesAreKnown, known_value, known_at, learned, with_scalar, IsItsScalar, LearnsBy, AreUnset, ItemIsKnown, KnownBy, StaysKnown}
-use Rattle.isp_steady.proofs.Ones.{spread_one}
+use Rattle.isp_steady.specs.Known.{Known, Unknown, Steady, Linear, is_known, IsPart, IsAsKnown, AreAsKnown, elem_at}
+use Rattle.isp_steady.specs.Assigns.{UnsetBy}
+use Rattle.isp_steady.specs.Indices.{known_indices, index_scalars, is_among, AreApart, AreInt, EachRun, IndicesAreKnown}
+use Rattle.isp_steady.specs.Kept.{KnownBy, StaysKnown}
 use Rattle.isp_steady.proofs.Counts.{counted_wraps}
-use Rattle.isp_steady.proofs.Steadies.{steady_gives_one}
-use Rattle.isp_steady.proofs.Linears.{linear_counts_on}
 use Rattle.isp_steady.proofs.Untouched.{statement_stays, statements_stay}
 
 -- ---- fewer members, and other states
 
-part_is : (k : Known) (t : Elem) (u : ℕ) (x : Lanes) (a b : Mask) → IsPart b a → IsAsKnown k t u x a → IsAsKnown k t u x b
+pub part_is : (k : Known) (t : Elem) (u : ℕ) (x : Lanes) (a b : Mask) → IsPart b a → IsAsKnown k t u x a → IsAsKnown k t u x b
 part_is Unknown t u x a b h k = tt
 part_is Steady t u x a b h k = λ p i. k p (h p i)
 part_is Linear t u x a b h k = λ p i. k p (h p i)
@@ -51,7 +33,7 @@ parts_are : (vars : List Variable) (known : ℕ → Known) (scalars : ℕ → �
 parts_are vars known scalars a b s h are v = part_is (known v) (elem_at vars v) (scalars v) (s.varying v) a b h (are v)
 
 -- where each known variable is as it was
-still_is : (k : Known) (t : Elem) (u : ℕ) (x y : Lanes) (a : Mask) → (is_known k ≡ true → y ≡ x) → IsAsKnown k t u x a → IsAsKnown k t u y a
+pub still_is : (k : Known) (t : Elem) (u : ℕ) (x y : Lanes) (a : Mask) → (is_known k ≡ true → y ≡ x) → IsAsKnown k t u x a → IsAsKnown k t u y a
 still_is Unknown t u x y a h k = tt
 still_is Steady t u x y a h k = subst (λ z. IsAsKnown Steady t u z a) (sym (h refl)) k
 still_is Linear t u x y a h k = subst (λ z. IsAsKnown Linear t u z a) (sym (h refl)) k
@@ -73,10 +55,10 @@ stays_known =
 -- ---- one variable is written
 
 -- what is written for the members is there
-over_at : (a : Mask) (g : Lanes) (m : Map) (old : Lanes) (p : ℕ) → m ≡ on a g → a p ≡ true → over m old p ≡ g p
+pub over_at : (a : Mask) (g : Lanes) (m : Map) (old : Lanes) (p : ℕ) → m ≡ on a g → a p ≡ true → over m old p ≡ g p
 over_at a g m old p e h = ap (λ f. or_old (f p) (old p)) e ∙ ap (λ t. or_old (if t then Some (g p) else None) (old p)) h
 
-put_as : (vars : List Variable) (known : ℕ → Known) (scalars : ℕ → ℕ) (v : ℕ) (k : Known) (u : ℕ) (y : Lanes) (a : Mask) (s : State) → IsAsKnown k (elem_at vars v) u y a
+pub put_as : (vars : List Variable) (known : ℕ → Known) (scalars : ℕ → ℕ) (v : ℕ) (k : Known) (u : ℕ) (y : Lanes) (a : Mask) (s : State) → IsAsKnown k (elem_at vars v) u y a
     → ((w : ℕ) → IsAsKnown (known w) (elem_at vars w) (scalars w) (s.varying w) a) → (w : ℕ)
     → IsAsKnown (put known v k w) (elem_at vars w) (put scalars v u w) (put s.varying v y w) a
 put_as vars known scalars v k u y a s h are w =
@@ -85,12 +67,13 @@ put_as vars known scalars v k u y a s h are w =
     here : w ≡ v → (b : Bool) → b ≡ true → IsAsKnown (if b then k else known w) (elem_at vars w) (if b then u else scalars w) (if b then y else s.varying w) a
     here e true is = subst (λ z. IsAsKnown k (elem_at vars z) u y a) (sym e) h
     here e false is = absurd (cc)
+
     there : (b : Bool) → b ≡ false → IsAsKnown (if b then k else known w) (elem_at vars w) (if b then u else scalars w) (if b then y else s.varying w) a
     there true is = absurd (cc)
     there false is = are w
 
 -- and nothing is known of it then
-put_unknown : (vars : List Variable) (known : ℕ → Known) (scalars : ℕ → ℕ) (v : ℕ) (y : Lanes) (a : Mask) (s : State) → ((w : ℕ) → IsAsKnown (known w) (elem_at vars w) (scalars w) (s.varying w) a) → (w : ℕ)
+pub put_unknown : (vars : List Variable) (known : ℕ → Known) (scalars : ℕ → ℕ) (v : ℕ) (y : Lanes) (a : Mask) (s : State) → ((w : ℕ) → IsAsKnown (known w) (elem_at vars w) (scalars w) (s.varying w) a) → (w : ℕ)
     → IsAsKnown (put known v Unknown w) (elem_at vars w) (scalars w) (put s.varying v y w) a
 put_unknown vars known scalars v y a s are w = by (nat_eq w v)
   where
@@ -144,13 +127,16 @@ module _ (a : Mask) where
       where
         after : State
         after = set_indices a (y ∷ ys) (set_one x s)
+
         value_here : (p : ℕ) → a p ≡ true → after.varying x.0 p ≡ wrap I32 (x.1 0)
         value_here p i =
             ap (λ f. f p) (set_other (y ∷ ys) x.0 k.0 (set_one x s)) ∙ ap (λ b. (if b then over (on a (λ q. wrap I32 (x.1 q))) (s.varying x.0) else s.varying x.0) p) (eq-eqb x.0 x.0 refl)
             ∙ over_at a (λ q. wrap I32 (x.1 q)) _ (s.varying x.0) p refl i ∙ ap (wrap I32) (h.0 p)
+
         here : w ≡ x.0 → (b : Bool) → b ≡ true → IsAsKnown (if b then Steady else known_indices (numbers (y ∷ ys)) w) (elem_at vars w) (if b then wrap I32 (x.1 0) else index_scalars (y ∷ ys) w) (after.varying w) a
         here e true is = λ p i. ap (λ z. after.varying z p) e ∙ value_here p i
         here e false is = absurd (cc)
+
         there : (b : Bool) → b ≡ false → IsAsKnown (known_indices (numbers (y ∷ ys)) w) (elem_at vars w) (index_scalars (y ∷ ys) w) (after.varying w) a
             → IsAsKnown (if b then Steady else known_indices (numbers (y ∷ ys)) w) (elem_at vars w) (if b then wrap I32 (x.1 0) else index_scalars (y ∷ ys) w) (after.varying w) a
         there true is i = absurd (cc)
@@ -194,105 +180,5 @@ pub indices_are_known : IndicesAreKnown
 indices_are_known gang vars rs apart int =
     let is = map (λ r. r.index) rs in
     of_each (IsRun is) _ (runs_of gang rs)
-        (λ x h s v. subst (λ ks. IsAsKnown (known_indices ks v) (elem_at vars v) (index_scalars x.indices v) ((set_indices x.members x.indices s).varying v) x.members) h.named
-        (indices_known x.members vars x.indices h.counts (subst AreApart (sym h.named) apart) (subst (AreInt vars) (sym h.named) int) s v)) (runs_are gang rs)
-
--- ---- declared variables
-
-held_elem : (vars : List Variable) (v : ℕ) (t : Ty) → HoldsValue vars v t → elem_at vars v ≡ t.elem
-held_elem vars v t h = ap type_in h.is
-
--- nothing is known of what is written
-forget : (vars : List Variable) (known : ℕ → Known) (scalars : ℕ → ℕ) (v u : ℕ) (r : Rate) (m : Payload) (a : Mask) (s : State) → AreAsKnown vars known scalars a s
-    → AreAsKnown vars (put known v Unknown) (put scalars v u) a (written r v a m s)
-forget vars known scalars v u Varying m a s are w = put_as vars known scalars v Unknown u (over (spread a m) (s.varying v)) a s tt are w
-forget vars known scalars v u Uniform m a s are w = by (nat_eq w v)
-  where
-    by : (b : Bool) → IsAsKnown (if b then Unknown else known w) (elem_at vars w) (if b then u else scalars w) (s.varying w) a
-    by true = tt
-    by false = are w
-
-forget_only : (vars : List Variable) (known : ℕ → Known) (scalars : ℕ → ℕ) (v : ℕ) (r : Rate) (m : Payload) (a : Mask) (s : State) → AreAsKnown vars known scalars a s
-    → AreAsKnown vars (put known v Unknown) scalars a (written r v a m s)
-forget_only vars known scalars v Varying m a s are w = put_unknown vars known scalars v (over (spread a m) (s.varying v)) a s are w
-forget_only vars known scalars v Uniform m a s are w = by (nat_eq w v)
-  where
-    by : (b : Bool) → IsAsKnown (if b then Unknown else known w) (elem_at vars w) (scalars w) (s.varying w) a
-    by true = tt
-    by false = are w
-
-module _ (program : Program) (most left : ℕ) (frame : Frame) (vars : List Variable) (known : ℕ → Known) (scalars : ℕ → ℕ) (a : Mask) (s : State)
-    (some : any (gang_width program.gang) a ≡ true) (inside : IsInside (gang_width program.gang) a) (are : AreAsKnown vars known scalars a s)
-    (v : ℕ) (t : Ty) (x : TExpr) (held : HoldsValue vars v t) (fine : FineExpr program.functions vars x) (type : elem_of x ≡ t.elem) (unset : AreUnset known (loads x)) where
-  abbrev gang : ℕ
-  gang = gang_width program.gang
-
-  abbrev calls : Calls
-  calls = calls_at program most left
-
-  abbrev behind_it : Known → ℕ → State → Type 0
-  behind_it k u s1 =
-      AreAsKnown vars (put known v k) (put scalars v u) a s1 × (is_known k ≡ true → (s2 : State) × (value gang frame calls (alone x) a (lent known scalars (tick s)) ≡ Gives (One u) s2))
-
-  abbrev Goal : Rate → Known → Val Payload → Type 0
-  Goal r k w = LearnsBy (behind_it k) (bind w (λ m s1. Gives tt (written r v a m s1)))
-
-  -- what is known is so behind the value
-  behind_value : (m : Payload) (s2 : State) → KeepsBy (loads x) (tick s) (Gives m s2) → AreAsKnown vars known scalars a s2
-  behind_value m s2 keeps w = still_is (known w) (elem_at vars w) (scalars w) (s.varying w) (s2.varying w) a (λ e. keeps.1 w (unset w e)) (are w)
-
-  unknown_goal : (r : Rate) (w : Val Payload) → KeepsBy (loads x) (tick s) w → Goal r Unknown w
-  unknown_goal r (Gives m s2) keeps = (0, (forget vars known scalars v 0 r m a s2 (behind_value m s2 keeps), λ e. absurd (cc)))
-  unknown_goal r (Fails trap s2) keeps = tt
-  unknown_goal r (Stops s2) keeps = tt
-
-  steady_goal : (o : Sole) (w : Val Payload) → KeepsBy (loads x) (tick s) w → ComesTo gang IsOne a o w
-      → value gang frame calls (alone x) a (lent known scalars (tick s)) ≡ over_set gang (lent known scalars) a o → Goal Varying Steady w
-  steady_goal (Comes u s1) (Gives m s2) keeps h e =
-      (u, (put_as vars known scalars v Steady u (over (spread a m) (s2.varying v)) a s2 (λ p i. over_at a (λ q. u) (spread a m) (s2.varying v) p (spread_one a u m h.0) i)
-      (behind_value m s2 keeps), λ _. (lent known scalars s1, e)))
-  steady_goal (Comes u s1) (Fails trap s2) keeps h e = absurd h
-  steady_goal (Comes u s1) (Stops s2) keeps h e = absurd h
-  steady_goal (Traps kind sp s1) w keeps h e = subst (Goal Varying Steady) (sym h) tt
-
-  linear_goal : (o : Sole) (w : Val Payload) → KeepsBy (loads x) (tick s) w → ComesTo gang (IsCounted (elem_of x)) a o w
-      → value gang frame calls (alone x) a (lent known scalars (tick s)) ≡ over_set gang (lent known scalars) a o → Goal Varying Linear w
-  linear_goal (Comes u s1) (Gives m s2) keeps h e =
-      (u, (put_as vars known scalars v Linear u (over (spread a m) (s2.varying v)) a s2
-      (λ p i. over_at a (counted_on (elem_of x) u) (spread a m) (s2.varying v) p (ap (spread a) h.0) i ∙ ap (λ f. counted_on f u p) (type ∙ sym (held_elem vars v t held)))
-      (behind_value m s2 keeps), λ _. (lent known scalars s1, e)))
-  linear_goal (Comes u s1) (Fails trap s2) keeps h e = absurd h
-  linear_goal (Comes u s1) (Stops s2) keeps h e = absurd h
-  linear_goal (Traps kind sp s1) w keeps h e = subst (Goal Varying Linear) (sym h) tt
-
-  abbrev now : Val Payload
-  now = value gang frame calls x a (tick s)
-
-  keeps_now : KeepsBy (loads x) (tick s) now
-  keeps_now = variables_stay program most left frame x a (tick s)
-
-  by_value : (c : Bool) → steady known x ≡ c → (d : Bool) → linear known x ≡ d → Goal Varying (known_value c d) now
-  by_value true e d k = let law = steady_gives_one gang vars frame calls known scalars x a (tick s) e are in steady_goal law.0 now keeps_now (law.1 a (λ p i. i) some) (law.2 a some)
-  by_value false e true k =
-      let law = linear_counts_on program.gang program.functions vars frame calls known scalars x a (tick s) fine k inside are in
-      linear_goal law.0 now keeps_now (law.1 a (λ p i. i) some) (law.2 a some)
-  by_value false e false k = unknown_goal Varying now keeps_now
-
-  declared_goal : (b : Bool) (r : Rate) → Goal r (if b then Unknown else known_at r known x) now
-  declared_goal true r = unknown_goal r now keeps_now
-  declared_goal false Uniform = unknown_goal Uniform now keeps_now
-  declared_goal false Varying = by_value (steady known x) refl (linear known x) refl
-
-either_left : (b c : Bool) → (b || c) ≡ false → b ≡ false
-either_left true c e = absurd (cc)
-either_left false c e = refl
-
-pub item_is_known : ItemIsKnown
-item_is_known program most left frame vars known scalars sets (t_plain v t sp) a s fine some inside unset are = (0, (forget_only vars known scalars v t.rate (One 0) a (tick s) are, tt))
-item_is_known program most left frame vars known scalars sets (t_with_value v t x sp) a s fine some inside unset are =
-    declared_goal program most left frame vars known scalars a s some inside are v t x fine.0 fine.1.0 fine.1.1 (λ w e. either_left _ _ (unset w e)) (sets v) t.rate
-item_is_known program most left frame vars known scalars sets (t_with_size b sp) a s fine some inside unset are = (0, (by b.ty.rate, tt))
-  where
-    by : (r : Rate) → AreAsKnown vars known scalars a (cleared frame r b.number a (tick s))
-    by Uniform = are
-    by Varying = are
+    (λ x h s v. subst (λ ks. IsAsKnown (known_indices ks v) (elem_at vars v) (index_scalars x.indices v) ((set_indices x.members x.indices s).varying v) x.members) h.named
+    (indices_known x.members vars x.indices h.counts (subst AreApart (sym h.named) apart) (subst (AreInt vars) (sym h.named) int) s v)) (runs_are gang rs)

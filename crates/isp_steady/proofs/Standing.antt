@@ -1,19 +1,18 @@
 -- Elements at a linear index stand in a row where no member passes the greatest value.
-use Rattle.std.specs.Prelude.{◌≡◌, ℕ, ◌+◌, ◌-◌, ◌%◌, ◌^◌, ◌<◌, ◌≤◌, Option, Some, None, Bool, true, false, not, ◌&&◌, if◌then◌else◌, ℤ, pos, ◌+ℤ◌, ◌-ℤ◌, ◌≤ℤ◌, ◌<ℤ◌, int_lt, unsigned_abs}
+use Rattle.std.specs.Prelude.{◌≡◌, ℕ, ◌-◌, ◌%◌, ◌^◌, ◌<◌, Option, Some, None, Bool, true, false, not, ◌&&◌, if◌then◌else◌, ℤ, pos, ◌+ℤ◌, ◌-ℤ◌, ◌≤ℤ◌, int_lt, unsigned_abs}
 use Rattle.std.proofs.Common.{refl, sym, ap, ap₂, ◌∙◌, subst, arith, mod-lt, pow_pos}
 use Rattle.std.proofs.Math.Path.{fun_ext}
 use Rattle.std.proofs.lemmas.Int.{ints}
 use Rattle.isp_base.specs.Access.{is_outside, is_beyond, element, scatter}
-use Rattle.isp_base.specs.Cross.{run_index, run_outside, run_places}
-use Rattle.isp_base.specs.Maps.{on, map1, holds, where_true, put}
+use Rattle.isp_base.specs.Cross.{run_index, run_outside}
+use Rattle.isp_base.specs.Maps.{on, holds, put}
 use Rattle.isp_base.specs.Ranges.{IsValue, IsSigned, IsUnsigned}
 use Rattle.isp_base.specs.Sets.{Mask, lowest}
 use Rattle.isp_base.specs.Values.{width, greatest, number, wrap}
 use Rattle.isp_base.specs.declared.trap.TrapKind.TheVariants.{Index}
 use Rattle.isp_base.specs.declared.types.Elem.{Elem}
 use Rattle.isp_base.specs.declared.types.Elem.TheVariants.{Bool as Truth, I8, U8, I16, U16, I32, U32, I64, U64}
-use Rattle.isp_base.specs.declared.types.Rate.{Rate}
-use Rattle.isp_base.specs.declared.types.Rate.TheVariants.{Uniform, Varying}
+use Rattle.isp_base.specs.declared.types.Rate.TheVariants.{Uniform}
 use Rattle.isp_base.specs.declared.types.Span.{Span}
 use Rattle.isp_base.specs.declared.types.Ty.{Ty}
 use Rattle.isp_base.proofs.Compares.{low_number}
@@ -22,8 +21,8 @@ use Rattle.isp_base.proofs.Laws.{value_is, back_is, bits_are}
 use Rattle.isp_typed.specs.Typed.{TExpr, t_place, t_element, elem_of, t_assign}
 use Rattle.isp_typed.specs.declared.variable.ArrayVariable.{ArrayVariable}
 use Rattle.isp_meaning.specs.State.{State, Frame, tick, extent}
-use Rattle.isp_meaning.specs.Payloads.{Payload, One, Each, converted, spread, offender}
-use Rattle.isp_meaning.specs.Outcomes.{Val, Gives, Done, bind, checked}
+use Rattle.isp_meaning.specs.Payloads.{Payload, Each, converted, spread, offender}
+use Rattle.isp_meaning.specs.Outcomes.{Gives, bind, checked}
 use Rattle.isp_meaning.specs.Places.{Place, Element, outside, held, kept, elements, with_elements}
 use Rattle.isp_meaning.specs.Expressions.{Calls, value}
 use Rattle.isp_meaning.specs.Simple.{simple}

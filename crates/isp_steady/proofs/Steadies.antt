@@ -27,7 +27,7 @@ use Rattle.isp_meaning.specs.Expressions.{Calls, value, values, needs, settled}
 use Rattle.isp_steady.specs.Known.{Known, Unknown, Steady, Linear, IsAsKnown}
 use Rattle.isp_steady.specs.Steady.{steady_read, is_shared, by_itself, steady, steady_place, all_steady}
 use Rattle.isp_steady.specs.Values.{IsOne, Sole, Comes, Traps, ComesTo, SteadyGivesOne}
-use Rattle.isp_steady.proofs.Ones.{both, spread_one, mapped_one, joined_one, kept_one, offender_one, settled_needed, settled_left, selected_first, selected_second, chosen_of}
+use Rattle.isp_steady.proofs.Ones.{both, mapped_one, joined_one, kept_one, offender_one, settled_needed, settled_left, selected_first, selected_second, chosen_of}
 use Rattle.isp_steady.proofs.Told.{then_one, checked_one, nth, library_one, read_one, sole, sole_place, soles, IsBy, bind_by, bind_bind, bind_same, checked_fails, later_all, later_none}
 use Rattle.isp_steady.proofs.Alones.{alone_steady}
 

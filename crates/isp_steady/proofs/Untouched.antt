@@ -1,6 +1,6 @@
 -- A variable that code does not set is as it was.
 use Rattle.std.specs.Prelude.{◌≡◌, ℕ, zero, suc, List, [], ◌∷◌, ◌++◌, map, Option, Some, None, Bool, true, false, ◌||◌, nat_eq, if◌then◌else◌, ℤ}
-use Rattle.std.proofs.Common.{refl, sym, ap, ◌∙◌}
+use Rattle.std.proofs.Common.{refl, ap, ◌∙◌}
 use Rattle.isp_base.specs.Access.{is_zero}
 use Rattle.isp_base.specs.Sets.{Mask, nobody, union, without, any, lone, everyone}
 use Rattle.isp_base.specs.Maps.{Map, on, over, where_true}
@@ -28,12 +28,12 @@ use Rattle.isp_meaning.specs.Places.{Place, Variable, Element, written, with_ele
 use Rattle.isp_meaning.specs.Expressions.{Calls, value, place, values, call}
 use Rattle.isp_meaning.specs.Simple.{cleared, update, simple, item, items, first_part, step_part, no_step}
 use Rattle.isp_meaning.specs.Loops.{loop_end, tested, turns}
-use Rattle.isp_meaning.specs.Loads.{either, loads, all_load, call_loads, KeepsBy}
+use Rattle.isp_meaning.specs.Loads.{loads, all_load, call_loads, KeepsBy}
 use Rattle.isp_meaning.specs.Rounds.{Range, Run, rounds, round_of_one, members, firsts, round_of_value, last_run, with_outer, joined_lists, runs_of, from_on, runs_for, length_of, set_indices, round_of_run}
 use Rattle.isp_meaning.specs.Statements.{all_go, answered, answered_at, branches, jumped, ranges, test_part, run, block, run_all}
 use Rattle.isp_meaning.specs.Calls.{calls_at}
 use Rattle.isp_meaning.proofs.Loads.{variables_stay}
-use Rattle.isp_steady.specs.Assigns.{only, if_there, target_sets, item_sets, items_set, simple_sets, first_sets, ranges_set, assigns, block_assigns, all_assign, IsUnset, UnsetBy, StaysUnset}
+use Rattle.isp_steady.specs.Assigns.{if_there, target_sets, item_sets, items_set, simple_sets, first_sets, ranges_set, assigns, block_assigns, all_assign, IsUnset, UnsetBy, StaysUnset}
 
 neither : (b c : Bool) → (b || c) ≡ false → (b ≡ false) × (c ≡ false)
 neither true c e = absurd (cc)

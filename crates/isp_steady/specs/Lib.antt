@@ -5,4 +5,6 @@ pub mod Alone
 pub mod Values
 pub mod Rows
 pub mod Assigns
-pub mod Scopes
+pub mod Indices
+pub mod Kept
+pub mod Declared

@@ -17,7 +17,7 @@ use Rattle.isp_typed.specs.Typed.{TExpr, t_place, t_element, elem_of, t_assign}
 use Rattle.isp_typed.specs.declared.variable.ArrayVariable.{ArrayVariable}
 use Rattle.isp_meaning.specs.State.{State, Frame, tick, extent}
 use Rattle.isp_meaning.specs.Payloads.{Payload, Each, converted, spread}
-use Rattle.isp_meaning.specs.Outcomes.{Val, Gives, Done, bind, checked}
+use Rattle.isp_meaning.specs.Outcomes.{Gives, bind, checked}
 use Rattle.isp_meaning.specs.Expressions.{Calls, value}
 use Rattle.isp_meaning.specs.Simple.{simple}
 use Rattle.isp_steady.specs.Known.{IsInside, counted_on}
@@ -53,4 +53,4 @@ pub record StandInARow : Type 0 where
       → value gang frame calls x a s1 ≡ Gives m s2
       → simple gang frame calls (t_assign (t_element b i t sp) x span) a s
       ≡ bind (checked (lowest gang (run_outside (extent frame b) (number (elem_of i) u) a)) Index sp s2 m)
-        (λ n s3. Gives tt (row_kept gang (frame.named b.number) (number (elem_of i) u) a n s3))
+      (λ n s3. Gives tt (row_kept gang (frame.named b.number) (number (elem_of i) u) a n s3))

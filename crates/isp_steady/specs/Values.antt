@@ -3,7 +3,7 @@
 --     LinearCountsOn   a linear one counts on from one value, or traps for all alike
 use Rattle.std.specs.Prelude.{◌≡◌, ℕ, List, true}
 use Rattle.isp_base.specs.Cross.{or_zero}
-use Rattle.isp_base.specs.Maps.{Lanes, on}
+use Rattle.isp_base.specs.Maps.{on}
 use Rattle.isp_base.specs.Sets.{Mask, any, lowest}
 use Rattle.isp_base.specs.Traps.{trap}
 use Rattle.isp_base.specs.Types.{gang_width}
