@@ -8,3 +8,4 @@ mod Standing
 mod Untouched
 mod Scoping
 mod Declaring
+mod Sampled

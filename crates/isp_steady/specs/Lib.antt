@@ -8,3 +8,4 @@ pub mod Assigns
 pub mod Indices
 pub mod Kept
 pub mod Declared
+pub mod Samples

@@ -3,11 +3,13 @@
 #![tactic(auto)]
 
 mod rows;
+mod samples;
 mod scopes;
 mod unset;
 mod values;
 
 pub use rows::stand_in_a_row;
+pub use samples::samples_tell;
 pub use scopes::{behind_is_known, indices_are_known, item_is_known, stays_known};
 pub use unset::stays_unset;
 pub use values::{linear_counts_on, steady_gives_one};
