@@ -9,15 +9,15 @@ use Rattle.isp_base.specs.declared.types.Rate.{Rate}
 use Rattle.isp_base.specs.declared.types.Rate.TheVariants.{Uniform, Varying}
 use Rattle.isp_base.specs.declared.types.Ty.{Ty}
 use Rattle.isp_typed.specs.Fine.{FineStmt, FineExpr, HoldsValue}
-use Rattle.isp_typed.specs.Typed.{Program, TExpr, TItem, TStmt, TStmts, t_plain, t_with_value, t_with_size, elem_of, t_declare, t_stmt_then}
+use Rattle.isp_typed.specs.Typed.{TExpr, TItem, TStmt, TStmts, t_plain, t_with_value, t_with_size, elem_of, t_declare, t_stmt_then}
 use Rattle.isp_typed.specs.declared.variable.Variable.{Variable}
-use Rattle.isp_meaning.specs.State.{State, Frame, tick}
+use Rattle.isp_meaning.specs.State.{State, tick}
 use Rattle.isp_meaning.specs.Payloads.{Payload, One, spread}
 use Rattle.isp_meaning.specs.Outcomes.{Val, Done, Gives, Fails, Stops, Res, Went, Trapped, Cut, bind}
 use Rattle.isp_meaning.specs.Places.{written}
 use Rattle.isp_meaning.specs.Calls.{calls_at}
 use Rattle.isp_meaning.specs.Expressions.{Calls, value}
-use Rattle.isp_meaning.specs.Simple.{cleared, item, items}
+use Rattle.isp_meaning.specs.Simple.{cleared, items}
 use Rattle.isp_meaning.specs.Loads.{either, loads, KeepsBy}
 use Rattle.isp_meaning.proofs.Loads.{variables_stay}
 use Rattle.isp_steady.specs.Known.{Known, Unknown, Steady, Linear, is_known, IsInside, IsAsKnown, AreAsKnown, counted_on, elem_at, type_in}
@@ -25,15 +25,16 @@ use Rattle.isp_steady.specs.Steady.{steady}
 use Rattle.isp_steady.specs.Linear.{linear}
 use Rattle.isp_steady.specs.Alone.{alone, lent}
 use Rattle.isp_steady.specs.Values.{Sole, Comes, Traps, IsOne, IsCounted, ComesTo, over_set}
-use Rattle.isp_steady.specs.Assigns.{item_sets, items_set, assigns, all_assign}
+use Rattle.isp_steady.specs.Assigns.{only, item_sets, items_set, assigns, all_assign}
 use Rattle.isp_steady.specs.Kept.{AreUnset, KnownBy}
 use Rattle.isp_steady.proofs.Ones.{spread_one}
 use Rattle.isp_steady.proofs.Steadies.{steady_gives_one}
 use Rattle.isp_steady.proofs.Linears.{linear_counts_on}
-use Rattle.isp_steady.specs.Declared.{known_value, known_at, learned, with_scalar, IsItsScalar, LearnsBy, ItemIsKnown, items_learned, behind, BehindIsKnown}
+use Rattle.isp_steady.specs.Declared.{known_value, known_at, learned, with_scalar, IsItsScalar, LearnsBy, AreThere, ItemIsKnown, items_learned, behind, AreKnown, BehindIsKnown}
+use Rattle.isp_steady.specs.Code.{Where, gang_of, item_of, run_of}
 use Rattle.isp_steady.proofs.Scoping.{still_is, over_at, put_as, put_unknown, stays_known}
 use Rattle.std.specs.List.{All}
-use Rattle.isp_meaning.specs.Statements.{all_go, run}
+use Rattle.isp_meaning.specs.Statements.{all_go}
 use Rattle.isp_typed.specs.Fine.{FineItem}
 use Rattle.std.proofs.lemmas.List.Elements.{All-head, All-tail}
 
@@ -59,18 +60,18 @@ forget_only vars known scalars v Uniform m a s are w = by (nat_eq w v)
     by true = tt
     by false = are w
 
-module _ (program : Program) (most left : ℕ) (frame : Frame) (vars : List Variable) (known : ℕ → Known) (scalars : ℕ → ℕ) (a : Mask) (s : State)
-    (some : any (gang_width program.gang) a ≡ true) (inside : IsInside (gang_width program.gang) a) (are : AreAsKnown vars known scalars a s)
-    (v : ℕ) (t : Ty) (x : TExpr) (held : HoldsValue vars v t) (fine : FineExpr program.functions vars x) (type : elem_of x ≡ t.elem) (unset : AreUnset known (loads x)) where
+module _ (home : Where) (vars : List Variable) (known : ℕ → Known) (scalars : ℕ → ℕ) (a : Mask) (s : State)
+    (some : any (gang_width home.program.gang) a ≡ true) (inside : IsInside (gang_width home.program.gang) a) (are : AreAsKnown vars known scalars a s)
+    (v : ℕ) (t : Ty) (x : TExpr) (held : HoldsValue vars v t) (fine : FineExpr home.program.functions vars x) (type : elem_of x ≡ t.elem) (unset : AreUnset known (loads x)) where
   abbrev gang : ℕ
-  gang = gang_width program.gang
+  gang = gang_width home.program.gang
 
   abbrev calls : Calls
-  calls = calls_at program most left
+  calls = calls_at home.program home.most home.left
 
   abbrev behind_it : Known → ℕ → State → Type 0
   behind_it k u s1 =
-      AreAsKnown vars (put known v k) (put scalars v u) a s1 × (is_known k ≡ true → (s2 : State) × (value gang frame calls (alone x) a (lent known scalars (tick s)) ≡ Gives (One u) s2))
+      AreAsKnown vars (put known v k) (put scalars v u) a s1 × (is_known k ≡ true → (s2 : State) × (value gang home.frame calls (alone x) a (lent known scalars (tick s)) ≡ Gives (One u) s2))
 
   abbrev Goal : Rate → Known → Val Payload → Type 0
   Goal r k w = LearnsBy (behind_it k) (bind w (λ m s1. Gives tt (written r v a m s1)))
@@ -85,7 +86,7 @@ module _ (program : Program) (most left : ℕ) (frame : Frame) (vars : List Vari
   unknown_goal r (Stops s2) keeps = tt
 
   steady_goal : (o : Sole) (w : Val Payload) → KeepsBy (loads x) (tick s) w → ComesTo gang IsOne a o w
-      → value gang frame calls (alone x) a (lent known scalars (tick s)) ≡ over_set gang (lent known scalars) a o → Goal Varying Steady w
+      → value gang home.frame calls (alone x) a (lent known scalars (tick s)) ≡ over_set gang (lent known scalars) a o → Goal Varying Steady w
   steady_goal (Comes u s1) (Gives m s2) keeps h e = (
     u,
     (
@@ -99,7 +100,7 @@ module _ (program : Program) (most left : ℕ) (frame : Frame) (vars : List Vari
   steady_goal (Traps kind sp s1) w keeps h e = subst (Goal Varying Steady) (sym h) tt
 
   linear_goal : (o : Sole) (w : Val Payload) → KeepsBy (loads x) (tick s) w → ComesTo gang (IsCounted (elem_of x)) a o w
-      → value gang frame calls (alone x) a (lent known scalars (tick s)) ≡ over_set gang (lent known scalars) a o → Goal Varying Linear w
+      → value gang home.frame calls (alone x) a (lent known scalars (tick s)) ≡ over_set gang (lent known scalars) a o → Goal Varying Linear w
   linear_goal (Comes u s1) (Gives m s2) keeps h e = (
     u,
     (
@@ -114,15 +115,15 @@ module _ (program : Program) (most left : ℕ) (frame : Frame) (vars : List Vari
   linear_goal (Traps kind sp s1) w keeps h e = subst (Goal Varying Linear) (sym h) tt
 
   abbrev now : Val Payload
-  now = value gang frame calls x a (tick s)
+  now = value gang home.frame calls x a (tick s)
 
   keeps_now : KeepsBy (loads x) (tick s) now
-  keeps_now = variables_stay program most left frame x a (tick s)
+  keeps_now = variables_stay home.program home.most home.left home.frame x a (tick s)
 
   by_value : (c : Bool) → steady known x ≡ c → (d : Bool) → linear known x ≡ d → Goal Varying (known_value c d) now
-  by_value true e d k = let law = steady_gives_one gang vars frame calls known scalars x a (tick s) e are in steady_goal law.0 now keeps_now (law.1 a (λ p i. i) some) (law.2 a some)
+  by_value true e d k = let law = steady_gives_one gang vars home.frame calls known scalars x a (tick s) e are in steady_goal law.0 now keeps_now (law.1 a (λ p i. i) some) (law.2 a some)
   by_value false e true k =
-      let law = linear_counts_on program.gang program.functions vars frame calls known scalars x a (tick s) fine k inside are in
+      let law = linear_counts_on home.program.gang home.program.functions vars home.frame calls known scalars x a (tick s) fine k inside are in
       linear_goal law.0 now keeps_now (law.1 a (λ p i. i) some) (law.2 a some)
   by_value false e false k = unknown_goal Varying now keeps_now
 
@@ -136,12 +137,12 @@ either_left true c e = absurd (cc)
 either_left false c e = refl
 
 pub item_is_known : ItemIsKnown
-item_is_known program most left frame vars known scalars sets (t_plain v t sp) a s fine some inside unset are = (0, (forget_only vars known scalars v t.rate (One 0) a (tick s) are, tt))
-item_is_known program most left frame vars known scalars sets (t_with_value v t x sp) a s fine some inside unset are =
-    declared_goal program most left frame vars known scalars a s some inside are v t x fine.0 fine.1.0 fine.1.1 (λ w e. either_left _ _ (unset w e)) (sets v) t.rate
-item_is_known program most left frame vars known scalars sets (t_with_size b sp) a s fine some inside unset are = (0, (by b.ty.rate, tt))
+item_is_known home vars known scalars sets (t_plain v t sp) a s fine there unset are = (0, (forget_only vars known scalars v t.rate (One 0) a (tick s) are, tt))
+item_is_known home vars known scalars sets (t_with_value v t x sp) a s fine there unset are =
+    declared_goal home vars known scalars a s there.0 there.1 are v t x fine.0 fine.1.0 fine.1.1 (λ w e. either_left (loads x w) (only v w) (unset w e)) (sets v) t.rate
+item_is_known home vars known scalars sets (t_with_size b sp) a s fine there unset are = (0, (by b.ty.rate, tt))
   where
-    by : (r : Rate) → AreAsKnown vars known scalars a (cleared frame r b.number a (tick s))
+    by : (r : Rate) → AreAsKnown vars known scalars a (cleared home.frame r b.number a (tick s))
     by Uniform = are
     by Varying = are
 
@@ -191,19 +192,22 @@ ItemsBy P (Gives d s1) = P s1
 ItemsBy P (Fails trap s1) = Unit {0}
 ItemsBy P (Stops s1) = Unit {0}
 
-module _ (program : Program) (most left : ℕ) (frame : Frame) (vars : List Variable) (a : Mask) (sets : ℕ → Bool)
-    (some : any (gang_width program.gang) a ≡ true) (inside : IsInside (gang_width program.gang) a) where
+module _ (home : Where) (vars : List Variable) (a : Mask) (sets : ℕ → Bool)
+    (there : AreThere home a) where
   abbrev Behind : (ℕ → Known) → State → Type 0
-  Behind known s1 = (learnt : ℕ → ℕ) × AreAsKnown vars known learnt a s1
+  Behind known = AreKnown vars known a
 
-  items_known : (xs : List TItem) → All (FineItem program.functions vars) xs → (known : ℕ → Known) (scalars : ℕ → ℕ) (s : State) → AreUnset known (either (items_set xs) sets)
-      → AreAsKnown vars known scalars a s → ItemsBy (Behind (items_learned sets known xs)) (items (gang_width program.gang) frame (calls_at program most left) xs a s)
+  abbrev items_do : List TItem → State → Val Done
+  items_do xs = items (gang_of home) home.frame (calls_at home.program home.most home.left) xs a
+
+  items_known : (xs : List TItem) → All (FineItem home.program.functions vars) xs → (known : ℕ → Known) (scalars : ℕ → ℕ) (s : State) → AreUnset known (either (items_set xs) sets)
+      → AreAsKnown vars known scalars a s → ItemsBy (Behind (items_learned sets known xs)) (items_do xs s)
   items_known [] fine known scalars s unset are = (scalars, are)
   items_known (x ∷ xs) fine known scalars s unset are =
-      by (λ learnt s1 are1. items_known xs (All-tail (FineItem program.functions vars) x xs fine) (learned (either (items_set xs) sets) known x) learnt s1
+      by (λ learnt s1 are1. items_known xs (All-tail (FineItem home.program.functions vars) x xs fine) (learned (either (items_set xs) sets) known x) learnt s1
       (learned_unset (either (items_set xs) sets) known x rest) are1)
-      (item (gang_width program.gang) frame (calls_at program most left) x a s)
-      (item_is_known program most left frame vars known scalars (either (items_set xs) sets) x a s (All-head (FineItem program.functions vars) x xs fine) some inside
+      (item_of home x a s)
+      (item_is_known home vars known scalars (either (items_set xs) sets) x a s (All-head (FineItem home.program.functions vars) x xs fine) there
       (λ w e. either_left (item_sets x w) (items_set xs w) (either_left (item_sets x w || items_set xs w) (sets w) (unset w e))) are)
     where
       rest : AreUnset known (either (items_set xs) sets)
@@ -214,10 +218,10 @@ module _ (program : Program) (most left : ℕ) (frame : Frame) (vars : List Vari
           joined false c d h = h
 
       by : ((learnt : ℕ → ℕ) (s1 : State) → AreAsKnown vars (learned (either (items_set xs) sets) known x) learnt a s1
-          → ItemsBy (Behind (items_learned sets known (x ∷ xs))) (items (gang_width program.gang) frame (calls_at program most left) xs a s1))
+          → ItemsBy (Behind (items_learned sets known (x ∷ xs))) (items_do xs s1))
           → (w : Val Done) → LearnsBy (λ u s1. AreAsKnown vars (learned (either (items_set xs) sets) known x) (with_scalar x u scalars) a s1
-          × IsItsScalar (gang_width program.gang) frame (calls_at program most left) (either (items_set xs) sets) known scalars x u a s) w
-          → ItemsBy (Behind (items_learned sets known (x ∷ xs))) (bind w (λ d s1. items (gang_width program.gang) frame (calls_at program most left) xs a s1))
+          × IsItsScalar home (either (items_set xs) sets) known scalars x u a s) w
+          → ItemsBy (Behind (items_learned sets known (x ∷ xs))) (bind w (λ d s1. items_do xs s1))
       by more (Gives d s1) h = more (with_scalar x h.0 scalars) s1 h.1.0
       by more (Fails trap s1) h = tt
       by more (Stops s1) h = tt
@@ -232,12 +236,12 @@ module _ (program : Program) (most left : ℕ) (frame : Frame) (vars : List Vari
   with_learnt known scalars (Trapped trap s1) h = tt
   with_learnt known scalars (Cut s1) h = tt
 
-  behind_known : (answer : Option Ty) (known : ℕ → Known) (scalars : ℕ → ℕ) (x : TStmt) (s : State) → FineStmt program.functions vars answer x → AreUnset known (either (assigns x) sets)
-      → AreAsKnown vars known scalars a s → KnownBy (Behind (behind sets known x)) (run (gang_width program.gang) frame (calls_at program most left) most x a s)
+  behind_known : (answer : Option Ty) (known : ℕ → Known) (scalars : ℕ → ℕ) (x : TStmt) (s : State) → FineStmt home.program.functions vars answer x → AreUnset known (either (assigns x) sets)
+      → AreAsKnown vars known scalars a s → KnownBy (Behind (behind sets known x)) (run_of home x a s)
   behind_known answer known scalars (t_declare xs sp) s fine unset are =
-      went_by (Behind (items_learned sets known xs)) (items (gang_width program.gang) frame (calls_at program most left) xs a (tick s)) (items_known xs fine known scalars (tick s) unset are)
+      went_by (Behind (items_learned sets known xs)) (items_do xs (tick s)) (items_known xs fine known scalars (tick s) unset are)
   behind_known answer known scalars x s fine unset are =
-      with_learnt known scalars _ (stays_known.statement program most left frame vars known scalars x a a s (λ w e. either_left (assigns x w) (sets w) (unset w e)) are)
+      with_learnt known scalars _ (stays_known.statement home vars known scalars x a a s (λ w e. either_left (assigns x w) (sets w) (unset w e)) are)
 
 behind_unset : (known : ℕ → Known) (x : TStmt) (rest : TStmts) → AreUnset known (all_assign (t_stmt_then x rest)) → AreUnset (behind (all_assign rest) known x) (all_assign rest)
 behind_unset known (t_declare xs sp) rest unset = items_unset (all_assign rest) known xs unset
@@ -246,6 +250,6 @@ behind_unset known x rest unset = λ w e. right_of (assigns x w) (all_assign res
 pub behind_is_known : BehindIsKnown
 behind_is_known =
     record {
-      known = λ program most left frame vars answer known scalars x rest a s fine some inside unset are. behind_known program most left frame vars a (all_assign rest) some inside answer known scalars x s fine unset are;
+      known = λ home vars answer known x rest a s fine there unset are. behind_known home vars a (all_assign rest) there answer known are.0 x s fine unset are.1;
       unset = behind_unset;
     }

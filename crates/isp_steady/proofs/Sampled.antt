@@ -1,7 +1,7 @@
 -- The samples are as their definitions compute.
 use Rattle.std.proofs.Common.{refl}
 use Rattle.std.specs.Fmt.{digits}
-use Rattle.isp_base.specs.Values.{number_to, wrap_to, not_zero}
+use Rattle.isp_base.specs.Values.{number_to, wrap_to}
 use Rattle.isp_steady.specs.Samples.{WhichTheyAre, IndicesThatWrap, Conversions, ProgramsThatTell, SamplesTell}
 
 which : WhichTheyAre

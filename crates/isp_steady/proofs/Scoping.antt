@@ -47,8 +47,8 @@ stays_by vars known scalars a s (Cut s1) h are = tt
 pub stays_known : StaysKnown
 stays_known =
     record {
-      statement = λ program most left frame vars known scalars x a b s unset are. stays_by vars known scalars a s _ (λ v e. statement_stays v program most left frame x b s (unset v e)) are;
-      statements = λ program most left frame vars known scalars xs a b s unset are. stays_by vars known scalars a s _ (λ v e. statements_stay v program most left frame xs b s (unset v e)) are;
+      statement = λ w vars known scalars x a b s unset are. stays_by vars known scalars a s _ (λ v e. statement_stays v w.program w.most w.left w.frame x b s (unset v e)) are;
+      statements = λ w vars known scalars xs a b s unset are. stays_by vars known scalars a s _ (λ v e. statements_stay v w.program w.most w.left w.frame xs b s (unset v e)) are;
       part = parts_are;
     }
 

@@ -1,12 +1,12 @@
 -- Elements at a linear index stand in a row where no member passes the greatest value.
-use Rattle.std.specs.Prelude.{◌≡◌, ℕ, ◌-◌, ◌%◌, ◌^◌, ◌<◌, Option, Some, None, Bool, true, false, not, ◌&&◌, if◌then◌else◌, ℤ, pos, ◌+ℤ◌, ◌-ℤ◌, ◌≤ℤ◌, int_lt, unsigned_abs}
+use Rattle.std.specs.Prelude.{◌≡◌, ℕ, zero, suc, ◌-◌, ◌%◌, ◌^◌, ◌<◌, ◌≤◌, Option, Some, None, Bool, true, false, not, ◌&&◌, if◌then◌else◌, ℤ, pos, negsuc, ◌+ℤ◌, ◌-ℤ◌, ◌*ℤ◌, ◌≤ℤ◌, ◌<ℤ◌, int_lt, unsigned_abs}
 use Rattle.std.proofs.Common.{refl, sym, ap, ap₂, ◌∙◌, subst, arith, mod-lt, pow_pos}
 use Rattle.std.proofs.Math.Path.{fun_ext}
 use Rattle.std.proofs.lemmas.Int.{ints}
 use Rattle.isp_base.specs.Access.{is_outside, is_beyond, element, scatter}
 use Rattle.isp_base.specs.Cross.{run_index, run_outside}
 use Rattle.isp_base.specs.Maps.{on, holds, put}
-use Rattle.isp_base.specs.Ranges.{IsValue, IsSigned, IsUnsigned}
+use Rattle.isp_base.specs.Ranges.{SameModulo, IsValue, IsSigned, IsUnsigned}
 use Rattle.isp_base.specs.Sets.{Mask, lowest}
 use Rattle.isp_base.specs.Values.{width, greatest, number, wrap}
 use Rattle.isp_base.specs.declared.trap.TrapKind.TheVariants.{Index}
@@ -17,7 +17,7 @@ use Rattle.isp_base.specs.declared.types.Span.{Span}
 use Rattle.isp_base.specs.declared.types.Ty.{Ty}
 use Rattle.isp_base.proofs.Compares.{low_number}
 use Rattle.isp_base.proofs.Converts.{no_truth}
-use Rattle.isp_base.proofs.Laws.{value_is, back_is, bits_are}
+use Rattle.isp_base.proofs.Laws.{value_is, same_is, back_is, bits_are}
 use Rattle.isp_typed.specs.Typed.{TExpr, t_place, t_element, elem_of, t_assign}
 use Rattle.isp_typed.specs.declared.variable.ArrayVariable.{ArrayVariable}
 use Rattle.isp_meaning.specs.State.{State, Frame, tick, extent}
@@ -27,7 +27,7 @@ use Rattle.isp_meaning.specs.Places.{Place, Element, outside, held, kept, elemen
 use Rattle.isp_meaning.specs.Expressions.{Calls, value}
 use Rattle.isp_meaning.specs.Simple.{simple}
 use Rattle.isp_steady.specs.Known.{IsInside, counted_on}
-use Rattle.isp_steady.specs.Rows.{has_room, row_held, row_kept, StandInARow}
+use Rattle.isp_steady.specs.Rows.{InStep, has_room, row_held, row_kept, StandInARow}
 use Rattle.isp_steady.proofs.Ones.{map1_on, on_same}
 use Rattle.isp_steady.proofs.Counts.{counted_wraps}
 
@@ -72,6 +72,51 @@ widened : (gang : ℕ) (from to : Elem) (u p : ℕ) → has_room gang from u ≡
 widened gang from to u p room lt n =
     sym (no_truth to (number from (counted_on from u p)) n) ∙ ap (wrap to) (numbers gang from u p room lt)
     ∙ sym (counted_wraps to (number from u) p) ∙ ap (λ c. counted_on to c p) (no_truth to (number from u) n)
+
+-- ---- the first index as an int64
+
+-- values of all types but uint64 are values of int64
+is_int64 : (t : Elem) (z : ℤ) → IsValue t z → (t ≡ U64 → ⊥) → IsValue I64 z
+is_int64 Truth z v n = (omega (arith, ints, v.0), omega (arith, ints, v.1))
+is_int64 I8 z v n = (omega (arith, ints, v.0), omega (arith, ints, v.1))
+is_int64 U8 z v n = (omega (arith, ints, v.0), omega (arith, ints, v.1))
+is_int64 I16 z v n = (omega (arith, ints, v.0), omega (arith, ints, v.1))
+is_int64 U16 z v n = (omega (arith, ints, v.0), omega (arith, ints, v.1))
+is_int64 I32 z v n = (omega (arith, ints, v.0), omega (arith, ints, v.1))
+is_int64 U32 z v n = (omega (arith, ints, v.0), omega (arith, ints, v.1))
+is_int64 I64 z v n = v
+is_int64 U64 z v n = absurd (n refl)
+
+same_step : (n : ℕ) (y z : ℤ) → y ≡ z → InStep n y z
+same_step n y z e = (ap (is_beyond n) e, λ h. e)
+
+low_out : (n : ℕ) (y : ℤ) → y <ℤ pos 0 → is_beyond n y ≡ true
+low_out n y h = grind (arith, ints, h)
+
+high_out : (n : ℕ) (z : ℤ) → pos n ≤ℤ z → is_beyond n z ≡ true
+high_out n z h = grind (arith, ints, h)
+
+-- a uint64 from 2 ^ 63 on is negative as an int64
+wide_step : (gang n p : ℕ) (y z : ℤ) → SameModulo (2 ^ 64) y z → IsValue I64 y → IsValue U64 z → z ≤ℤ (pos (2 ^ 64 - 1) -ℤ pos (gang - 1)) → p < gang → n ≤ 2 ^ 63
+    → InStep n (run_index y p) (run_index z p)
+wide_step gang n p y z same vy vz le lt few = by same.0 same.1
+  where
+    by : (k : ℤ) → y ≡ z +ℤ k *ℤ pos (2 ^ 64) → InStep n (run_index y p) (run_index z p)
+    by (pos zero) e = same_step n (run_index y p) (run_index z p) (ap (λ x. x +ℤ pos p) (let h : y ≡ z = omega (arith, ints, e) in h))
+    by (pos (suc k)) e = absurd (omega (arith, ints, e, vy.1, vz.0))
+    by (negsuc zero) e =
+        let out : is_beyond n (run_index z p) ≡ true = high_out n (run_index z p) (omega (arith, ints, e, vy.0, vz.0)) in
+        (low_out n (run_index y p) (omega (arith, ints, e, le)) ∙ sym out, λ h. absurd (cc (h, out)))
+    by (negsuc (suc k)) e = absurd (omega (arith, ints, e, vy.0, vz.1))
+
+as_int64 : (gang n : ℕ) (t : Elem) (u p : ℕ) → has_room gang t u ≡ true → p < gang → n ≤ 2 ^ 63 → (t ≡ Truth → ⊥) → InStep n (run_index (number I64 (converted t I64 u)) p) (run_index (number t u) p)
+as_int64 gang n t u p room lt few whole = by t refl
+  where
+    by : (e : Elem) → t ≡ e → InStep n (run_index (number I64 (converted t I64 u)) p) (run_index (number t u) p)
+    by U64 is =
+        wide_step gang n p (number I64 (wrap I64 (number t u))) (number t u) (same_is I64 (number t u)) (value_is I64 (number t u)) (subst (λ e. IsValue e (number t u)) is (bits_value t u))
+        (subst (λ e. number t u ≤ℤ (pos (greatest e) -ℤ pos (gang - 1))) is (not_more (number t u) (pos (greatest t) -ℤ pos (gang - 1)) room)) lt few
+    by e is = same_step n _ _ (ap (λ x. x +ℤ pos p) (back_is I64 (number t u) (is_int64 t (number t u) (bits_value t u) (λ h. absurd (cc (h, is))))))
 
 -- ---- elements
 
@@ -130,6 +175,7 @@ stand_in_a_row =
     record {
       numbers = numbers;
       widened = widened;
+      as_int64 = as_int64;
       load = λ gang frame calls b i t sp a s s1 u shared inside room is. load gang frame calls b i t sp a u shared inside room s s1 is;
       store = λ gang frame calls b i x t sp span a s s1 s2 u m shared inside room is gives. store gang frame calls b i t sp a u shared inside room x span s s1 s2 m is gives;
     }

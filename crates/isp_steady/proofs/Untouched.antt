@@ -392,4 +392,4 @@ module _ (v : ℕ) where
     statements_stay xs a s e = (run_all_stays xs e a s).by
 
 pub stays_unset : StaysUnset
-stays_unset program most left frame x a s v e = statement_stays v program most left frame x a s e
+stays_unset w x a s v e = statement_stays v w.program w.most w.left w.frame x a s e

@@ -3,15 +3,13 @@
 --     StaysUnset   running a statement leaves every other variable as it was, in every instance
 use Rattle.std.specs.Prelude.{◌≡◌, ℕ, List, [], ◌∷◌, Option, Some, None, Bool, false, nat_eq}
 use Rattle.isp_base.specs.Sets.{Mask}
-use Rattle.isp_base.specs.Types.{gang_width}
-use Rattle.isp_typed.specs.Typed.{Program, t_exprs, TPlace, t_variable, t_element, TItem, t_plain, t_with_value, t_with_size, TSimple, t_value, t_run, t_assign, t_update, t_step}
+use Rattle.isp_typed.specs.Typed.{t_exprs, TPlace, t_variable, t_element, TItem, t_plain, t_with_value, t_with_size, TSimple, t_value, t_run, t_assign, t_update, t_step}
 use Rattle.isp_typed.specs.Typed.{TFirst, t_first_declare, t_first_simple, TRange, TStmt, t_block, t_declare, t_simple, t_if, t_if_else, t_while, t_do, t_for, t_foreach}
 use Rattle.isp_typed.specs.Typed.{t_foreach_active, t_foreach_unique, t_unmasked, t_jump, t_return, t_print, t_assert, TBlock, t_braces, TStmts, t_no_stmts, t_stmt_then}
-use Rattle.isp_meaning.specs.Calls.{calls_at}
+use Rattle.isp_steady.specs.Code.{Where, run_of}
 use Rattle.isp_meaning.specs.Loads.{no_variable, either, loads, all_load, call_loads}
 use Rattle.isp_meaning.specs.Outcomes.{Res, Went, Trapped, Cut}
-use Rattle.isp_meaning.specs.State.{State, Frame}
-use Rattle.isp_meaning.specs.Statements.{run}
+use Rattle.isp_meaning.specs.State.{State}
 
 -- this one alone
 abbrev pub only : ℕ → ℕ → Bool
@@ -90,7 +88,4 @@ UnsetBy v s (Cut s1) = Unit {0}
 
 -- over any set, whatever it calls, and with a `foreach` or an `unmasked` in it
 abbrev pub StaysUnset : Type 0
-StaysUnset =
-    (program : Program) (most left : ℕ) (frame : Frame) (x : TStmt) (a : Mask) (s : State) (v : ℕ)
-    → assigns x v ≡ false
-    → UnsetBy v s (run (gang_width program.gang) frame (calls_at program most left) most x a s)
+StaysUnset = (w : Where) (x : TStmt) (a : Mask) (s : State) (v : ℕ) → assigns x v ≡ false → UnsetBy v s (run_of w x a s)

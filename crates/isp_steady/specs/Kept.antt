@@ -2,14 +2,12 @@
 -- take part, and of those nothing is known.
 use Rattle.std.specs.Prelude.{◌≡◌, ℕ, List, Bool, true, false}
 use Rattle.isp_base.specs.Sets.{Mask}
-use Rattle.isp_base.specs.Types.{gang_width}
-use Rattle.isp_typed.specs.Typed.{Program, TStmt, TStmts}
+use Rattle.isp_typed.specs.Typed.{TStmt, TStmts}
 use Rattle.isp_typed.specs.declared.variable.Variable.{Variable}
-use Rattle.isp_meaning.specs.State.{State, Frame}
+use Rattle.isp_meaning.specs.State.{State}
 use Rattle.isp_meaning.specs.Outcomes.{Res, Went, Trapped, Cut}
-use Rattle.isp_meaning.specs.Calls.{calls_at}
-use Rattle.isp_meaning.specs.Statements.{run, run_all}
 use Rattle.isp_steady.specs.Known.{Known, is_known, IsPart, AreAsKnown}
+use Rattle.isp_steady.specs.Code.{Where, run_of, run_list}
 use Rattle.isp_steady.specs.Assigns.{assigns, all_assign}
 
 -- no known variable is among these
@@ -23,11 +21,10 @@ KnownBy P (Cut s1) = Unit {0}
 
 -- Code runs over any set, of those members or of others.
 pub record StaysKnown : Type 0 where
-  pub statement : (program : Program) (most left : ℕ) (frame : Frame) (vars : List Variable) (known : ℕ → Known) (scalars : ℕ → ℕ) (x : TStmt) (a b : Mask) (s : State)
-      → AreUnset known (assigns x) → AreAsKnown vars known scalars a s
-      → KnownBy (AreAsKnown vars known scalars a) (run (gang_width program.gang) frame (calls_at program most left) most x b s)
-  pub statements : (program : Program) (most left : ℕ) (frame : Frame) (vars : List Variable) (known : ℕ → Known) (scalars : ℕ → ℕ) (xs : TStmts) (a b : Mask) (s : State)
-      → AreUnset known (all_assign xs) → AreAsKnown vars known scalars a s
-      → KnownBy (AreAsKnown vars known scalars a) (run_all (gang_width program.gang) frame (calls_at program most left) most xs b s)
+  pub statement : (w : Where) (vars : List Variable) (known : ℕ → Known) (scalars : ℕ → ℕ) (x : TStmt) (a b : Mask) (s : State)
+      → AreUnset known (assigns x) → AreAsKnown vars known scalars a s → KnownBy (AreAsKnown vars known scalars a) (run_of w x b s)
+  pub statements : (w : Where) (vars : List Variable) (known : ℕ → Known) (scalars : ℕ → ℕ) (xs : TStmts) (a b : Mask) (s : State)
+      → AreUnset known (all_assign xs) → AreAsKnown vars known scalars a s → KnownBy (AreAsKnown vars known scalars a) (run_list w xs b s)
   -- and of each part of the members
-  pub part : (vars : List Variable) (known : ℕ → Known) (scalars : ℕ → ℕ) (a b : Mask) (s : State) → IsPart b a → AreAsKnown vars known scalars a s → AreAsKnown vars known scalars b s
+  pub part : (vars : List Variable) (known : ℕ → Known) (scalars : ℕ → ℕ) (a b : Mask) (s : State)
+      → IsPart b a → AreAsKnown vars known scalars a s → AreAsKnown vars known scalars b s

@@ -1,4 +1,5 @@
 pub mod Known
+pub mod Code
 pub mod Steady
 pub mod Linear
 pub mod Alone

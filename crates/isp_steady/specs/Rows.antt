@@ -1,7 +1,7 @@
 -- Elements at a linear index: where no member passes the greatest value of the index's type they stand in a row, so that
 -- one load or store of a row serves. The words of a run of elements are those of isp_base's Cross.
-use Rattle.std.specs.Prelude.{◌≡◌, ℕ, ◌-◌, ◌<◌, Bool, true, ℤ, pos, ◌-ℤ◌, unsigned_abs}
-use Rattle.isp_base.specs.Access.{scatter}
+use Rattle.std.specs.Prelude.{◌≡◌, ℕ, ◌-◌, ◌^◌, ◌<◌, ◌≤◌, Bool, true, false, ℤ, pos, ◌-ℤ◌, unsigned_abs}
+use Rattle.isp_base.specs.Access.{is_beyond, scatter}
 use Rattle.isp_base.specs.Cross.{run_index, run_outside, run_places}
 use Rattle.isp_base.specs.Maps.{on, put}
 use Rattle.isp_base.specs.Sets.{Mask, lowest}
@@ -9,7 +9,7 @@ use Rattle.isp_base.specs.Values.{number, greatest, compare_to}
 use Rattle.isp_base.specs.declared.operators.Compare.TheVariants.{LessOrEqual}
 use Rattle.isp_base.specs.declared.trap.TrapKind.TheVariants.{Index}
 use Rattle.isp_base.specs.declared.types.Elem.{Elem}
-use Rattle.isp_base.specs.declared.types.Elem.TheVariants.{Bool as Truth}
+use Rattle.isp_base.specs.declared.types.Elem.TheVariants.{Bool as Truth, I64}
 use Rattle.isp_base.specs.declared.types.Rate.TheVariants.{Uniform}
 use Rattle.isp_base.specs.declared.types.Span.{Span}
 use Rattle.isp_base.specs.declared.types.Ty.{Ty}
@@ -34,12 +34,20 @@ row_held b z a s = Each (on a (λ p. s.arrays b (unsigned_abs (run_index z p))))
 abbrev pub row_kept : ℕ → ℕ → ℤ → Mask → Payload → State → State
 row_kept gang b z a x s = record s { arrays = put s.arrays b (scatter gang (run_places z a) (spread a x) (s.arrays b)) }
 
+-- two whole numbers are outside alike, or are one
+abbrev pub InStep : ℕ → ℤ → ℤ → Type 0
+InStep n y z = (is_beyond n y ≡ is_beyond n z) × (is_beyond n z ≡ false → y ≡ z)
+
 pub record StandInARow : Type 0 where
   -- what is counted on from u counts on as whole numbers too
   pub numbers : (gang : ℕ) (t : Elem) (u p : ℕ) → has_room gang t u ≡ true → p < gang → number t (counted_on t u p) ≡ run_index (number t u) p
   -- and so does each conversion of it to whole numbers, also to more bits
   pub widened : (gang : ℕ) (from to : Elem) (u p : ℕ) → has_room gang from u ≡ true → p < gang → (to ≡ Truth → ⊥)
       → converted from to (counted_on from u p) ≡ counted_on to (converted from to u) p
+  -- The machine takes the first index of a row as an int64: in an array of at most 2 ^ 63 elements the same are outside, and the others are
+  -- the same elements.
+  pub as_int64 : (gang n : ℕ) (t : Elem) (u p : ℕ) → has_room gang t u ≡ true → p < gang → n ≤ 2 ^ 63 → (t ≡ Truth → ⊥)
+      → InStep n (run_index (number I64 (converted t I64 u)) p) (run_index (number t u) p)
   -- Where the index counts on from u, an element of a shared array is read in a row, ..
   pub load : (gang : ℕ) (frame : Frame) (calls : Calls) (b : ArrayVariable) (i : TExpr) (t : Ty) (sp : Span) (a : Mask) (s s1 : State) (u : ℕ)
       → b.ty.rate ≡ Uniform → IsInside gang a → has_room gang (elem_of i) u ≡ true

@@ -1,10 +1,9 @@
 -- Small expressions and programs that show where the definitions draw their lines, and why there. What runs leave was worked
 -- out by hand from what the source says. Variables hold int32, the gang has four instances, and places in the text are left out.
-use Rattle.std.specs.Prelude.{◌≡◌, ℕ, ◌^◌, ◌-◌, List, [], ◌∷◌, Some, None, Bool, true, false, codes, nat_eq, if◌then◌else◌}
+use Rattle.std.specs.Prelude.{◌≡◌, ℕ, ◌^◌, ◌-◌, List, [], ◌∷◌, Some, None, true, false, codes}
 use Rattle.isp_base.specs.Access.{element}
 use Rattle.isp_base.specs.Outcomes.{Ends, Outcome}
 use Rattle.isp_base.specs.Values.{number}
-use Rattle.isp_base.specs.Cross.{run_index}
 use Rattle.isp_base.specs.declared.operators.BinOp.{BinOp}
 use Rattle.isp_base.specs.declared.operators.BinOp.TheVariants.{Add, Sub, Mul}
 use Rattle.isp_base.specs.declared.signature.Argument.TheVariants.{Array as AnArray}
@@ -16,14 +15,13 @@ use Rattle.isp_base.specs.declared.types.Span.{Span}
 use Rattle.isp_base.specs.declared.types.Ty.{Ty}
 use Rattle.isp_typed.specs.Indices.{foreach_index}
 use Rattle.isp_typed.specs.Typed.{TExpr, t_constant, t_program_index, t_place, t_convert, t_binary, t_call, t_library, t_packed_load, TPlace, t_variable, t_element, t_whole, t_called, t_arguments, t_exprs}
-use Rattle.isp_typed.specs.Typed.{ty_of, rate_of, rate_or, t_with_value, t_assign, TStmt, t_block, t_declare, t_simple, t_foreach, t_unmasked, t_return, t_braces, t_stmts, TFunction, Program}
+use Rattle.isp_typed.specs.Typed.{ty_of, rate_of, rate_or, t_with_value, t_assign, TStmt, t_block, t_declare, t_simple, t_foreach, t_unmasked, t_return, t_braces, t_stmts, TFunction}
 use Rattle.isp_typed.specs.declared.library.Library.TheVariants as library
 use Rattle.isp_typed.specs.declared.variable.ArrayVariable.{ArrayVariable}
 use Rattle.isp_typed.specs.declared.variable.Holds.TheVariants.{Value as AVariable, Given}
-use Rattle.isp_typed.specs.declared.variable.Variable.{Variable}
 use Rattle.isp_meaning.specs.Payloads.{converted}
 use Rattle.isp_meaning.specs.Runs.{run_of}
-use Rattle.isp_steady.specs.Known.{Known, Unknown, Steady, Linear, counted_on}
+use Rattle.isp_steady.specs.Known.{Known, Unknown, Steady, counted_on}
 use Rattle.isp_steady.specs.Steady.{steady}
 use Rattle.isp_steady.specs.Linear.{linear}
 use Rattle.isp_steady.specs.Alone.{alone}
