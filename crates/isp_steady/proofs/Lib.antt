@@ -9,3 +9,4 @@ mod Untouched
 mod Scoping
 mod Declaring
 mod Sampled
+mod Singles

@@ -3,6 +3,7 @@ pub mod Code
 pub mod Steady
 pub mod Linear
 pub mod Alone
+pub mod Singled
 pub mod Values
 pub mod Rows
 pub mod Assigns

@@ -12,4 +12,4 @@ pub use rows::stand_in_a_row;
 pub use samples::samples_tell;
 pub use scopes::{behind_is_known, indices_are_known, item_is_known, stays_known};
 pub use unset::stays_unset;
-pub use values::{linear_counts_on, steady_gives_one};
+pub use values::{linear_counts_on, scalars_are_fine, steady_gives_one};
