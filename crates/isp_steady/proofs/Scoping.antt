@@ -1,6 +1,6 @@
 -- What is known on the way through the body of a `foreach` is so.
-use Rattle.std.specs.Prelude.{◌≡◌, ℕ, List, [], ◌∷◌, ◌++◌, map, Some, None, Bool, true, false, ◌||◌, nat_eq, if◌then◌else◌, ℤ, pos, ◌+ℤ◌}
-use Rattle.std.proofs.Common.{refl, sym, ap, ◌∙◌, subst, ⊎_elim, arith, eq-eqb}
+use Rattle.std.specs.Prelude.{◌≡◌, ℕ, suc, ◌<◌, List, [], ◌∷◌, ◌++◌, map, Some, None, Bool, true, false, ◌||◌, nat_eq, if◌then◌else◌, ℤ, pos, ◌+ℤ◌}
+use Rattle.std.proofs.Common.{refl, sym, ap, ap₂, ◌∙◌, subst, ⊎_elim, arith, eq-eqb}
 use Rattle.std.proofs.lemmas.Bool.{ne_eqb, cases_eq}
 use Rattle.std.proofs.lemmas.Int.{ints}
 use Rattle.isp_base.specs.Maps.{Lanes, Map, on, over, or_old, put}
@@ -15,9 +15,18 @@ use Rattle.isp_meaning.specs.Payloads.{Each}
 use Rattle.isp_meaning.specs.Outcomes.{Res, Went, Trapped, Cut}
 use Rattle.isp_meaning.specs.Places.{written}
 use Rattle.isp_meaning.specs.Rounds.{Range, Run, last_run, with_outer, joined_lists, runs_of, from_on, runs_for, length_of, set_indices}
-use Rattle.isp_steady.specs.Known.{Known, Unknown, Steady, Linear, is_known, IsPart, IsAsKnown, AreAsKnown, elem_at}
+use Rattle.isp_steady.specs.Known.{type_in, Known, Unknown, Steady, Linear, is_known, IsPart, IsAsKnown, AreAsKnown, elem_at}
 use Rattle.isp_steady.specs.Assigns.{UnsetBy}
-use Rattle.isp_steady.specs.Indices.{known_indices, index_scalars, is_among, AreApart, AreInt, EachRun, IndicesAreKnown}
+use Rattle.isp_steady.specs.Indices.{known_indices, index_scalars, EachRun, indices_of, IndicesAreKnown}
+use Rattle.isp_steady.specs.Code.{Where, gang_of, ranges_of}
+use Rattle.std.specs.List.{All}
+use Rattle.std.proofs.lemmas.List.Elements.{All-head, All-tail}
+use Rattle.isp_typed.specs.Fine.{FineRange}
+use Rattle.isp_typed.specs.Scoped.{Scope, RangesAt}
+use Rattle.isp_typed.specs.Typed.{TRange}
+use Rattle.isp_meaning.specs.Expressions.{value}
+use Rattle.isp_meaning.specs.Calls.{calls_at}
+use Rattle.isp_meaning.specs.Outcomes.{Val, Gives, Fails, Stops, bind}
 use Rattle.isp_steady.specs.Kept.{KnownBy, StaysKnown}
 use Rattle.isp_steady.proofs.Counts.{counted_wraps}
 use Rattle.isp_steady.proofs.Untouched.{statement_stays, statements_stay}
@@ -86,6 +95,19 @@ put_unknown vars known scalars v y a s are w = by (nat_eq w v)
 abbrev numbers : List (ℕ × (ℕ → ℤ)) → List ℕ
 numbers [] = []
 numbers (x ∷ xs) = x.0 ∷ numbers xs
+
+-- none is named twice
+abbrev is_among : ℕ → List ℕ → Bool
+is_among v [] = false
+is_among v (i ∷ is) = nat_eq v i || is_among v is
+
+abbrev AreApart : List ℕ → Type 0
+AreApart [] = Unit {0}
+AreApart (i ∷ is) = (is_among i is ≡ false) × AreApart is
+
+abbrev AreInt : List Variable → List ℕ → Type 0
+AreInt vars [] = Unit {0}
+AreInt vars (i ∷ is) = (elem_at vars i ≡ I32) × AreInt vars is
 
 -- the last counts on, the others are the same in all instances
 abbrev CountOn : List (ℕ × (ℕ → ℤ)) → Type 0
@@ -176,9 +198,53 @@ runs_are gang [] = tt
 runs_are gang (r ∷ []) = last_runs gang r (from_on gang (runs_for gang (length_of r)) r.start)
 runs_are gang (r ∷ q ∷ rs) = joined_runs r.index q.index (map (λ y. y.index) rs) (runs_of gang (q ∷ rs)) (from_on 1 (length_of r) r.start) (runs_are gang (q ∷ rs))
 
-pub indices_are_known : IndicesAreKnown
-indices_are_known gang vars rs apart int =
-    let is = map (λ r. r.index) rs in
+runs_known : (gang : ℕ) (vars : List Variable) (is : List ℕ) (rs : List Range) → map (λ r. r.index) rs ≡ is → AreApart is → AreInt vars is
+    → EachRun (λ x. (s : State) → AreAsKnown vars (known_indices is) (index_scalars x.indices) x.members (set_indices x.members x.indices s)) (runs_of gang rs)
+runs_known gang vars is rs named apart int =
     of_each (IsRun is) _ (runs_of gang rs)
     (λ x h s v. subst (λ ks. IsAsKnown (known_indices ks v) (elem_at vars v) (index_scalars x.indices v) ((set_indices x.members x.indices s).varying v) x.members) h.named
-    (indices_known x.members vars x.indices h.counts (subst AreApart (sym h.named) apart) (subst (AreInt vars) (sym h.named) int) s v)) (runs_are gang rs)
+    (indices_known x.members vars x.indices h.counts (subst AreApart (sym h.named) apart) (subst (AreInt vars) (sym h.named) int) s v))
+    (subst (λ ks. EachRun (IsRun ks) (runs_of gang rs)) named (runs_are gang rs))
+
+-- ---- what the tree says
+
+-- variables are numbered in order
+later_among : (v : Scope) (n k : ℕ) (rs : List TRange) → k < n → RangesAt v n rs → is_among k (indices_of rs) ≡ false
+later_among v n k [] lt h = refl
+later_among v n k (r ∷ rs) lt h = ap₂ (λ b c. b || c) (ne_eqb k r.index (λ e. absurd (omega (arith, e, h.0, lt)))) (later_among v (suc n) k rs (omega (arith, lt)) h.3)
+
+ranges_apart : (v : Scope) (n : ℕ) (rs : List TRange) → RangesAt v n rs → AreApart (indices_of rs)
+ranges_apart v n [] h = tt
+ranges_apart v n (r ∷ rs) h = (later_among v (suc n) r.index rs (omega (arith, h.0)) h.3, ranges_apart v (suc n) rs h.3)
+
+module _ (home : Where) (vars : List Variable) where
+  ranges_int : (rs : List TRange) → All (FineRange home.program.functions vars) rs → AreInt vars (indices_of rs)
+  ranges_int [] f = tt
+  ranges_int (r ∷ rs) f = (ap type_in (All-head (FineRange home.program.functions vars) r rs f).index, ranges_int rs (All-tail (FineRange home.program.functions vars) r rs f))
+
+  -- the ranges have the names of the tree
+  abbrev Named : List ℕ → Val (List Range) → Type 0
+  Named is (Gives xs s) = map (λ r. r.index) xs ≡ is
+  Named is (Fails t s) = Unit {0}
+  Named is (Stops s) = Unit {0}
+
+  named_by : {A : Type 0} (is : List ℕ) (v : Val A) (go : A → State → Val (List Range)) → ((x : A) (s : State) → Named is (go x s)) → Named is (bind v go)
+  named_by is (Gives x s) go h = h x s
+  named_by is (Fails t s) go h = tt
+  named_by is (Stops s) go h = tt
+
+  named_after : (i : ℕ) (is : List ℕ) (v : Val (List Range)) (r : Range) → r.index ≡ i → Named is v → Named (i ∷ is) (bind v (λ xs s. Gives (r ∷ xs) s))
+  named_after i is (Gives xs s) r e h = ap₂ (λ j js. j ∷ js) e h
+  named_after i is (Fails t s) r e h = tt
+  named_after i is (Stops s) r e h = tt
+
+  ranges_named : (rs : List TRange) (a : Mask) (s : State) → Named (indices_of rs) (ranges_of home rs a s)
+  ranges_named [] a s = refl
+  ranges_named (r ∷ rs) a s =
+      named_by (indices_of (r ∷ rs)) (value (gang_of home) home.frame (calls_at home.program home.most home.left) r.start a s) _
+      (λ m s1. named_by (indices_of (r ∷ rs)) (value (gang_of home) home.frame (calls_at home.program home.most home.left) r.end a s1) _
+      (λ n s2. named_after r.index (indices_of rs) (ranges_of home rs a s2) _ refl (ranges_named rs a s2)))
+
+pub indices_are_known : IndicesAreKnown
+indices_are_known home vars scope n rs a s s1 xs fine at e =
+    runs_known (gang_of home) vars (indices_of rs) xs (subst (Named home vars (indices_of rs)) e (ranges_named home vars rs a s)) (ranges_apart scope n rs at) (ranges_int home vars rs fine)

@@ -1,8 +1,7 @@
 -- The scalar expression is uniform, and names and types accept it.
-use Rattle.std.specs.Prelude.{◌≡◌, ◌⊎◌, ℕ, zero, suc, ◌+◌, ◌≤◌, List, [], ◌∷◌, Option, Some, None, Bool, true, false, ◌&&◌, ◌||◌, slice_get}
-use Rattle.std.proofs.Common.{refl, sym, ap, ap₂, ◌∙◌, subst, inl, inr, ⊎_elim, arith}
+use Rattle.std.specs.Prelude.{◌≡◌, ℕ, zero, suc, ◌+◌, List, [], ◌∷◌, Some, Bool, true, false, ◌||◌, slice_get}
+use Rattle.std.proofs.Common.{refl, sym, ap, ap₂, ◌∙◌, ⊎_elim, arith}
 use Rattle.isp_base.specs.declared.operators.BinOp.{BinOp}
-use Rattle.isp_base.specs.declared.operators.BinOp.TheVariants.{Add, Sub, Mul, Div, Rem, And, Or, Xor, Shl, Shr, Min, Max}
 use Rattle.isp_base.specs.declared.types.Elem.{Elem}
 use Rattle.isp_base.specs.declared.types.Rate.{Rate}
 use Rattle.isp_base.specs.declared.types.Rate.TheVariants.{Uniform, Varying}
@@ -21,7 +20,7 @@ use Rattle.isp_typed.specs.declared.variable.Holds.TheVariants as holds
 use Rattle.isp_typed.specs.declared.variable.Variable.{Variable}
 use Rattle.isp_steady.specs.Known.{Known, Unknown, Steady, Linear}
 use Rattle.isp_steady.specs.Steady.{steady_read, is_shared, by_itself, steady, steady_place, all_steady}
-use Rattle.isp_steady.specs.Linear.{linear_read, cuts, linear, linear_place}
+use Rattle.isp_steady.specs.Linear.{linear_read, linear, linear_place}
 use Rattle.isp_steady.specs.Alone.{single, alone, alone_place, all_alone}
 use Rattle.isp_steady.specs.Singled.{held_single, as_known, singled, ScalarsAreFine}
 use Rattle.isp_steady.proofs.Ones.{both}
@@ -215,9 +214,15 @@ module _ (fs : List TFunction) (vars : List Variable) (known : ℕ → Known) wh
         (steady_fine x k.0 f.0, steady_fine y k.1 f.1, operands_fine x y _ r f.2 (steady_rate known x k.0) (steady_rate known y k.1))
     steady_fine (t_choose c x y t sp) e f =
         let k = both _ _ e in
-        let j = both _ _ k.1 in
-        (steady_fine c k.0 f.0, steady_fine x j.0 f.1, steady_fine y j.1 f.2, alone_elem c ∙ f.3, alone_elem x ∙ f.4, alone_elem y ∙ f.5,
-        two_rates (rate_of (alone c)) _ (steady_rate known c k.0) (sym (two_rates (rate_of (alone x)) (rate_of (alone y)) (steady_rate known x j.0) (steady_rate known y j.1))))
+        let j = both _ _ k.1 in (
+          steady_fine c k.0 f.0,
+          steady_fine x j.0 f.1,
+          steady_fine y j.1 f.2,
+          alone_elem c ∙ f.3,
+          alone_elem x ∙ f.4,
+          alone_elem y ∙ f.5,
+          two_rates (rate_of (alone c)) _ (steady_rate known c k.0) (sym (two_rates (rate_of (alone x)) (rate_of (alone y)) (steady_rate known x j.0) (steady_rate known y j.1))),
+        )
     steady_fine (t_call c t) e f = absurd (cc)
     steady_fine (t_library g t xs ty sp) e f =
         let k = both _ _ e in

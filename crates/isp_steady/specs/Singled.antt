@@ -1,5 +1,5 @@
 -- The scalar expression of a steady or a linear one is uniform, and names and types accept it among variables of which each known one is uniform.
-use Rattle.std.specs.Prelude.{◌≡◌, ℕ, suc, List, [], ◌∷◌, Bool, true, ◌||◌}
+use Rattle.std.specs.Prelude.{◌≡◌, ℕ, suc, List, [], ◌∷◌, true, ◌||◌}
 use Rattle.isp_typed.specs.Fine.{FineExpr}
 use Rattle.isp_typed.specs.Typed.{TExpr, TFunction, type_of}
 use Rattle.isp_typed.specs.declared.variable.Holds.{Holds}
