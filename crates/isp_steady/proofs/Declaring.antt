@@ -132,7 +132,7 @@ module _ (home : Where) (vars : List Variable) (known : ℕ → Known) (scalars 
   declared_goal false Uniform = unknown_goal Uniform now keeps_now
   declared_goal false Varying = by_value (steady known x) refl (linear known x) refl
 
-either_left : (b c : Bool) → (b || c) ≡ false → b ≡ false
+pub either_left : (b c : Bool) → (b || c) ≡ false → b ≡ false
 either_left true c e = absurd (cc)
 either_left false c e = refl
 
@@ -148,7 +148,7 @@ item_is_known home vars known scalars sets (t_with_size b sp) a s fine there uns
 
 -- ---- several items, and statements
 
-right_of : (b c : Bool) → (b || c) ≡ false → c ≡ false
+pub right_of : (b c : Bool) → (b || c) ≡ false → c ≡ false
 right_of true c e = absurd (cc)
 right_of false c e = e
 

@@ -10,3 +10,4 @@ mod Scoping
 mod Declaring
 mod Sampled
 mod Singles
+mod Bodily

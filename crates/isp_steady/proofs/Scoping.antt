@@ -38,7 +38,7 @@ part_is Unknown t u x a b h k = tt
 part_is Steady t u x a b h k = λ p i. k p (h p i)
 part_is Linear t u x a b h k = λ p i. k p (h p i)
 
-parts_are : (vars : List Variable) (known : ℕ → Known) (scalars : ℕ → ℕ) (a b : Mask) (s : State) → IsPart b a → AreAsKnown vars known scalars a s → AreAsKnown vars known scalars b s
+pub parts_are : (vars : List Variable) (known : ℕ → Known) (scalars : ℕ → ℕ) (a b : Mask) (s : State) → IsPart b a → AreAsKnown vars known scalars a s → AreAsKnown vars known scalars b s
 parts_are vars known scalars a b s h are v = part_is (known v) (elem_at vars v) (scalars v) (s.varying v) a b h (are v)
 
 -- where each known variable is as it was

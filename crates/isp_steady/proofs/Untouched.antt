@@ -48,12 +48,12 @@ module _ (v : ℕ) where
 
   -- ---- values
 
-  abbrev Keeps : {A : Type 0} → (A → Type 0) → State → Val A → Type 0
+  abbrev pub Keeps : {A : Type 0} → (A → Type 0) → State → Val A → Type 0
   Keeps Q s (Gives x s1) = Q x × IsUnset v s s1
   Keeps Q s (Fails t s1) = Unit {0}
   Keeps Q s (Stops s1) = Unit {0}
 
-  abbrev Any : {A : Type 0} → A → Type 0
+  abbrev pub Any : {A : Type 0} → A → Type 0
   Any x = Unit {0}
 
   keeps_on : {A : Type 0} (Q : A → Type 0) (s s1 : State) (w : Val A) → IsUnset v s s1 → Keeps Q s1 w → Keeps Q s w
@@ -248,7 +248,7 @@ module _ (v : ℕ) where
     abbrev calls : Calls
     calls = calls_at program most left
 
-    value_keeps : (x : TExpr) (a : Mask) (s : State) → loads x v ≡ false → Keeps Any s (value gang frame calls x a s)
+    pub value_keeps : (x : TExpr) (a : Mask) (s : State) → loads x v ≡ false → Keeps Any s (value gang frame calls x a s)
     value_keeps x a s e = by_loads (loads x) s _ e (variables_stay program most left frame x a s)
 
     call_keeps : (c : TCall) (a : Mask) (s : State) → call_loads c v ≡ false → Keeps Any s (call gang frame calls c a s)
@@ -297,16 +297,16 @@ module _ (v : ℕ) where
     items_keep [] a s e = (tt, same s)
     items_keep (x ∷ xs) a s e = let n = neither _ _ e in bind_keeps Any Any s _ _ (item_keeps x a s n.0) (λ _ s1 _. items_keep xs a s1 n.1)
 
-    first_keeps : (x : Option TFirst) (a : Mask) (s : State) → if_there first_sets x v ≡ false → Keeps Any s (first_part gang frame calls x a s)
+    pub first_keeps : (x : Option TFirst) (a : Mask) (s : State) → if_there first_sets x v ≡ false → Keeps Any s (first_part gang frame calls x a s)
     first_keeps None a s e = (tt, same s)
     first_keeps (Some (t_first_declare xs sp)) a s e = items_keep xs a (tick s) e
     first_keeps (Some (t_first_simple x)) a s e = simple_keeps x a s e
 
-    step_keeps : (x : Option TSimple) (a : Mask) (s : State) → if_there simple_sets x v ≡ false → Keeps Any s (step_part gang frame calls x a s)
+    pub step_keeps : (x : Option TSimple) (a : Mask) (s : State) → if_there simple_sets x v ≡ false → Keeps Any s (step_part gang frame calls x a s)
     step_keeps None a s e = (tt, same s)
     step_keeps (Some x) a s e = simple_keeps x a s e
 
-    test_keeps : (x : Option TExpr) (a : Mask) (s : State) → if_there loads x v ≡ false → Keeps Any s (test_part gang frame calls x a s)
+    pub test_keeps : (x : Option TExpr) (a : Mask) (s : State) → if_there loads x v ≡ false → Keeps Any s (test_part gang frame calls x a s)
     test_keeps None a s e = (tt, same s)
     test_keeps (Some x) a s e = value_keeps x a s e
 

@@ -10,4 +10,5 @@ pub mod Assigns
 pub mod Indices
 pub mod Kept
 pub mod Declared
+pub mod Bodies
 pub mod Samples

@@ -2,12 +2,14 @@
 //! that they hold. No code is run.
 #![tactic(auto)]
 
+mod bodies;
 mod rows;
 mod samples;
 mod scopes;
 mod unset;
 mod values;
 
+pub use bodies::known_in_bodies;
 pub use rows::stand_in_a_row;
 pub use samples::samples_tell;
 pub use scopes::{behind_is_known, indices_are_known, item_is_known, stays_known};

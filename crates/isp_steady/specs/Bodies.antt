@@ -1,0 +1,49 @@
+-- What is known before a statement is known wherever its body runs, each time, and behind a statement what is known there: of a body nothing
+-- counts but what it does where all is as known, so another that does the same there may stand in its place. A `foreach` begins with its
+-- indices alone, and an `unmasked` with nothing known.
+use Rattle.std.specs.Prelude.{◌≡◌, ℕ, List, Option}
+use Rattle.isp_base.specs.Sets.{Mask}
+use Rattle.isp_base.specs.declared.types.Span.{Span}
+use Rattle.isp_base.specs.declared.types.Ty.{Ty}
+use Rattle.isp_tree.specs.declared.stmt.Form.{Form}
+use Rattle.isp_typed.specs.Fine.{FineStmt}
+use Rattle.isp_typed.specs.Typed.{TExpr, TSimple, TFirst, TStmt, t_if, t_if_else, t_while, t_do, t_for, t_foreach_active, TStmts, t_stmt_then}
+use Rattle.isp_typed.specs.declared.variable.Variable.{Variable}
+use Rattle.isp_meaning.specs.Outcomes.{Res}
+use Rattle.isp_meaning.specs.State.{State}
+use Rattle.isp_steady.specs.Known.{Known, IsPart}
+use Rattle.isp_steady.specs.Code.{Where, run_of, run_list}
+use Rattle.isp_steady.specs.Assigns.{assigns, all_assign}
+use Rattle.isp_steady.specs.Kept.{AreUnset}
+use Rattle.isp_steady.specs.Declared.{AreThere, AreKnown, behind}
+
+-- two bodies do the same over each set of some of the members that is not empty, from each state that is as known
+abbrev pub DoAlike : Where → List Variable → (ℕ → Known) → Mask → (f g : Mask → State → Res) → Type 0
+DoAlike w vars known a f g = (b : Mask) (s : State) → IsPart b a → AreThere w b → AreKnown vars known b s → f b s ≡ g b s
+
+module _ (w : Where) (vars : List Variable) (known : ℕ → Known) (a : Mask) (s : State) where
+  -- one statement does what another does, which sets nothing that is known, where all is as known before it and bodies do alike
+  abbrev pub MayStandFor : (bodies : Type 0) → (x y : TStmt) → Type 0
+  MayStandFor bodies x y = AreThere w a → AreUnset known (assigns x) → AreKnown vars known a s → bodies → run_of w x a s ≡ run_of w y a s
+
+  abbrev pub Alike : TStmt → TStmt → Type 0
+  Alike y z = DoAlike w vars known a (run_of w y) (run_of w z)
+
+pub record BodiesAreKnown (w : Where) (vars : List Variable) (known : ℕ → Known) (a : Mask) (s : State) : Type 0 where
+  pub branch : (f : Form) (k : ℕ) (e : TExpr) (y z : TStmt) (sp : Span) → MayStandFor w vars known a s (Alike w vars known a s y z) (t_if f k e y sp) (t_if f k e z sp)
+  pub first : (f : Form) (k : ℕ) (e : TExpr) (y z x : TStmt) (sp : Span) → MayStandFor w vars known a s (Alike w vars known a s y z) (t_if_else f k e y x sp) (t_if_else f k e z x sp)
+  pub second : (f : Form) (k : ℕ) (e : TExpr) (y z x : TStmt) (sp : Span) → MayStandFor w vars known a s (Alike w vars known a s y z) (t_if_else f k e x y sp) (t_if_else f k e x z sp)
+  pub turn : (f : Form) (k : ℕ) (e : TExpr) (y z : TStmt) (sp : Span) → MayStandFor w vars known a s (Alike w vars known a s y z) (t_while f k e y sp) (t_while f k e z sp)
+  pub first_turn : (f : Form) (k : ℕ) (e : TExpr) (y z : TStmt) (sp : Span) → MayStandFor w vars known a s (Alike w vars known a s y z) (t_do f k y e sp) (t_do f k z e sp)
+  pub counted : (f : Form) (k : ℕ) (i : Option TFirst) (e : Option TExpr) (step : Option TSimple) (n : ℕ) (y z : TStmt) (sp : Span)
+      → MayStandFor w vars known a s (Alike w vars known a s y z) (t_for f k i e step n y sp) (t_for f k i e step n z sp)
+  pub active : (at : Span) (k i : ℕ) (y z : TStmt) (sp : Span)
+      → MayStandFor w vars known a s (Alike w vars known a s y z) (t_foreach_active at k i y sp) (t_foreach_active at k i z sp)
+  -- the rest of a list of statements
+  pub rest : (answer : Option Ty) (x : TStmt) (ys zs : TStmts) → FineStmt w.program.functions vars answer x
+      → AreThere w a → AreUnset known (all_assign (t_stmt_then x ys)) → AreKnown vars known a s
+      → DoAlike w vars (behind (all_assign ys) known x) a (run_list w ys) (run_list w zs)
+      → run_list w (t_stmt_then x ys) a s ≡ run_list w (t_stmt_then x zs) a s
+
+abbrev pub KnownInBodies : Type 0
+KnownInBodies = (w : Where) (vars : List Variable) (known : ℕ → Known) (a : Mask) (s : State) → BodiesAreKnown w vars known a s
