@@ -1,0 +1,15 @@
+mod Lists
+mod Knowing
+mod Follows
+mod Masks
+mod Moves
+mod Passed
+mod Holding
+mod Maps
+mod Readers
+mod Twins
+mod Alikes
+mod Simulating
+mod Returning
+mod Runs
+mod Freed
