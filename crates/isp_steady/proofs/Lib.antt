@@ -11,3 +11,4 @@ mod Declaring
 mod Sampled
 mod Singles
 mod Bodily
+mod Rounding

@@ -169,7 +169,7 @@ record IsRun (is : List ℕ) (x : Run) : Type 0 where
   pub named : numbers x.indices ≡ is
   pub counts : CountOn x.indices
 
-join_runs : (P : Run → Type 0) (xs ys : List Run) → EachRun P xs → EachRun P ys → EachRun P (xs ++ ys)
+pub join_runs : (P : Run → Type 0) (xs ys : List Run) → EachRun P xs → EachRun P ys → EachRun P (xs ++ ys)
 join_runs P [] ys h k = k
 join_runs P (x ∷ xs) ys h k = (h.0, join_runs P xs ys h.1 k)
 

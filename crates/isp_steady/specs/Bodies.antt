@@ -6,8 +6,11 @@ use Rattle.isp_base.specs.Sets.{Mask}
 use Rattle.isp_base.specs.declared.types.Span.{Span}
 use Rattle.isp_base.specs.declared.types.Ty.{Ty}
 use Rattle.isp_tree.specs.declared.stmt.Form.{Form}
-use Rattle.isp_typed.specs.Fine.{FineStmt}
-use Rattle.isp_typed.specs.Typed.{TExpr, TSimple, TFirst, TStmt, t_if, t_if_else, t_while, t_do, t_for, t_foreach_active, TStmts, t_stmt_then}
+use Rattle.std.specs.List.{All}
+use Rattle.isp_typed.specs.Fine.{FineRange, FineStmt}
+use Rattle.isp_typed.specs.Scoped.{Scope, RangesAt}
+use Rattle.isp_steady.specs.Indices.{known_indices, indices_of}
+use Rattle.isp_typed.specs.Typed.{TExpr, TSimple, TFirst, TStmt, t_if, t_if_else, t_while, t_do, t_for, t_foreach_active, TStmts, t_stmt_then, t_foreach, TRange}
 use Rattle.isp_typed.specs.declared.variable.Variable.{Variable}
 use Rattle.isp_meaning.specs.Outcomes.{Res}
 use Rattle.isp_meaning.specs.State.{State}
@@ -44,6 +47,16 @@ pub record BodiesAreKnown (w : Where) (vars : List Variable) (known : ℕ → Kn
       → AreThere w a → AreUnset known (all_assign (t_stmt_then x ys)) → AreKnown vars known a s
       → DoAlike w vars (behind (all_assign ys) known x) a (run_list w ys) (run_list w zs)
       → run_list w (t_stmt_then x ys) a s ≡ run_list w (t_stmt_then x zs) a s
+
+-- The body of a `foreach` runs where its indices are known, over instances of the gang, somebody among them; what was known before counts
+-- for nothing.
+abbrev pub KnownInForeach : Type 0
+KnownInForeach =
+    (w : Where) (a : Mask) (s : State) (vars : List Variable) (scope : Scope) (n : ℕ) (at : Span) (k : ℕ) (rs : List TRange) (y z : TStmt) (sp : Span)
+    → All (FineRange w.program.functions vars) rs
+    → RangesAt scope n rs
+    → ((b : Mask) (s1 : State) → AreThere w b → AreKnown vars (known_indices (indices_of rs)) b s1 → run_of w y b s1 ≡ run_of w z b s1)
+    → run_of w (t_foreach at k rs y sp) a s ≡ run_of w (t_foreach at k rs z sp) a s
 
 abbrev pub KnownInBodies : Type 0
 KnownInBodies = (w : Where) (vars : List Variable) (known : ℕ → Known) (a : Mask) (s : State) → BodiesAreKnown w vars known a s

@@ -9,7 +9,7 @@ mod scopes;
 mod unset;
 mod values;
 
-pub use bodies::known_in_bodies;
+pub use bodies::{known_in_bodies, known_in_foreach};
 pub use rows::stand_in_a_row;
 pub use samples::samples_tell;
 pub use scopes::{behind_is_known, indices_are_known, item_is_known, stays_known};
