@@ -25,28 +25,25 @@ abbrev pub DoAlike : Where → List Variable → (ℕ → Known) → Mask → (f
 DoAlike w vars known a f g = (b : Mask) (s : State) → IsPart b a → AreThere w b → AreKnown vars known b s → f b s ≡ g b s
 
 module _ (w : Where) (vars : List Variable) (known : ℕ → Known) (a : Mask) (s : State) where
-  -- one statement does what another does, which sets nothing that is known, where all is as known before it and bodies do alike
-  abbrev pub MayStandFor : (bodies : Type 0) → (x y : TStmt) → Type 0
-  MayStandFor bodies x y = AreThere w a → AreUnset known (assigns x) → AreKnown vars known a s → bodies → run_of w x a s ≡ run_of w y a s
+  -- Where all is as known before a statement, which sets nothing that is known, it does with another body what it does with this one, if
+  -- the two do alike.
+  abbrev pub MayStandFor : (y z : TStmt) → (around : TStmt → TStmt) → Type 0
+  MayStandFor y z around =
+      AreThere w a → AreUnset known (assigns (around y)) → AreKnown vars known a s → DoAlike w vars known a (run_of w y) (run_of w z) → run_of w (around y) a s ≡ run_of w (around z) a s
 
-  abbrev pub Alike : TStmt → TStmt → Type 0
-  Alike y z = DoAlike w vars known a (run_of w y) (run_of w z)
-
-pub record BodiesAreKnown (w : Where) (vars : List Variable) (known : ℕ → Known) (a : Mask) (s : State) : Type 0 where
-  pub branch : (f : Form) (k : ℕ) (e : TExpr) (y z : TStmt) (sp : Span) → MayStandFor w vars known a s (Alike w vars known a s y z) (t_if f k e y sp) (t_if f k e z sp)
-  pub first : (f : Form) (k : ℕ) (e : TExpr) (y z x : TStmt) (sp : Span) → MayStandFor w vars known a s (Alike w vars known a s y z) (t_if_else f k e y x sp) (t_if_else f k e z x sp)
-  pub second : (f : Form) (k : ℕ) (e : TExpr) (y z x : TStmt) (sp : Span) → MayStandFor w vars known a s (Alike w vars known a s y z) (t_if_else f k e x y sp) (t_if_else f k e x z sp)
-  pub turn : (f : Form) (k : ℕ) (e : TExpr) (y z : TStmt) (sp : Span) → MayStandFor w vars known a s (Alike w vars known a s y z) (t_while f k e y sp) (t_while f k e z sp)
-  pub first_turn : (f : Form) (k : ℕ) (e : TExpr) (y z : TStmt) (sp : Span) → MayStandFor w vars known a s (Alike w vars known a s y z) (t_do f k y e sp) (t_do f k z e sp)
-  pub counted : (f : Form) (k : ℕ) (i : Option TFirst) (e : Option TExpr) (step : Option TSimple) (n : ℕ) (y z : TStmt) (sp : Span)
-      → MayStandFor w vars known a s (Alike w vars known a s y z) (t_for f k i e step n y sp) (t_for f k i e step n z sp)
-  pub active : (at : Span) (k i : ℕ) (y z : TStmt) (sp : Span)
-      → MayStandFor w vars known a s (Alike w vars known a s y z) (t_foreach_active at k i y sp) (t_foreach_active at k i z sp)
-  -- the rest of a list of statements
-  pub rest : (answer : Option Ty) (x : TStmt) (ys zs : TStmts) → FineStmt w.program.functions vars answer x
-      → AreThere w a → AreUnset known (all_assign (t_stmt_then x ys)) → AreKnown vars known a s
-      → DoAlike w vars (behind (all_assign ys) known x) a (run_list w ys) (run_list w zs)
-      → run_list w (t_stmt_then x ys) a s ≡ run_list w (t_stmt_then x zs) a s
+  pub record BodiesAreKnown : Type 0 where
+    pub branch : (f : Form) (k : ℕ) (e : TExpr) (y z : TStmt) (sp : Span) → MayStandFor y z (λ b. t_if f k e b sp)
+    pub first : (f : Form) (k : ℕ) (e : TExpr) (y z x : TStmt) (sp : Span) → MayStandFor y z (λ b. t_if_else f k e b x sp)
+    pub second : (f : Form) (k : ℕ) (e : TExpr) (y z x : TStmt) (sp : Span) → MayStandFor y z (λ b. t_if_else f k e x b sp)
+    pub turn : (f : Form) (k : ℕ) (e : TExpr) (y z : TStmt) (sp : Span) → MayStandFor y z (λ b. t_while f k e b sp)
+    pub first_turn : (f : Form) (k : ℕ) (e : TExpr) (y z : TStmt) (sp : Span) → MayStandFor y z (λ b. t_do f k b e sp)
+    pub counted : (f : Form) (k : ℕ) (i : Option TFirst) (e : Option TExpr) (step : Option TSimple) (n : ℕ) (y z : TStmt) (sp : Span) → MayStandFor y z (λ b. t_for f k i e step n b sp)
+    pub active : (at : Span) (k i : ℕ) (y z : TStmt) (sp : Span) → MayStandFor y z (λ b. t_foreach_active at k i b sp)
+    -- the rest of a list of statements
+    pub rest : (answer : Option Ty) (x : TStmt) (ys zs : TStmts) → FineStmt w.program.functions vars answer x
+        → AreThere w a → AreUnset known (all_assign (t_stmt_then x ys)) → AreKnown vars known a s
+        → DoAlike w vars (behind (all_assign ys) known x) a (run_list w ys) (run_list w zs)
+        → run_list w (t_stmt_then x ys) a s ≡ run_list w (t_stmt_then x zs) a s
 
 -- The body of a `foreach` runs where its indices are known, over instances of the gang, somebody among them; what was known before counts
 -- for nothing.
