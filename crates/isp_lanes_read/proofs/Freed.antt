@@ -20,7 +20,7 @@ use Rattle.isp_lanes_read.specs.declared.table.Reading.{Reading}
 use Rattle.isp_lanes_read.specs.reader.Known.{implied}
 use Rattle.isp_lanes_read.specs.reader.Passing.{edges, mask_written}
 use Rattle.isp_lanes_read.proofs.Lists.{all_has, none_has, put_same, put_other}
-use Rattle.isp_lanes_read.proofs.Knowing.{implied_so}
+use Rattle.isp_lanes_read.proofs.Knowing.{in_row_so, implied_so}
 use Rattle.isp_lanes_read.proofs.Follows.{Changes}
 use Rattle.isp_lanes_read.proofs.Moves.{IsInner, GoesOn, MovesOn, moves_on}
 use Rattle.isp_lanes_read.proofs.Readers.{pure_value}
@@ -106,4 +106,4 @@ skipped code rows c holds h (instr.Vector d i) e a goes =
 skipped code rows c holds h i e a goes = absurd cc
 
 pub free_writes : (code : Listing) (rows : Rows) → FreeWrites code rows
-free_writes code rows c holds h found i at = record { free = free_lanes code rows c holds h i; forgets = forgotten code rows c holds h i; skips = skipped code rows c holds h i }
+free_writes code rows c holds h found i at = record { within = in_row_so (sets code c) (sets_sound code rows c holds) (row_at rows c.home.fn c.pc) holds.told; free = free_lanes code rows c holds h i; forgets = forgotten code rows c holds h i; skips = skipped code rows c holds h i }

@@ -71,7 +71,7 @@ module _ (set : Meaning) (sound : IsSound set) where
         let parts = and_parts (same_set x.part a) (same_set x.whole b) found.2 in
         subst (λ y. IsWithin (set y) (set b)) (same_is x.part a parts.0) (subst (λ y. IsWithin (set x.part) (set y)) (same_is x.whole b parts.1) (told x found.1))
 
-    in_row_so : (a b : LaneSet) → in_row row a b ≡ true → IsWithin (set a) (set b)
+    pub in_row_so : (a b : LaneSet) → in_row row a b ≡ true → IsWithin (set a) (set b)
     in_row_so a b e = elim (or_cases (is_plain a b) (is_listed row a b || (is_listed row a lanes.Nobody || is_listed row lanes.Gang b)) e) [ inl h ↦ plain_so a b h | inr h ↦ listed (or_cases (is_listed row a b) (is_listed row a lanes.Nobody || is_listed row lanes.Gang b) h) ]
       where
         ends : (is_listed row a lanes.Nobody ≡ true) ⊎ (is_listed row lanes.Gang b ≡ true) → IsWithin (set a) (set b)

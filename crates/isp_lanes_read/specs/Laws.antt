@@ -8,10 +8,12 @@ use Rattle.isp_code.specs.Lines.{act, next}
 use Rattle.isp_code.specs.Listing.{Listing, Routine}
 use Rattle.isp_code.specs.Machine.{after, first_conf, advance, outcome, outcome_after}
 use Rattle.isp_code.specs.declared.instr.Instr.{Instr}
-use Rattle.isp_lanes_read.specs.Lanes.{sets, IsRead}
+use Rattle.isp_lanes_read.specs.Lanes.{IsWithin, sets, IsRead}
 use Rattle.isp_lanes_read.specs.Free.{is_free, is_useless, is_call}
 use Rattle.isp_lanes_read.specs.Reads.{written}
 use Rattle.isp_lanes_read.specs.Rows.{Rows, row_at}
+use Rattle.isp_lanes_read.specs.declared.table.LaneSet.{LaneSet}
+use Rattle.isp_lanes_read.specs.reader.Known.{in_row}
 use Rattle.isp_lanes_read.specs.Standing.{Holds, Alike, StateHolds, StatesAlike, Forgetful}
 use Rattle.isp_lanes_read.specs.declared.table.Reading.{Reading}
 
@@ -29,9 +31,11 @@ pub record RunsAgree (code : Listing) (rows : Rows) : Type 0 where
   pub outcomes : (f : ℕ) (h : Routine) (xs : List Argument) → slice_get code.routines f ≡ Some h → (m : ℕ) (t : State)
       → Forgetful code rows m (Runs (first_conf code f h xs)) t → outcome (stores xs) t ≡ outcome_after code f h xs m
 
--- Where a configuration stands before an instruction that writes a vector: after a free write each lane of it that is read is one
--- that was written, so the others may become anything; and an instruction that is useless may be left out.
+-- Where a configuration stands before an instruction: sets lie in others as the row tells. If it writes a vector freely, each lane
+-- of that vector that is read after it is one that was written, so the others may become anything; and if it is useless it may be
+-- left out.
 pub record WritesFree (code : Listing) (rows : Rows) (c : Conf) (h : Routine) (i : Instr) : Type 0 where
+  pub within : (a b : LaneSet) → in_row (row_at rows c.home.fn c.pc) a b ≡ true → IsWithin (sets code c a) (sets code c b)
   pub free : (w : Reading) → written i ≡ Some w → is_free (row_at rows c.home.fn c.pc) (row_at rows c.home.fn (c.pc + 1)) i ≡ true
       → (p : ℕ) → IsRead (sets code c) (row_at rows c.home.fn (c.pc + 1)) w.vector p → sets code c w.lanes p ≡ true
   pub forgets : (w : Reading) → written i ≡ Some w → is_call i ≡ false → is_free (row_at rows c.home.fn c.pc) (row_at rows c.home.fn (c.pc + 1)) i ≡ true

@@ -87,7 +87,7 @@ abbrev pub back_reads : Bool → Option Register → List Reading
 back_reads true (Some x) = record { vector = x.number; lanes = lanes.Call } ∷ []
 back_reads g x = []
 
--- what an instruction of a function reads of vectors; one that gives no lanes back is followed by no reader of them
+-- what an instruction of a function reads of vectors; a return reads what goes back in each lane
 abbrev pub reads : Routine → Instr → List Reading
 reads h (instr.Scalar d i) = scalar_reads i
 reads h (instr.Vector d i) = vector_reads i

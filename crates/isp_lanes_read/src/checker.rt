@@ -32,7 +32,7 @@ fn is_full(mask: Register) -> Option<Inclusion>
 }
 
 // What is known of a mask where a jump goes to its target.
-fn if_taken(test: JumpTest, mask: Register) -> Option<Inclusion>
+pub(crate) fn if_taken(test: JumpTest, mask: Register) -> Option<Inclusion>
     ensures { result ≡ if_taken test mask }
 {
     match test {
@@ -43,7 +43,7 @@ fn if_taken(test: JumpTest, mask: Register) -> Option<Inclusion>
 }
 
 // And where it goes on.
-fn if_passed(test: JumpTest, mask: Register) -> Option<Inclusion>
+pub(crate) fn if_passed(test: JumpTest, mask: Register) -> Option<Inclusion>
     ensures { result ≡ if_passed test mask }
 {
     match test {
@@ -72,12 +72,19 @@ fn at_head(set: LaneSet) -> LaneSet
     }
 }
 
-// Whether what a line tells of sets is so where a call begins.
+/// Whether an inclusion holds where a call begins.
+pub(crate) fn begins_so(x: Inclusion) -> bool
+    ensures { result ≡ begins_so x }
+{
+    is_plain(at_head(x.part), at_head(x.whole))
+}
+
+// Whether what a line tells of sets is so there.
 fn all_begin_so(within: &[Inclusion]) -> bool
     ensures { result ≡ list_all begins_so within.now }
 {
     for x in within {
-        if !is_plain(at_head(x.part), at_head(x.whole)) {
+        if !begins_so(*x) {
             return false;
         }
     }

@@ -2,11 +2,12 @@
 ghost use Rattle.std.specs.Prelude.{◌≡◌, ◌+◌, ◌<◌, not};
 ghost use Rattle.std.specs.List.{list_all, list_any};
 ghost use Rattle.isp_lanes_read.specs.Free.{is_free, is_free_write, is_of, is_useless, stays_in};
+ghost use Rattle.isp_lanes_read.specs.reader.Known.{in_row};
 ghost use Rattle.isp_lanes_read.specs.Rows.{row_at, rows_of, seen_row};
 
 use crate::known::Known;
 use crate::reads::{is_pure, written};
-use crate::table::{Reading, Row, Tables};
+use crate::table::{LaneSet, Reading, Row, Tables};
 use isp_code::Instr;
 
 impl<'a> Row<'a> {
@@ -54,9 +55,16 @@ impl<'a> Row<'a> {
 }
 
 impl Tables {
+    /// Whether each lane of one set is in another before instruction `pc` of function `f`; a mask is full where the gang is in it.
+    pub fn is_within(&self, f: usize, pc: usize, part: LaneSet, whole: LaneSet) -> bool
+        ensures { result ≡ in_row (row_at (rows_of self.now) f pc) part whole }
+    {
+        Row::at(self.lines(f), pc).tells(part, whole)
+    }
+
     /// Whether instruction `pc` of function `f` is a write whose lanes that are off nobody reads again: it need not keep them.
     pub fn is_free(&self, f: usize, pc: usize, instr: &Instr) -> bool
-        requires { pc < 4294967296 }
+        requires { pc < 18446744073709551615 }
         ensures { result ≡ is_free (row_at (rows_of self.now) f pc) (row_at (rows_of self.now) f (pc + 1)) instr.now }
     {
         let lines = self.lines(f);
@@ -68,7 +76,7 @@ impl Tables {
 
     /// Whether instruction `pc` of function `f` can be left out: it cannot trap, and writes a vector that nobody reads again.
     pub fn is_useless(&self, f: usize, pc: usize, instr: &Instr) -> bool
-        requires { pc < 4294967296 }
+        requires { pc < 18446744073709551615 }
         ensures { result ≡ is_useless (row_at (rows_of self.now) f (pc + 1)) instr.now }
     {
         Row::at(self.lines(f), pc + 1).lets_go(instr)

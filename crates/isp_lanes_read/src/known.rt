@@ -22,7 +22,8 @@ impl<'a> Row<'a> {
             .any(|x| x.part.is(part) && x.whole.is(whole))
     }
 
-    fn tells(&self, part: LaneSet, whole: LaneSet) -> bool
+    /// Whether a line tells that each lane of one set is in another.
+    pub(crate) fn tells(&self, part: LaneSet, whole: LaneSet) -> bool
         ensures { result ≡ in_row (seen_row self.now) part whole }
     {
         is_plain(part, whole)

@@ -2,8 +2,12 @@
 //! can tell whether lanes that nobody reads are kept.
 #![tactic(auto)]
 
+mod backward;
 mod bound;
 mod checker;
+mod edges;
+mod find_tables;
+mod forward;
 mod free;
 mod known;
 mod operands;
@@ -12,5 +16,6 @@ mod steps;
 mod table;
 
 pub use checker::check;
+pub use find_tables::find;
 pub use reads::{mask_of, written};
 pub use table::{Inclusion, LaneSet, Line, Reading, Table, Tables};

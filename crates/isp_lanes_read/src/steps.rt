@@ -24,8 +24,8 @@ impl<'a> Known<'a> {
         }
     }
 
-    // An inclusion after an instruction.
-    fn follows(&self, instr: &Instr, x: Inclusion) -> bool
+    /// An inclusion after an instruction.
+    pub(crate) fn follows(&self, instr: &Instr, x: Inclusion) -> bool
         ensures { result ≡ follows (seen_row self.now.row) self.now.more (mask_written instr.now) x }
     {
         match instr {
@@ -63,8 +63,8 @@ impl<'a> Known<'a> {
         }
     }
 
-    // Lanes that are read after an instruction.
-    fn comes(&self, instr: &Instr, r: Reading) -> bool
+    /// Lanes that are read after an instruction.
+    pub(crate) fn comes(&self, instr: &Instr, r: Reading) -> bool
         ensures { result ≡ comes (seen_row self.now.row) self.now.more instr.now r }
     {
         self.is_rewritten(written(instr), r) || self.comes_back(instr, r)
