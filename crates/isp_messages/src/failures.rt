@@ -1,0 +1,110 @@
+//! Messages of failures, with the sentence and the remedy of docs/FAULTS.md.
+use crate::close::closest;
+use crate::message::Message;
+use crate::page::Source;
+use isp_base::Trap;
+use isp_lex::Fault;
+use isp_remedies::{Spot, advice_on};
+use std::alloc::{AllocError, Global};
+use std::fmt::Write;
+
+/// Where a source is refused, why, and what to write instead.
+pub fn source_message<'n, 't>(
+    alloc: Global,
+    source: Source<'n, 't>,
+    fault: Fault,
+) -> Result<Message<'n, 't>, AllocError> {
+    let spot = Spot::new(alloc, source.text, fault.span)?;
+    let mut message = Message::new(alloc, format!(in alloc; "{}", fault.rule)?);
+    message.source = Some(source);
+    message.span = Some(fault.span);
+    let words = format!(in alloc; "{}", fault.rule)?;
+    advise(&mut message, words.as_str(), spot.as_ref())?;
+    Ok(message)
+}
+
+/// Where a run trapped, for which instance, and what to write instead.
+pub fn trap_message<'n, 't>(
+    alloc: Global,
+    source: Source<'n, 't>,
+    trap: Trap,
+) -> Result<Message<'n, 't>, AllocError> {
+    let words = format!(in alloc; "trap {}", trap.kind)?;
+    let what = format!(in alloc; "{words}, instance {}", trap.instance)?;
+    let mut message = Message::new(alloc, what);
+    message.source = Some(source);
+    message.span = Some(trap.place);
+    advise(&mut message, words.as_str(), None)?;
+    Ok(message)
+}
+
+/// That no exported function has the name of the entry, which ones there are, and which of them is meant.
+pub fn entry_message<'n, 't>(
+    alloc: Global,
+    source: Source<'n, 't>,
+    entry: &str,
+    exported: &[&str],
+) -> Result<Message<'n, 't>, AllocError> {
+    let mut what = format!(in alloc; "50 NoEntry: {entry}\n    exported: ")?;
+    push_names(&mut what, exported)?;
+    if let Some(name) = closest(alloc, entry, exported)? {
+        write!(what, "\n    did you mean `{name}`?")?;
+    }
+    let mut message = Message::new(alloc, what);
+    message.source = Some(source);
+    advise(&mut message, "50 NoEntry", None)?;
+    Ok(message)
+}
+
+// Names with commas between them, or `nothing`.
+fn push_names(page: &mut String, names: &[&str]) -> Result<(), AllocError> {
+    let mut comma = "";
+    for name in names {
+        write!(page, "{comma}{name}")?;
+        comma = ", ";
+    }
+    page.push_str(if names.is_empty() { "nothing" } else { "" })
+}
+
+/// What is said of a fault that has no place, by the words by which docs/FAULTS.md has it, with a name behind them where there is one.
+pub fn fault_message<'n, 't>(
+    alloc: Global,
+    fault: &str,
+    name: &str,
+) -> Result<Message<'n, 't>, AllocError> {
+    let mut what = String::from_str(alloc, fault)?;
+    if !name.is_empty() {
+        write!(what, " {name}")?;
+    }
+    let mut message = Message::new(alloc, what);
+    advise(&mut message, fault, None)?;
+    Ok(message)
+}
+
+/// Writes the sentence and the remedy of a fault, by what stands at its place, behind a page.
+pub fn push_advice(
+    page: &mut String,
+    fault: &str,
+    spot: Option<&Spot<'_>>,
+) -> Result<(), AllocError> {
+    let Some(advice) = advice_on(fault) else {
+        return Ok(());
+    };
+    page.push_str(advice.sentence)?;
+    page.push_str("\nFix: ")?;
+    page.push_str(advice.remedy(spot))?;
+    page.push_str("\n")
+}
+
+/// Puts the sentence and the remedy of a fault into a message, by what stands at its place.
+pub fn advise(
+    message: &mut Message<'_, '_>,
+    fault: &str,
+    spot: Option<&Spot<'_>>,
+) -> Result<(), AllocError> {
+    let Some(advice) = advice_on(fault) else {
+        return Ok(());
+    };
+    message.sentence.push_str(advice.sentence)?;
+    message.fix.push_str(advice.remedy(spot))
+}

@@ -1,0 +1,16 @@
+//! What is said to people of a failure: where it is, what it is, and what to write instead.
+#![tactic(auto)]
+
+mod bindings;
+mod close;
+mod failures;
+mod message;
+mod page;
+
+pub use bindings::{argument_site, arguments_site, push_arguments};
+pub use close::closest;
+pub use failures::{
+    advise, entry_message, fault_message, push_advice, source_message, trap_message,
+};
+pub use message::Message;
+pub use page::{Source, push_place};
