@@ -1,2 +1,3 @@
 pub mod Turns
+mod Suited
 mod Patterns

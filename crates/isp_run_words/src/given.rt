@@ -1,7 +1,9 @@
 //! The arguments that words and their files give.
-ghost use Rattle.std.specs.Prelude.{◌≡◌, ◌≢◌, ℕ, [], List, replicate, string_bytes, bytes_eq, take, IfErr, IfOk, Ok, Err};
+ghost use Rattle.std.specs.Prelude.{◌≡◌, ◌≢◌, ℕ, [], List, true, replicate, string_bytes, bytes_eq, take, IfErr, IfOk, Ok, Err};
 ghost use Rattle.std.specs.List.{list_any};
+ghost use Rattle.isp_base.specs.Binding.{has_signature, is_for};
 ghost use Rattle.isp_base.specs.declared.signature.Argument.TheVariants.{Array as AnArray};
+ghost use Rattle.isp_base.specs.declared.signature.Parameter.{Parameter};
 ghost use Rattle.isp_bind.specs.Binding.{is_parameter};
 ghost use Rattle.isp_files.specs.declared.fault.FileFault.TheVariants as file;
 ghost use Rattle.isp_run_words.specs.Giving.{alone, alone_text, argument_by, argument_of, arguments_by, each_of, fitting, given_by, is_given, stray_from};
@@ -52,6 +54,8 @@ pub enum Words {
 pub fn bind_words(alloc: Global, signature: &Signature, words: &Words) -> Result<Bound, GivenFault>
     ensures ok { IfOk result (λ b. given_by signature.now.params.items words.now ≡ Ok b.arguments.items) }
     ensures err { IfErr result (λ e. e ≢ fault.Memory → given_by signature.now.params.items words.now ≡ Err e) }
+    // Each argument has the kind and the type of its parameter.
+    ensures fits { IfOk result (λ b. has_signature signature.now.params.items b.arguments.items ≡ true) }
 {
     match words {
         Words::Whole(text) => match bind(alloc, signature, text.as_str()) {
@@ -67,6 +71,7 @@ pub fn bind_words(alloc: Global, signature: &Signature, words: &Words) -> Result
 fn each(alloc: Global, params: &[Parameter], given: &[Given]) -> Result<Bound, GivenFault>
     ensures ok { IfOk result (λ b. each_of params.now given.now ≡ Ok b.arguments.items) }
     ensures err { IfErr result (λ e. e ≢ fault.Memory → each_of params.now given.now ≡ Err e) }
+    ensures fits { IfOk result (λ b. has_signature params.now b.arguments.items ≡ true) }
 {
     let arguments = arguments(alloc, params, given)?;
     match stray(params, given) {
@@ -82,6 +87,7 @@ fn arguments(
 ) -> Result<Vec<Argument>, GivenFault>
     ensures ok { IfOk result (λ v. arguments_by 0 params.now given.now ≡ Ok v.items) }
     ensures err { IfErr result (λ e. e ≢ fault.Memory → arguments_by 0 params.now given.now ≡ Err e) }
+    ensures fits { IfOk result (λ v. has_signature params.now v.items ≡ true) }
 {
     let mut arguments = Vec::new(alloc);
     for (number, parameter) in params.iter().enumerate() {
@@ -129,6 +135,7 @@ fn argument(
 ) -> Result<Argument, GivenFault>
     ensures ok { IfOk result (λ x. argument_by number parameter.now given.now ≡ Ok x) }
     ensures err { IfErr result (λ e. e ≢ fault.Memory → argument_by number parameter.now given.now ≡ Err e) }
+    ensures fits { IfOk result (λ x. is_for parameter.now x ≡ true) }
 {
     for one in given {
         if one.name.as_str() == parameter.name.as_str() {
@@ -146,6 +153,7 @@ fn argument_for(
 ) -> Result<Argument, GivenFault>
     ensures ok { IfOk result (λ x. argument_of number parameter.now content.now ≡ Ok x) }
     ensures err { IfErr result (λ e. e ≢ fault.Memory → argument_of number parameter.now content.now ≡ Err e) }
+    ensures fits { IfOk result (λ x. is_for parameter.now x ≡ true) }
 {
     match content {
         Content::Json(text) => literal(alloc, number, parameter, text.as_str()),
@@ -166,6 +174,7 @@ fn literal(
 ) -> Result<Argument, GivenFault>
     ensures ok { IfOk result (λ x. text_argument number parameter.now text.now ≡ Ok x) }
     ensures err { IfErr result (λ e. e ≢ fault.Memory → text_argument number parameter.now text.now ≡ Err e) }
+    ensures fits { IfOk result (λ x. is_for parameter.now x ≡ true) }
 {
     let signature = alone(alloc, parameter)?;
     let text = alone_text(alloc, text)?;
@@ -206,7 +215,8 @@ fn alone_text(alloc: Global, text: &str) -> Result<String, AllocError>
 
 // The one argument that was bound.
 fn only(number: usize, bound: Bound) -> Result<Argument, GivenFault>
-    ensures { only_of number (Ok bound.arguments.items) ≡ result }
+    ensures only { only_of number (Ok bound.arguments.items) ≡ result }
+    ensures fits { (p : Parameter) → has_signature (alone p) bound.arguments.items ≡ true → IfOk result (λ x. is_for p x ≡ true) }
 {
     match bound.arguments.into_iter().next() {
         Some(argument) => Ok(argument),
@@ -216,7 +226,8 @@ fn only(number: usize, bound: Bound) -> Result<Argument, GivenFault>
 
 // An array, where the parameter takes one of its type.
 fn fitting(number: usize, parameter: &Parameter, array: Array) -> Result<Argument, GivenFault>
-    ensures { result ≡ fitting number parameter.now (AnArray array) }
+    ensures fitting { result ≡ fitting number parameter.now (AnArray array) }
+    ensures fits { IfOk result (λ x. is_for parameter.now x ≡ true) }
 {
     let argument = Argument::Array(array);
     if argument.is_for(parameter) {
@@ -235,6 +246,7 @@ fn sheet(
     ensures ok { IfOk read (λ g. result ≡ fitting number parameter.now (AnArray g.array)) }
     ensures err { IfErr read (λ e. e ≢ file.Memory → result ≡ Err (fault.File number e)) }
     ensures memory { read ≡ Err file.Memory → result ≡ Err fault.Memory }
+    ensures fits { IfOk result (λ x. is_for parameter.now x ≡ true) }
 {
     match read {
         Ok(grid) => fitting(number, parameter, grid.array),
@@ -255,6 +267,7 @@ fn zeros(
 ) -> Result<Argument, GivenFault>
     ensures ok { IfOk result (λ x. zeros_argument number parameter.now count ≡ Ok x) }
     ensures err { IfErr result (λ e. e ≢ fault.Memory → zeros_argument number parameter.now count ≡ Err e) }
+    ensures fits { IfOk result (λ x. is_for parameter.now x ≡ true) }
 {
     let array = nothing(alloc, parameter.elem, count)?;
     fitting(number, parameter, array)

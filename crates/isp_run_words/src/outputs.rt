@@ -33,6 +33,14 @@ pub struct Output<'a> {
     pub layout: Layout,
 }
 
+/// An array, by the name of its parameter, and the file that it is to go to.
+#[derive(Clone, Copy, Debug)]
+pub struct Wanted<'a> {
+    pub name: &'a str,
+    pub file: &'a str,
+    pub format: Format,
+}
+
 /// Why an array cannot be written as is asked.
 #[derive(Clone, Copy, Debug, PartialEq, Eq)]
 pub enum OutputFault {
@@ -57,7 +65,7 @@ impl From<AllocError> for OutputFault {
     }
 }
 
-/// How the array of this name is written to a file of this format, as far as the arguments tell.
+/// How an array is written to its file, as far as the arguments tell.
 ///
 /// An NPY file has the shape of the file that gave the array, else one dimension. An image is as high and as wide as shapes.rt says.
 pub fn planned<'a>(
@@ -65,23 +73,21 @@ pub fn planned<'a>(
     signature: &Signature,
     words: &Words,
     bound: &Bound,
-    name: &str,
-    file: &'a str,
-    format: Format,
+    wanted: Wanted<'a>,
 ) -> Result<Output<'a>, OutputFault> {
-    let Some((array, found)) = array_of(signature, bound, name) else {
+    let Some((array, found)) = array_of(signature, bound, wanted.name) else {
         return Err(OutputFault::NoArray);
     };
-    let layout = match format {
+    let layout = match wanted.format {
         Format::Json => Layout::List,
         Format::Npy => Layout::Npy {
-            shape: shape(alloc, words, name, found)?,
+            shape: shape(alloc, words, wanted.name, found)?,
         },
-        Format::Pgm | Format::Ppm => image(alloc, signature, words, bound, found, format)?,
+        format => image(alloc, signature, words, bound, found, format)?,
     };
     Ok(Output {
         array,
-        file,
+        file: wanted.file,
         layout,
     })
 }
