@@ -103,7 +103,7 @@ fn position(names: &[u64], name: u64) -> Option<usize>
 
 impl<'a> Kernel<'a> {
     /// The number of a place's local, if it has one.
-    pub(crate) fn local(&self, place: Place) -> Option<u32>
+    pub fn local(&self, place: Place) -> Option<u32>
         ensures { IfSome result (λ n. n ≡ (setting self.now).local (place_of place)) }
     {
         match position(&self.names, name(place)?) {
@@ -113,7 +113,7 @@ impl<'a> Kernel<'a> {
     }
 
     /// The lanes of the gang.
-    pub(crate) fn width(&self) -> u32
+    pub fn width(&self) -> u32
         ensures is { result ≡ gang_width self.now.code.gang }
         ensures low { result ≤ 32 }
     {
@@ -128,7 +128,7 @@ impl<'a> Kernel<'a> {
     }
 
     /// The type of a register; of one that is not there, `bool`.
-    pub(crate) fn elem(&self, register: Register) -> Elem
+    pub fn elem(&self, register: Register) -> Elem
         ensures { result ≡ elem_of self.now.routine register }
     {
         let elems: &[Elem] = match register.class {

@@ -13,7 +13,8 @@ mod scalars;
 mod types;
 
 pub use kernel::{Kernel, Place};
-pub use operand::Operand;
+pub use operand::{Operand, constant};
 pub use refusal::Refusal;
 pub use rows::{Part, below_part, compare_part, unary_part, widened_part};
-pub use scalars::{compare, convert, plain, unary};
+pub use scalars::{all_ones, below, compare, convert, cut, plain, unary};
+pub use types::{bytes_of, shape_of, size_of, width_of};

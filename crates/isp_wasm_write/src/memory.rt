@@ -7,27 +7,14 @@ ghost use Rattle.isp_code.specs.declared.register.Class.TheVariants as classes;
 ghost use Rattle.isp_wasm_meaning.specs.Syntax as wasm;
 ghost use Rattle.isp_wasm.specs.Places as places;
 ghost use Rattle.isp_wasm.specs.Templates as templates;
-ghost use Rattle.isp_wasm_binary.specs.Instructions.{access, code_bytes, expr_bytes};
-ghost use Rattle.isp_wasm_binary.specs.Named as named;
+ghost use Rattle.isp_wasm_binary.specs.Instructions.{code_bytes, expr_bytes};
 ghost use Rattle.isp_wasm_write.specs.Settings.{setting};
 
 use crate::kernel::{Kernel, Place};
 use crate::refusal::Refusal;
-use isp_base::Elem;
+use crate::types::width_of;
 use isp_code::Register;
-use isp_wasm_binary::{Bytes, Width};
-
-// How many bytes an element takes.
-fn width_of(elem: Elem) -> Width
-    ensures { named.width result ≡ places.bytes_of elem }
-{
-    match elem {
-        Elem::Bool | Elem::I8 | Elem::U8 => Width::One,
-        Elem::I16 | Elem::U16 => Width::Two,
-        Elem::I32 | Elem::U32 => Width::Four,
-        Elem::I64 | Elem::U64 => Width::Eight,
-    }
-}
+use isp_wasm_binary::Bytes;
 
 impl<'a> Kernel<'a> {
     /// Appends `ret`, of nothing or of a scalar register.
@@ -94,7 +81,7 @@ impl<'a> Kernel<'a> {
     }
 
     /// The bytes of the source from which a place goes, and up to which.
-    pub(crate) fn span(&self, place: u32) -> Result<(u32, u32), Refusal>
+    pub fn span(&self, place: u32) -> Result<(u32, u32), Refusal>
         ensures start { IfOk result (λ s. s.0 ≡ (place_at self.now.code place).start) }
         ensures end { IfOk result (λ s. s.1 ≡ (place_at self.now.code place).end) }
     {

@@ -23,7 +23,7 @@ pub enum Operand {
 
 impl Operand {
     /// Appends the value.
-    pub(crate) fn write(self, out: &mut Bytes) -> Result<(), AllocError>
+    pub fn write(self, out: &mut Bytes) -> Result<(), AllocError>
         ensures { OnOk result (out.new ≡ out.old ++ expr_bytes (operand_expr self)) }
     {
         match self {
@@ -50,7 +50,7 @@ fn lane_of(out: &mut Bytes, elem: Elem, local: u32, lane: u8) -> Result<(), Allo
 }
 
 /// Appends a constant.
-pub(crate) fn constant(out: &mut Bytes, size: Size, number: u32) -> Result<(), AllocError>
+pub fn constant(out: &mut Bytes, size: Size, number: u32) -> Result<(), AllocError>
     ensures { OnOk result (out.new ≡ out.old ++ expr_bytes (words.constant (named.size size) number)) }
 {
     match size {

@@ -10,13 +10,13 @@ ghost use Rattle.isp_wasm_write.specs.Settings.{setting};
 
 use crate::kernel::{Kernel, Place};
 use crate::refusal::Refusal;
-use isp_base::Elem;
+use crate::types::bytes_of;
 use isp_code::Register;
 use isp_wasm_binary::{Binary, Bytes, Shape, Size, Test, Unary, Whole};
 
 impl<'a> Kernel<'a> {
     /// Appends what the local of a place has.
-    pub(crate) fn get(&self, out: &mut Bytes, place: Place) -> Result<(), Refusal>
+    pub fn get(&self, out: &mut Bytes, place: Place) -> Result<(), Refusal>
         ensures { OnOk result (out.new ≡ out.old ++ expr_bytes (wasm.Local ((setting self.now).local (place_of place)))) }
     {
         match self.local(place) {
@@ -26,7 +26,7 @@ impl<'a> Kernel<'a> {
     }
 
     /// Appends that a value goes to the local of a place.
-    pub(crate) fn set(&self, out: &mut Bytes, place: Place) -> Result<(), Refusal>
+    pub fn set(&self, out: &mut Bytes, place: Place) -> Result<(), Refusal>
         ensures { OnOk result (out.new ≡ out.old ++ word_bytes (instructions.Set_word ((setting self.now).local (place_of place)))) }
     {
         match self.local(place) {
@@ -50,7 +50,7 @@ impl<'a> Kernel<'a> {
     }
 
     /// Appends the number of the lowest lane of a mask, or 0.
-    pub(crate) fn lowest_of(&self, out: &mut Bytes, mask: Register) -> Result<(), Refusal>
+    pub fn lowest_of(&self, out: &mut Bytes, mask: Register) -> Result<(), Refusal>
         ensures { OnOk result (out.new ≡ out.old ++ expr_bytes (templates.lowest_of (setting self.now) mask)) }
     {
         self.lanes_as_bits(out, mask)?;
@@ -62,7 +62,7 @@ impl<'a> Kernel<'a> {
     }
 
     /// Appends what is not 0 where a mask has a lane.
-    pub(crate) fn is_member(&self, out: &mut Bytes, mask: Register, lane: u8) -> Result<(), Refusal>
+    pub fn is_member(&self, out: &mut Bytes, mask: Register, lane: u8) -> Result<(), Refusal>
         ensures { OnOk result (out.new ≡ out.old ++ expr_bytes (templates.is_member (setting self.now) mask lane)) }
     {
         self.get(out, Place::Mask(mask.number, u32::from(lane / 16)))?;
@@ -130,17 +130,5 @@ impl<'a> Kernel<'a> {
         self.get(out, Place::Count(array.number))?;
         out.binary(Binary::Compare(Size::I64, Test::LtU))?;
         Ok(())
-    }
-}
-
-// The bytes of an element in memory.
-fn bytes_of(elem: Elem) -> u32
-    ensures { result ≡ places.bytes_of elem }
-{
-    match elem {
-        Elem::Bool | Elem::I8 | Elem::U8 => 1,
-        Elem::I16 | Elem::U16 => 2,
-        Elem::I32 | Elem::U32 => 4,
-        Elem::I64 | Elem::U64 => 8,
     }
 }

@@ -27,7 +27,7 @@ pub enum Part {
 
 impl Part {
     /// Appends the part.
-    pub(crate) fn write(self, out: &mut Bytes) -> Result<(), AllocError>
+    pub fn write(self, out: &mut Bytes) -> Result<(), AllocError>
         ensures { OnOk result (out.new ≡ out.old ++ expr_bytes (part_expr self)) }
     {
         match self {

@@ -36,8 +36,8 @@ fn and(out: &mut Bytes, number: u32) -> Result<(), AllocError>
     out.binary(Binary::BitsOf(Size::I32, Bitwise::And))
 }
 
-// Behind a number: its low bits, of as many as a value has.
-fn cut(out: &mut Bytes, elem: Elem) -> Result<(), AllocError>
+/// Behind a number: its low bits, of as many as a value has.
+pub fn cut(out: &mut Bytes, elem: Elem) -> Result<(), AllocError>
     ensures { OnOk result (out.new ≡ out.old ++ tails.cut_tail elem) }
 {
     match elem {
@@ -59,7 +59,7 @@ fn amount(out: &mut Bytes, elem: Elem) -> Result<(), AllocError>
 }
 
 /// Whether a value is below another.
-pub(crate) fn below(
+pub fn below(
     out: &mut Bytes,
     elem: Elem,
     left: Operand,
@@ -191,8 +191,8 @@ fn inverted(out: &mut Bytes, elem: Elem, value: Operand) -> Result<(), AllocErro
     out.binary(Binary::BitsOf(size_of(elem), Bitwise::Xor))
 }
 
-// As many ones as a value of a type has bits.
-fn all_ones(out: &mut Bytes, elem: Elem) -> Result<(), AllocError>
+/// Appends as many ones as a value of a type has bits.
+pub fn all_ones(out: &mut Bytes, elem: Elem) -> Result<(), AllocError>
     ensures { OnOk result (out.new ≡ out.old ++ expr_bytes (words.constant (places.size_of elem) (2 ^ width elem - 1))) }
 {
     match elem {

@@ -5,10 +5,10 @@ ghost use Rattle.isp_wasm.specs.Words as words;
 ghost use Rattle.isp_wasm_binary.specs.Named as named;
 
 use isp_base::Elem;
-use isp_wasm_binary::{Shape, Shift, Size, Test};
+use isp_wasm_binary::{Shape, Shift, Size, Test, Width};
 
 /// The size of a local that holds a value.
-pub(crate) fn size_of(elem: Elem) -> Size
+pub fn size_of(elem: Elem) -> Size
     ensures { named.size result ≡ places.size_of elem }
 {
     match elem {
@@ -18,7 +18,7 @@ pub(crate) fn size_of(elem: Elem) -> Size
 }
 
 /// The shape of a vector of values.
-pub(crate) fn shape_of(elem: Elem) -> Shape
+pub fn shape_of(elem: Elem) -> Shape
     ensures { named.shape result ≡ places.shape_of elem }
 {
     match elem {
@@ -26,6 +26,30 @@ pub(crate) fn shape_of(elem: Elem) -> Shape
         Elem::I16 | Elem::U16 => Shape::I16x8,
         Elem::I32 | Elem::U32 => Shape::I32x4,
         Elem::I64 | Elem::U64 => Shape::I64x2,
+    }
+}
+
+/// How many bytes an element has in memory.
+pub fn bytes_of(elem: Elem) -> u32
+    ensures { result ≡ places.bytes_of elem }
+{
+    match elem {
+        Elem::Bool | Elem::I8 | Elem::U8 => 1,
+        Elem::I16 | Elem::U16 => 2,
+        Elem::I32 | Elem::U32 => 4,
+        Elem::I64 | Elem::U64 => 8,
+    }
+}
+
+/// The same, as a load or a store names it.
+pub fn width_of(elem: Elem) -> Width
+    ensures { named.width result ≡ places.bytes_of elem }
+{
+    match elem {
+        Elem::Bool | Elem::I8 | Elem::U8 => Width::One,
+        Elem::I16 | Elem::U16 => Width::Two,
+        Elem::I32 | Elem::U32 => Width::Four,
+        Elem::I64 | Elem::U64 => Width::Eight,
     }
 }
 
