@@ -1,0 +1,10 @@
+pub mod CellBytes
+pub mod Chains
+pub mod Each
+pub mod FoldBytes
+pub mod GangLanes
+pub mod LanedParts
+pub mod PickBytes
+pub mod RankBytes
+pub mod Reductions
+pub mod RowParts

@@ -1,0 +1,38 @@
+-- What stands before and behind a value that becomes a lane, or that an operator takes.
+use Rattle.std.specs.Prelude.{ℕ, List, [], ◌++◌, ◌/◌, ◌%◌}
+use Rattle.isp_base.specs.declared.types.Elem.{Elem}
+use Rattle.isp_base.specs.declared.types.Elem.TheVariants.{Bool as Truth}
+use Rattle.isp_code.specs.declared.instr.Scan.{Scan}
+use Rattle.isp_code.specs.declared.instr.Scan.TheVariants as scan
+use Rattle.isp_code.specs.declared.register.Register.{Register}
+use Rattle.isp_wasm_meaning.specs.Meaning.{count}
+use Rattle.isp_wasm_meaning.specs.Syntax.{I32, Add, Sub, And, Or, Of, BitsOf, Replace, Const32}
+use Rattle.isp_wasm.specs.Places.{Setting, Vector, elem, shape, size_of}
+use Rattle.isp_wasm.specs.Templates.{vector_local}
+use Rattle.isp_wasm_binary.specs.Operators.{binary_bytes}
+use Rattle.isp_wasm_binary.specs.Instructions.{Set_word, expr_bytes, word_bytes}
+use Rattle.isp_wasm_write.specs.reader.Tails.{cut_tail}
+
+abbrev pub cell_head : Elem → List ℕ
+cell_head Truth = expr_bytes (Const32 0)
+cell_head t = []
+
+abbrev pub cell_tail : Elem → List ℕ
+cell_tail Truth = binary_bytes (Of I32 Sub)
+cell_tail t = []
+
+module _ (w : Setting) where
+  -- of what lane p of a register is set to
+  abbrev pub lane_head : Register → ℕ → List ℕ
+  lane_head d p = expr_bytes (vector_local w d (p / count (shape w d))) ++ cell_head (elem w d)
+
+  abbrev pub lane_tail : Register → ℕ → List ℕ
+  lane_tail d p =
+      let n = count (shape w d) in
+      cell_tail (elem w d) ++ (binary_bytes (Replace (shape w d) (p % n)) ++ word_bytes (Set_word (w.local (Vector d.number (p / n)))))
+
+-- an operator of scans behind two values
+abbrev pub join_tail : Scan → Elem → List ℕ
+join_tail scan.Add t = binary_bytes (Of (size_of t) Add) ++ cut_tail t
+join_tail scan.And t = binary_bytes (BitsOf (size_of t) And)
+join_tail scan.Or t = binary_bytes (BitsOf (size_of t) Or)

@@ -1,0 +1,18 @@
+//! Instructions of the machine on vectors and across lanes as WebAssembly, written as bytes.
+#![tactic(auto)]
+
+mod across;
+mod cells;
+mod folds;
+mod lane_values;
+mod lanes;
+mod loops;
+mod parts;
+mod picks;
+mod quotients;
+mod rows;
+mod vectors;
+
+pub use across::across_line;
+pub use lanes::lanes_line;
+pub use vectors::vector_line;
