@@ -1,9 +1,4 @@
 pub mod Constants
 pub mod Each
-pub mod JumpTests
-pub mod Listed
-pub mod PartBytes
 pub mod Positions
-pub mod RungHeads
 pub mod Tails
-pub mod TextStarts
