@@ -93,7 +93,7 @@ use Rattle.isp_wasm_meaning.specs.Valid.{is_valid_function}
 
 -- a function of this code that takes and gives values of these types
 abbrev takes : Code → Option ValueType → List ValueType → Bool
-takes c r ts = is_valid_function (record { export = None; params = ts; result = r; locals = []; code = c })
+takes c r ts = is_valid_function [] (record { export = None; params = ts; result = r; locals = []; code = c })
 """
 SHORT = {"i32": "W", "i64": "L", "v128": "V"}
 OTHERS = {"Local", "Unreachable"}

@@ -16,7 +16,7 @@ use Rattle.isp_wasm_meaning.specs.Ladder.{Whole, Told}
 use Rattle.isp_wasm.specs.Places.{Setting, Counter}
 use Rattle.isp_wasm.specs.Templates.{function_code}
 use Rattle.isp_wasm.specs.Standing.{bits_of, Keeps, Ends, Fails, Cut, the_machine, report_of}
-use Rattle.isp_wasm.specs.Agreement.{Returns, Reports, Agrees, FunctionsAgree, ComesBack, CallsComeBack, out_of, value_bits}
+use Rattle.isp_wasm.specs.Agreement.{Returns, Reports, Agrees, FunctionsAgree, CallsAgree, ComesBack, CallsComeBack, out_of, value_bits}
 use Rattle.isp_wasm.proofs.Chains.{function_runs}
 
 -- ---- a machine that has stopped
@@ -167,9 +167,9 @@ module _ (w : Setting) (top : w.waiting ≡ []) where
       }
 
 pub functions_agree : FunctionsAgree
-functions_agree w ready covered thin top call c s low st =
+functions_agree w ready covered thin top call right c s low st =
     agree w top c (λ f. left (run f (call f) (function_code w) s))
-    (λ f. judged w top f c (run f (call f) (function_code w) s) (function_runs w ready covered thin f (call f) c s low st))
+    (λ f. judged w top f c (run f (call f) (function_code w) s) (function_runs w ready covered thin f (call f) (λ g e. subst (λ n. CallsAgree w g (call n)) (sym e) (right g)) c s low st))
 
 told : (w : Setting) (fr : Frame) (rest : List Frame) → w.waiting ≡ fr ∷ rest → (f : ℕ) (c : Conf) (r : Result) → Whole (the_machine w) (w.local Counter) w.rungs f f c r → Told (the_machine w) (ComesBack w fr rest) f c (left r)
 told w fr rest e f c (Fell s) h = absurd (let low = h.stands.low in omega arith)
@@ -179,6 +179,8 @@ told w fr rest e f c (Returned v s) h =
       conf = h.conf;
       steps = h.steps;
       register = h.register;
+      given = h.given;
+      fits = h.fits;
       value_is = h.value_is;
       goes = h.leaves ∙ ap (λ ws. arrive w.code (calls.left w.routine h.conf h.register ws) h.conf) e;
       out_is = h.out_is;
@@ -189,4 +191,4 @@ told w fr rest e f c (Trapped (Some q) s) h = h
 told w fr rest e f c (OutOfFuel s) h = h
 
 pub calls_come_back : CallsComeBack
-calls_come_back w ready covered thin fr rest e call f c s low st = told w fr rest e f c (run f call (function_code w) s) (function_runs w ready covered thin f call c s low st)
+calls_come_back w ready covered thin fr rest e call f right c s low st = told w fr rest e f c (run f call (function_code w) s) (function_runs w ready covered thin f call right c s low st)

@@ -344,7 +344,7 @@ all_zeros U32 = refl
 all_zeros I64 = refl
 all_zeros U64 = refl
 
-zero_cells : (n : ℕ) (t : Elem) (l : ℕ → ℕ) → IsCells n t l (λ j. Const128 0) (λ p. 0)
+pub zero_cells : (n : ℕ) (t : Elem) (l : ℕ → ℕ) → IsCells n t l (λ j. Const128 0) (λ p. 0)
 zero_cells n t l = subst (λ e. IsRow n (shape_of t) l (λ j. Const128 e) (λ p. cell t 0)) (all_zeros t) (row_constant n (shape_of t) l (λ p. cell t 0) (λ p q. fits_cell t 0 (pow_pos (width t))))
 
 module _ (n : ℕ) (l : ℕ → ℕ) (x : ℕ → Expr) (f : ℕ → ℕ) where

@@ -19,6 +19,7 @@ use Rattle.isp_wasm_meaning.specs.Ladder.{Meets, Whole, dispatched}
 use Rattle.isp_wasm_meaning.proofs.Ladders.{meets_then, dispatches}
 use Rattle.isp_wasm.specs.Places.{Setting, Counter, elem}
 use Rattle.isp_wasm.specs.Templates.{lane_checks, lane_stores, own_index, run_index, scalar_code, vector_code, quotients, code_of, code_at, span, rung, function_code}
+use Rattle.isp_wasm.specs.Agreement.{CallsAgree}
 use Rattle.isp_wasm.specs.Standing.{Stands, StandsBefore, IsSettled, the_machine, vector_register}
 use Rattle.isp_wasm.specs.Thin.{IsArray, IsCovered, IsLast, IsThin, AllThin, IsThinScalar, IsThinVector, IsThinDivision}
 use Rattle.isp_wasm.proofs.Steps.{machine_laws}
@@ -31,8 +32,12 @@ use Rattle.isp_wasm.proofs.Stores.{ends_so, scatters, stores_in_row, packed_stor
 use Rattle.isp_wasm.proofs.Across.{scans, exchanges, shuffles, shuffles_two, inserts, extracts}
 use Rattle.isp_wasm.proofs.Reductions.{reduces}
 use Rattle.isp_wasm.proofs.Texts.{says_fall}
+use Rattle.isp_wasm.proofs.Calls.{calls_fall}
 
-module _ (w : Setting) (ready : IsSettled w) (covered : IsCovered w) (thin : AllThin w) (fuel : ℕ) (call : ℕ → List ℕ → State → Result) where
+module _ (w : Setting) (ready : IsSettled w) (covered : IsCovered w) (thin : AllThin w) (last : ℕ) (call : ℕ → List ℕ → State → Result) (right : CallsAgree w last call) where
+  abbrev pub fuel : ℕ
+  fuel = suc last
+
   abbrev pub Good : ℕ → ℕ → Conf → Result → Type 0
   Good k pc = Meets (the_machine w) (w.local Counter) w.rungs fuel (Stands w pc) (suc k)
 
@@ -106,8 +111,9 @@ module _ (w : Setting) (ready : IsSettled w) (covered : IsCovered w) (thin : All
     template (instr.JumpIf t x to) has h = tests_fall w ready fuel w.rungs k call pc c s st to t x has low h refl
     template (instr.Say t) has h = says_fall w ready fuel w.rungs k call pc c s t st has
     template (instr.Fail x q) has h = asserts w ready fuel w.rungs k call pc c s st x q has
-    template (instr.Return None) has h = returns w ready fuel w.rungs k call pc c s st has
-    template (instr.Return (Some x)) has h = answers w ready fuel w.rungs k call pc c s st x has
+    template (instr.Call x) has h = calls_fall w ready last w.rungs k call right pc c s st x has h.0 h.1
+    template (instr.Return None) has h = returns w ready fuel w.rungs k call pc c s st has h.0
+    template (instr.Return (Some x)) has h = answers w ready fuel w.rungs k call pc c s st x has h.0
     template i has h = absurd h
 
   template_at : (k : ℕ) → k < w.rungs → (pc : ℕ) → pc < w.heads w.rungs → (c : Conf) (s : State) (o : Option Instr) → Stands w pc c s → slice_get w.routine.code pc ≡ o
@@ -133,8 +139,8 @@ module _ (w : Setting) (ready : IsSettled w) (covered : IsCovered w) (thin : All
 
   leaves_at : (k : ℕ) → k < w.rungs → (pc : ℕ) (c : Conf) (s : State) (o : Option Instr) → Stands w pc c s → slice_get w.routine.code pc ≡ o → IsLast w o → Gone k c (run fuel call (code_at w (w.rungs - suc k) o) s)
   leaves_at k low pc c s (Some (instr.Jump to)) st has h = jumps_to w ready fuel w.rungs k call pc c s st to (instr.Jump to) has low (thin pc (instr.Jump to) has) refl refl
-  leaves_at k low pc c s (Some (instr.Return None)) st has h = returns w ready fuel w.rungs k call pc c s st has
-  leaves_at k low pc c s (Some (instr.Return (Some x))) st has h = answers w ready fuel w.rungs k call pc c s st x has
+  leaves_at k low pc c s (Some (instr.Return None)) st has h = returns w ready fuel w.rungs k call pc c s st has (thin pc (instr.Return None) has).0
+  leaves_at k low pc c s (Some (instr.Return (Some x))) st has h = answers w ready fuel w.rungs k call pc c s st x has (thin pc (instr.Return (Some x)) has).0
   leaves_at k low pc c s o st has h = absurd h
 
   last_spans : (k : ℕ) → suc k ≡ w.rungs → (m pc : ℕ) → pc + suc m ≡ w.heads w.rungs → (c : Conf) (s : State) → Stands w pc c s → Gone k c (run fuel call (span w (w.rungs - suc k) pc (suc m)) s)
@@ -194,8 +200,14 @@ module _ (w : Setting) (ready : IsSettled w) (covered : IsCovered w) (thin : All
   whole_on c (OutOfFuel s) go h = h
 
   -- the function, from a rung on
-  pub function_runs : (c : Conf) (s : State) → s.locals (w.local Counter) < w.rungs → Stands w (w.heads (s.locals (w.local Counter))) c s
+  with_fuel : (c : Conf) (s : State) → s.locals (w.local Counter) < w.rungs → Stands w (w.heads (s.locals (w.local Counter))) c s
       → Whole (the_machine w) (w.local Counter) w.rungs fuel fuel c (run fuel call (function_code w) s)
-  function_runs c s low st =
+  with_fuel c s low st =
       whole_on c (run fuel call (dispatched (w.local Counter) (rung w) w.rungs) s) (run fuel call Unreachable)
       (dispatches (the_machine w) (machine_laws w) (w.local Counter) w.rungs fuel call (rung w) rungs c s low (record { low = low; stands = st }))
+
+-- without fuel nothing is done
+pub function_runs : (w : Setting) → IsSettled w → IsCovered w → AllThin w → (fuel : ℕ) (call : ℕ → List ℕ → State → Result) → ((g : ℕ) → fuel ≡ suc g → CallsAgree w g call) → (c : Conf) (s : State)
+    → s.locals (w.local Counter) < w.rungs → Stands w (w.heads (s.locals (w.local Counter))) c s → Whole (the_machine w) (w.local Counter) w.rungs fuel fuel c (run fuel call (function_code w) s)
+function_runs w ready covered thin zero call right c s low st = record { conf = c; steps = 0; goes = refl; far = omega arith; out_is = st.out_is }
+function_runs w ready covered thin (suc g) call right c s low st = with_fuel w ready covered thin g call (right g refl) c s low st

@@ -28,18 +28,18 @@ use Rattle.isp_wasm.specs.Rows.{cell}
 use Rattle.isp_wasm.specs.Templates.{each, mask_part, function_code}
 use Rattle.isp_wasm.specs.Standing.{Stands, Keeps, IsSettled, report_of}
 use Rattle.isp_wasm.specs.Thin.{IsCovered, AllThin}
-use Rattle.isp_wasm.specs.Agreement.{Agrees, out_of, value_bits}
+use Rattle.isp_wasm.specs.Agreement.{Agrees, CallsAgree, out_of, value_bits}
 use Rattle.isp_wasm.specs.Entry.{entry_code, first, IsCalled, Shows, ReturnsSo, TrapsSo, SameOutcomes, EntriesAgree}
 use Rattle.isp_wasm.proofs.Frames.{put_same, put_other, there, elsewhere}
 use Rattle.isp_wasm.proofs.Rows.{enough, row_constant}
 use Rattle.isp_wasm.proofs.Agreement.{functions_agree}
 
-digit_zero : (b k : ℕ) → 0 < b → digit b k 0 ≡ 0
+pub digit_zero : (b k : ℕ) → 0 < b → digit b k 0 ≡ 0
 unfolding digit
 digit_zero b zero h = zero-mod b
 digit_zero b (suc k) h = ap (digit b k) (zero-div b) ∙ digit_zero b k h
 
-no_cell : (t : Elem) → 0 ≡ cell t 0
+pub no_cell : (t : Elem) → 0 ≡ cell t 0
 no_cell Truth = refl
 no_cell I8 = refl
 no_cell U8 = refl
@@ -168,6 +168,7 @@ module _ (w : Setting) (ready : IsSettled w) where
                 members = λ r p h. member_low r p (cases_eq r 0) h;
                 bases = λ a. same_as_called (place.Base a) (λ j e. cc) ∙ call_is.bases a;
                 counts = λ a. same_as_called (place.Count a) (λ j e. cc) ∙ call_is.counts a;
+                depth = same_as_called place.Depth (λ j e. cc) ∙ call_is.depth_is ∙ sym (ap length call_is.alone);
               };
           keeps = subst (λ m. Keeps w (first w xs).arrays m begun.size) (sym (on_rest (parts w I8x16) entered).0) (subst (λ z. Keeps w (first w xs).arrays s.memory z) (sym (on_rest (parts w I8x16) entered).1) call_is.keeps);
         }
@@ -177,14 +178,15 @@ module _ (w : Setting) (ready : IsSettled w) where
 
     -- ---- its outcomes
 
-    module _ (covered : IsCovered w) (thin : AllThin w) (module_code : ℕ → Code) (f : ℕ) (code_is : module_code f ≡ entry_code w) where
+    module _ (covered : IsCovered w) (thin : AllThin w) (module_code : ℕ → Code) (f : ℕ) (code_is : module_code f ≡ entry_code w) (right : (n : ℕ) → CallsAgree w n (called module_code n)) where
       calls_of : ℕ → ℕ → List ℕ → State → Result
       calls_of zero = called module_code zero
       calls_of (suc n) = called module_code n
 
       agrees : Agrees w (first w xs) (λ n. left (run n (calls_of n) (function_code w) begun))
+      unfolding calls_of
       agrees =
-          functions_agree w ready covered thin call_is.alone calls_of (first w xs) begun (subst (λ z. z < w.rungs) (sym counter_at) call_is.some)
+          functions_agree w ready covered thin call_is.alone calls_of right (first w xs) begun (subst (λ z. z < w.rungs) (sym counter_at) call_is.some)
           (subst (λ z. Stands w z (first w xs) begun) (sym (ap w.heads counter_at ∙ call_is.head_is)) stands)
 
       result_is : (n : ℕ) → called module_code (suc n) f arguments s ≡ left (run (suc n) (calls_of (suc n)) (function_code w) begun)
@@ -249,4 +251,4 @@ module _ (w : Setting) (ready : IsSettled w) where
           }
 
 pub entries_agree : EntriesAgree
-entries_agree w ready covered thin module_code f code_is xs arguments s call_is = same_outcomes w ready xs arguments s call_is covered thin module_code f code_is
+entries_agree w ready covered thin module_code f code_is right xs arguments s call_is = same_outcomes w ready xs arguments s call_is covered thin module_code f code_is right

@@ -1,12 +1,11 @@
 -- Accepted code meets what the law of entries asks, where its form is covered.
-use Rattle.std.proofs.Common.{◌≡◌, ℕ, zero, suc, ◌+◌, ◌-◌, ◌*◌, ◌^◌, ◌<◌, ◌≤◌, ◌⊎◌, inl, inr, List, [], ◌∷◌, ◌++◌, length, take, map, Option, Some, None, Bool, true, false, not, ◌&&◌, refl, sym, ap, ◌∙◌, subst, eq-eqb, append-nil, arith, lit≤}
-use Rattle.std.specs.Prelude.{slice_get, slice_index, slice_index_or, nat_lt, nat_le, ◌==◌, option_map, if◌then◌else◌}
-use Rattle.std.specs.List.{list_all, list_any}
-use Rattle.std.proofs.lemmas.Bool.{cases_lt, lt-ltb, le-ltb, ltb-true, cond-true, cond-false, not-true}
-use Rattle.std.proofs.lemmas.Option.{slice_get_past, slice_get-get_or, slice_get-map, get_or_from_slice_get}
-use Rattle.std.proofs.lemmas.List.{get_or_past}
+use Rattle.std.proofs.Common.{◌≡◌, ℕ, zero, suc, ◌+◌, ◌-◌, ◌*◌, ◌^◌, ◌<◌, ◌≤◌, ◌⊎◌, inl, inr, List, [], ◌∷◌, ◌++◌, length, take, map, Some, true, false, not, ◌&&◌, refl, sym, ap, ◌∙◌, subst, arith, lit≤}
+use Rattle.std.specs.Prelude.{slice_get, slice_index, slice_index_or, nat_lt, ◌==◌, option_map, if◌then◌else◌}
+use Rattle.std.specs.List.{list_any}
+use Rattle.std.proofs.lemmas.Bool.{cases_lt, lt-ltb, le-ltb, cond-true, cond-false, not-true}
+use Rattle.std.proofs.lemmas.Option.{slice_get-map, get_or_from_slice_get}
+use Rattle.std.proofs.lemmas.List.{get_or_past, get_or_append_left, length-map}
 use Rattle.std.proofs.lemmas.Nat.{mul-le}
-use Rattle.std.proofs.Math.ListN.{get_or}
 use Rattle.isp_base.specs.Arguments.{rows, row_bits}
 use Rattle.isp_base.specs.Binding.{has_signature}
 use Rattle.isp_base.specs.Rows.{Row}
@@ -17,36 +16,29 @@ use Rattle.isp_base.specs.declared.types.Elem.{Elem}
 use Rattle.isp_base.specs.declared.types.Elem.TheVariants.{Bool as Truth, I8, U8, I16, U16, I32, U32, I64, U64}
 use Rattle.isp_code.specs.Calls.{shared_sizes}
 use Rattle.isp_code.specs.Entries.{parameters_of}
-use Rattle.isp_code.specs.Fine.{AllFine, IsGiven, IsThere}
+use Rattle.isp_code.specs.Fine.{IsThere}
 use Rattle.isp_code.specs.Listing.{Listing, Routine}
 use Rattle.isp_code.specs.Machine.{first_conf}
-use Rattle.isp_code.specs.Operands.{operands}
-use Rattle.isp_code.specs.Registers.{is_own, param_elems, arrays_of, local_elem, elem_of, types_in, table_of}
-use Rattle.isp_code.specs.declared.function.Local.{Local}
-use Rattle.isp_code.specs.declared.function.Returns.{Returns}
-use Rattle.isp_code.specs.declared.function.Returns.TheVariants.{Nothing, Scalar as GivesScalar, Vector as GivesVector}
-use Rattle.isp_code.specs.declared.instr.Instr.{Instr}
-use Rattle.isp_code.specs.declared.instr.Instr.TheVariants as instr
+use Rattle.isp_code.specs.Registers.{param_elems, elem_of, types_in, table_of}
 use Rattle.isp_code.specs.declared.register.Class.TheVariants as class
 use Rattle.isp_code.specs.declared.register.Register.{Register}
 use Rattle.isp_verify.specs.Accepted.{IsFine}
-use Rattle.isp_verify.specs.Faults.{header_fits, export_fits, can_export, is_vector, gives_vector, names_differ, is_function, stays, last}
+use Rattle.isp_verify.specs.Faults.{header_fits, export_fits, can_export, is_vector, gives_vector, names_differ, is_function}
 use Rattle.isp_verify.proofs.AcceptedLaws.{accepted_fine}
 use Rattle.isp_wasm_meaning.specs.Meaning.{State, called, bytes}
 use Rattle.isp_wasm_meaning.specs.Module.{Function, code_in, unused}
-use Rattle.isp_wasm.specs.Places.{Setting, bytes_of, Counter, Scalar, Vector, Mask, Base, Count}
+use Rattle.isp_wasm.specs.Places.{Setting, bytes_of, Counter, Scalar, Vector, Mask, Base, Count, Depth}
 use Rattle.isp_wasm.specs.Entry.{entry_code, IsCalled, SameOutcomes}
-use Rattle.isp_wasm.specs.Lines.{HasArrays, HasTemplate}
-use Rattle.isp_wasm.specs.Locals.{param_places, own_places}
-use Rattle.isp_wasm.specs.Module.{goes_to, is_head, heads_of, joined, text_start, has_form, none_open, is_covered, kernel_of, function_of, module_of}
+use Rattle.isp_wasm.specs.Locals.{param_places, own_places, local_in}
+use Rattle.isp_wasm.specs.Module.{text_start, is_plain, has_call, is_covered, kernel_of, function_of, inner_functions, module_of}
 use Rattle.isp_wasm.specs.Kernel.{row_elem, passed, array_end, IsLaidOut, in_call, KernelsAgree}
 use Rattle.isp_wasm.specs.Standing.{IsSettled, Keeps}
-use Rattle.isp_wasm.specs.Thin.{IsHead, IsCovered, IsLast, AllThin}
 use Rattle.isp_wasm.proofs.Entries.{some_row, entries_agree}
-use Rattle.isp_wasm.proofs.Operands.{fine_is_thin}
-use Rattle.isp_wasm.proofs.Numbers.{local_apart}
+use Rattle.isp_wasm.proofs.Numbers.{place_apart}
+use Rattle.isp_wasm.proofs.Plain.{covered_plain, covered_calls, none, text_low, few_heads, heads_rise, some_code, arrays_are, no_sizes, no_stores, covered, all_thin}
+use Rattle.isp_wasm.proofs.Inner.{some_low, IsOf, calls_agree}
 use Rattle.isp_wasm.proofs.Passing.{At, no_number, both_first, both_second, Passes, passes, rows_long, rows_typed, values_fit}
-use Rattle.isp_wasm.proofs.Heads.{few, up, inside, target_is, first_head}
+use Rattle.isp_wasm.proofs.Heads.{first_head}
 use Rattle.isp_wasm.proofs.TextPlaces.{text_there, text_ends}
 
 no_row : (b : ℕ) → row_bits [] b ≡ []
@@ -71,110 +63,23 @@ row_past (r ∷ rs) (suc b) le = row_past rs b (omega (arith, le))
 
 -- ---- what the header says
 
-pub no_locals : (ls : List Local) → none_open ls ≡ true → ls ≡ []
-no_locals [] e = refl
-no_locals (l ∷ ls) e = absurd cc
-
 pub exports : (earlier : List Routine) (h : Routine) → header_fits earlier h ≡ true → h.exported ≡ true → can_export h ≡ true
 exports earlier h fits e =
     ap (λ b. export_fits b h) (sym e)
     ∙ both_first (export_fits h.exported h) (not (h.masks == 0))
     (both_second (names_differ h.params) (export_fits h.exported h && not (h.masks == 0)) (both_second (not (list_any (is_function h.name) earlier)) (names_differ h.params && (export_fits h.exported h && not (h.masks == 0))) fits))
 
--- ---- lines
-
-pub all_at : (p : Instr → Bool) (is : List Instr) (pc : ℕ) (i : Instr) → list_all p is ≡ true → slice_get is pc ≡ Some i → p i ≡ true
-all_at p [] pc i all has = absurd cc
-all_at p (j ∷ is) zero i all has = let same : j ≡ i = cc in ap p (sym same) ∙ both_first (p j) (list_all p is) all
-all_at p (j ∷ is) (suc pc) i all has = all_at p is pc i (both_second (p j) (list_all p is) all) has
-
-given_scalar : (h : Routine) (g : Returns) (x : Register) → gives_vector g ≡ false → IsGiven h g (Some x) → x.class ≡ class.Scalar
-given_scalar h Nothing x none is = absurd is
-given_scalar h (GivesScalar t) x none is = is.0.0
-given_scalar h (GivesVector t) x none is = absurd cc
-
-last_is : (o : Option Instr) → stays o ≡ true → (w : Setting) → IsLast w o
-last_is None e w = absurd cc
-last_is (Some (instr.Jump to)) e w = tt
-last_is (Some (instr.Return x)) e w = tt
-last_is (Some (instr.Scalar d i)) e w = absurd cc
-last_is (Some (instr.Vector d i)) e w = absurd cc
-last_is (Some (instr.Mask d i)) e w = absurd cc
-last_is (Some (instr.Divide o d x y k q)) e w = absurd cc
-last_is (Some (instr.Store a i y k q)) e w = absurd cc
-last_is (Some (instr.Scatter a i y k q)) e w = absurd cc
-last_is (Some (instr.StoreRun a i y k q)) e w = absurd cc
-last_is (Some (instr.PackedStore d a i y k q)) e w = absurd cc
-last_is (Some (instr.PackedLoad d a i y k q)) e w = absurd cc
-last_is (Some (instr.Clear a k)) e w = absurd cc
-last_is (Some (instr.JumpIf t x to)) e w = absurd cc
-last_is (Some (instr.Say t)) e w = absurd cc
-last_is (Some (instr.PrintScalar x)) e w = absurd cc
-last_is (Some (instr.PrintVector x k)) e w = absurd cc
-last_is (Some (instr.Fail x q)) e w = absurd cc
-last_is (Some (instr.Call c)) e w = absurd cc
-
-module _ (w : Setting) (no_vector : gives_vector w.routine.returns ≡ false) (heads : (pc to : ℕ) (i : Instr) → slice_get w.routine.code pc ≡ Some i → goes_to to i ≡ true → to < length w.routine.code → IsHead w to) where
-  template : (pc : ℕ) (i : Instr) → slice_get w.routine.code pc ≡ Some i → has_form i ≡ true → AllFine w.code w.routine (operands i) → HasTemplate w i
-  template pc (instr.Clear a k) has e fine = absurd cc
-  template pc (instr.PrintScalar x) has e fine = absurd cc
-  template pc (instr.PrintVector x k) has e fine = absurd cc
-  template pc (instr.Call c) has e fine = absurd cc
-  template pc (instr.Return None) has e fine = tt
-  template pc (instr.Return (Some x)) has e fine = given_scalar w.routine w.routine.returns x no_vector fine.0
-  template pc (instr.Jump to) has e fine = heads pc to (instr.Jump to) has (eq-eqb to to refl) fine.0
-  template pc (instr.JumpIf t x to) has e fine = heads pc to (instr.JumpIf t x to) has (eq-eqb to to refl) (fine.1).0
-  template pc (instr.Scalar d i) has e fine = tt
-  template pc (instr.Vector d i) has e fine = tt
-  template pc (instr.Mask d i) has e fine = tt
-  template pc (instr.Divide o d x y k q) has e fine = tt
-  template pc (instr.Store a i y k q) has e fine = tt
-  template pc (instr.Scatter a i y k q) has e fine = tt
-  template pc (instr.StoreRun a i y k q) has e fine = tt
-  template pc (instr.PackedStore d a i y k q) has e fine = tt
-  template pc (instr.PackedLoad d a i y k q) has e fine = tt
-  template pc (instr.Say t) has e fine = tt
-  template pc (instr.Fail x q) has e fine = tt
-
 -- ---- a call of a function
 
 module _ (code : Listing) (h : Routine) (f : ℕ) (accepted : IsFine code) (found : slice_get code.routines f ≡ Some h) (exported : h.exported ≡ true) (covers : is_covered code h ≡ true) where
-  pub forms : list_all has_form h.code ≡ true
-  forms = both_first (list_all has_form h.code) (none_open h.locals && (nat_lt (length h.code) (2 ^ 32) && nat_lt (length (joined code.texts)) (2 ^ 32))) covers
-
-  rooms : (none_open h.locals && (nat_lt (length h.code) (2 ^ 32) && nat_lt (length (joined code.texts)) (2 ^ 32))) ≡ true
-  rooms = both_second (list_all has_form h.code) (none_open h.locals && (nat_lt (length h.code) (2 ^ 32) && nat_lt (length (joined code.texts)) (2 ^ 32))) covers
-
-  pub none : h.locals ≡ []
-  none = no_locals h.locals (both_first (none_open h.locals) (nat_lt (length h.code) (2 ^ 32) && nat_lt (length (joined code.texts)) (2 ^ 32)) rooms)
-
-  sizes_fit : (nat_lt (length h.code) (2 ^ 32) && nat_lt (length (joined code.texts)) (2 ^ 32)) ≡ true
-  sizes_fit = both_second (none_open h.locals) (nat_lt (length h.code) (2 ^ 32) && nat_lt (length (joined code.texts)) (2 ^ 32)) rooms
-
-  pub code_low : length h.code < 2 ^ 32
-  code_low = ltb-true (length h.code) (2 ^ 32) (both_first (nat_lt (length h.code) (2 ^ 32)) (nat_lt (length (joined code.texts)) (2 ^ 32)) sizes_fit)
-
-  texts_low : length (joined code.texts) < 2 ^ 32
-  texts_low = ltb-true (length (joined code.texts)) (2 ^ 32) (both_second (nat_lt (length h.code) (2 ^ 32)) (nat_lt (length (joined code.texts)) (2 ^ 32)) sizes_fit)
+  plain : is_plain code h ≡ true
+  plain = covered_plain code h covers
 
   can : can_export h ≡ true
   can = exports (take f code.routines) h (accepted.headers f h found) exported
 
   pub no_vector : list_any is_vector h.params ≡ false
   no_vector = not-true (list_any is_vector h.params) (both_first (not (list_any is_vector h.params)) (not (gives_vector h.returns)) can)
-
-  pub gives_none : gives_vector h.returns ≡ false
-  gives_none = not-true (gives_vector h.returns) (both_second (not (list_any is_vector h.params)) (not (gives_vector h.returns)) can)
-
-  stays_last : stays (slice_get h.code (last h)) ≡ true
-  stays_last = accepted.ends f h found
-
-  pub some_code : 0 < length h.code
-  some_code = by (cases_lt 0 (length h.code))
-    where
-      by : (0 < length h.code) ⊎ (length h.code ≤ 0) → 0 < length h.code
-      by (inl lt) = lt
-      by (inr le) = absurd (let gone : slice_get h.code (last h) ≡ None = slice_get_past h.code (last h) (omega (arith, le)) in let impossible : false ≡ true = ap stays (sym gone) ∙ stays_last in cc)
 
   module _ (xs : List Argument) (signature : has_signature (parameters_of h) xs ≡ true) (at : List ℕ) (s : State) (laid : IsLaidOut code xs at s) where
     w : Setting
@@ -183,31 +88,10 @@ module _ (code : Listing) (h : Routine) (f : ℕ) (accepted : IsFine code) (foun
     long : length (rows xs) ≡ length (param_elems class.Array h.params)
     long = rows_long h.params xs no_vector signature
 
-    -- ---- heads
-
-    heads_end : w.heads w.rungs ≡ length h.code
-    unfolding w
-    heads_end = get_or_past (heads_of h.code) (length (heads_of h.code)) (length h.code) (omega arith)
-
-    head_at : (to : ℕ) → is_head h.code to ≡ true → to < length h.code → IsHead w to
-    unfolding w
-    head_at to is lt = let found = inside h.code (length h.code) 0 (length h.code) to is (omega arith) (omega arith) in record { low = found.low; here = found.here }
-
-    covered : IsCovered w
-    unfolding w
-    covered =
-        record {
-          there = λ pc lt none. (let le = absurd_past pc (subst (λ n. pc < n) heads_end lt) none in le);
-          ends = λ k pc all e. (let at_end : last h ≡ pc = (let n : pc + 1 ≡ length h.code = e ∙ heads_end in omega (arith, n)) in subst (λ p. IsLast w (slice_get h.code p)) at_end (last_is (slice_get h.code (last h)) stays_last w));
-        }
-      where
-        absurd_past : (pc : ℕ) → pc < length h.code → slice_get h.code pc ≡ None → ⊥
-        absurd_past pc lt none = let some = slice_get-get_or h.code pc (instr.Jump 0) lt in let impossible : None ≡ Some (get_or h.code pc (instr.Jump 0)) = sym none ∙ some in cc
+    no_locals : h.locals ≡ []
+    no_locals = none code h f accepted found plain
 
     -- ---- arrays
-
-    arrays_are : arrays_of h ≡ param_elems class.Array h.params
-    arrays_are = ap (λ ls. param_elems class.Array h.params ++ map local_elem ls) none ∙ append-nil (param_elems class.Array h.params)
 
     named_is : (a : ℕ) → a < length (param_elems class.Array h.params) → w.home.named a ≡ a
     unfolding w
@@ -217,11 +101,7 @@ module _ (code : Listing) (h : Routine) (f : ℕ) (accepted : IsFine code) (foun
     unfolding w
     named_past a le =
         cond-false (nat_lt a (length (param_elems class.Array h.params))) a (length (rows xs) + length (shared_sizes (take (a - length (param_elems class.Array h.params)) h.locals))) (le-ltb a (length (param_elems class.Array h.params)) le)
-        ∙ ap (λ ls. length (rows xs) + length (shared_sizes (take (a - length (param_elems class.Array h.params)) ls))) none ∙ ap (λ n. length (rows xs) + n) (no_sizes (a - length (param_elems class.Array h.params))) ∙ (let same : length (rows xs) + 0 ≡ length (rows xs) = omega arith in same)
-      where
-        no_sizes : (n : ℕ) → length (shared_sizes (take n [])) ≡ 0
-        no_sizes zero = refl
-        no_sizes (suc n) = refl
+        ∙ (let nothing = no_sizes code h f accepted found plain (a - length (param_elems class.Array h.params)) in let same : length (rows xs) + length (shared_sizes (take (a - length (param_elems class.Array h.params)) h.locals)) ≡ length (rows xs) = omega (arith, nothing) in same)
 
     sizes_are : (b : ℕ) → w.home.sizes b ≡ length (row_bits (rows xs) b)
     unfolding w
@@ -231,7 +111,7 @@ module _ (code : Listing) (h : Routine) (f : ℕ) (accepted : IsFine code) (foun
         by (inl lt) = cond-true (nat_lt b (length (rows xs))) (length (row_bits (rows xs) b)) (slice_index (shared_sizes h.locals) (b - length (rows xs))) (lt-ltb b (length (rows xs)) lt)
         by (inr le) =
             cond-false (nat_lt b (length (rows xs))) (length (row_bits (rows xs) b)) (slice_index (shared_sizes h.locals) (b - length (rows xs))) (le-ltb b (length (rows xs)) le)
-            ∙ ap (λ ls. slice_index (shared_sizes ls) (b - length (rows xs))) none ∙ no_number (b - length (rows xs)) ∙ sym (ap length (row_past (rows xs) b le))
+            ∙ ap (λ ls. slice_index (shared_sizes ls) (b - length (rows xs))) no_locals ∙ no_number (b - length (rows xs)) ∙ sym (ap length (row_past (rows xs) b le))
 
     begins_past : (b : ℕ) → length at ≤ b → slice_index at b ≡ 0
     begins_past b le = get_or_past at b 0 le
@@ -280,41 +160,22 @@ module _ (code : Listing) (h : Routine) (f : ℕ) (accepted : IsFine code) (foun
     ready =
         record {
           found = found;
-          apart = λ x y e. local_apart (gang_width code.gang) h x y e;
-          few = (let le = few h.code (length h.code) 0 in omega (arith, le, code_low));
-          heads_up = λ k lt. up h.code (length h.code) 0 (length h.code) (omega arith) k lt;
-          text_low = λ t. (let ends = text_ends code.texts t in (omega (arith, ends, texts_low), omega (arith, ends, texts_low)));
+          apart = λ x y e. place_apart (param_places h ++ own_places (gang_width code.gang) h) x y e;
+          few = few_heads code h f accepted found plain;
+          heads_up = heads_rise code h f accepted found plain;
+          text_low = text_low code h f accepted found plain;
           text_apart = λ t b. subst (λ n. (text_start code.texts t + length (slice_index_or code.texts t []) ≤ slice_index at b) ⊎ (n ≤ text_start code.texts t)) (sym (end_is b)) (text_apart t b);
           bounded = few_elements;
+          closed = λ b le. (let all : length (rows xs) ≤ b = omega (arith, le) in sizes_are b ∙ ap length (row_past (rows xs) b all));
           disjoint = λ a b ne. subst (λ n. (n ≤ slice_index at b) ⊎ (w.begins b + w.home.sizes b * bytes_of (w.elems b) ≤ slice_index at a)) (sym (end_is a))
               (subst (λ n. (array_end code xs at a ≤ slice_index at b) ⊎ (n ≤ slice_index at a)) (sym (end_is b)) (apart a b ne));
         }
 
-    arrays : HasArrays w
+    stored : (a : Register) → IsThere h class.Array a → row_elem (rows xs) (w.home.named a.number) ≡ elem_of h a
     unfolding w
-    arrays =
-        record {
-          shared = λ a. ap (λ ls. nat_le (length (param_elems class.Array h.params)) a.number && is_own (slice_get ls (a.number - length (param_elems class.Array h.params)))) none
-              ∙ unowned (nat_le (length (param_elems class.Array h.params)) a.number) (a.number - length (param_elems class.Array h.params));
-          stored_as = λ a there. stored a there;
-        }
-      where
-        unowned : (b : Bool) (n : ℕ) → (b && is_own (slice_get [] n)) ≡ false
-        unowned true zero = refl
-        unowned true (suc n) = refl
-        unowned false n = refl
-
-        stored : (a : Register) → IsThere h class.Array a → row_elem (rows xs) (w.home.named a.number) ≡ elem_of h a
-        stored a there =
-            ap (row_elem (rows xs)) (named_is a.number (subst (λ ts. a.number < length ts) arrays_are there.1)) ∙ rows_typed h.params xs no_vector signature a.number
-            ∙ sym (ap (λ c. slice_index_or (types_in (table_of h) c) a.number Truth) there.0 ∙ ap (λ ts. slice_index_or ts a.number Truth) arrays_are)
-
-    thin : AllThin w
-    unfolding w
-    thin pc i has =
-        fine_is_thin w arrays i
-        (template w gives_none (λ pc to i has goes lt. head_at to (target_is h.code to pc i has goes) lt) pc i has (all_at has_form h.code pc i forms has) (accepted.lines f h found pc i has).0)
-        (accepted.lines f h found pc i has).0
+    stored a there =
+        ap (row_elem (rows xs)) (named_is a.number (subst (λ ts. a.number < length ts) (arrays_are code h f accepted found plain) there.1)) ∙ rows_typed h.params xs no_vector signature a.number
+        ∙ sym (ap (λ c. slice_index_or (types_in (table_of h) c) a.number Truth) there.0 ∙ ap (λ ts. slice_index_or ts a.number Truth) (arrays_are code h f accepted found plain))
 
     -- ---- memory
 
@@ -372,8 +233,8 @@ module _ (code : Listing) (h : Routine) (f : ℕ) (accepted : IsFine code) (foun
         record {
           home_is = refl;
           alone = refl;
-          some = (first_head h.code (length h.code) some_code).0;
-          head_is = (first_head h.code (length h.code) some_code).1;
+          some = (first_head h.code (length h.code) (some_code code h f accepted found plain)).0;
+          head_is = (first_head h.code (length h.code) (some_code code h f accepted found plain)).1;
           counter_is = places.others Counter tt;
           scalars_are = λ r. ap (λ n. At (param_places h ++ own_places (gang_width code.gang) h) (passed xs at) (Scalar n)) (sym (counted r)) ∙ places.scalars r;
           fits = values_fit h.params h.scalars xs no_vector signature;
@@ -381,6 +242,7 @@ module _ (code : Listing) (h : Routine) (f : ℕ) (accepted : IsFine code) (foun
           masks_are = λ r j. places.others (Mask r j) tt;
           bases = λ a. ap (λ n. At (param_places h ++ own_places (gang_width code.gang) h) (passed xs at) (Base n)) (sym (counted a)) ∙ places.bases a ∙ base_of a;
           counts = λ a. ap (λ n. At (param_places h ++ own_places (gang_width code.gang) h) (passed xs at) (Count n)) (sym (counted a)) ∙ places.counts a ∙ count_of a;
+          depth_is = places.others Depth tt;
           keeps = keeps;
           silent = laid.silent;
         }
@@ -391,11 +253,33 @@ module _ (code : Listing) (h : Routine) (f : ℕ) (accepted : IsFine code) (foun
     unfolding w
     code_is =
         ap (λ (g : Function). g.code)
-        (get_or_from_slice_get (map (function_of code) code.routines) f (function_of code h) unused (slice_get-map (function_of code) code.routines f ∙ ap (option_map (function_of code)) found)
+        (get_or_append_left (map (function_of code) code.routines) (if list_any has_call code.routines then inner_functions code 0 code.routines else []) unused f
+        (subst (λ n. f < n) (sym (length-map code.routines (function_of code))) (some_low code.routines f h found))
+        ∙ get_or_from_slice_get (map (function_of code) code.routines) f (function_of code h) unused (slice_get-map (function_of code) code.routines f ∙ ap (option_map (function_of code)) found)
         ∙ ap (λ b. if b && is_covered code h then kernel_of code h else unused) exported ∙ ap (λ b. if b then kernel_of code h else unused) covers)
 
+    opens : w.home.opened ≡ length (rows xs)
+    unfolding w
+    opens = let nothing = no_stores code h f accepted found plain in omega (arith, nothing)
+
+    of : IsOf w
+    unfolding w
+    of =
+        record {
+          accepted = accepted;
+          settled = ready;
+          texts_at = refl;
+          begins_past = λ b le. (let each : length at ≡ length (rows xs) = laid.each in let all = opens in begins_past b (omega (arith, le, each, all)));
+          stored = stored;
+          plain = covered_calls code h covers;
+        }
+
     same_outcomes : SameOutcomes w xs (λ n. called (code_in (module_of code)) n f (passed xs at) s)
-    same_outcomes = entries_agree w ready covered thin (code_in (module_of code)) f code_is xs (passed xs at) s call_is
+    unfolding w
+    same_outcomes =
+        entries_agree w ready (covered code h f accepted found plain (covered_calls code h covers) (local_in (gang_width code.gang) h) (first_conf code f h xs).home [] (slice_index at) (row_elem (rows xs)) s.memory)
+        (all_thin code h f accepted found plain (covered_calls code h covers) (local_in (gang_width code.gang) h) (first_conf code f h xs).home [] (slice_index at) (row_elem (rows xs)) s.memory stored)
+        (code_in (module_of code)) f code_is (λ n. calls_agree n w of) xs (passed xs at) s call_is
 
 pub kernels_agree : KernelsAgree
 unfolding w

@@ -68,6 +68,7 @@ holds_same w sc ve vf ma l same h =
       members = h.members;
       bases = h.bases;
       counts = h.counts;
+      depth = h.depth;
     }
 
 -- ---- whatever is done for each lane

@@ -4,7 +4,6 @@ use Rattle.std.specs.Prelude.{slice_get, slice_index_or}
 use Rattle.std.proofs.lemmas.Bool.{cases_eq}
 use Rattle.isp_base.specs.declared.types.Elem.{Elem}
 use Rattle.isp_base.specs.declared.types.Elem.TheVariants.{Bool as Truth}
-use Rattle.isp_code.specs.Listing.{Routine}
 use Rattle.isp_code.specs.Registers.{class_of, same_class, if_class, param_elems}
 use Rattle.isp_code.specs.declared.function.Param.{Param}
 use Rattle.isp_code.specs.declared.function.ParamKind.{ParamKind}
@@ -12,7 +11,7 @@ use Rattle.isp_code.specs.declared.function.ParamKind.TheVariants as kind
 use Rattle.isp_code.specs.declared.register.Class.TheVariants as class
 use Rattle.isp_wasm_meaning.specs.Module.{ValueType}
 use Rattle.isp_wasm.specs.Places.{Place, Scalar, Vector, Mask, Base, Count, shape_of, parts_for}
-use Rattle.isp_wasm.specs.Locals.{row, passing, params_from, param_places, vector_places, mask_places, own_places, name_of, position, local_in}
+use Rattle.isp_wasm.specs.Locals.{row, passing, params_from, taking, taken_from, vector_places, mask_places, name_of, position, local_at}
 use Rattle.isp_wasm.proofs.Numbers.{here, further, name_apart}
 
 -- a place stands in a list
@@ -49,10 +48,8 @@ map_both : (f : Place → ValueType) (qs rs : List Place) → (map f qs ++ map f
 map_both f [] rs = refl
 map_both f (q ∷ qs) rs = ap (λ l. f q ∷ l) (map_both f qs rs)
 
-pub local_type : (f : Place → ValueType) (lanes : ℕ) (h : Routine) (p : Place) → Has (param_places h ++ own_places lanes h) p
-    → slice_get (map f (param_places h) ++ map f (own_places lanes h)) (local_in lanes h p) ≡ Some (f p)
-local_type f lanes h p has =
-    ap (λ l. slice_get l (local_in lanes h p)) (map_both f (param_places h) (own_places lanes h)) ∙ type_at f (param_places h ++ own_places lanes h) p has.0 has.1
+pub local_type : (f : Place → ValueType) (qs rs : List Place) (p : Place) → Has (qs ++ rs) p → slice_get (map f qs ++ map f rs) (local_at (qs ++ rs) p) ≡ Some (f p)
+local_type f qs rs p has = ap (λ l. slice_get l (local_at (qs ++ rs) p)) (map_both f qs rs) ∙ type_at f (qs ++ rs) p has.0 has.1
 
 -- ---- which there are
 
@@ -108,3 +105,39 @@ has_mask (suc n) r zero (suc (suc j)) h l = absurd (omega (arith, l))
 has_mask (suc n) r (suc i) j h l =
     has_next (Mask r 0) (Mask r 1 ∷ mask_places n (suc r)) (Mask (r + suc i) j) (has_next (Mask r 1) (mask_places n (suc r)) (Mask (r + suc i) j)
     (subst (λ n'. Has (mask_places n (suc r)) (Mask n' j)) (let same : suc r + i ≡ r + suc i = omega arith in same) (has_mask n (suc r) i j (omega (arith, h)) l)))
+
+-- ---- of a function that another one calls
+
+taken_scalar : (lanes : ℕ) (k : ParamKind) (t : Elem) (ts : List Elem) (more : ℕ → ℕ → ℕ → List Place) (r v a i : ℕ)
+    → ((r v a i : ℕ) → i < length ts → Has (more r v a) (Scalar (r + i))) → i < length (if_class (same_class (class_of k) class.Scalar) t ts) → Has (taking lanes k t more r v a) (Scalar (r + i))
+taken_scalar lanes kind.Vector t ts more r v a i all h = has_right (row (parts_for lanes (shape_of t)) (Vector v)) (more r (suc v) a) (Scalar (r + i)) (all r (suc v) a i h)
+taken_scalar lanes kind.Array t ts more r v a i all h = has_next (Base a) (Count a ∷ more r v (suc a)) (Scalar (r + i)) (has_next (Count a) (more r v (suc a)) (Scalar (r + i)) (all r v (suc a) i h))
+taken_scalar lanes kind.Scalar t ts more r v a zero all h = (zero, ap (λ n. Some (Scalar n)) (let same : r ≡ r + 0 = omega arith in same))
+taken_scalar lanes kind.Scalar t ts more r v a (suc i) all h =
+    has_next (Scalar r) (more (suc r) v a) (Scalar (r + suc i)) (subst (λ n. Has (more (suc r) v a) (Scalar n)) (let same : suc r + i ≡ r + suc i = omega arith in same) (all (suc r) v a i (omega (arith, h))))
+
+pub has_taken_scalar : (lanes : ℕ) (ps : List Param) (r v a i : ℕ) → i < length (param_elems class.Scalar ps) → Has (taken_from lanes ps r v a) (Scalar (r + i))
+has_taken_scalar lanes [] r v a i h = absurd (omega (arith, h))
+has_taken_scalar lanes (p ∷ ps) r v a i h = taken_scalar lanes p.kind p.elem (param_elems class.Scalar ps) (taken_from lanes ps) r v a i (has_taken_scalar lanes ps) h
+
+abbrev HasBoth : List Place → ℕ → Type 0
+HasBoth qs a = Has qs (Base a) × Has qs (Count a)
+
+taken_array : (lanes : ℕ) (k : ParamKind) (t : Elem) (ts : List Elem) (more : ℕ → ℕ → ℕ → List Place) (r v a i : ℕ)
+    → ((r v a i : ℕ) → i < length ts → HasBoth (more r v a) (a + i)) → i < length (if_class (same_class (class_of k) class.Array) t ts) → HasBoth (taking lanes k t more r v a) (a + i)
+taken_array lanes kind.Vector t ts more r v a i all h =
+    let both = all r (suc v) a i h in
+    let qs = row (parts_for lanes (shape_of t)) (Vector v) in (has_right qs (more r (suc v) a) (Base (a + i)) both.0, has_right qs (more r (suc v) a) (Count (a + i)) both.1)
+taken_array lanes kind.Scalar t ts more r v a i all h = let both = all (suc r) v a i h in (has_next (Scalar r) (more (suc r) v a) (Base (a + i)) both.0, has_next (Scalar r) (more (suc r) v a) (Count (a + i)) both.1)
+taken_array lanes kind.Array t ts more r v a zero all h =
+    let same : a ≡ a + 0 = omega arith in ((zero, ap (λ n. Some (Base n)) same), (suc zero, ap (λ n. Some (Count n)) same))
+taken_array lanes kind.Array t ts more r v a (suc i) all h =
+    let same : suc a + i ≡ a + suc i = omega arith in
+    let both = all r v (suc a) i (omega (arith, h)) in (
+      has_next (Base a) (Count a ∷ more r v (suc a)) (Base (a + suc i)) (has_next (Count a) (more r v (suc a)) (Base (a + suc i)) (subst (λ n. Has (more r v (suc a)) (Base n)) same both.0)),
+      has_next (Base a) (Count a ∷ more r v (suc a)) (Count (a + suc i)) (has_next (Count a) (more r v (suc a)) (Count (a + suc i)) (subst (λ n. Has (more r v (suc a)) (Count n)) same both.1)),
+    )
+
+pub has_taken_array : (lanes : ℕ) (ps : List Param) (r v a i : ℕ) → i < length (param_elems class.Array ps) → HasBoth (taken_from lanes ps r v a) (a + i)
+has_taken_array lanes [] r v a i h = absurd (omega (arith, h))
+has_taken_array lanes (p ∷ ps) r v a i h = taken_array lanes p.kind p.elem (param_elems class.Array ps) (taken_from lanes ps) r v a i (has_taken_array lanes ps) h

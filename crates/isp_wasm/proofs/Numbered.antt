@@ -11,7 +11,7 @@ use Rattle.isp_code.specs.declared.function.ParamKind.{ParamKind}
 use Rattle.isp_code.specs.declared.function.ParamKind.TheVariants as kind
 use Rattle.isp_code.specs.declared.register.Class.TheVariants as class
 use Rattle.isp_wasm_meaning.specs.Syntax as wasm
-use Rattle.isp_wasm.specs.Places.{Place, Counter, Scalar, Vector, Mask, Base, Count, Fresh, Spare, shape_of, parts_for}
+use Rattle.isp_wasm.specs.Places.{Place, Counter, Scalar, Vector, Mask, Base, Count, Fresh, Spare, Depth, shape_of, parts_for}
 use Rattle.isp_wasm.specs.Locals.{row, passing, params_from, param_places, vector_places, mask_places, own_places, name_of, position, local_in}
 use Rattle.isp_wasm.specs.Numbering.{next_scalar, next_array, scalar_number, array_number, parts_before, own_from, scalars_from, vectors_from, masks_from, LocalsAreNumbered}
 use Rattle.isp_wasm.proofs.Numbers.{here, further, name_apart}
@@ -90,19 +90,27 @@ masks_apart r e = let i : ℕ = 0 in let j : ℕ = 1 in let same : i ≡ j = cc 
 spares_apart : Spare wasm.I32 0 ≡ Spare wasm.I32 1 → ⊥
 spares_apart e = let i : ℕ = 0 in let j : ℕ = 1 in let same : i ≡ j = cc in omega (arith, same)
 
-mask_is : (n r i j : ℕ) → i < n → j < 2 → Where (mask_places n r) (Mask (r + i) j) ≡ 2 * i + j
-mask_is zero r i j h l = absurd (omega (arith, h))
-mask_is (suc n) r zero zero h l =
-    ap (λ m. Where (Mask r 0 ∷ Mask r 1 ∷ mask_places n (suc r)) (Mask m 0)) (let same : r + 0 ≡ r = omega arith in same) ∙ first_is (Mask r 0) (Mask r 1 ∷ mask_places n (suc r))
-mask_is (suc n) r zero (suc zero) h l =
-    ap (λ m. Where (Mask r 0 ∷ Mask r 1 ∷ mask_places n (suc r)) (Mask m 1)) (let same : r + 0 ≡ r = omega arith in same)
-    ∙ next_is (Mask r 0) (Mask r 1) (Mask r 1 ∷ mask_places n (suc r)) (masks_apart r) ∙ ap suc (first_is (Mask r 1) (mask_places n (suc r)))
-mask_is (suc n) r zero (suc (suc j)) h l = absurd (omega (arith, l))
-mask_is (suc n) r (suc i) j h l =
-    let more = mask_is n (suc r) i j (omega (arith, h)) l in
-    next_is (Mask r 0) (Mask (r + suc i) j) (Mask r 1 ∷ mask_places n (suc r)) (λ e. (let same : r ≡ r + suc i = cc in omega (arith, same)))
-    ∙ ap suc (next_is (Mask r 1) (Mask (r + suc i) j) (mask_places n (suc r)) (λ e. (let same : r ≡ r + suc i = cc in omega (arith, same))))
-    ∙ ap (λ m. suc (suc (Where (mask_places n (suc r)) (Mask m j)))) (let same : r + suc i ≡ suc r + i = omega arith in same) ∙ (let same : suc (suc (Where (mask_places n (suc r)) (Mask (suc r + i) j))) ≡ 2 * suc i + j = omega (arith, more) in same)
+mask_is : (n r i j : ℕ) (rs : List Place) → i < n → j < 2 → Where (mask_places n r ++ rs) (Mask (r + i) j) ≡ 2 * i + j
+mask_is zero r i j rs h l = absurd (omega (arith, h))
+mask_is (suc n) r zero zero rs h l =
+    ap (λ m. Where (Mask r 0 ∷ Mask r 1 ∷ (mask_places n (suc r) ++ rs)) (Mask m 0)) (let same : r + 0 ≡ r = omega arith in same) ∙ first_is (Mask r 0) (Mask r 1 ∷ (mask_places n (suc r) ++ rs))
+mask_is (suc n) r zero (suc zero) rs h l =
+    ap (λ m. Where (Mask r 0 ∷ Mask r 1 ∷ (mask_places n (suc r) ++ rs)) (Mask m 1)) (let same : r + 0 ≡ r = omega arith in same)
+    ∙ next_is (Mask r 0) (Mask r 1) (Mask r 1 ∷ (mask_places n (suc r) ++ rs)) (masks_apart r) ∙ ap suc (first_is (Mask r 1) (mask_places n (suc r) ++ rs))
+mask_is (suc n) r zero (suc (suc j)) rs h l = absurd (omega (arith, l))
+mask_is (suc n) r (suc i) j rs h l =
+    let more = mask_is n (suc r) i j rs (omega (arith, h)) l in
+    next_is (Mask r 0) (Mask (r + suc i) j) (Mask r 1 ∷ (mask_places n (suc r) ++ rs)) (λ e. (let same : r ≡ r + suc i = cc in omega (arith, same)))
+    ∙ ap suc (next_is (Mask r 1) (Mask (r + suc i) j) (mask_places n (suc r) ++ rs) (λ e. (let same : r ≡ r + suc i = cc in omega (arith, same))))
+    ∙ ap (λ m. suc (suc (Where (mask_places n (suc r) ++ rs) (Mask m j)))) (let same : r + suc i ≡ suc r + i = omega arith in same) ∙ (let same : suc (suc (Where (mask_places n (suc r) ++ rs) (Mask (suc r + i) j))) ≡ 2 * suc i + j = omega (arith, more) in same)
+
+masks_lack : (n r : ℕ) (p : Place) → ((q j : ℕ) → Mask q j ≡ p → ⊥) → Lacks (mask_places n r) p
+masks_lack zero r p h = tt
+masks_lack (suc n) r p h = (h r 0, (h r 1, masks_lack n (suc r) p h))
+
+masks_long : (n r : ℕ) → length (mask_places n r) ≡ 2 * n
+masks_long zero r = refl
+masks_long (suc n) r = let more = masks_long n (suc r) in omega (arith, more)
 
 -- ---- parameters
 
@@ -124,6 +132,7 @@ one_lacks kind.Array t ts more r a (Vector q j) all own = (λ e. cc, (λ e. cc, 
 one_lacks kind.Array t ts more r a (Mask q j) all own = (λ e. cc, (λ e. cc, all r (suc a) tt))
 one_lacks kind.Array t ts more r a (Fresh j) all own = (λ e. cc, (λ e. cc, all r (suc a) tt))
 one_lacks kind.Array t ts more r a (Spare s j) all own = (λ e. cc, (λ e. cc, all r (suc a) tt))
+one_lacks kind.Array t ts more r a Depth all own = (λ e. cc, (λ e. cc, all r (suc a) tt))
 one_lacks kind.Scalar t ts more r a (Scalar q) all own = (λ e. (let same : r ≡ q = cc in omega (arith, own, same)), all (suc r) a (omega (arith, own)))
 one_lacks kind.Scalar t ts more r a (Base q) all own = absurd own
 one_lacks kind.Scalar t ts more r a (Count q) all own = absurd own
@@ -132,6 +141,7 @@ one_lacks kind.Scalar t ts more r a (Vector q j) all own = (λ e. cc, all (suc r
 one_lacks kind.Scalar t ts more r a (Mask q j) all own = (λ e. cc, all (suc r) a tt)
 one_lacks kind.Scalar t ts more r a (Fresh j) all own = (λ e. cc, all (suc r) a tt)
 one_lacks kind.Scalar t ts more r a (Spare s j) all own = (λ e. cc, all (suc r) a tt)
+one_lacks kind.Scalar t ts more r a Depth all own = (λ e. cc, all (suc r) a tt)
 
 params_lack : (ps : List Param) (r a : ℕ) (p : Place) → IsOwn (r + length (param_elems class.Scalar ps)) a p → Lacks (params_from ps r a) p
 params_lack [] r a p own = tt
@@ -200,7 +210,7 @@ module _ (lanes : ℕ) (h : Routine) where
   vector_row = vector_places lanes (vectors_of h) 0
 
   mask_row : List Place
-  mask_row = mask_places h.masks 0
+  mask_row = mask_places h.masks 0 ++ Depth ∷ []
 
   past_params : (p : Place) → IsOwn (0 + length (param_elems class.Scalar h.params)) 0 p → local_in lanes h p ≡ own_from lanes h + Where (own_places lanes h) p
   past_params p own = behind (param_places h) (own_places lanes h) p (params_lack h.params 0 0 p own)
@@ -259,7 +269,18 @@ module _ (lanes : ℕ) (h : Routine) where
       let fresh = past_fresh p (λ j e. cc) in
       let scalars = past_scalars p (λ r e. cc) in
       let vectors = past_vectors p (λ r j e. cc) in
-      let at : Where mask_row p ≡ 2 * r + j = ap (λ n. Where mask_row (Mask n j)) (let same : r ≡ 0 + r = omega arith in same) ∙ mask_is h.masks 0 r j l m in omega (arith, four, fresh, scalars, vectors, at)
+      let at : Where mask_row p ≡ 2 * r + j = ap (λ n. Where mask_row (Mask n j)) (let same : r ≡ 0 + r = omega arith in same) ∙ mask_is h.masks 0 r j (Depth ∷ []) l m in omega (arith, four, fresh, scalars, vectors, at)
+
+  depth_at : local_in lanes h Depth ≡ masks_from lanes h + 2 * h.masks
+  unfolding mask_row
+  depth_at =
+      let four = past_four Depth tt (λ e. cc) (λ t i e. cc) in
+      let fresh = past_fresh Depth (λ j e. cc) in
+      let scalars = past_scalars Depth (λ r e. cc) in
+      let vectors = past_vectors Depth (λ r j e. cc) in
+      let at = behind (mask_places h.masks 0) (Depth ∷ []) Depth (masks_lack h.masks 0 Depth (λ q j e. cc)) in
+      let long = masks_long h.masks 0 in
+      let last = first_is Depth [] in omega (arith, four, fresh, scalars, vectors, at, long, last)
 
   param_at : (r : ℕ) → r < length (param_elems class.Scalar h.params) → local_in lanes h (Scalar r) ≡ scalar_number h.params r
   param_at r l = ap (λ n. local_in lanes h (Scalar n)) (let same : r ≡ 0 + r = omega arith in same) ∙ scalar_is h.params 0 0 r (own_places lanes h) l
@@ -292,6 +313,7 @@ locals_are_numbered lanes h =
       scalars = scalar_at lanes h;
       vectors = vector_at lanes h;
       masks = mask_at lanes h;
+      depth = depth_at lanes h;
     }
   where
     own_last : (lanes : ℕ) (h : Routine) → List Place

@@ -4,10 +4,9 @@ use Rattle.std.specs.Prelude.{nat_eq}
 use Rattle.std.proofs.lemmas.Bool.{ne_eqb, cond-true, cond-false, cases_eq, cases_order}
 use Rattle.std.proofs.lemmas.Nat.{mul-le}
 use Rattle.std.proofs.Math.Nat.{mul-suc, suc-mul}
-use Rattle.isp_code.specs.Listing.{Routine}
 use Rattle.isp_wasm_meaning.specs.Syntax as wasm
-use Rattle.isp_wasm.specs.Places.{Place, Counter, Scalar, Vector, Mask, Base, Count, Fresh, Spare}
-use Rattle.isp_wasm.specs.Locals.{paired, name_of, position, local_in}
+use Rattle.isp_wasm.specs.Places.{Place, Counter, Scalar, Vector, Mask, Base, Count, Fresh, Spare, Depth}
+use Rattle.isp_wasm.specs.Locals.{paired, name_of, position, local_at}
 
 square_up : (x y : ℕ) → x < y → x * x + x + x + 1 ≤ y * y
 square_up x y h = let le : suc x * suc x ≤ y * y = mul-le (suc x) (suc x) y y h h in let e : suc x * suc x ≡ x * x + x + x + 1 = rw (mul-suc, suc-mul) (omega arith) in omega (arith, e)
@@ -102,6 +101,25 @@ name_apart (Spare wasm.I64 j) (Count r1) e = absurd (omega (arith, e))
 name_apart (Spare wasm.I64 j) (Fresh j1) e = absurd (omega (arith, e))
 name_apart (Spare wasm.I64 j) (Spare wasm.I32 j1) e = absurd (omega (arith, e))
 name_apart (Spare wasm.I64 j) (Spare wasm.I64 j1) e = ap (Spare wasm.I64) (omega (arith, e))
+name_apart Counter Depth e = absurd (omega (arith, e))
+name_apart (Scalar r) Depth e = absurd (omega (arith, e))
+name_apart (Vector r j) Depth e = absurd (omega (arith, e))
+name_apart (Mask r j) Depth e = absurd (omega (arith, e))
+name_apart (Base r) Depth e = absurd (omega (arith, e))
+name_apart (Count r) Depth e = absurd (omega (arith, e))
+name_apart (Fresh j) Depth e = absurd (omega (arith, e))
+name_apart (Spare wasm.I32 j) Depth e = absurd (omega (arith, e))
+name_apart (Spare wasm.I64 j) Depth e = absurd (omega (arith, e))
+name_apart Depth Counter e = absurd (omega (arith, e))
+name_apart Depth (Scalar r) e = absurd (omega (arith, e))
+name_apart Depth (Vector r j) e = absurd (omega (arith, e))
+name_apart Depth (Mask r j) e = absurd (omega (arith, e))
+name_apart Depth (Base r) e = absurd (omega (arith, e))
+name_apart Depth (Count r) e = absurd (omega (arith, e))
+name_apart Depth (Fresh j) e = absurd (omega (arith, e))
+name_apart Depth (Spare wasm.I32 j) e = absurd (omega (arith, e))
+name_apart Depth (Spare wasm.I64 j) e = absurd (omega (arith, e))
+name_apart Depth Depth e = refl
 
 -- ---- positions
 
@@ -121,5 +139,5 @@ position_apart (z ∷ l) x y e = by (cases_eq z x) (cases_eq z y) (position_apar
     by (inr a) (inl b) more = absurd (let no : suc (position l x) ≡ 0 = sym (further z x l a) ∙ e ∙ cond-true (nat_eq z y) 0 (suc (position l y)) (eq-eqb z y b) in omega (arith, no))
     by (inr a) (inr b) more = more (let same : suc (position l x) ≡ suc (position l y) = sym (further z x l a) ∙ e ∙ further z y l b in omega (arith, same))
 
-pub local_apart : (lanes : ℕ) (h : Routine) (p q : Place) → local_in lanes h p ≡ local_in lanes h q → p ≡ q
-local_apart lanes h p q e = name_apart p q (position_apart _ (name_of p) (name_of q) e)
+pub place_apart : (qs : List Place) (p q : Place) → local_at qs p ≡ local_at qs q → p ≡ q
+place_apart qs p q e = name_apart p q (position_apart _ (name_of p) (name_of q) e)

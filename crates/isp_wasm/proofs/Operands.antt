@@ -1,5 +1,5 @@
 -- Operands that are as the table asks are those that templates ask for.
-use Rattle.std.proofs.Common.{◌≡◌, ◌≢◌, List, [], ◌∷◌, Some, None, refl, sym, ◌∙◌, subst}
+use Rattle.std.proofs.Common.{◌≡◌, ◌≢◌, List, [], ◌∷◌, refl, sym, ◌∙◌, subst}
 use Rattle.isp_base.specs.declared.operators.UnaryOp.{UnaryOp}
 use Rattle.isp_base.specs.declared.operators.UnaryOp.TheVariants as unary
 use Rattle.isp_base.specs.declared.types.Elem.{Elem}
@@ -143,12 +143,11 @@ module _ (w : Setting) (has : HasArrays w) where
   thin (instr.JumpIf jump.All x to) t f = t
   thin (instr.Say n) t f = tt
   thin (instr.Fail x q) t f = tt
-  thin (instr.Return None) t f = tt
-  thin (instr.Return (Some x)) t f = t
+  thin (instr.Return x) t f = (f.0, t)
   thin (instr.Clear a k) t f = absurd t
   thin (instr.PrintScalar x) t f = absurd t
   thin (instr.PrintVector x k) t f = absurd t
-  thin (instr.Call c) t f = absurd t
+  thin (instr.Call c) t f = t
 
 pub fine_is_thin : FineIsThin
 fine_is_thin w has i t f = thin w has i t f

@@ -16,6 +16,7 @@ use Rattle.isp_base.specs.declared.trap.TrapKind.TheVariants.{Assert}
 use Rattle.isp_base.proofs.Wraps.{wrap_to-lt}
 use Rattle.isp_code.specs.Calls.{left, place_at}
 use Rattle.isp_code.specs.Conf.{Conf, Go}
+use Rattle.isp_code.specs.Fine.{IsGiven}
 use Rattle.isp_code.specs.Lines.{act, plain_of, set_scalar, scalar_value, moved, unless, next, jumps}
 use Rattle.isp_code.specs.declared.instr.Instr.{Instr}
 use Rattle.isp_code.specs.declared.instr.Instr.TheVariants as instr
@@ -217,6 +218,7 @@ module _ (w : Setting) (ready : IsSettled w) (fuel n k : ℕ) (call : ℕ → Li
             members = st.holds.members;
             bases = λ a. elsewhere w ready Counter (place.Base a) v s (λ e. cc) ∙ st.holds.bases a;
             counts = λ a. elsewhere w ready Counter (place.Count a) v s (λ e. cc) ∙ st.holds.counts a;
+            depth = elsewhere w ready Counter place.Depth v s (λ e. cc) ∙ st.holds.depth;
           }
 
   -- a jump by a test
@@ -270,23 +272,25 @@ module _ (w : Setting) (ready : IsSettled w) (fuel n k : ℕ) (call : ℕ → Li
       most = all_lanes w.code.gang
 
   -- back to the caller, or out
-  leaves_with : (x : Option Register) (v : Option ℕ) → slice_get w.routine.code pc ≡ Some (instr.Return x) → v ≡ bits_of w c x → Leaves w c v s
-  leaves_with x v has is =
+  leaves_with : (x : Option Register) (v : Option ℕ) → slice_get w.routine.code pc ≡ Some (instr.Return x) → IsGiven w.routine w.routine.returns x → v ≡ bits_of w c x → Leaves w c v s
+  leaves_with x v has given is =
       record {
         conf = c;
         steps = 1;
         register = x;
+        given = given;
+        fits = st.holds.fits;
         leaves = step_is w ready pc c s (instr.Return x) (left w.routine c x w.waiting) st has (ap (left w.routine c x) st.waiting_is);
         value_is = is;
         out_is = st.out_is;
         keeps = st.keeps;
       }
 
-  pub returns : slice_get w.routine.code pc ≡ Some (instr.Return None) → Leaves w c None s
-  returns has = leaves_with None None has refl
+  pub returns : slice_get w.routine.code pc ≡ Some (instr.Return None) → IsGiven w.routine w.routine.returns None → Leaves w c None s
+  returns has given = leaves_with None None has given refl
 
-  pub answers : (x : Register) → slice_get w.routine.code pc ≡ Some (instr.Return (Some x)) → Leaves w c (Some (s.locals (w.local (Scalar x.number)))) s
-  answers x has = leaves_with (Some x) (Some (s.locals (w.local (Scalar x.number)))) has (ap Some (st.holds.scalars_are x.number))
+  pub answers : (x : Register) → slice_get w.routine.code pc ≡ Some (instr.Return (Some x)) → IsGiven w.routine w.routine.returns (Some x) → Leaves w c (Some (s.locals (w.local (Scalar x.number)))) s
+  answers x has given = leaves_with (Some x) (Some (s.locals (w.local (Scalar x.number)))) has given (ap Some (st.holds.scalars_are x.number))
 
   -- where a mask has a lane, it traps
   abbrev pub told : Register → ℕ → Report

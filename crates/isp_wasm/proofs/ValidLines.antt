@@ -1,6 +1,6 @@
 -- The code of each instruction is valid, where the locals of a function have their types.
 use Rattle.std.proofs.Common.{◌≡◌, ℕ, zero, suc, ◌+◌, ◌-◌, ◌*◌, ◌/◌, ◌%◌, ◌^◌, ◌<◌, ◌≤◌, Option, Some, None, List, [], ◌∷◌, Bool, true, false, ◌&&◌, refl, sym, ap, ◌∙◌, subst, arith, lit≤}
-use Rattle.std.specs.Prelude.{nat_lt, if◌then◌else◌}
+use Rattle.std.specs.Prelude.{nat_lt, if◌then◌else◌, ◌++◌, map}
 use Rattle.std.proofs.lemmas.Bool.{ltb-true, ltb-false, lt-ltb}
 use Rattle.isp_base.specs.Ranks.{widened as sum_type}
 use Rattle.isp_base.specs.Types.{gang_width}
@@ -12,9 +12,9 @@ use Rattle.isp_base.specs.declared.types.Gang.TheVariants.{W4, W8, W16, W32}
 use Rattle.isp_base.specs.Values.{wrap}
 use Rattle.isp_base.specs.declared.operators.UnaryOp.{UnaryOp}
 use Rattle.isp_base.specs.declared.operators.UnaryOp.TheVariants as unary
-use Rattle.isp_code.specs.Fine.{AllFine, IsThere, IsWanted}
-use Rattle.isp_code.specs.Fine.{IsGiven}
-use Rattle.isp_code.specs.Operands.{operands, scalar_operands, vector_operands, mask_operands, divided, unary_want}
+use Rattle.isp_code.specs.Fine.{AllFine, CallFine, CallsFine, IsThere, IsWanted, IsGiven}
+use Rattle.isp_code.specs.declared.instr.Call.{Call}
+use Rattle.isp_code.specs.Operands.{operands, scalar_operands, vector_operands, mask_operands, divided, unary_want, result_operands, any_register}
 use Rattle.isp_code.specs.declared.function.Returns.{Returns}
 use Rattle.isp_code.specs.declared.function.Returns.TheVariants.{Nothing, Scalar as GivesScalar, Vector as GivesVector}
 use Rattle.isp_code.specs.declared.instr.Instr.{Instr}
@@ -24,7 +24,7 @@ use Rattle.isp_code.specs.declared.instr.MaskInstr.{MaskInstr}
 use Rattle.isp_code.specs.declared.instr.MaskInstr.TheVariants as mask
 use Rattle.isp_code.specs.declared.instr.VectorInstr.{VectorInstr}
 use Rattle.isp_code.specs.declared.instr.VectorInstr.TheVariants as vector
-use Rattle.isp_code.specs.declared.operand.Operand.TheVariants.{Mask as MaskOperand, Place as PlaceOperand}
+use Rattle.isp_code.specs.declared.operand.Operand.TheVariants.{Any as AnyRegister, Mask as MaskOperand, Place as PlaceOperand}
 use Rattle.isp_code.specs.declared.operand.Want.TheVariants.{Integer, Like}
 use Rattle.isp_code.specs.declared.register.Class.{Class}
 use Rattle.isp_code.specs.declared.instr.Reduction.{Reduction}
@@ -47,18 +47,18 @@ use Rattle.isp_code.specs.declared.instr.Scan.TheVariants as scan
 use Rattle.isp_code.specs.declared.register.Class.TheVariants as class
 use Rattle.isp_code.specs.declared.register.Register.{Register}
 use Rattle.isp_wasm_meaning.specs.Meaning.{count}
-use Rattle.isp_wasm_meaning.specs.Module.{ValueType, V128}
+use Rattle.isp_wasm_meaning.specs.Module.{ValueType, V128, Function}
 use Rattle.isp_wasm_meaning.specs.Module as valued
 use Rattle.isp_wasm_meaning.specs.Syntax as wasm
 use Rattle.isp_wasm_meaning.specs.Syntax.{Size, Shape, I8x16, I16x8, I32x4, I64x2, Add, Sub, Mul, And, Or, Xor, Eq, Ne, LtU, LtS, Eqz, Ctz, Wrap, ExtendU, Splat, Extract, Bitmask, Of, BitsOf, CompareLanes, Bits, Replace}
 use Rattle.isp_wasm_meaning.specs.Syntax.{Expr, Const32, Const64, Const128, Local, One, Two, Select, Code, Skip, Then, Set, Load, Store, Divide, If, Br}
 use Rattle.isp_wasm_meaning.specs.Valid.{is_type, sized, held, has_type, of_type, is_label, gives, is_valid}
-use Rattle.isp_wasm.specs.Places.{Setting, gang, parts, parts_for, elem, shape, shape_of, size_of, bytes_of, Counter, Scalar as ScalarAt, Vector as VectorAt, Mask as MaskAt, Base, Count, Fresh, Spare}
+use Rattle.isp_wasm.specs.Places.{Setting, gang, parts, parts_for, elem, shape, shape_of, size_of, bytes_of, Counter, Scalar as ScalarAt, Vector as VectorAt, Mask as MaskAt, Base, Count, Fresh, Spare, Depth}
 use Rattle.isp_wasm.specs.Words.{constant, below, whole_expr, plain_expr, unary_expr, compare_expr, convert_expr}
 use Rattle.isp_wasm.specs.Rows.{as_cell, lane_at, widened, by_lane, ones, compare_row, present}
 use Rattle.isp_wasm.specs.Templates.{each, scalar_local, vector_local, mask_local, set_lanes, set_mask, is_member, lanes_as_bits, lowest_of, lane_or, lane_or_zero, picked, first_value, folded, modulo, plus, exchange_expr, of_both, scan_expr, reduce_expr, scalar_code, vector_of, vector_code, mask_under}
 use Rattle.isp_wasm.specs.Templates.{best_step, best_of, fault, address_at, is_there, spare, lane_loop, set_lane, lane_loads, lane_checks, lane_stores, own_index, run_index, rank_expr, packed_index, set_count, checked}
-use Rattle.isp_wasm.specs.Templates.{mask_bits, mask_of, numbers_part, range_count, quotients, code_of, magnitude_expr, division_of, turns_sign, quotient_to, jump_to}
+use Rattle.isp_wasm.specs.Templates.{mask_bits, mask_of, numbers_part, range_count, quotients, code_of, magnitude_expr, division_of, turns_sign, quotient_to, jump_to, call_code}
 use Rattle.isp_wasm.proofs.Typed.{both, same, one, two, select, bitselect, number, unary_typed, compare_typed, plain_typed, whole_typed, below_typed, convert_typed, zero_typed, negated, magnitude_typed, low, lane_typed, cell_typed, source, widened_typed, part_low, unary_row_typed, compare_row_typed, plain_row_typed, present_typed, narrowed_typed, by_lane_typed}
 
 -- ---- how many parts
@@ -75,7 +75,7 @@ fresh_low n I16x8 j h = omega (arith, h)
 fresh_low n I32x4 j h = omega (arith, h)
 fresh_low n I64x2 j h = h
 
-source_low : (lanes : ℕ) (s : Shape) (j : ℕ) → j < parts_for lanes s → source s j < parts_for lanes I8x16
+pub source_low : (lanes : ℕ) (s : Shape) (j : ℕ) → j < parts_for lanes s → source s j < parts_for lanes I8x16
 source_low n I8x16 j h = h
 source_low n I16x8 j h = omega (arith, h)
 source_low n I32x4 j h = omega (arith, h)
@@ -112,8 +112,9 @@ pub record HasTypes (w : Setting) (local : ℕ → Option ValueType) : Type 0 wh
   pub fresh : (j : ℕ) → j < parts w I64x2 → local (w.local (Fresh j)) ≡ Some V128
   pub spares : (t : Size) → local (w.local (Spare t 0)) ≡ Some (sized t)
   pub seen : local (w.local (Spare wasm.I32 1)) ≡ Some valued.I32
+  pub depth : local (w.local Depth) ≡ Some valued.I32
 
-module _ (w : Setting) (local : ℕ → Option ValueType) (result : Option ValueType) (typed : HasTypes w local) where
+module _ (w : Setting) (local : ℕ → Option ValueType) (functions : List Function) (result : Option ValueType) (typed : HasTypes w local) where
   abbrev pub T : Expr → ValueType → Type 0
   T e t = has_type local e t ≡ true
 
@@ -121,7 +122,7 @@ module _ (w : Setting) (local : ℕ → Option ValueType) (result : Option Value
   V e t = T e (sized (size_of t))
 
   abbrev pub C : ℕ → Code → Type 0
-  C d c = is_valid local result d c ≡ true
+  C d c = is_valid local functions result d c ≡ true
 
   abbrev pub Is : Register → Type 0
   Is x = IsThere w.routine class.Scalar x
@@ -138,11 +139,11 @@ module _ (w : Setting) (local : ℕ → Option ValueType) (result : Option Value
   -- ---- code
 
   pub then_valid : (d : ℕ) (a b : Code) → C d a → C d b → C d (Then a b)
-  then_valid d a b p q = both (is_valid local result d a) (is_valid local result d b) p q
+  then_valid d a b p q = both (is_valid local functions result d a) (is_valid local functions result d b) p q
 
   pub if_valid : (d : ℕ) (c : Expr) (a b : Code) → T c valued.I32 → C (suc d) a → C (suc d) b → C d (If c a b)
   if_valid d c a b h p q =
-      both (has_type local c valued.I32) (is_valid local result (suc d) a && is_valid local result (suc d) b) h (both (is_valid local result (suc d) a) (is_valid local result (suc d) b) p q)
+      both (has_type local c valued.I32) (is_valid local functions result (suc d) a && is_valid local functions result (suc d) b) h (both (is_valid local functions result (suc d) a) (is_valid local functions result (suc d) b) p q)
 
   pub set_valid : (d x : ℕ) (e : Expr) (t : ValueType) → local x ≡ Some t → T e t → C d (Set x e)
   set_valid d x e t at h = ap (of_type local e) at ∙ h
@@ -165,7 +166,7 @@ module _ (w : Setting) (local : ℕ → Option ValueType) (result : Option Value
 
   -- ---- registers
 
-  scalar_at : (x : Register) → Is x → (t : Elem) → elem w x ≡ t → local (w.local (ScalarAt x.number)) ≡ Some (sized (size_of t))
+  pub scalar_at : (x : Register) → Is x → (t : Elem) → elem w x ≡ t → local (w.local (ScalarAt x.number)) ≡ Some (sized (size_of t))
   scalar_at x is t e = typed.scalars x is ∙ ap (λ t. Some (sized (size_of t))) e
 
   pub scalar_typed : (x : Register) → Is x → (t : Elem) → elem w x ≡ t → V (scalar_local w x) t
@@ -227,7 +228,7 @@ module _ (w : Setting) (local : ℕ → Option ValueType) (result : Option Value
   pub modulo_typed : (n : ℕ) (i : Expr) → T i valued.I32 → T (modulo w n i) valued.I32
   modulo_typed n i h = two local (BitsOf wasm.I32 And) i (Const32 (n - 1)) refl h refl
 
-  plus_typed : (i : Expr) (p : ℕ) → T i valued.I32 → T (plus w i p) valued.I32
+  pub plus_typed : (i : Expr) (p : ℕ) → T i valued.I32 → T (plus w i p) valued.I32
   plus_typed i p h = two local (Of wasm.I32 Add) i (Const32 p) refl h refl
 
   pub exchange_typed : (e : Exchange) (x i k : Register) → IsV x → Is i → elem w i ≡ I32 → IsM k → (p : ℕ) → V (exchange_expr w e x i k p) (elem w x)
@@ -618,43 +619,52 @@ module _ (w : Setting) (local : ℕ → Option ValueType) (result : Option Value
   gives_valid (GivesScalar t) (Some x) e is n = ap (λ r. gives local r (Some (scalar_local w x))) e ∙ scalar_typed x is.0 t is.1
   gives_valid (GivesVector t) x e is n = absurd e
 
+  -- the mask of a call is one
+  mask_last : (xs : List Register) (k : Register) → AllFine w.code w.routine (map any_register xs ++ MaskOperand k ∷ []) → IsM k
+  mask_last [] k f = f.0
+  mask_last (x ∷ xs) k f = mask_last xs k f.1
+
+  mask_of_call : (c : Call) (x : Option Register) → AllFine w.code w.routine (result_operands x ++ (AnyRegister c.mask ∷ PlaceOperand c.place ∷ (map any_register c.arguments ++ MaskOperand c.mask ∷ []))) → IsM c.mask
+  mask_of_call c None f = mask_last c.arguments c.mask (f.1).1
+  mask_of_call c (Some x) f = mask_last c.arguments c.mask ((f.1).1).1
+
   -- behind so many labels, of which the last is the loop's
-  pub line_valid : Gives w.routine.returns → (n k : ℕ) → k < n → (i : Instr) → has_form i ≡ true → Fine (operands i) → C n (code_of w k i)
-  line_valid g n k h (instr.Scalar d i) form f = scalars_valid n d i f
-  line_valid g n k h (instr.Vector d i) form f = vectors_valid n d i f
-  line_valid g n k h (instr.Mask d i) form f = masks_valid n d i f
-  line_valid g n k h (instr.Divide o d x y m q) form f = quotients_valid n d.class o d x y m q refl f
-  line_valid g n k h (instr.Store a i y m q) form f =
+  pub line_valid : Gives w.routine.returns → (n k : ℕ) → k < n → (i : Instr) → ((c : Call) → i ≡ instr.Call c → CallFine w.code w.routine c → IsM c.mask → C n (call_code w c)) → has_form i ≡ true → Fine (operands i) → CallsFine w.code w.routine i → C n (code_of w k i)
+  line_valid g n k h (instr.Scalar d i) called form f fits = scalars_valid n d i f
+  line_valid g n k h (instr.Vector d i) called form f fits = vectors_valid n d i f
+  line_valid g n k h (instr.Mask d i) called form f fits = masks_valid n d i f
+  line_valid g n k h (instr.Divide o d x y m q) called form f fits = quotients_valid n d.class o d x y m q refl f
+  line_valid g n k h (instr.Store a i y m q) called form f fits =
       then_valid n (checked w a i m q) (Store (bytes_of (elem w a)) (address_at w a (scalar_local w i)) 0 (scalar_local w y)) (checked_valid n a i m q (f.0).0 ((f.1).0).0 ((f.1).0).1 (((f.1).1).1).0)
       (store_valid n (elem w a) (address_at w a (scalar_local w i)) (scalar_local w y) (address_typed a (f.0).0 (scalar_local w i) (scalar_typed i ((f.1).0).0 I64 ((f.1).0).1)) (scalar_typed y (((f.1).1).0).0 (elem w a) (((f.1).1).0).1))
-  line_valid g n k h (instr.Scatter a i y m q) form f =
+  line_valid g n k h (instr.Scatter a i y m q) called form f fits =
       let ks = (((f.1).1).1).0 in
       then_valid n (lane_checks w a (own_index w i) m q) (lane_stores w a (own_index w i) y m) (checks_valid n a (own_index w i) m q (f.0).0 ks (own_typed i ((f.1).0).0 ((f.1).0).1))
       (stores_valid n a (own_index w i) y m (f.0).0 (((f.1).1).0).0 (((f.1).1).0).1 ks (own_typed i ((f.1).0).0 ((f.1).0).1))
-  line_valid g n k h (instr.StoreRun a i y m q) form f =
+  line_valid g n k h (instr.StoreRun a i y m q) called form f fits =
       let ks = (((f.1).1).1).0 in
       then_valid n (lane_checks w a (run_index w i) m q) (lane_stores w a (run_index w i) y m) (checks_valid n a (run_index w i) m q (f.0).0 ks (run_typed i ((f.1).0).0 ((f.1).0).1))
       (stores_valid n a (run_index w i) y m (f.0).0 (((f.1).1).0).0 (((f.1).1).0).1 ks (run_typed i ((f.1).0).0 ((f.1).0).1))
-  line_valid g n k h (instr.PackedStore d a i y m q) form f =
+  line_valid g n k h (instr.PackedStore d a i y m q) called form f fits =
       let ks = ((((f.1).1).1).1).0 in
       let index = packed_typed i m (((f.1).1).0).0 (((f.1).1).0).1 ks in
       then_valid n (lane_checks w a (packed_index w i m) m q) (Then (lane_stores w a (packed_index w i m) y m) (set_count w d m)) (checks_valid n a (packed_index w i m) m q ((f.1).0).0 ks index)
       (then_valid n (lane_stores w a (packed_index w i m) y m) (set_count w d m) (stores_valid n a (packed_index w i m) y m ((f.1).0).0 ((((f.1).1).1).0).0 ((((f.1).1).1).0).1 ks index) (count_valid n d m (f.0).0 (f.0).1 ks))
-  line_valid g n k h (instr.PackedLoad d a i y m q) form f =
+  line_valid g n k h (instr.PackedLoad d a i y m q) called form f fits =
       let ks = ((((f.1).1).1).1).0 in
       then_valid n (lane_loads w y a (packed_index w i m) m q) (set_count w d m)
       (loads_valid n y a (packed_index w i m) m q ((((f.1).1).1).0).0 ((f.1).0).0 (sym ((((f.1).1).1).0).1) ks (packed_typed i m (((f.1).1).0).0 (((f.1).1).0).1 ks)) (count_valid n d m (f.0).0 (f.0).1 ks)
-  line_valid g n k h (instr.Jump to) form f = jump_valid n k to h
-  line_valid g n k h (instr.JumpIf jump.False x to) form f = jump_if n k to (One (Eqz wasm.I32) (scalar_local w x)) h (one local (Eqz wasm.I32) (scalar_local w x) refl (scalar_typed x (f.0).0 Truth (f.0).1))
-  line_valid g n k h (instr.JumpIf jump.True x to) form f = jump_if n k to (scalar_local w x) h (scalar_typed x (f.0).0 Truth (f.0).1)
-  line_valid g n k h (instr.JumpIf jump.Off x to) form f = jump_if n k to (One (Eqz wasm.I32) (lanes_as_bits w x)) h (one local (Eqz wasm.I32) (lanes_as_bits w x) refl (bits_typed x f.0))
-  line_valid g n k h (instr.JumpIf jump.On x to) form f = jump_if n k to (lanes_as_bits w x) h (bits_typed x f.0)
-  line_valid g n k h (instr.JumpIf jump.All x to) form f =
+  line_valid g n k h (instr.Jump to) called form f fits = jump_valid n k to h
+  line_valid g n k h (instr.JumpIf jump.False x to) called form f fits = jump_if n k to (One (Eqz wasm.I32) (scalar_local w x)) h (one local (Eqz wasm.I32) (scalar_local w x) refl (scalar_typed x (f.0).0 Truth (f.0).1))
+  line_valid g n k h (instr.JumpIf jump.True x to) called form f fits = jump_if n k to (scalar_local w x) h (scalar_typed x (f.0).0 Truth (f.0).1)
+  line_valid g n k h (instr.JumpIf jump.Off x to) called form f fits = jump_if n k to (One (Eqz wasm.I32) (lanes_as_bits w x)) h (one local (Eqz wasm.I32) (lanes_as_bits w x) refl (bits_typed x f.0))
+  line_valid g n k h (instr.JumpIf jump.On x to) called form f fits = jump_if n k to (lanes_as_bits w x) h (bits_typed x f.0)
+  line_valid g n k h (instr.JumpIf jump.All x to) called form f fits =
       jump_if n k to (Two (wasm.Compare wasm.I32 Eq) (lanes_as_bits w x) (Const32 (2 ^ gang w - 1))) h (two local (wasm.Compare wasm.I32 Eq) (lanes_as_bits w x) (Const32 (2 ^ gang w - 1)) refl (bits_typed x f.0) refl)
-  line_valid g n k h (instr.Say t) form f = refl
-  line_valid g n k h (instr.Fail x q) form f = if_valid n (lanes_as_bits w x) (fault w 2 q (lowest_of w x)) Skip (bits_typed x f.0) (lowest_typed x f.0) refl
-  line_valid g n k h (instr.Return x) form f = gives_valid w.routine.returns x g f.0 n
-  line_valid g n k h (instr.Clear a m) form f = absurd cc
-  line_valid g n k h (instr.PrintScalar x) form f = absurd cc
-  line_valid g n k h (instr.PrintVector x m) form f = absurd cc
-  line_valid g n k h (instr.Call c) form f = absurd cc
+  line_valid g n k h (instr.Say t) called form f fits = refl
+  line_valid g n k h (instr.Fail x q) called form f fits = if_valid n (lanes_as_bits w x) (fault w 2 q (lowest_of w x)) Skip (bits_typed x f.0) (lowest_typed x f.0) refl
+  line_valid g n k h (instr.Return x) called form f fits = gives_valid w.routine.returns x g f.0 n
+  line_valid g n k h (instr.Clear a m) called form f fits = absurd cc
+  line_valid g n k h (instr.PrintScalar x) called form f fits = absurd cc
+  line_valid g n k h (instr.PrintVector x m) called form f fits = absurd cc
+  line_valid g n k h (instr.Call c) called form f fits = called c refl fits (mask_of_call c c.result f)

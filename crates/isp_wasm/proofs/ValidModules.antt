@@ -1,5 +1,5 @@
 -- The functions of the module of accepted code are valid.
-use Rattle.std.proofs.Common.{◌≡◌, ℕ, zero, suc, ◌+◌, ◌-◌, ◌<◌, ◌≤◌, ◌⊎◌, inl, inr, List, [], ◌∷◌, ◌++◌, length, map, take, Option, Some, None, Bool, true, false, not, ◌&&◌, refl, sym, ap, ◌∙◌, subst, append-nil, arith}
+use Rattle.std.proofs.Common.{◌≡◌, ℕ, zero, suc, ◌+◌, ◌-◌, ◌<◌, ◌≤◌, ◌⊎◌, inl, inr, List, [], ◌∷◌, ◌++◌, length, map, take, Option, Some, None, Bool, true, false, not, ◌&&◌, refl, sym, ap, ◌∙◌, subst, arith}
 use Rattle.std.specs.Prelude.{slice_get, slice_index_or, ◌==◌, if◌then◌else◌}
 use Rattle.std.specs.List.{list_all, list_any}
 use Rattle.std.proofs.lemmas.Bool.{cases_lt}
@@ -10,12 +10,13 @@ use Rattle.isp_base.specs.Sets.{everyone}
 use Rattle.isp_base.specs.Types.{gang_width}
 use Rattle.isp_base.specs.declared.types.Elem.TheVariants.{Bool as Truth}
 use Rattle.isp_code.specs.Entries.{result_of}
-use Rattle.isp_code.specs.Fine.{AllFine, IsThere}
+use Rattle.isp_code.specs.Fine.{AllFine, CallFine, CallsFine, IsThere}
 use Rattle.isp_code.specs.Listing.{Listing, Routine}
 use Rattle.isp_code.specs.Operands.{operands}
-use Rattle.isp_code.specs.Registers.{param_elems, scalars_of, vectors_of, arrays_of, local_elem, types_in, table_of}
+use Rattle.isp_code.specs.Registers.{param_elems, scalars_of, vectors_of, arrays_of, types_in, table_of}
 use Rattle.isp_code.specs.declared.function.Returns.{Returns}
 use Rattle.isp_code.specs.declared.function.Returns.TheVariants.{Nothing, Scalar as GivesScalar, Vector as GivesVector}
+use Rattle.isp_code.specs.declared.instr.Call.{Call}
 use Rattle.isp_code.specs.declared.instr.Instr.{Instr}
 use Rattle.isp_code.specs.declared.instr.Instr.TheVariants as instr
 use Rattle.isp_code.specs.declared.register.Class.TheVariants as class
@@ -31,17 +32,18 @@ use Rattle.isp_wasm_meaning.specs.Syntax.{I8x16, I64x2, Code, Set, Block, BrTabl
 use Rattle.isp_wasm_meaning.specs.Valid.{sized, has_type, is_label, is_valid, ends_there, may_end, is_valid_function}
 use Rattle.isp_wasm.specs.Entry.{entry_code}
 use Rattle.isp_wasm.specs.Kernel.{ModulesValid}
-use Rattle.isp_wasm.specs.Locals.{row, param_places, vector_places, mask_places, own_places, local_in}
-use Rattle.isp_wasm.specs.Module.{heads_of, has_form, is_covered, numbered, type_of, given, kernel_of, function_of}
-use Rattle.isp_wasm.specs.Places.{Setting, Place, Counter, Scalar, Vector, Mask, Base, Count, Fresh, Spare, gang, parts, parts_for, elem, shape_of, size_of}
+use Rattle.isp_wasm.specs.Locals.{row, param_places, taken_from, taken_places, vector_places, mask_places, own_places, local_at}
+use Rattle.isp_wasm.specs.Module.{heads_of, has_form, is_plain, all_plain, is_covered, has_call, is_called, given_type, numbered, type_of, kernel_of, inner_of, function_of, inner_function, inner_functions, module_of}
+use Rattle.isp_wasm.specs.Places.{Setting, Place, Counter, Scalar, Vector, Mask, Base, Count, Fresh, Spare, Depth, gang, parts, parts_for, elem, shape_of, size_of}
 use Rattle.isp_wasm.specs.Standing.{scalar_register}
-use Rattle.isp_wasm.specs.Templates.{each, mask_part, code_at, span, rung, function_code}
-use Rattle.isp_wasm.proofs.Heads.{up}
-use Rattle.isp_wasm.proofs.Kernels.{forms, none, gives_none, all_at}
-use Rattle.isp_wasm.proofs.LocalTypes.{Has, has_left, has_right, local_type, row_has, has_scalar, has_array, has_vector, has_mask}
-use Rattle.isp_wasm.proofs.Passing.{both_second}
+use Rattle.isp_wasm.specs.Templates.{each, mask_part, call_code, code_at, span, rung, function_code}
+use Rattle.isp_wasm.proofs.Inner.{inner_at}
+use Rattle.isp_wasm.proofs.Plain.{covered_plain, covered_calls, forms, gives_none, heads_rise, arrays_are, all_at}
+use Rattle.isp_wasm.proofs.LocalTypes.{Has, has_next, has_left, has_right, local_type, row_has, has_scalar, has_array, has_vector, has_mask, has_taken_scalar, has_taken_array}
+use Rattle.isp_wasm.proofs.Passing.{both_first, both_second}
 use Rattle.isp_wasm.proofs.Typed.{both}
 use Rattle.isp_wasm.proofs.ValidLines.{HasTypes, Gives, gang_low, few_parts, then_valid, each_valid, set_valid, local_typed, label, line_valid}
+use Rattle.isp_wasm.proofs.ValidCalls.{call_valid}
 
 some_masks : (n : ℕ) → not (n == 0) ≡ true → 0 < n
 some_masks zero e = absurd cc
@@ -53,20 +55,22 @@ ended (Some t) c e = e
 
 -- ---- control
 
-module _ (w : Setting) (local : ℕ → Option ValueType) (result : Option ValueType) (typed : HasTypes w local) (back : Gives w local result typed w.routine.returns)
-    (forms : list_all has_form w.routine.code ≡ true) (fine : (pc : ℕ) (i : Instr) → slice_get w.routine.code pc ≡ Some i → AllFine w.code w.routine (operands i))
+module _ (w : Setting) (local : ℕ → Option ValueType) (functions : List Function) (result : Option ValueType) (typed : HasTypes w local) (back : Gives w local functions result typed w.routine.returns)
+    (forms : list_all has_form w.routine.code ≡ true) (fine : (pc : ℕ) (i : Instr) → slice_get w.routine.code pc ≡ Some i → AllFine w.code w.routine (operands i) × CallsFine w.code w.routine i)
+    (calls : (pc n : ℕ) (c : Call) → slice_get w.routine.code pc ≡ Some (instr.Call c) → CallFine w.code w.routine c → IsThere w.routine class.Mask c.mask → is_valid local functions result n (call_code w c) ≡ true)
     (up : (k : ℕ) → k < w.rungs → w.heads k < w.heads (suc k)) (end : w.heads w.rungs ≡ length w.routine.code) where
   abbrev pub C : ℕ → Code → Type 0
-  C d c = is_valid local result d c ≡ true
+  C d c = is_valid local functions result d c ≡ true
 
   at_valid : (n k pc : ℕ) → k < n → (o : Option Instr) → slice_get w.routine.code pc ≡ o → pc < length w.routine.code → C n (code_at w k o)
   at_valid n k pc h None e low = absurd (let some = slice_get-get_or w.routine.code pc (instr.Jump 0) low in let impossible : None ≡ Some (get_or w.routine.code pc (instr.Jump 0)) = sym e ∙ some in cc)
-  at_valid n k pc h (Some i) e low = line_valid w local result typed back n k h i (all_at has_form w.routine.code pc i forms e) (fine pc i e)
+  at_valid n k pc h (Some i) e low =
+      line_valid w local functions result typed back n k h i (λ c same. calls pc n c (e ∙ ap Some same)) (all_at has_form w.routine.code pc i forms e) (fine pc i e).0 (fine pc i e).1
 
   span_valid : (n k pc m : ℕ) → k < n → pc + m ≤ length w.routine.code → C n (span w k pc m)
   span_valid n k pc zero h le = refl
   span_valid n k pc (suc m) h le =
-      then_valid w local result typed n (code_at w k (slice_get w.routine.code pc)) (span w k (pc + 1) m) (at_valid n k pc h (slice_get w.routine.code pc) refl (omega (arith, le))) (span_valid n k (pc + 1) m h (omega (arith, le)))
+      then_valid w local functions result typed n (code_at w k (slice_get w.routine.code pc)) (span w k (pc + 1) m) (at_valid n k pc h (slice_get w.routine.code pc) refl (omega (arith, le))) (span_valid n k (pc + 1) m h (omega (arith, le)))
 
   heads_below : (d k : ℕ) → k + d ≡ w.rungs → w.heads k ≤ length w.routine.code
   heads_below zero k e = subst (λ j. w.heads j ≤ length w.routine.code) (let same : w.rungs ≡ k = omega (arith, e) in same) (let is = end in omega (arith, is))
@@ -74,101 +78,110 @@ module _ (w : Setting) (local : ℕ → Option ValueType) (result : Option Value
 
   labels_valid : (n m j : ℕ) → j + m ≤ n → list_all (is_label local result n) (counting m j) ≡ true
   labels_valid n zero j h = refl
-  labels_valid n (suc m) j h = both (is_label local result n j) (list_all (is_label local result n) (counting m (suc j))) (label w local result typed result n j (omega (arith, h))) (labels_valid n m (suc j) (omega (arith, h)))
+  labels_valid n (suc m) j h = both (is_label local result n j) (list_all (is_label local result n) (counting m (suc j))) (label w local functions result typed result n j (omega (arith, h))) (labels_valid n m (suc j) (omega (arith, h)))
 
   ladder_valid : (k d : ℕ) → 0 < d → d + k ≡ suc w.rungs → C d (ladder (w.local Counter) (rung w) w.rungs k)
   ladder_valid zero d some e =
       both (list_all (is_label local result d) (counting w.rungs 0)) (is_label local result d w.rungs && has_type local (Local (w.local Counter)) valued.I32) (labels_valid d w.rungs 0 (omega (arith, e)))
-      (both (is_label local result d w.rungs) (has_type local (Local (w.local Counter)) valued.I32) (label w local result typed result d w.rungs (omega (arith, e))) (local_typed w local result typed (w.local Counter) valued.I32 typed.counter))
+      (both (is_label local result d w.rungs) (has_type local (Local (w.local Counter)) valued.I32) (label w local functions result typed result d w.rungs (omega (arith, e))) (local_typed w local functions result typed (w.local Counter) valued.I32 typed.counter))
   ladder_valid (suc k) d some e =
-      then_valid w local result typed d (Block (ladder (w.local Counter) (rung w) w.rungs k)) (rung w k) (ladder_valid k (suc d) (omega arith) (omega (arith, e)))
+      then_valid w local functions result typed d (Block (ladder (w.local Counter) (rung w) w.rungs k)) (rung w k) (ladder_valid k (suc d) (omega arith) (omega (arith, e)))
       (span_valid d (w.rungs - suc k) (w.heads k) (w.heads (suc k) - w.heads k) (omega (arith, some, e))
       (let less = up k (omega (arith, some, e)) in let below = heads_below (w.rungs - suc k) (suc k) (omega (arith, some, e)) in omega (arith, less, below)))
 
+  code_valid : C 0 (function_code w)
+  code_valid = then_valid w local functions result typed 0 (dispatched (w.local Counter) (rung w) w.rungs) Unreachable (ladder_valid w.rungs 1 (omega arith) (omega arith)) refl
+
   entry_valid : 0 < w.routine.masks → C 0 (entry_code w)
   entry_valid some =
-      then_valid w local result typed 0 (each (parts w I8x16) (λ j. Set (w.local (Mask 0 j)) (Const128 (mask_part (everyone (gang w)) j)))) (function_code w)
-      (each_valid w local result typed 0 (parts w I8x16) (λ j. Set (w.local (Mask 0 j)) (Const128 (mask_part (everyone (gang w)) j)))
-      (λ j l. set_valid w local result typed 0 (w.local (Mask 0 j)) (Const128 (mask_part (everyone (gang w)) j)) V128 (typed.masks (record { class = class.Mask; number = 0 }) (refl, some) j (few_parts (gang w) j (gang_low w.code.gang) l)) refl))
-      (then_valid w local result typed 0 (dispatched (w.local Counter) (rung w) w.rungs) Unreachable (ladder_valid w.rungs 1 (omega arith) (omega arith)) refl)
+      then_valid w local functions result typed 0 (each (parts w I8x16) (λ j. Set (w.local (Mask 0 j)) (Const128 (mask_part (everyone (gang w)) j)))) (function_code w)
+      (each_valid w local functions result typed 0 (parts w I8x16) (λ j. Set (w.local (Mask 0 j)) (Const128 (mask_part (everyone (gang w)) j)))
+      (λ j l. set_valid w local functions result typed 0 (w.local (Mask 0 j)) (Const128 (mask_part (everyone (gang w)) j)) V128 (typed.masks (record { class = class.Mask; number = 0 }) (refl, some) j (few_parts (gang w) j (gang_low w.code.gang) l)) refl))
+      code_valid
 
 -- ---- a function
 
-module _ (code : Listing) (h : Routine) (f : ℕ) (accepted : IsFine code) (found : slice_get code.routines f ≡ Some h) (exported : h.exported ≡ true) (covers : is_covered code h ≡ true) where
+-- whose parameters are these places
+module _ (code : Listing) (h : Routine) (f : ℕ) (accepted : IsFine code) (found : slice_get code.routines f ≡ Some h) (plain : is_plain code h ≡ true) (qs : List Place)
+    (scalars_in : (r : ℕ) → r < length (param_elems class.Scalar h.params) → Has qs (Scalar r)) (arrays_in : (a : ℕ) → a < length (param_elems class.Array h.params) → Has qs (Base a) × Has qs (Count a)) where
+  abbrev pub w : Setting
+  w = record (numbered code h) { local = local_at (qs ++ own_places (gang_width code.gang) h) }
+
   lanes : ℕ
   lanes = gang_width code.gang
 
   places : List Place
-  places = param_places h ++ own_places (gang_width code.gang) h
+  places = qs ++ own_places (gang_width code.gang) h
 
   locals : ℕ → Option ValueType
-  locals = slice_get (map (type_of code h) (param_places h) ++ map (type_of code h) (own_places (gang_width code.gang) h))
+  locals = slice_get (map (type_of code h) qs ++ map (type_of code h) (own_places (gang_width code.gang) h))
 
-  typed_at : (p : Place) → Has places p → locals (local_in (gang_width code.gang) h p) ≡ Some (type_of code h p)
+  typed_at : (p : Place) → Has places p → locals (w.local p) ≡ Some (type_of code h p)
   unfolding places locals
-  typed_at p has = local_type (type_of code h) (gang_width code.gang) h p has
+  typed_at p has = local_type (type_of code h) qs (own_places (gang_width code.gang) h) p has
 
   passed : ℕ
   passed = length (param_elems class.Scalar h.params)
 
   -- behind the four first
-  own_has : (p : Place) → Has (row (parts_for lanes I64x2) Fresh ++ (row (length h.scalars) (λ r. Scalar (passed + r)) ++ (vector_places lanes (vectors_of h) 0 ++ mask_places h.masks 0))) p → Has places p
+  own_has : (p : Place) → Has (row (parts_for lanes I64x2) Fresh ++ (row (length h.scalars) (λ r. Scalar (passed + r)) ++ (vector_places lanes (vectors_of h) 0 ++ (mask_places h.masks 0 ++ Depth ∷ [])))) p → Has places p
   unfolding places lanes passed
-  own_has p has = has_right (param_places h) (own_places (gang_width code.gang) h) p (suc (suc (suc (suc has.0))), has.1)
+  own_has p has = has_right qs (own_places (gang_width code.gang) h) p (suc (suc (suc (suc has.0))), has.1)
 
-  registers_has : (p : Place) → Has (vector_places lanes (vectors_of h) 0 ++ mask_places h.masks 0) p → Has places p
+  registers_has : (p : Place) → Has (vector_places lanes (vectors_of h) 0 ++ (mask_places h.masks 0 ++ Depth ∷ [])) p → Has places p
   registers_has p has =
-      own_has p (has_right (row (parts_for lanes I64x2) Fresh) (row (length h.scalars) (λ r. Scalar (passed + r)) ++ (vector_places lanes (vectors_of h) 0 ++ mask_places h.masks 0)) p
-      (has_right (row (length h.scalars) (λ r. Scalar (passed + r))) (vector_places lanes (vectors_of h) 0 ++ mask_places h.masks 0) p has))
+      own_has p (has_right (row (parts_for lanes I64x2) Fresh) (row (length h.scalars) (λ r. Scalar (passed + r)) ++ (vector_places lanes (vectors_of h) 0 ++ (mask_places h.masks 0 ++ Depth ∷ []))) p
+      (has_right (row (length h.scalars) (λ r. Scalar (passed + r))) (vector_places lanes (vectors_of h) 0 ++ (mask_places h.masks 0 ++ Depth ∷ [])) p has))
 
-  param_has : (p : Place) → Has (param_places h) p → Has places p
+  param_has : (p : Place) → Has qs p → Has places p
   unfolding places
-  param_has p has = has_left (param_places h) (own_places (gang_width code.gang) h) p has
+  param_has p has = has_left qs (own_places (gang_width code.gang) h) p has
 
   scalar_has : (r : ℕ) → r < length (scalars_of h) → Has places (Scalar r)
   unfolding passed
   scalar_has r lt = by (cases_lt r passed)
     where
       by : (r < passed) ⊎ (passed ≤ r) → Has places (Scalar r)
-      by (inl low) = param_has (Scalar r) (subst (λ n. Has (param_places h) (Scalar n)) (let same : 0 + r ≡ r = omega arith in same) (has_scalar h.params 0 0 r low))
+      by (inl low) = param_has (Scalar r) (scalars_in r low)
       by (inr le) =
-          own_has (Scalar r) (has_right (row (parts_for lanes I64x2) Fresh) (row (length h.scalars) (λ r. Scalar (passed + r)) ++ (vector_places lanes (vectors_of h) 0 ++ mask_places h.masks 0)) (Scalar r)
-          (has_left (row (length h.scalars) (λ r. Scalar (passed + r))) (vector_places lanes (vectors_of h) 0 ++ mask_places h.masks 0) (Scalar r)
+          own_has (Scalar r) (has_right (row (parts_for lanes I64x2) Fresh) (row (length h.scalars) (λ r. Scalar (passed + r)) ++ (vector_places lanes (vectors_of h) 0 ++ (mask_places h.masks 0 ++ Depth ∷ []))) (Scalar r)
+          (has_left (row (length h.scalars) (λ r. Scalar (passed + r))) (vector_places lanes (vectors_of h) 0 ++ (mask_places h.masks 0 ++ Depth ∷ [])) (Scalar r)
           (subst (λ n. Has (row (length h.scalars) (λ r. Scalar (passed + r))) (Scalar n)) (let same : passed + (r - passed) ≡ r = omega (arith, le) in same)
           (row_has (length h.scalars) (λ r. Scalar (passed + r)) (r - passed) (let all = length-append (param_elems class.Scalar h.params) h.scalars in omega (arith, lt, le, all))))))
 
   vector_has : (r j : ℕ) → r < length (vectors_of h) → j < parts_for lanes (shape_of (slice_index_or (vectors_of h) r Truth)) → Has places (Vector r j)
   vector_has r j lt l =
-      registers_has (Vector r j) (has_left (vector_places lanes (vectors_of h) 0) (mask_places h.masks 0) (Vector r j)
+      registers_has (Vector r j) (has_left (vector_places lanes (vectors_of h) 0) (mask_places h.masks 0 ++ Depth ∷ []) (Vector r j)
       (subst (λ n. Has (vector_places lanes (vectors_of h) 0) (Vector n j)) (let same : 0 + r ≡ r = omega arith in same) (has_vector lanes (vectors_of h) 0 r j lt l)))
 
   mask_has : (r j : ℕ) → r < h.masks → j < 2 → Has places (Mask r j)
   mask_has r j lt l =
-      registers_has (Mask r j) (has_right (vector_places lanes (vectors_of h) 0) (mask_places h.masks 0) (Mask r j)
-      (subst (λ n. Has (mask_places h.masks 0) (Mask n j)) (let same : 0 + r ≡ r = omega arith in same) (has_mask h.masks 0 r j lt l)))
+      registers_has (Mask r j) (has_right (vector_places lanes (vectors_of h) 0) (mask_places h.masks 0 ++ Depth ∷ []) (Mask r j) (has_left (mask_places h.masks 0) (Depth ∷ []) (Mask r j)
+      (subst (λ n. Has (mask_places h.masks 0) (Mask n j)) (let same : 0 + r ≡ r = omega arith in same) (has_mask h.masks 0 r j lt l))))
 
   fresh_has : (j : ℕ) → j < parts_for lanes I64x2 → Has places (Fresh j)
-  fresh_has j l = own_has (Fresh j) (has_left (row (parts_for lanes I64x2) Fresh) (row (length h.scalars) (λ r. Scalar (passed + r)) ++ (vector_places lanes (vectors_of h) 0 ++ mask_places h.masks 0)) (Fresh j) (row_has (parts_for lanes I64x2) Fresh j l))
+  fresh_has j l = own_has (Fresh j) (has_left (row (parts_for lanes I64x2) Fresh) (row (length h.scalars) (λ r. Scalar (passed + r)) ++ (vector_places lanes (vectors_of h) 0 ++ (mask_places h.masks 0 ++ Depth ∷ []))) (Fresh j) (row_has (parts_for lanes I64x2) Fresh j l))
+
+  depth_has : Has places Depth
+  depth_has =
+      registers_has Depth (has_right (vector_places lanes (vectors_of h) 0) (mask_places h.masks 0 ++ Depth ∷ []) Depth (has_right (mask_places h.masks 0) (Depth ∷ []) Depth (zero, refl)))
 
   array_has : (a : ℕ) → a < length (arrays_of h) → Has places (Base a) × Has places (Count a)
   array_has a lt =
-      let low : a < length (param_elems class.Array h.params) = subst (λ ts. a < length ts) (ap (λ ls. param_elems class.Array h.params ++ map local_elem ls) (none code h f accepted found exported covers) ∙ append-nil (param_elems class.Array h.params)) lt in
-      let has = has_array h.params 0 0 a low in
-      let same : 0 + a ≡ a = omega arith in
-      (param_has (Base a) (subst (λ n. Has (param_places h) (Base n)) same has.0), param_has (Count a) (subst (λ n. Has (param_places h) (Count n)) same has.1))
+      let has = arrays_in a (subst (λ ts. a < length ts) (arrays_are code h f accepted found plain) lt) in (param_has (Base a) has.0, param_has (Count a) has.1)
 
   first_has : (p : Place) (k : ℕ) → slice_get (own_places (gang_width code.gang) h) k ≡ Some p → Has places p
   unfolding places
-  first_has p k e = has_right (param_places h) (own_places (gang_width code.gang) h) p (k, e)
+  first_has p k e = has_right qs (own_places (gang_width code.gang) h) p (k, e)
 
   -- a register's type is that of its number
-  elem_at : (x : Register) → IsThere h class.Scalar x → elem (numbered code h) x ≡ elem (numbered code h) (scalar_register x.number)
+  elem_at : (x : Register) → IsThere h class.Scalar x → elem w x ≡ elem w (scalar_register x.number)
   elem_at x is = ap (λ c. slice_index_or (types_in (table_of h) c) x.number Truth) is.0
 
-  vector_elem : (x : Register) → IsThere h class.Vector x → elem (numbered code h) x ≡ slice_index_or (vectors_of h) x.number Truth
+  vector_elem : (x : Register) → IsThere h class.Vector x → elem w x ≡ slice_index_or (vectors_of h) x.number Truth
   vector_elem x is = ap (λ c. slice_index_or (types_in (table_of h) c) x.number Truth) is.0
 
-  has_types : HasTypes (numbered code h) locals
+  has_types : HasTypes w locals
   unfolding lanes
   has_types =
       record {
@@ -181,13 +194,20 @@ module _ (code : Listing) (h : Routine) (f : ℕ) (accepted : IsFine code) (foun
         fresh = λ j l. typed_at (Fresh j) (fresh_has j l);
         spares = spare_typed;
         seen = typed_at (Spare wasm.I32 1) (first_has (Spare wasm.I32 1) 2 refl);
+        depth = typed_at Depth depth_has;
       }
     where
-      spare_typed : (t : wasm.Size) → locals (local_in (gang_width code.gang) h (Spare t 0)) ≡ Some (sized t)
+      spare_typed : (t : wasm.Size) → locals (w.local (Spare t 0)) ≡ Some (sized t)
       spare_typed wasm.I32 = typed_at (Spare wasm.I32 0) (first_has (Spare wasm.I32 0) 1 refl)
       spare_typed wasm.I64 = typed_at (Spare wasm.I64 0) (first_has (Spare wasm.I64 0) 3 refl)
 
-  gives_back : (g : Returns) → gives_vector g ≡ false → Gives (numbered code h) locals (given code h (result_of g)) has_types g
+  functions : List Function
+  functions = (module_of code).functions
+
+  result : Option ValueType
+  result = given_type (result_of h.returns)
+
+  gives_back : (g : Returns) → gives_vector g ≡ false → Gives w locals functions (given_type (result_of g)) has_types g
   gives_back Nothing e = refl
   gives_back (GivesScalar t) e = refl
   gives_back (GivesVector t) e = absurd cc
@@ -198,23 +218,108 @@ module _ (code : Listing) (h : Routine) (f : ℕ) (accepted : IsFine code) (foun
       (both_second (names_differ h.params) (export_fits h.exported h && not (h.masks == 0)) (both_second (not (list_any (is_function h.name) (take f code.routines))) (names_differ h.params && (export_fits h.exported h && not (h.masks == 0)))
       (accepted.headers f h found))))
 
-  pub kernel_valid : is_valid_function (kernel_of code h) ≡ true
-  unfolding locals
-  kernel_valid =
-      both (is_valid locals (given code h (result_of h.returns)) 0 (entry_code (numbered code h))) (may_end (given code h (result_of h.returns)) (entry_code (numbered code h)))
-      (entry_valid (numbered code h) locals (given code h (result_of h.returns)) has_types (gives_back h.returns (gives_none code h f accepted found exported covers)) (forms code h f accepted found exported covers)
-      (λ pc i has. (accepted.lines f h found pc i has).0) (λ k lt. up h.code (length h.code) 0 (length h.code) (omega arith) k lt) (get_or_past (heads_of h.code) (length (heads_of h.code)) (length h.code) (omega arith)) masked) (ended (given code h (result_of h.returns)) (entry_code (numbered code h)) refl)
+  module _ (calling : (pc : ℕ) (k : Call) → slice_get h.code pc ≡ Some (instr.Call k) → all_plain code ≡ true) where
+    -- what is called is a function of the module
+    calls : (pc n : ℕ) (c : Call) → slice_get h.code pc ≡ Some (instr.Call c) → CallFine code h c → IsThere h class.Mask c.mask → is_valid locals functions result n (call_code w c) ≡ true
+    unfolding functions
+    calls pc n c has fine ks =
+        let g = fine.callee in
+        let all = calling pc c has in
+        call_valid w locals functions result has_types n c fine (inner_of code g)
+        (record {
+          place_type = type_of code g;
+          types = record { depth_is = refl; scalar_is = λ r. refl; vector_is = λ r j. refl; mask_is = λ r j. refl; base_is = λ a. refl; count_is = λ a. refl };
+          found = inner_at code h f pc c found has all g fine.found;
+          params_are = refl;
+          no_vector = gives_none code g c.function accepted fine.found (all_at (is_plain code) code.routines c.function g all fine.found);
+          result_is = refl;
+        })
+        ks
+
+    lines : (pc : ℕ) (i : Instr) → slice_get h.code pc ≡ Some i → AllFine code h (operands i) × CallsFine code h i
+    lines pc i has = accepted.lines f h found pc i has
+
+    heads_end : w.heads w.rungs ≡ length h.code
+    heads_end = get_or_past (heads_of h.code) (length (heads_of h.code)) (length h.code) (omega arith)
+
+    body_valid : is_valid locals functions result 0 (function_code w) ≡ true
+    unfolding result
+    body_valid =
+        code_valid w locals functions result has_types (gives_back h.returns (gives_none code h f accepted found plain)) (forms code h f accepted found plain) lines calls (heads_rise code h f accepted found plain) heads_end
+
+    whole_valid : is_valid locals functions result 0 (entry_code w) ≡ true
+    unfolding result
+    whole_valid =
+        entry_valid w locals functions result has_types (gives_back h.returns (gives_none code h f accepted found plain)) (forms code h f accepted found plain) lines calls (heads_rise code h f accepted found plain) heads_end masked
+
+    -- a function of this code
+    abbrev pub function_with : Option (List ℕ) → Code → Function
+    function_with name c = record { export = name; params = map (type_of code h) qs; result = given_type (result_of h.returns); locals = map (type_of code h) (own_places (gang_width code.gang) h); code = c }
+
+    pub inner_ends : is_valid_function (module_of code).functions (function_with None (function_code w)) ≡ true
+    unfolding locals functions result
+    inner_ends = both (is_valid locals functions result 0 (function_code w)) (may_end result (function_code w)) body_valid (ended result (function_code w) refl)
+
+    pub kernel_ends : is_valid_function (module_of code).functions (function_with (Some h.name) (entry_code w)) ≡ true
+    unfolding locals functions result
+    kernel_ends = both (is_valid locals functions result 0 (entry_code w)) (may_end result (entry_code w)) whole_valid (ended result (entry_code w) refl)
 
 -- ---- all of them
 
-function_valid : (code : Listing) (h : Routine) (f : ℕ) → IsFine code → slice_get code.routines f ≡ Some h → (a b : Bool) → h.exported ≡ a → is_covered code h ≡ b → is_valid_function (if a && b then kernel_of code h else unused) ≡ true
+from_zero : (n : ℕ) → 0 + n ≡ n
+from_zero n = omega arith
+
+kernel_valid : (code : Listing) (h : Routine) (f : ℕ) → IsFine code → slice_get code.routines f ≡ Some h → is_covered code h ≡ true → is_valid_function (module_of code).functions (kernel_of code h) ≡ true
+kernel_valid code h f accepted found covers =
+    kernel_ends code h f accepted found (covered_plain code h covers) (param_places h)
+    (λ r lt. subst (λ n. Has (param_places h) (Scalar n)) (from_zero r) (has_scalar h.params 0 0 r lt))
+    (λ a lt. (let has = has_array h.params 0 0 a lt in (subst (λ n. Has (param_places h) (Base n)) (from_zero a) has.0, subst (λ n. Has (param_places h) (Count n)) (from_zero a) has.1)))
+    (covered_calls code h covers)
+
+inner_valid : (code : Listing) (h : Routine) (f : ℕ) → IsFine code → slice_get code.routines f ≡ Some h → all_plain code ≡ true → is_valid_function (module_of code).functions (inner_of code h) ≡ true
+inner_valid code h f accepted found all =
+    inner_ends code h f accepted found (all_at (is_plain code) code.routines f h all found) (taken_places (gang_width code.gang) h) (λ r lt. behind (Scalar r) (subst (λ n. Has taken (Scalar n)) (from_zero r) (has_taken_scalar (gang_width code.gang) h.params 0 0 0 r lt)))
+    (λ a lt. (let has = has_taken_array (gang_width code.gang) h.params 0 0 0 a lt in (behind (Base a) (subst (λ n. Has taken (Base n)) (from_zero a) has.0), behind (Count a) (subst (λ n. Has taken (Count n)) (from_zero a) has.1))))
+    (λ pc k has. all)
+  where
+    taken : List Place
+    taken = taken_from (gang_width code.gang) h.params 0 0 0
+
+    behind : (p : Place) → Has (taken_from (gang_width code.gang) h.params 0 0 0) p → Has (taken_places (gang_width code.gang) h) p
+    behind p has = has_next Depth (row (parts_for (gang_width code.gang) I8x16) (Mask 0) ++ taken_from (gang_width code.gang) h.params 0 0 0) p (has_right (row (parts_for (gang_width code.gang) I8x16) (Mask 0)) (taken_from (gang_width code.gang) h.params 0 0 0) p has)
+
+function_valid : (code : Listing) (h : Routine) (f : ℕ) → IsFine code → slice_get code.routines f ≡ Some h → (a b : Bool) → h.exported ≡ a → is_covered code h ≡ b
+    → is_valid_function (module_of code).functions (if a && b then kernel_of code h else unused) ≡ true
 function_valid code h f accepted found false b e g = refl
 function_valid code h f accepted found true false e g = refl
-function_valid code h f accepted found true true e g = kernel_valid code h f accepted found e g
+function_valid code h f accepted found true true e g = kernel_valid code h f accepted found g
+
+called_valid : (code : Listing) (h : Routine) (f : ℕ) → IsFine code → slice_get code.routines f ≡ Some h → (a b : Bool) → all_plain code ≡ b → is_valid_function (module_of code).functions (if a && b then inner_of code h else unused) ≡ true
+called_valid code h f accepted found false b e = refl
+called_valid code h f accepted found true false e = refl
+called_valid code h f accepted found true true e = inner_valid code h f accepted found e
 
 all_map : (p : Function → Bool) (g : Routine → Function) (xs : List Routine) → ((k : ℕ) (x : Routine) → slice_get xs k ≡ Some x → p (g x) ≡ true) → list_all p (map g xs) ≡ true
 all_map p g [] h = refl
 all_map p g (x ∷ xs) h = both (p (g x)) (list_all p (map g xs)) (h zero x refl) (all_map p g xs (λ k y e. h (suc k) y e))
 
+all_inner : (p : Function → Bool) (code : Listing) (xs : List Routine) (i : ℕ) → ((k : ℕ) (x : Routine) → slice_get xs k ≡ Some x → p (inner_function code x (i + k)) ≡ true) → list_all p (inner_functions code i xs) ≡ true
+all_inner p code [] i h = refl
+all_inner p code (x ∷ xs) i h =
+    both (p (inner_function code x i)) (list_all p (inner_functions code (suc i) xs)) (subst (λ n. p (inner_function code x n) ≡ true) (let same : i + 0 ≡ i = omega arith in same) (h zero x refl))
+    (all_inner p code xs (suc i) (λ k y e. subst (λ n. p (inner_function code y n) ≡ true) (let same : i + suc k ≡ suc i + k = omega arith in same) (h (suc k) y e)))
+
+all_behind : (p : Function → Bool) (xs ys : List Function) → list_all p xs ≡ true → list_all p ys ≡ true → list_all p (xs ++ ys) ≡ true
+all_behind p [] ys h k = k
+all_behind p (x ∷ xs) ys h k = both (p x) (list_all p (xs ++ ys)) (both_first (p x) (list_all p xs) h) (all_behind p xs ys (both_second (p x) (list_all p xs) h) k)
+
+if_any : (p : Function → Bool) (b : Bool) (xs : List Function) → list_all p xs ≡ true → list_all p (if b then xs else []) ≡ true
+if_any p true xs h = h
+if_any p false xs h = refl
+
 pub modules_valid : ModulesValid
-modules_valid code accepted = all_map is_valid_function (function_of code) code.routines (λ k h e. function_valid code h k (accepted_fine code accepted) e h.exported (is_covered code h) refl refl)
+modules_valid code accepted =
+    all_behind (is_valid_function (module_of code).functions) (map (function_of code) code.routines) (if list_any has_call code.routines then inner_functions code 0 code.routines else [])
+    (all_map (is_valid_function (module_of code).functions) (function_of code) code.routines (λ k h e. function_valid code h k (accepted_fine code accepted) e h.exported (is_covered code h) refl refl))
+    (if_any (is_valid_function (module_of code).functions) (list_any has_call code.routines) (inner_functions code 0 code.routines)
+    (all_inner (is_valid_function (module_of code).functions) code code.routines 0 (λ k h e. called_valid code h k (accepted_fine code accepted) e (is_called code (0 + k)) (all_plain code) refl)))

@@ -1,18 +1,25 @@
 -- A function in WebAssembly does what its code does on the machine.
-use Rattle.std.specs.Prelude.{◌≡◌, ℕ, suc, ◌<◌, List, [], ◌∷◌, Option, Some, None}
+use Rattle.std.specs.Prelude.{◌≡◌, ℕ, suc, ◌^◌, ◌<◌, List, [], ◌∷◌, map, Option, Some, None, slice_get}
+use Rattle.isp_base.specs.Depths.{most_calls}
 use Rattle.isp_base.specs.Prefixes.{IsPrefix}
+use Rattle.isp_base.specs.Stores.{below}
+use Rattle.isp_base.specs.Values.{width}
 use Rattle.isp_base.specs.declared.trap.Trap.{Trap}
 use Rattle.isp_base.specs.declared.types.Value.{Value}
 use Rattle.isp_code.specs.Conf as machine
 use Rattle.isp_code.specs.Conf.{Conf, Frame}
-use Rattle.isp_code.specs.Calls.{with_result, resumed}
+use Rattle.isp_code.specs.Calls as calls
+use Rattle.isp_code.specs.Calls.{with_result, resumed, waits}
+use Rattle.isp_code.specs.Fine.{CallFine, IsGiven}
+use Rattle.isp_code.specs.declared.instr.Call.{Call}
+use Rattle.isp_code.specs.declared.instr.Instr.TheVariants as instr
 use Rattle.isp_code.specs.declared.register.Register.{Register}
 use Rattle.isp_wasm_meaning.specs.Ladder.{Told}
 use Rattle.isp_code.specs.Machine.{after}
-use Rattle.isp_wasm_meaning.specs.Meaning.{Report, State, Result, Fell, Branched, Returned, Trapped, OutOfFuel, run, left}
-use Rattle.isp_wasm.specs.Places.{Setting, Counter}
-use Rattle.isp_wasm.specs.Templates.{function_code}
-use Rattle.isp_wasm.specs.Standing.{Stands, Keeps, Ends, Fails, Cut, IsSettled, bits_of, report_of, the_machine}
+use Rattle.isp_wasm_meaning.specs.Meaning.{Report, State, Result, Fell, Branched, Returned, Trapped, OutOfFuel, run, left, value}
+use Rattle.isp_wasm.specs.Places.{Setting, Counter, elem}
+use Rattle.isp_wasm.specs.Templates.{called_number, arguments_of, function_code}
+use Rattle.isp_wasm.specs.Standing.{Stands, Keeps, Ends, Fails, Cut, IsSettled, bits_of, report_of, scalar_register, the_machine}
 use Rattle.isp_wasm.specs.Thin.{IsCovered, AllThin}
 
 abbrev pub out_of : Result → List ℕ
@@ -51,11 +58,37 @@ module _ (w : Setting) (c : Conf) where
     -- where the machine still runs after m instructions, its output is the beginning of that with the fuel m
     pub so_far : (m : ℕ) (d : Conf) → after w.code m (machine.Runs c) ≡ machine.Runs d → IsPrefix d.out (out_of (result m))
 
--- whatever the function's calls do, as it makes none; no call waits for it
+-- ---- calls
+
+module _ (w : Setting) where
+  -- what a register that gets the result of a call gets: the value that is returned, which is one of its type
+  abbrev pub Brings : Option Register → Option Register → Conf → Option ℕ → Type 0
+  Brings None None c v = v ≡ None
+  Brings (Some d) (Some x) c v = (v ≡ Some (c.scalars x.number)) × (c.scalars x.number < 2 ^ width (elem w (scalar_register d.number)))
+  Brings d x c v = ⊥
+
+  -- from before the first instruction of call k, which was made at c, the machine comes back to it
+  pub record Back (k : Call) (c d : Conf) (v : Option ℕ) (s : State) : Type 0 where
+    pub conf : Conf
+    pub steps : ℕ
+    pub register : Option Register
+    pub goes : after w.code steps (machine.Runs d) ≡ machine.Runs
+        (record (with_result conf k.result register (c.masks k.mask.number) (resumed conf (waits c k.result (c.masks k.mask.number)) c.waiting)) { out = conf.out })
+    pub brings : Brings k.result register conf v
+    pub out_is : s.out ≡ conf.out
+    pub keeps : Keeps w (below c.home.opened conf.arrays) s.memory s.size
+
+  -- with this fuel the functions that a function calls do what the machine's calls of them do
+  abbrev pub CallsAgree : ℕ → (ℕ → List ℕ → State → Result) → Type 0
+  CallsAgree f call =
+      (k : Call) (pc : ℕ) (c : Conf) (s : State) → slice_get w.routine.code pc ≡ Some (instr.Call k) → (fine : CallFine w.code w.routine k) → Stands w pc c s
+      → calls.depth c < most_calls → Told (the_machine w) (Back k c) f (calls.called c k fine.callee) (call (called_number w k) (map (value s.locals) (arguments_of w k)) s)
+
+-- no call waits for the function
 abbrev pub FunctionsAgree : Type 0
 FunctionsAgree =
-    (w : Setting) → IsSettled w → IsCovered w → AllThin w → w.waiting ≡ [] → (call : ℕ → ℕ → List ℕ → State → Result) (c : Conf) (s : State)
-    → s.locals (w.local Counter) < w.rungs
+    (w : Setting) → IsSettled w → IsCovered w → AllThin w → w.waiting ≡ [] → (call : ℕ → ℕ → List ℕ → State → Result)
+    → ((f : ℕ) → CallsAgree w f (call (suc f))) → (c : Conf) (s : State) → s.locals (w.local Counter) < w.rungs
     → Stands w (w.heads (s.locals (w.local Counter))) c s → Agrees w c (λ f. left (run f (call f) (function_code w) s))
 
 -- a call that waits goes on
@@ -63,6 +96,8 @@ pub record ComesBack (w : Setting) (fr : Frame) (rest : List Frame) (c : Conf) (
   pub conf : Conf
   pub steps : ℕ
   pub register : Option Register
+  pub given : IsGiven w.routine w.routine.returns register
+  pub fits : (r : ℕ) → conf.scalars r < 2 ^ width (elem w (scalar_register r))
   pub value_is : v ≡ bits_of w conf register
   pub goes : after w.code steps (machine.Runs c) ≡ machine.Runs
       (record (with_result conf fr.result register fr.under (resumed conf fr rest)) { out = conf.out })
@@ -73,5 +108,5 @@ pub record ComesBack (w : Setting) (fr : Frame) (rest : List Frame) (c : Conf) (
 abbrev pub CallsComeBack : Type 0
 CallsComeBack =
     (w : Setting) → IsSettled w → IsCovered w → AllThin w → (fr : Frame) (rest : List Frame) → w.waiting ≡ fr ∷ rest
-    → (call : ℕ → List ℕ → State → Result) (f : ℕ) (c : Conf) (s : State) → s.locals (w.local Counter) < w.rungs
+    → (call : ℕ → List ℕ → State → Result) (f : ℕ) → ((g : ℕ) → f ≡ suc g → CallsAgree w g call) → (c : Conf) (s : State) → s.locals (w.local Counter) < w.rungs
     → Stands w (w.heads (s.locals (w.local Counter))) c s → Told (the_machine w) (ComesBack w fr rest) f c (left (run f call (function_code w) s))

@@ -14,11 +14,11 @@ use Rattle.isp_code.specs.Conf.{Conf}
 use Rattle.isp_code.specs.Machine.{values, first_conf, outcome_after}
 use Rattle.isp_wasm_meaning.specs.Syntax.{I8x16, Code, Then, Set, Const128}
 use Rattle.isp_wasm_meaning.specs.Meaning.{Report, State, Result, Returned, Trapped, OutOfFuel, called, loaded}
-use Rattle.isp_wasm.specs.Places.{Setting, Counter, Scalar, Vector, Mask, Base, Count, elem, gang, parts, bytes_of}
+use Rattle.isp_wasm.specs.Places.{Setting, Counter, Scalar, Vector, Mask, Base, Count, Depth, elem, gang, parts, bytes_of}
 use Rattle.isp_wasm.specs.Templates.{each, mask_part, function_code}
 use Rattle.isp_wasm.specs.Standing.{Keeps, IsBeside, IsSettled, report_of, scalar_register}
 use Rattle.isp_wasm.specs.Thin.{IsCovered, AllThin}
-use Rattle.isp_wasm.specs.Agreement.{out_of, value_bits}
+use Rattle.isp_wasm.specs.Agreement.{CallsAgree, out_of, value_bits}
 
 module _ (w : Setting) where
   -- all lanes are on, and then the function's code
@@ -43,6 +43,7 @@ module _ (w : Setting) where
     pub masks_are : (r j : ℕ) → slice_index arguments (w.local (Mask r j)) ≡ 0
     pub bases : (a : ℕ) → slice_index arguments (w.local (Base a)) ≡ w.begins (w.home.named a)
     pub counts : (a : ℕ) → slice_index arguments (w.local (Count a)) ≡ w.home.sizes (w.home.named a)
+    pub depth_is : slice_index arguments (w.local Depth) ≡ 0
     pub keeps : Keeps w (first xs).arrays s.memory s.size
     pub silent : s.out ≡ []
 
@@ -79,9 +80,9 @@ module _ (w : Setting) where
     -- where the machine goes on, its output so far is the beginning of the call's
     pub so_far : (m : ℕ) (out : List ℕ) → outcome_after w.code w.home.fn w.routine xs m ≡ outcomes.GoesOn out → IsPrefix out (out_of (result m))
 
--- a module in which some function is this one, called by a host
+-- a module in which some function is this one, called by a host, and those that it calls do what the machine's calls do
 abbrev pub EntriesAgree : Type 0
 EntriesAgree =
     (w : Setting) → IsSettled w → IsCovered w → AllThin w → (module_code : ℕ → Code) (f : ℕ) → module_code f ≡ entry_code w
-    → (xs : List Argument) (arguments : List ℕ) (s : State) → IsCalled w xs arguments s
+    → ((n : ℕ) → CallsAgree w n (called module_code n)) → (xs : List Argument) (arguments : List ℕ) (s : State) → IsCalled w xs arguments s
     → SameOutcomes w xs (λ n. called module_code n f arguments s)

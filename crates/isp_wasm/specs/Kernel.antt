@@ -67,4 +67,4 @@ KernelsAgree =
 
 -- An engine takes the functions of the module of accepted code, by the types of their operators and locals.
 abbrev pub ModulesValid : Type 0
-ModulesValid = (code : Listing) → code_fault code ≡ None → list_all is_valid_function (module_of code).functions ≡ true
+ModulesValid = (code : Listing) → code_fault code ≡ None → list_all (is_valid_function (module_of code).functions) (module_of code).functions ≡ true

@@ -1,6 +1,6 @@
 -- What the verifier says of accepted code, and what else there is to ask of an instruction.
-use Rattle.std.specs.Prelude.{◌≡◌, Some, false}
-use Rattle.isp_code.specs.Fine.{AllFine, IsThere}
+use Rattle.std.specs.Prelude.{◌≡◌, false}
+use Rattle.isp_code.specs.Fine.{AllFine, CallFine, IsThere}
 use Rattle.isp_code.specs.Operands.{operands}
 use Rattle.isp_code.specs.Registers.{is_per_lane}
 use Rattle.isp_code.specs.declared.instr.Instr.{Instr}
@@ -8,7 +8,7 @@ use Rattle.isp_code.specs.declared.instr.Instr.TheVariants as instr
 use Rattle.isp_code.specs.declared.register.Class.TheVariants as class
 use Rattle.isp_code.specs.declared.register.Register.{Register}
 use Rattle.isp_wasm.specs.Places.{Setting, elem}
-use Rattle.isp_wasm.specs.Thin.{IsHead, IsThin}
+use Rattle.isp_wasm.specs.Thin.{IsHead, IsScalarResult, IsThin}
 
 module _ (w : Setting) where
   -- no lane has an array of its own, and each array lies in memory as it is declared
@@ -16,13 +16,13 @@ module _ (w : Setting) where
     pub shared : (a : Register) → is_per_lane w.routine a ≡ false
     pub stored_as : (a : Register) → IsThere w.routine class.Array a → w.elems (w.home.named a.number) ≡ elem w a
 
-  -- a form that has a template; a jump is to a rung
+  -- a form that has a template; a jump is to a rung, and a call fits what it calls
   abbrev pub HasTemplate : Instr → Type 0
   HasTemplate (instr.Clear a k) = ⊥
   HasTemplate (instr.PrintScalar x) = ⊥
   HasTemplate (instr.PrintVector x k) = ⊥
-  HasTemplate (instr.Call c) = ⊥
-  HasTemplate (instr.Return (Some x)) = x.class ≡ class.Scalar
+  HasTemplate (instr.Call k) = CallFine w.code w.routine k × IsScalarResult w k.result
+  HasTemplate (instr.Return x) = IsScalarResult w x
   HasTemplate (instr.Jump to) = IsHead w to
   HasTemplate (instr.JumpIf t x to) = IsHead w to
   HasTemplate i = Unit {0}

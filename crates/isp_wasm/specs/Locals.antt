@@ -8,7 +8,7 @@ use Rattle.isp_code.specs.declared.function.ParamKind.{ParamKind}
 use Rattle.isp_code.specs.declared.function.ParamKind.TheVariants as kind
 use Rattle.isp_code.specs.declared.register.Class.TheVariants as class
 use Rattle.isp_wasm_meaning.specs.Syntax as wasm
-use Rattle.isp_wasm.specs.Places.{Place, Counter, Scalar, Vector, Mask, Base, Count, Fresh, Spare, shape_of, parts_for}
+use Rattle.isp_wasm.specs.Places.{Place, Counter, Scalar, Vector, Mask, Base, Count, Fresh, Spare, Depth, shape_of, parts_for}
 
 -- ---- places in order
 
@@ -45,7 +45,21 @@ abbrev pub own_places : ℕ → Routine → List Place
 own_places lanes h =
     let passed = length (param_elems class.Scalar h.params) in
     Counter ∷ Spare wasm.I32 0 ∷ Spare wasm.I32 1 ∷ Spare wasm.I64 0 ∷ row (parts_for lanes wasm.I64x2) Fresh
-    ++ (row (length h.scalars) (λ r. Scalar (passed + r)) ++ (vector_places lanes (vectors_of h) 0 ++ mask_places h.masks 0))
+    ++ (row (length h.scalars) (λ r. Scalar (passed + r)) ++ (vector_places lanes (vectors_of h) 0 ++ (mask_places h.masks 0 ++ Depth ∷ [])))
+
+-- What a function is given that another one calls: how many calls wait, the mask of the call, and its parameters, a vector by
+-- its parts. So many scalars, vectors and arrays come before.
+abbrev pub taking : ℕ → ParamKind → Elem → (ℕ → ℕ → ℕ → List Place) → (scalars vectors arrays : ℕ) → List Place
+taking lanes kind.Scalar t more r v a = Scalar r ∷ more (suc r) v a
+taking lanes kind.Array t more r v a = Base a ∷ Count a ∷ more r v (suc a)
+taking lanes kind.Vector t more r v a = row (parts_for lanes (shape_of t)) (Vector v) ++ more r (suc v) a
+
+abbrev pub taken_from : ℕ → List Param → (scalars vectors arrays : ℕ) → List Place
+taken_from lanes [] r v a = []
+taken_from lanes (p ∷ ps) r v a = taking lanes p.kind p.elem (taken_from lanes ps) r v a
+
+abbrev pub taken_places : ℕ → Routine → List Place
+taken_places lanes h = Depth ∷ (row (parts_for lanes wasm.I8x16) (Mask 0) ++ taken_from lanes h.params 0 0 0)
 
 -- ---- their numbers
 
@@ -64,12 +78,19 @@ name_of (Count a) = 9 * a + 5
 name_of (Fresh j) = 9 * j + 6
 name_of (Spare wasm.I32 j) = 9 * j + 7
 name_of (Spare wasm.I64 j) = 9 * j + 8
+name_of Depth = 9
 
 -- where a number stands first in a list; one that does not stand there is counted on past its end
 abbrev pub position : List ℕ → ℕ → ℕ
 position [] x = x
 position (y ∷ ys) x = if nat_eq y x then 0 else suc (position ys x)
 
--- Each place that accepted code names is in the list.
+abbrev pub local_at : List Place → Place → ℕ
+local_at qs p = position (map name_of qs) (name_of p)
+
+-- Each place that accepted code names is in the list: in a function that a host calls, and in one that another one calls.
 abbrev pub local_in : ℕ → Routine → Place → ℕ
-local_in lanes h p = position (map name_of (param_places h ++ own_places lanes h)) (name_of p)
+local_in lanes h p = local_at (param_places h ++ own_places lanes h) p
+
+abbrev pub inner_local : ℕ → Routine → Place → ℕ
+inner_local lanes h p = local_at (taken_places lanes h ++ own_places lanes h) p

@@ -1,5 +1,5 @@
 -- The module that is made of code: its numbers are those of the code, and a function of it is as its code is.
-use Rattle.std.specs.Prelude.{ℕ, zero, suc, ◌+◌, ◌^◌, List, [], ◌∷◌, ◌++◌, length, map, Option, Some, None, Bool, true, false, ◌&&◌, ◌||◌, if◌then◌else◌, nat_eq, nat_lt, slice_index_or}
+use Rattle.std.specs.Prelude.{ℕ, zero, suc, ◌+◌, ◌^◌, List, [], ◌∷◌, ◌++◌, length, map, Option, Some, None, Bool, true, false, not, ◌&&◌, ◌||◌, if◌then◌else◌, nat_eq, nat_lt, slice_index_or}
 use Rattle.std.specs.List.{list_all, list_any}
 use Rattle.isp_base.specs.Types.{gang_width}
 use Rattle.isp_base.specs.declared.types.Elem.{Elem}
@@ -10,11 +10,13 @@ use Rattle.isp_code.specs.Entries.{result_of}
 use Rattle.isp_code.specs.declared.function.Local.{Local}
 use Rattle.isp_code.specs.declared.instr.Instr.{Instr}
 use Rattle.isp_code.specs.declared.instr.Instr.TheVariants as instr
+use Rattle.isp_verify.specs.Faults.{gives_vector}
 use Rattle.isp_wasm_meaning.specs.Valid.{sized}
 use Rattle.isp_wasm_meaning.specs.Module.{ValueType, I32, I64, V128, Function, Module, unused}
 use Rattle.isp_wasm.specs.Entry.{entry_code}
-use Rattle.isp_wasm.specs.Locals.{param_places, own_places, local_in, position}
-use Rattle.isp_wasm.specs.Places.{Setting, Place, Counter, Scalar, Base, Count, Spare, size_of}
+use Rattle.isp_wasm.specs.Locals.{param_places, taken_places, own_places, local_in, inner_local, position}
+use Rattle.isp_wasm.specs.Places.{Setting, Place, Counter, Scalar, Base, Count, Spare, Depth, size_of}
+use Rattle.isp_wasm.specs.Templates.{function_code}
 use Rattle.isp_wasm.specs.Standing.{scalar_register}
 
 -- ---- rungs
@@ -49,9 +51,8 @@ text_start (x ∷ xs) (suc t) = length x + text_start xs t
 
 -- ---- what is covered
 
--- no call, no array that a function opens, no text of a value
+-- no array that a function opens, no text of a value
 abbrev pub has_form : Instr → Bool
-has_form (instr.Call c) = false
 has_form (instr.Clear a k) = false
 has_form (instr.PrintScalar x) = false
 has_form (instr.PrintVector x k) = false
@@ -61,9 +62,38 @@ abbrev pub none_open : List Local → Bool
 none_open [] = true
 none_open (l ∷ ls) = false
 
--- a function; numbers of instructions and of bytes of text have 32 bits
+-- a function that gives no vector back; numbers of instructions and of bytes of text have 32 bits
+abbrev pub is_plain : Listing → Routine → Bool
+is_plain code h =
+    list_all has_form h.code && (none_open h.locals && (not (gives_vector h.returns) && (nat_lt (length h.code) (2 ^ 32) && nat_lt (length (joined code.texts)) (2 ^ 32))))
+
+abbrev pub all_plain : Listing → Bool
+all_plain code = list_all (is_plain code) code.routines
+
+-- which functions are called
+abbrev pub is_call : Instr → Bool
+is_call (instr.Call c) = true
+is_call i = false
+
+abbrev pub has_call : Routine → Bool
+has_call h = list_any is_call h.code
+
+abbrev pub calls_function : ℕ → Instr → Bool
+calls_function f (instr.Call c) = nat_eq c.function f
+calls_function f i = false
+
+abbrev pub is_called : Listing → ℕ → Bool
+is_called code f = list_any (λ h. list_any (calls_function f) h.code) code.routines
+
+-- and where a function calls, all are so
 abbrev pub is_covered : Listing → Routine → Bool
-is_covered code h = list_all has_form h.code && (none_open h.locals && (nat_lt (length h.code) (2 ^ 32) && nat_lt (length (joined code.texts)) (2 ^ 32)))
+is_covered code h = is_plain code h && (not (has_call h) || all_plain code)
+
+-- ---- functions
+
+abbrev pub given_type : Option Elem → Option ValueType
+given_type None = None
+given_type (Some t) = Some (sized (size_of t))
 
 module _ (code : Listing) where
   module _ (h : Routine) where
@@ -85,31 +115,55 @@ module _ (code : Listing) where
           before = λ a. 0;
         }
 
+    -- of one that another one calls
+    abbrev pub inner : Setting
+    inner = record numbered { local = inner_local (gang_width code.gang) h }
+
     abbrev pub type_of : Place → ValueType
     type_of Counter = I32
+    type_of Depth = I32
     type_of (Scalar r) = sized (size_of (elem_of h (scalar_register r)))
     type_of (Base a) = I32
     type_of (Count a) = I64
     type_of (Spare t j) = sized t
     type_of p = V128
 
-    abbrev pub given : Option Elem → Option ValueType
-    given None = None
-    given (Some t) = Some (sized (size_of t))
-
     abbrev pub kernel_of : Function
     kernel_of =
         record {
           export = Some h.name;
           params = map type_of (param_places h);
-          result = given (result_of h.returns);
+          result = given_type (result_of h.returns);
           locals = map type_of (own_places (gang_width code.gang) h);
           code = entry_code numbered;
+        }
+
+    abbrev pub inner_of : Function
+    inner_of =
+        record {
+          export = None;
+          params = map type_of (taken_places (gang_width code.gang) h);
+          result = given_type (result_of h.returns);
+          locals = map type_of (own_places (gang_width code.gang) h);
+          code = function_code inner;
         }
 
     abbrev pub function_of : Function
     function_of = if h.exported && is_covered code h then kernel_of else unused
 
-  -- a function for each one of the code, in order; of those that are not exported or not covered there is nothing
+    abbrev pub inner_function : ℕ → Function
+    inner_function f = if is_called code f && all_plain code then inner_of else unused
+
+  -- the functions that others call, from number f on
+  abbrev pub inner_functions : ℕ → List Routine → List Function
+  inner_functions f [] = []
+  inner_functions f (h ∷ hs) = inner_function h f ∷ inner_functions (suc f) hs
+
+  -- A function for each one of the code, in order, which a host may call; of those that are not exported or not covered there is
+  -- nothing. Where there are calls, behind them another one for each, which others call.
   abbrev pub module_of : Module
-  module_of = record { functions = map function_of code.routines; memory = joined code.texts }
+  module_of =
+      record {
+        functions = map function_of code.routines ++ (if list_any has_call code.routines then inner_functions 0 code.routines else []);
+        memory = joined code.texts;
+      }

@@ -11,7 +11,8 @@ use Rattle.isp_wasm_meaning.specs.Syntax as wasm
 use Rattle.isp_wasm_meaning.specs.Meaning.{count}
 
 -- The number of the rung to jump to; a scalar register; a part of a vector or a mask register, 16 bytes; where an array
--- begins, and its number of elements; and what is only of use within one instruction: a part of 16 bytes, and a number.
+-- begins, and its number of elements; what is only of use within one instruction: a part of 16 bytes, and a number; and how
+-- many calls wait.
 pub data Place : Type 0 where
   Counter : Place
   Scalar : ℕ → Place
@@ -21,6 +22,7 @@ pub data Place : Type 0 where
   Count : ℕ → Place
   Fresh : ℕ → Place
   Spare : wasm.Size → ℕ → Place
+  Depth : Place
 
 -- what an instruction keeps that does not write it
 abbrev pub IsKept : Place → Type 0

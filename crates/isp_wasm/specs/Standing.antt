@@ -11,12 +11,13 @@ use Rattle.isp_code.specs.Conf as machine
 use Rattle.isp_code.specs.Conf.{Conf}
 use Rattle.isp_code.specs.Machine.{after, arrive}
 use Rattle.isp_code.specs.Calls.{left}
+use Rattle.isp_code.specs.Fine.{IsGiven}
 use Rattle.isp_code.specs.declared.register.Class.TheVariants as class
 use Rattle.isp_code.specs.declared.register.Register.{Register}
 use Rattle.isp_wasm_meaning.specs.Syntax.{I8x16}
 use Rattle.isp_wasm_meaning.specs.Meaning.{Report, State, Result, Returned, Trapped, lane, flags, count, loaded, bytes}
 use Rattle.isp_wasm_meaning.specs.Ladder.{Machine}
-use Rattle.isp_wasm.specs.Places.{Setting, Place, Scalar, Vector, Mask, Base, Count, elem, shape, gang, text, bytes_of}
+use Rattle.isp_wasm.specs.Places.{Setting, Place, Scalar, Vector, Mask, Base, Count, Depth, elem, shape, gang, text, bytes_of}
 use Rattle.isp_wasm.specs.Rows.{cell}
 
 abbrev pub scalar_register : ℕ → Register
@@ -27,7 +28,7 @@ vector_register r = record { class = class.Vector; number = r }
 
 module _ (w : Setting) where
   -- The locals: a scalar is its bits; a vector's lanes in the gang are its lanes; a mask's lanes are all ones or zeros, also
-  -- past the gang; and where each array begins, and its number of elements.
+  -- past the gang; where each array begins, and its number of elements; and how many calls wait.
   pub record Holds (scalars : ℕ → ℕ) (vectors : ℕ → Lanes) (masks : ℕ → Sets.Mask) (l : ℕ → ℕ) : Type 0 where
     pub scalars_are : (r : ℕ) → l (w.local (Scalar r)) ≡ scalars r
     pub vectors_are : (r j k : ℕ) → k < count (shape w (vector_register r)) → j * count (shape w (vector_register r)) + k < gang w
@@ -38,6 +39,7 @@ module _ (w : Setting) where
     pub members : (r p : ℕ) → masks r p ≡ true → p < gang w
     pub bases : (a : ℕ) → l (w.local (Base a)) ≡ w.begins (w.home.named a)
     pub counts : (a : ℕ) → l (w.local (Count a)) ≡ w.home.sizes (w.home.named a)
+    pub depth : l (w.local Depth) ≡ length w.waiting
 
   -- a byte of no array
   abbrev pub IsBeside : ℕ → Type 0
@@ -81,6 +83,8 @@ module _ (w : Setting) where
     pub conf : Conf
     pub steps : ℕ
     pub register : Option Register
+    pub given : IsGiven w.routine w.routine.returns register
+    pub fits : (r : ℕ) → conf.scalars r < 2 ^ width (elem w (scalar_register r))
     pub leaves : after w.code steps (machine.Runs c) ≡ arrive w.code (left w.routine conf register w.waiting) conf
     pub value_is : v ≡ bits_of conf register
     pub out_is : s.out ≡ conf.out
@@ -136,5 +140,6 @@ module _ (w : Setting) where
     pub text_low : (t : ℕ) → (w.text_at t < 2 ^ 32) × (length (text w t) < 2 ^ 32)
     pub text_apart : (t b : ℕ) → (w.text_at t + length (text w t) ≤ w.begins b) ⊎ (w.begins b + w.home.sizes b * bytes_of (w.elems b) ≤ w.text_at t)
     pub bounded : (b : ℕ) → w.home.sizes b ≤ 2 ^ 32
+    pub closed : (b : ℕ) → w.home.opened ≤ b → w.home.sizes b ≡ 0
     pub disjoint : (a b : ℕ) → (a ≡ b → ⊥) → (w.begins a + w.home.sizes a * bytes_of (w.elems a) ≤ w.begins b) ⊎
         (w.begins b + w.home.sizes b * bytes_of (w.elems b) ≤ w.begins a)

@@ -1,5 +1,6 @@
 -- The WebAssembly of each instruction.
-use Rattle.std.specs.Prelude.{ℕ, length, zero, suc, ◌+◌, ◌-◌, ◌*◌, ◌/◌, ◌%◌, ◌^◌, Option, Some, None, if◌then◌else◌, slice_get, nat_lt}
+use Rattle.std.specs.Prelude.{ℕ, List, [], ◌∷◌, ◌++◌, length, zero, suc, ◌+◌, ◌-◌, ◌*◌, ◌/◌, ◌%◌, ◌^◌, Option, Some, None, if◌then◌else◌, slice_get, nat_lt}
+use Rattle.isp_base.specs.Depths.{most_calls}
 use Rattle.isp_base.specs.Ranks.{widened as sum_type}
 use Rattle.isp_base.specs.Sets as Sets
 use Rattle.isp_base.specs.Sets.{everyone, nobody}
@@ -7,6 +8,7 @@ use Rattle.isp_base.specs.Values.{width, wrap}
 use Rattle.isp_base.specs.declared.types.Elem.{Elem}
 use Rattle.isp_base.specs.declared.types.Elem.TheVariants.{I64}
 use Rattle.isp_code.specs.Calls.{place_at}
+use Rattle.isp_code.specs.declared.instr.Call.{Call}
 use Rattle.isp_code.specs.declared.instr.Division.{Division}
 use Rattle.isp_code.specs.declared.instr.Division.TheVariants as division
 use Rattle.isp_code.specs.declared.instr.Exchange.{Exchange}
@@ -34,8 +36,8 @@ use Rattle.isp_wasm_meaning.specs.Meaning.{of_lanes, flags, count}
 use Rattle.isp_wasm_meaning.specs.Ladder.{dispatched}
 use Rattle.isp_wasm_meaning.specs.Syntax as wasm
 use Rattle.isp_wasm_meaning.specs.Syntax.{Shape, I8x16, Add, Sub, Mul, And, Or, Xor, Eq, Ne, LtU, LtS, DivU, RemU, Eqz, Ctz, Wrap, ExtendU, Splat, Extract, Bitmask, Of, BitsOf, CompareLanes, Bits, Replace, Expr, Const32, Const64, Const128, Local, One, Two, Select, Bitselect}
-use Rattle.isp_wasm_meaning.specs.Syntax.{Code, Skip, Unreachable, Then, Set, Load, Store, Divide, Fail, Write, If, Br, Return}
-use Rattle.isp_wasm.specs.Places.{Setting, gang, text, Counter, Scalar, Vector, Mask, Base, Count, Fresh, Spare, bytes_of, elem, shape, parts, size_of}
+use Rattle.isp_wasm_meaning.specs.Syntax.{Code, Skip, Unreachable, Then, Set, Load, Store, Divide, Fail, Write, If, Br, Return, Call as CallFunction}
+use Rattle.isp_wasm.specs.Places.{Setting, gang, text, Counter, Scalar, Vector, Mask, Base, Count, Fresh, Spare, Depth, bytes_of, elem, shape, parts, size_of}
 use Rattle.isp_wasm.specs.Words.{constant, below, whole_expr, plain_expr, unary_expr, compare_expr, convert_expr}
 use Rattle.isp_wasm.specs.Rows.{as_cell, lane_at, widened, narrowed, ones, compare_row, unary_row, by_lane, present, plain_row}
 
@@ -338,6 +340,48 @@ module _ (w : Setting) where
       lane_loop k (λ p. quotient_to o (elem w d) (lane_at (elem w d) (vector_local x) p) (lane_at (elem w d) (vector_local y) p) (set_lane d p) q (Const32 p))
   quotients c o d x y k q = quotient_to o (elem w d) (scalar_local x) (scalar_local y) (Set (w.local (Scalar d.number))) q (lowest_of k)
 
+  -- ---- calls
+
+  abbrev pub waiting_calls : Expr
+  waiting_calls = Local (w.local Depth)
+
+  -- n of them
+  abbrev pub listed : ℕ → (ℕ → Expr) → List Expr
+  listed zero f = []
+  listed (suc n) f = f 0 ∷ listed n (λ j. f (suc j))
+
+  -- part j of a vector that is passed: 0 in the lanes that do not call
+  abbrev pub part_under : Register → Register → ℕ → Expr
+  part_under k x j = Bitselect (vector_local x j) (Const128 0) (widened (shape w x) (mask_local k) j)
+
+  -- what is passed of a register under a mask
+  abbrev pub passed_of : Register → Class → Register → List Expr
+  passed_of k class.Scalar x = scalar_local x ∷ []
+  passed_of k class.Vector x = listed (parts w (shape w x)) (part_under k x)
+  passed_of k class.Array x = Local (w.local (Base x.number)) ∷ Local (w.local (Count x.number)) ∷ []
+  passed_of k class.Mask x = []
+
+  abbrev pub passed_all : Register → List Register → List Expr
+  passed_all k [] = []
+  passed_all k (x ∷ xs) = passed_of k x.class x ++ passed_all k xs
+
+  abbrev pub arguments_of : Call → List Expr
+  arguments_of k = plus waiting_calls 1 ∷ (listed (parts w I8x16) (mask_local k.mask) ++ passed_all k.mask k.arguments)
+
+  -- functions that others call come behind as many as the code has
+  abbrev pub called_number : Call → ℕ
+  called_number k = length w.code.routines + k.function
+
+  abbrev pub result_local : Option Register → Option ℕ
+  result_local None = None
+  result_local (Some d) = Some (w.local (Scalar d.number))
+
+  -- where as many calls run as may, it traps
+  abbrev pub call_code : Call → Code
+  call_code k =
+      Then (If (Two (wasm.Compare wasm.I32 LtU) waiting_calls (Const32 (most_calls - 1))) Skip (fault 3 k.place (lowest_of k.mask)))
+      (CallFunction (called_number k) (arguments_of k) (result_local k.result))
+
   -- ---- control
 
   -- from inside so many labels below the loop's
@@ -362,6 +406,7 @@ module _ (w : Setting) where
   code_of depth (instr.JumpIf jump.On x to) = If (lanes_as_bits x) (jump_to (suc depth) to) Skip
   code_of depth (instr.JumpIf jump.All x to) = If (Two (wasm.Compare wasm.I32 Eq) (lanes_as_bits x) (Const32 (2 ^ gang w - 1))) (jump_to (suc depth) to) Skip
   code_of depth (instr.Say t) = Write (Const32 (w.text_at t)) (Const32 (length (text w t)))
+  code_of depth (instr.Call k) = call_code k
   code_of depth (instr.Fail x q) = If (lanes_as_bits x) (fault 2 q (lowest_of x)) Skip
   code_of depth (instr.Return None) = Return None
   code_of depth (instr.Return (Some x)) = Return (Some (scalar_local x))

@@ -7,7 +7,7 @@ use Rattle.isp_wasm_meaning.specs.Valid.{is_valid_function}
 
 -- a function of this code that takes and gives values of these types
 abbrev takes : Code → Option ValueType → List ValueType → Bool
-takes c r ts = is_valid_function (record { export = None; params = ts; result = r; locals = []; code = c })
+takes c r ts = is_valid_function [] (record { export = None; params = ts; result = r; locals = []; code = c })
 
 add_i32 : map (takes (Set 2 (Two (Of I32 Add) (Local 0) (Local 1))) None) ((W ∷ W ∷ W ∷ []) ∷ (W ∷ W ∷ L ∷ []) ∷ (W ∷ W ∷ V ∷ []) ∷ (W ∷ L ∷ W ∷ []) ∷ (W ∷ L ∷ L ∷ []) ∷ (W ∷ L ∷ V ∷ []) ∷ (W ∷ V ∷ W ∷ []) ∷ (W ∷ V ∷ L ∷ []) ∷ (W ∷ V ∷ V ∷ []) ∷ (L ∷ W ∷ W ∷ []) ∷ (L ∷ W ∷ L ∷ []) ∷ (L ∷ W ∷ V ∷ []) ∷ (L ∷ L ∷ W ∷ []) ∷ (L ∷ L ∷ L ∷ []) ∷ (L ∷ L ∷ V ∷ []) ∷ (L ∷ V ∷ W ∷ []) ∷ (L ∷ V ∷ L ∷ []) ∷ (L ∷ V ∷ V ∷ []) ∷ (V ∷ W ∷ W ∷ []) ∷ (V ∷ W ∷ L ∷ []) ∷ (V ∷ W ∷ V ∷ []) ∷ (V ∷ L ∷ W ∷ []) ∷ (V ∷ L ∷ L ∷ []) ∷ (V ∷ L ∷ V ∷ []) ∷ (V ∷ V ∷ W ∷ []) ∷ (V ∷ V ∷ L ∷ []) ∷ (V ∷ V ∷ V ∷ []) ∷ []) ≡ (true ∷ false ∷ false ∷ false ∷ false ∷ false ∷ false ∷ false ∷ false ∷ false ∷ false ∷ false ∷ false ∷ false ∷ false ∷ false ∷ false ∷ false ∷ false ∷ false ∷ false ∷ false ∷ false ∷ false ∷ false ∷ false ∷ false ∷ [])
 add_i32 = refl

@@ -1,5 +1,5 @@
 -- Which functions an engine takes, by chapter 3 of the core specification: each operator and each local gets values of its type.
-use Rattle.std.specs.Prelude.{ℕ, suc, ◌^◌, ◌++◌, length, Option, Some, None, Bool, true, false, ◌&&◌, ◌||◌, nat_lt, nat_eq, if◌then◌else◌, slice_get}
+use Rattle.std.specs.Prelude.{ℕ, suc, ◌^◌, List, [], ◌∷◌, ◌++◌, length, Option, Some, None, Bool, true, false, ◌&&◌, ◌||◌, nat_lt, nat_eq, if◌then◌else◌, slice_get}
 use Rattle.std.specs.List.{list_all}
 use Rattle.isp_wasm_meaning.specs.Syntax as wasm
 use Rattle.isp_wasm_meaning.specs.Syntax.{Size, Unary, Eqz, Ctz, Wrap, ExtendU, ExtendS, Extend8S, Extend16S, Splat, Extract, ExtendLow, ExtendHigh, Bitmask}
@@ -111,8 +111,24 @@ module _ (local : ℕ → Option ValueType) where
   gives (Some t) (Some e) = has_type e t
   gives r e = false
 
-  module _ (result : Option ValueType) where
-    -- behind so many labels; no function is called
+  -- 3.3.8 what is passed has the types that the function takes, and a local of its type gets what it gives
+  abbrev pub have_types : List Expr → List ValueType → Bool
+  have_types [] [] = true
+  have_types (e ∷ es) (t ∷ ts) = has_type e t && have_types es ts
+  have_types es ts = false
+
+  abbrev pub gets : Option ValueType → Option ℕ → Bool
+  gets None None = true
+  gets (Some t) (Some x) = is_type (local x) t
+  gets r x = false
+
+  abbrev pub call_fits : Option Function → List Expr → Option ℕ → Bool
+  call_fits None xs x = false
+  call_fits (Some g) xs x = have_types xs g.params && gets g.result x
+
+  -- in a module with these functions
+  module _ (functions : List Function) (result : Option ValueType) where
+    -- behind so many labels
     abbrev pub is_valid : ℕ → Code → Bool
     is_valid depth Skip = true
     is_valid depth Unreachable = true
@@ -127,7 +143,7 @@ module _ (local : ℕ → Option ValueType) where
     is_valid depth (Br k) = is_label result depth k
     is_valid depth (BrTable ks k e) = list_all (is_label result depth) ks && (is_label result depth k && has_type e I32)
     is_valid depth (Return e) = gives result e
-    is_valid depth (Call f xs x) = false
+    is_valid depth (Call f xs x) = call_fits (slice_get functions f) xs x
     is_valid depth (Write a n) = has_type a I32 && has_type n I32
     is_valid depth (Fail k a b p) = has_type p I32
 
@@ -145,5 +161,5 @@ abbrev pub may_end : Option ValueType → Code → Bool
 may_end None c = true
 may_end (Some t) c = ends_there c
 
-abbrev pub is_valid_function : Function → Bool
-is_valid_function f = is_valid (slice_get (f.params ++ f.locals)) f.result 0 f.code && may_end f.result f.code
+abbrev pub is_valid_function : List Function → Function → Bool
+is_valid_function functions f = is_valid (slice_get (f.params ++ f.locals)) functions f.result 0 f.code && may_end f.result f.code

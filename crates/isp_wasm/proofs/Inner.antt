@@ -1,0 +1,448 @@
+-- The functions that others call do what the machine's calls of them do, with any fuel.
+use Rattle.std.proofs.Common.{◌≡◌, ℕ, zero, suc, ◌+◌, ◌-◌, ◌*◌, ◌%◌, ◌^◌, ◌<◌, ◌≤◌, ◌⊎◌, inl, inr, List, [], ◌∷◌, ◌++◌, length, map, take, Option, Some, None, Bool, true, false, ◌&&◌, refl, sym, ap, ◌∙◌, subst, append_assoc, eq-eqb, arith, mod-eq_of_lt, lit≤}
+use Rattle.std.specs.Prelude.{slice_get, slice_index, slice_index_or, nat_lt, if◌then◌else◌}
+use Rattle.std.specs.List.{list_any}
+use Rattle.std.proofs.lemmas.Bool.{cases_lt, cases_eq, lt-ltb, le-ltb, cond-true, cond-false}
+use Rattle.std.proofs.lemmas.List.{length-map, get_or_append_left}
+use Rattle.std.proofs.lemmas.Nat.{pow_pos}
+use Rattle.std.proofs.lemmas.Option.{slice_get_past, slice_get-get_or, get_or_from_slice_get}
+use Rattle.std.proofs.Math.ListN.{get_or}
+use Rattle.isp_base.specs.Depths.{most_calls}
+use Rattle.isp_base.specs.Maps.{Lanes, on, over, put}
+use Rattle.isp_base.specs.Sets as Sets
+use Rattle.isp_base.specs.Sets.{nobody}
+use Rattle.isp_base.specs.Stores.{below}
+use Rattle.isp_base.specs.Values.{width}
+use Rattle.isp_base.specs.declared.types.Elem.{Elem}
+use Rattle.isp_base.specs.declared.types.Elem.TheVariants.{Bool as Truth}
+use Rattle.isp_code.specs.Calls as calls
+use Rattle.isp_code.specs.Calls.{from, numbers, new_home, shared_sizes, waits, depth}
+use Rattle.isp_code.specs.Conf.{Home, Conf}
+use Rattle.isp_code.specs.Fine.{CallFine, IsGiven, IsThere}
+use Rattle.isp_code.specs.Listing.{Listing, Routine}
+use Rattle.isp_code.specs.Registers.{param_elems, elem_of, types_in, table_of}
+use Rattle.isp_code.specs.declared.function.Returns.{Returns}
+use Rattle.isp_code.specs.declared.function.Returns.TheVariants.{Nothing, Scalar as GivesScalar, Vector as GivesVector}
+use Rattle.isp_code.specs.declared.instr.Call.{Call}
+use Rattle.isp_code.specs.declared.instr.Instr.TheVariants as instr
+use Rattle.isp_code.specs.declared.register.Class.TheVariants as class
+use Rattle.isp_code.specs.declared.register.Register.{Register}
+use Rattle.isp_verify.specs.Accepted.{IsFine}
+use Rattle.isp_verify.specs.Faults.{gives_vector}
+use Rattle.isp_wasm_meaning.specs.Syntax.{I8x16, Code, Const128}
+use Rattle.isp_wasm_meaning.specs.Meaning.{State, Result, Fell, Branched, Returned, Trapped, OutOfFuel, called, run, left, value, lane, flags, count, bytes}
+use Rattle.isp_wasm_meaning.specs.Module.{Function, code_in, unused}
+use Rattle.isp_wasm_meaning.specs.Ladder.{Told}
+use Rattle.isp_wasm.specs.Places as place
+use Rattle.isp_wasm.specs.Places.{Setting, Place, Counter, gang, parts, elem, shape, shape_of, text, bytes_of}
+use Rattle.isp_wasm.specs.Rows.{cell, widened}
+use Rattle.isp_wasm.specs.Locals.{row, taken_from, taken_places, own_places, inner_local, local_at}
+use Rattle.isp_wasm.specs.Module.{text_start, is_plain, all_plain, has_call, calls_function, is_called, inner, inner_of, inner_function, inner_functions, function_of, module_of}
+use Rattle.isp_wasm.specs.Standing.{Holds, Keeps, Stands, IsSettled, bits_of, scalar_register, vector_register, the_machine}
+use Rattle.isp_wasm.specs.Templates.{listed, plus, waiting_calls, part_under, vector_local, mask_local, passed_all, arguments_of, called_number, function_code}
+use Rattle.isp_wasm.specs.Agreement.{Brings, Back, CallsAgree, ComesBack}
+use Rattle.isp_wasm.proofs.Agreement.{calls_come_back}
+use Rattle.isp_wasm.proofs.Cells.{select_cells, zero_cells}
+use Rattle.isp_wasm.proofs.Entries.{digit_zero, no_cell}
+use Rattle.isp_wasm.proofs.Frames.{put_same, put_other}
+use Rattle.isp_wasm.proofs.Given.{Gives, gives, in_row, past_row, scalar_got, base_got, count_got, part_got, passed_fits, passed_long}
+use Rattle.isp_wasm.proofs.Heads.{first_head}
+use Rattle.isp_wasm.proofs.Numbers.{place_apart}
+use Rattle.isp_wasm.proofs.Passing.{At, first_at, other_at, no_number}
+use Rattle.isp_wasm.proofs.Plain.{placed, all_at, any_at, calls_some, none, gives_none, text_low, few_heads, heads_rise, some_code, arrays_are, no_sizes, no_stores, no_size, covered, all_thin}
+use Rattle.isp_wasm.proofs.Rows.{enough}
+use Rattle.isp_wasm.proofs.Vectors.{chosen_over, mask_row}
+
+-- a function of the module of its code, in a call
+pub record IsOf (w : Setting) : Type 0 where
+  pub accepted : IsFine w.code
+  pub settled : IsSettled w
+  pub texts_at : w.text_at ≡ text_start w.code.texts
+  pub begins_past : (b : ℕ) → w.home.opened ≤ b → w.begins b ≡ 0
+  pub stored : (a : Register) → IsThere w.routine class.Array a → w.elems (w.home.named a.number) ≡ elem w a
+  pub plain : (pc : ℕ) (k : Call) → slice_get w.routine.code pc ≡ Some (instr.Call k) → all_plain w.code ≡ true
+
+-- ---- its number
+
+inner_get : (code : Listing) (hs : List Routine) (i f : ℕ) (h : Routine) → slice_get hs f ≡ Some h → slice_get (inner_functions code i hs) f ≡ Some (inner_function code h (i + f))
+inner_get code [] i f h has = absurd cc
+inner_get code (g ∷ hs) i zero h has = let same : g ≡ h = cc in ap (λ z. Some (inner_function code z i)) same ∙ ap (λ n. Some (inner_function code h n)) (let n : i ≡ i + 0 = omega arith in n)
+inner_get code (g ∷ hs) i (suc f) h has = inner_get code hs (suc i) f h has ∙ ap (λ n. Some (inner_function code h n)) (let n : suc i + f ≡ i + suc f = omega arith in n)
+
+pub past_list : {A : Type 0} (xs ys : List A) (k : ℕ) → slice_get (xs ++ ys) (length xs + k) ≡ slice_get ys k
+past_list [] ys k = ap (slice_get ys) (let n : 0 + k ≡ k = omega arith in n)
+past_list (x ∷ xs) ys k = ap (slice_get (x ∷ (xs ++ ys))) (let n : length (x ∷ xs) + k ≡ suc (length xs + k) = omega arith in n) ∙ past_list xs ys k
+
+module _ (code : Listing) (h : Routine) (fn pc : ℕ) (k : Call) (found : slice_get code.routines fn ≡ Some h) (has : slice_get h.code pc ≡ Some (instr.Call k)) (plain : all_plain code ≡ true) (g : Routine) (callee : slice_get code.routines k.function ≡ Some g) where
+  calls_any : list_any has_call code.routines ≡ true
+  calls_any = any_at has_call code.routines fn h found (calls_some h pc k has)
+
+  called_one : is_called code k.function ≡ true
+  called_one = any_at (λ h. list_any (calls_function k.function) h.code) code.routines fn h found (any_at (calls_function k.function) h.code pc (instr.Call k) has (eq-eqb k.function k.function refl))
+
+  function_is : inner_function code g k.function ≡ inner_of code g
+  function_is = ap (λ b. if b && all_plain code then inner_of code g else unused) called_one ∙ ap (λ b. if b then inner_of code g else unused) plain
+
+  pub inner_at : slice_get (module_of code).functions (length code.routines + k.function) ≡ Some (inner_of code g)
+  inner_at =
+      ap (λ b. slice_get (map (function_of code) code.routines ++ (if b then inner_functions code 0 code.routines else [])) (length code.routines + k.function)) calls_any
+      ∙ ap (λ n. slice_get (map (function_of code) code.routines ++ inner_functions code 0 code.routines) (n + k.function)) (sym (length-map code.routines (function_of code)))
+      ∙ past_list (map (function_of code) code.routines) (inner_functions code 0 code.routines) k.function ∙ inner_get code code.routines 0 k.function g callee
+      ∙ ap (λ n. Some (inner_function code g n)) (let n : 0 + k.function ≡ k.function = omega arith in n) ∙ ap Some function_is
+
+  inner_code : code_in (module_of code) (length code.routines + k.function) ≡ function_code (inner code g)
+  inner_code = ap (λ (z : Function). z.code) (get_or_from_slice_get (module_of code).functions (length code.routines + k.function) (inner_of code g) unused inner_at)
+
+-- ---- registers that are passed
+
+pub some_low : {A : Type 0} (xs : List A) (k : ℕ) (x : A) → slice_get xs k ≡ Some x → k < length xs
+some_low xs k x e = by (cases_lt k (length xs))
+  where
+    by : (k < length xs) ⊎ (length xs ≤ k) → k < length xs
+    by (inl lt) = lt
+    by (inr le) = absurd (let gone = slice_get_past xs k le in let impossible : None ≡ Some x = sym gone ∙ e in cc)
+
+module _ (w : Setting) (of : IsOf w) (x : Call) (pc : ℕ) (has : slice_get w.routine.code pc ≡ Some (instr.Call x)) (fine : CallFine w.code w.routine x) where
+  abbrev pub g : Routine
+  g = fine.callee
+
+  plain_g : is_plain w.code g ≡ true
+  plain_g = all_at (is_plain w.code) w.code.routines x.function g (of.plain pc x has) fine.found
+
+  module _ (c : Conf) (s : State) (st : Stands w pc c s) (few : depth c < most_calls) where
+    abbrev pub mask : Sets.Mask
+    mask = c.masks x.mask.number
+
+    abbrev pub home : Home
+    home = new_home g x.function (λ a. from 0 w.home.named (slice_get (numbers class.Array x.arguments) a)) w.home.sizes w.home.opened
+
+    abbrev pub callee : Setting
+    callee = placed w.code g (inner_local (gang w) g) home (waits c x.result mask ∷ c.waiting) w.begins w.elems w.before
+
+    abbrev pub begun : Conf
+    begun = calls.called c x g
+
+    abbrev pub entered : State
+    entered = record s { locals = slice_index (map (value s.locals) (arguments_of w x)) }
+
+    home_is : begun.home ≡ home
+    home_is = ap (λ (h : Home). new_home g x.function (λ a. from 0 h.named (slice_get (numbers class.Array x.arguments) a)) h.sizes h.opened) st.home_is
+
+    -- ---- arrays
+
+    same_size : (b : ℕ) → home.sizes b ≡ w.home.sizes b
+    same_size b = by (cases_lt b w.home.opened)
+      where
+        by : (b < w.home.opened) ⊎ (w.home.opened ≤ b) → home.sizes b ≡ w.home.sizes b
+        by (inl lt) = cond-true (nat_lt b w.home.opened) (w.home.sizes b) (slice_index (shared_sizes g.locals) (b - w.home.opened)) (lt-ltb b w.home.opened lt)
+        by (inr le) =
+            cond-false (nat_lt b w.home.opened) (w.home.sizes b) (slice_index (shared_sizes g.locals) (b - w.home.opened)) (le-ltb b w.home.opened le)
+            ∙ no_size w.code g x.function of.accepted fine.found plain_g (b - w.home.opened) ∙ sym (of.settled.closed b le)
+
+    same_end : (b : ℕ) → w.begins b + home.sizes b * bytes_of (w.elems b) ≡ w.begins b + w.home.sizes b * bytes_of (w.elems b)
+    same_end b = ap (λ n. w.begins b + n * bytes_of (w.elems b)) (same_size b)
+
+    same_opened : home.opened ≡ w.home.opened
+    same_opened = let nothing = no_stores w.code g x.function of.accepted fine.found plain_g in omega (arith, nothing)
+
+    settled : IsSettled callee
+    settled =
+        record {
+          found = fine.found;
+          apart = λ p q e. place_apart (taken_places (gang w) g ++ own_places (gang w) g) p q e;
+          few = few_heads w.code g x.function of.accepted fine.found plain_g;
+          heads_up = heads_rise w.code g x.function of.accepted fine.found plain_g;
+          text_low = text_low w.code g x.function of.accepted fine.found plain_g;
+          text_apart = λ t b. subst (λ n. (text_start w.code.texts t + length (text w t) ≤ w.begins b) ⊎ (n ≤ text_start w.code.texts t)) (sym (same_end b))
+              (subst (λ f. (f t + length (text w t) ≤ w.begins b) ⊎ (w.begins b + w.home.sizes b * bytes_of (w.elems b) ≤ f t)) of.texts_at (of.settled.text_apart t b));
+          bounded = λ b. subst (λ n. n ≤ 2 ^ 32) (sym (same_size b)) (of.settled.bounded b);
+          closed = λ b le. same_size b ∙ of.settled.closed b (subst (λ n. n ≤ b) same_opened le);
+          disjoint = λ a b ne. subst (λ n. (n ≤ w.begins b) ⊎ (w.begins b + home.sizes b * bytes_of (w.elems b) ≤ w.begins a)) (sym (same_end a))
+              (subst (λ n. (w.begins a + w.home.sizes a * bytes_of (w.elems a) ≤ w.begins b) ⊎ (n ≤ w.begins a)) (sym (same_end b)) (of.settled.disjoint a b ne));
+        }
+
+    -- the arrays that the caller has are in both
+    kept : (arrays : ℕ → Lanes) (b e : ℕ) → e < w.home.sizes b → below c.home.opened arrays b e ≡ arrays b e
+    kept arrays b e lt = by (cases_lt b w.home.opened)
+      where
+        by : (b < w.home.opened) ⊎ (w.home.opened ≤ b) → below c.home.opened arrays b e ≡ arrays b e
+        by (inl low) = ap (λ (f : Lanes). f e) (cond-true (nat_lt b c.home.opened) (arrays b) (λ e. 0) (ap (λ (h : Home). nat_lt b h.opened) st.home_is ∙ lt-ltb b w.home.opened low))
+        by (inr le) = absurd (let nothing = of.settled.closed b le in omega (arith, lt, nothing))
+
+    keeps_in : (arrays : ℕ → Lanes) (memory : ℕ → ℕ) (size : ℕ) → Keeps w arrays memory size → Keeps callee (below c.home.opened arrays) memory size
+    keeps_in arrays memory size k =
+        record {
+          bytes_fit = k.bytes_fit;
+          elements = λ b e lt. (let low : e < w.home.sizes b = subst (λ n. e < n) (same_size b) lt in k.elements b e low ∙ sym (kept arrays b e low));
+          elements_fit = λ b e lt. (let low : e < w.home.sizes b = subst (λ n. e < n) (same_size b) lt in subst (λ n. n < 2 ^ width (w.elems b)) (sym (kept arrays b e low)) (k.elements_fit b e low));
+          room = λ b. subst (λ n. n ≤ size) (sym (same_end b)) (k.room b);
+          small = k.small;
+          texts = λ t. subst (λ f. bytes (length (text w t)) (f t) memory ≡ text w t) of.texts_at (k.texts t);
+          text_room = λ t. subst (λ f. f t + length (text w t) ≤ size) of.texts_at (k.text_room t);
+          rest = λ a beside. k.rest a (λ b. subst (λ n. (a < w.begins b) ⊎ (n ≤ a)) (same_end b) (beside b));
+        }
+
+    -- of arrays that are the same where the caller has them
+    keeps_out : (arrays others : ℕ → Lanes) (memory : ℕ → ℕ) (size : ℕ) → ((b e : ℕ) → e < w.home.sizes b → others b e ≡ arrays b e) → Keeps callee arrays memory size → Keeps w others memory size
+    keeps_out arrays others memory size same k =
+        record {
+          bytes_fit = k.bytes_fit;
+          elements = λ b e lt. k.elements b e (subst (λ n. e < n) (sym (same_size b)) lt) ∙ sym (same b e lt);
+          elements_fit = λ b e lt. subst (λ n. n < 2 ^ width (w.elems b)) (sym (same b e lt)) (k.elements_fit b e (subst (λ n. e < n) (sym (same_size b)) lt));
+          room = λ b. subst (λ n. n ≤ size) (same_end b) (k.room b);
+          small = k.small;
+          texts = λ t. subst (λ f. bytes (length (text w t)) (f t) memory ≡ text w t) (sym of.texts_at) (k.texts t);
+          text_room = λ t. subst (λ f. f t + length (text w t) ≤ size) (sym of.texts_at) (k.text_room t);
+          rest = λ a beside. k.rest a (λ b. subst (λ n. (a < w.begins b) ⊎ (n ≤ a)) (sym (same_end b)) (beside b));
+        }
+
+    -- ---- what is passed
+
+    abbrev pub own : List Place
+    own = own_places (gang w) g
+
+    abbrev pub places : List Place
+    places = taken_from (gang w) g.params 0 0 0 ++ own
+
+    abbrev pub given : List ℕ
+    given = map (value s.locals) (passed_all w x.mask x.arguments)
+
+    all : Gives w s.locals x.mask places given x.arguments 0 0 0
+    all = gives w s.locals x.mask g.params x.arguments fine.passed own (λ p. no_number (local_at own p)) 0 0 0
+
+    in_order : (p : Place) → entered.locals (inner_local (gang w) g p) ≡ At (place.Depth ∷ (row (parts w I8x16) (place.Mask 0) ++ places)) (map (value s.locals) (arguments_of w x)) p
+    in_order p = ap (λ qs. At (place.Depth ∷ qs) (map (value s.locals) (arguments_of w x)) p) (append_assoc (row (parts w I8x16) (place.Mask 0)) (taken_from (gang w) g.params 0 0 0) own)
+
+    abbrev pub passed_values : List ℕ
+    passed_values = map (value s.locals) (listed w (parts w I8x16) (mask_local w x.mask) ++ passed_all w x.mask x.arguments)
+
+    depth_got : entered.locals (inner_local (gang w) g place.Depth) ≡ value s.locals (plus w (waiting_calls w) 1)
+    depth_got = in_order place.Depth ∙ first_at place.Depth (row (parts w I8x16) (place.Mask 0) ++ places) (value s.locals (plus w (waiting_calls w) 1)) passed_values
+
+    past_depth : (p : Place) → (place.Depth ≡ p → ⊥) → entered.locals (inner_local (gang w) g p) ≡ At (row (parts w I8x16) (place.Mask 0) ++ places) passed_values p
+    past_depth p ne = in_order p ∙ other_at place.Depth p (row (parts w I8x16) (place.Mask 0) ++ places) (value s.locals (plus w (waiting_calls w) 1)) passed_values ne
+
+    mask_got : (j : ℕ) → j < parts w I8x16 → entered.locals (inner_local (gang w) g (place.Mask 0 j)) ≡ s.locals (w.local (place.Mask x.mask.number j))
+    mask_got j lt =
+        past_depth (place.Mask 0 j) (λ e. cc)
+        ∙ in_row w s.locals places (passed_all w x.mask x.arguments) (parts w I8x16) (place.Mask 0) (mask_local w x.mask) j (λ i k e. cc) lt
+
+    got : (p : Place) → (place.Depth ≡ p → ⊥) → ((j : ℕ) → j < parts w I8x16 → place.Mask 0 j ≡ p → ⊥) → entered.locals (inner_local (gang w) g p) ≡ At places given p
+    got p ne out = past_depth p ne ∙ past_row w s.locals places (passed_all w x.mask x.arguments) (parts w I8x16) (place.Mask 0) (mask_local w x.mask) p out
+
+    zero_more : (n : ℕ) → n ≡ 0 + n
+    zero_more n = omega arith
+
+    -- ---- types of what is passed
+
+    scalar_elem : (r q : ℕ) → slice_get (numbers class.Scalar x.arguments) r ≡ Some q → elem callee (scalar_register r) ≡ elem w (scalar_register q)
+    scalar_elem r q has =
+        let fits = passed_fits w.routine class.Scalar g.params x.arguments fine.passed r q has in
+        get_or_append_left (param_elems class.Scalar g.params) g.scalars Truth r (subst (λ n. r < n) (passed_long w.routine class.Scalar g.params x.arguments fine.passed) (some_low (numbers class.Scalar x.arguments) r q has))
+        ∙ sym fits.elem_is
+
+    vector_elem : (r q : ℕ) → slice_get (numbers class.Vector x.arguments) r ≡ Some q → elem callee (vector_register r) ≡ elem w (vector_register q)
+    vector_elem r q has =
+        let fits = passed_fits w.routine class.Vector g.params x.arguments fine.passed r q has in
+        get_or_append_left (param_elems class.Vector g.params) g.vectors Truth r (subst (λ n. r < n) (passed_long w.routine class.Vector g.params x.arguments fine.passed) (some_low (numbers class.Vector x.arguments) r q has))
+        ∙ sym fits.elem_is
+
+    -- ---- registers
+
+    scalars : (r : ℕ) (o : Option ℕ) → from 0 (scalar_got w s.locals x.mask) o ≡ from 0 c.scalars o
+    scalars r None = refl
+    scalars r (Some q) = st.holds.scalars_are q
+
+    scalar_fits : (r : ℕ) (o : Option ℕ) → slice_get (numbers class.Scalar x.arguments) r ≡ o → from 0 c.scalars o < 2 ^ width (elem callee (scalar_register r))
+    scalar_fits r None has = pow_pos (width (elem callee (scalar_register r)))
+    scalar_fits r (Some q) has = subst (λ t. c.scalars q < 2 ^ width t) (sym (scalar_elem r q has)) (st.holds.fits q)
+
+    vectors : (r j i : ℕ) (o : Option ℕ) → slice_get (numbers class.Vector x.arguments) r ≡ o → i < count (shape callee (vector_register r)) → j * count (shape callee (vector_register r)) + i < gang w
+        → lane (shape callee (vector_register r)) i (from 0 (part_got w s.locals x.mask j) o)
+        ≡ cell (elem callee (vector_register r)) (from (λ p. 0) (λ q. over (on mask (c.vectors q)) (λ p. 0)) o (j * count (shape callee (vector_register r)) + i))
+    vectors r j i None has l q = digit_zero _ i (pow_pos _) ∙ no_cell (elem callee (vector_register r))
+    vectors r j i (Some v) has l q =
+        subst
+        (λ t. i < count (shape_of t) → j * count (shape_of t) + i < gang w
+        → lane (shape_of t) i (part_got w s.locals x.mask j v) ≡ cell t (over (on mask (c.vectors v)) (λ p. 0) (j * count (shape_of t) + i)))
+        (sym (vector_elem r v has)) (λ l q. here l q) l q
+      where
+        t : Elem
+        t = elem w (vector_register v)
+
+        here : i < count (shape w (vector_register v)) → j * count (shape w (vector_register v)) + i < gang w
+            → lane (shape w (vector_register v)) i (part_got w s.locals x.mask j v) ≡ cell (elem w (vector_register v)) (over (on mask (c.vectors v)) (λ p. 0) (j * count (shape w (vector_register v)) + i))
+        here l q =
+            ap (lane (shape w (vector_register v)) i) (cond-true (nat_lt j (parts w (shape w (vector_register v)))) (value s.locals (part_under w x.mask (vector_register v) j)) 0 (lt-ltb j (parts w (shape w (vector_register v))) (enough w (shape w (vector_register v)) j i q)))
+            ∙ select_cells (gang w) (elem w (vector_register v)) s.locals (vector_local w (vector_register v)) (λ j. Const128 0) (widened (shape w (vector_register v)) (mask_local w x.mask)) (c.vectors v) (λ p. 0) mask
+            (st.holds.vectors_are v) (zero_cells (gang w) (elem w (vector_register v)) s.locals) (mask_row w c s.locals st.holds (shape w (vector_register v)) x.mask (gang w)) j i l q
+            ∙ ap (cell (elem w (vector_register v))) (chosen_over (mask (j * count (shape w (vector_register v)) + i)) (c.vectors v (j * count (shape w (vector_register v)) + i)) 0)
+
+    masks : (r j i : ℕ) → i < 16 → (r ≡ 0) ⊎ (r ≡ 0 → ⊥) → (j < parts w I8x16) ⊎ (parts w I8x16 ≤ j)
+        → lane I8x16 i (entered.locals (inner_local (gang w) g (place.Mask r j))) ≡ flags 8 (put (λ k. nobody) 0 mask r (j * 16 + i))
+    masks r j i l (inl e) (inl lt) =
+        subst (λ r. lane I8x16 i (entered.locals (inner_local (gang w) g (place.Mask r j))) ≡ flags 8 (put (λ k. nobody) 0 mask r (j * 16 + i))) (sym e)
+        (ap (lane I8x16 i) (mask_got j lt) ∙ st.holds.masks_are x.mask.number j i l)
+    masks r j i l (inl e) (inr le) =
+        subst (λ r. lane I8x16 i (entered.locals (inner_local (gang w) g (place.Mask r j))) ≡ flags 8 (put (λ k. nobody) 0 mask r (j * 16 + i))) (sym e)
+        (ap (lane I8x16 i) (got (place.Mask 0 j) (λ e. cc) (λ k low e. (let same : k ≡ j = cc in omega (arith, same, low, le))) ∙ all.others (place.Mask 0 j) tt) ∙ digit_zero 256 i (lit≤ tt)
+        ∙ ap (flags 8) (sym (off (mask (j * 16 + i)) refl)))
+      where
+        off : (b : Bool) → mask (j * 16 + i) ≡ b → mask (j * 16 + i) ≡ false
+        off false e = e
+        off true e = absurd (let low = st.holds.members x.mask.number (j * 16 + i) e in let some = enough w I8x16 j i low in omega (arith, some, le))
+    masks r j i l (inr ne) h =
+        ap (lane I8x16 i) (got (place.Mask r j) (λ e. cc) (λ k low e. ne cc) ∙ all.others (place.Mask r j) tt) ∙ digit_zero 256 i (lit≤ tt)
+        ∙ ap (λ f. flags 8 (f (j * 16 + i))) (sym (put_other (λ k. nobody) 0 mask r ne))
+
+    members : (r p : ℕ) → (r ≡ 0) ⊎ (r ≡ 0 → ⊥) → put (λ k. nobody) 0 mask r p ≡ true → p < gang w
+    members r p (inl e) h = st.holds.members x.mask.number p (sym (ap (λ f. f p) (put_same (λ k. nobody) 0 mask r e)) ∙ h)
+    members r p (inr ne) h = absurd (let impossible : false ≡ true = sym (ap (λ f. f p) (put_other (λ k. nobody) 0 mask r ne)) ∙ h in cc)
+
+    -- ---- arrays that are passed
+
+    abbrev pub array_numbers : List ℕ
+    array_numbers = numbers class.Array x.arguments
+
+    arrays_long : length array_numbers ≡ length (param_elems class.Array g.params)
+    arrays_long = passed_long w.routine class.Array g.params x.arguments fine.passed
+
+    named_in : (a q : ℕ) → slice_get array_numbers a ≡ Some q → home.named a ≡ w.home.named q
+    named_in a q has =
+        cond-true (nat_lt a (length (param_elems class.Array g.params))) (from 0 w.home.named (slice_get array_numbers a)) (w.home.opened + length (shared_sizes (take (a - length (param_elems class.Array g.params)) g.locals)))
+        (lt-ltb a (length (param_elems class.Array g.params)) (subst (λ n. a < n) arrays_long (some_low array_numbers a q has)))
+        ∙ ap (from 0 w.home.named) has
+
+    named_past : (a : ℕ) → length (param_elems class.Array g.params) ≤ a → home.named a ≡ w.home.opened
+    named_past a le =
+        cond-false (nat_lt a (length (param_elems class.Array g.params))) (from 0 w.home.named (slice_get array_numbers a)) (w.home.opened + length (shared_sizes (take (a - length (param_elems class.Array g.params)) g.locals)))
+        (le-ltb a (length (param_elems class.Array g.params)) le)
+        ∙ (let nothing = no_sizes w.code g x.function of.accepted fine.found plain_g (a - length (param_elems class.Array g.params)) in let same : w.home.opened + length (shared_sizes (take (a - length (param_elems class.Array g.params)) g.locals)) ≡ w.home.opened = omega (arith, nothing) in same)
+
+    which : (a : ℕ) → ((q : ℕ) × (slice_get array_numbers a ≡ Some q)) ⊎ (length (param_elems class.Array g.params) ≤ a)
+    which a = by (cases_lt a (length array_numbers))
+      where
+        by : (a < length array_numbers) ⊎ (length array_numbers ≤ a) → ((q : ℕ) × (slice_get array_numbers a ≡ Some q)) ⊎ (length (param_elems class.Array g.params) ≤ a)
+        by (inl lt) = inl (get_or array_numbers a 0, slice_get-get_or array_numbers a 0 lt)
+        by (inr le) = inr (subst (λ n. n ≤ a) arrays_long le)
+
+    no_array : (a : ℕ) → length (param_elems class.Array g.params) ≤ a → slice_get array_numbers a ≡ None
+    no_array a le = slice_get_past array_numbers a (subst (λ n. n ≤ a) (sym arrays_long) le)
+
+    bases : (a : ℕ) → ((q : ℕ) × (slice_get array_numbers a ≡ Some q)) ⊎ (length (param_elems class.Array g.params) ≤ a) → from 0 (base_got w s.locals x.mask) (slice_get array_numbers a) ≡ w.begins (home.named a)
+    bases a (inl (q, has)) = ap (from 0 (base_got w s.locals x.mask)) has ∙ st.holds.bases q ∙ sym (ap w.begins (named_in a q has))
+    bases a (inr le) = ap (from 0 (base_got w s.locals x.mask)) (no_array a le) ∙ sym (ap w.begins (named_past a le) ∙ of.begins_past w.home.opened (omega arith))
+
+    counts : (a : ℕ) → ((q : ℕ) × (slice_get array_numbers a ≡ Some q)) ⊎ (length (param_elems class.Array g.params) ≤ a) → from 0 (count_got w s.locals x.mask) (slice_get array_numbers a) ≡ home.sizes (home.named a)
+    counts a (inl (q, has)) = ap (from 0 (count_got w s.locals x.mask)) has ∙ st.holds.counts q ∙ sym (ap home.sizes (named_in a q has) ∙ same_size (w.home.named q))
+    counts a (inr le) = ap (from 0 (count_got w s.locals x.mask)) (no_array a le) ∙ sym (ap home.sizes (named_past a le) ∙ same_size w.home.opened ∙ of.settled.closed w.home.opened (omega arith))
+
+    stored : (a : Register) → IsThere g class.Array a → w.elems (home.named a.number) ≡ elem_of g a
+    stored a there = by (which a.number)
+      where
+        low : a.number < length (param_elems class.Array g.params)
+        low = subst (λ ts. a.number < length ts) (arrays_are w.code g x.function of.accepted fine.found plain_g) there.1
+
+        by : ((q : ℕ) × (slice_get array_numbers a.number ≡ Some q)) ⊎ (length (param_elems class.Array g.params) ≤ a.number) → w.elems (home.named a.number) ≡ elem_of g a
+        by (inr le) = absurd (omega (arith, low, le))
+        by (inl (q, has)) =
+            let fits = passed_fits w.routine class.Array g.params x.arguments fine.passed a.number q has in
+            ap w.elems (named_in a.number q has) ∙ of.stored (record { class = class.Array; number = q }) (refl, fits.there) ∙ fits.elem_is
+            ∙ sym (ap (λ c. slice_index_or (types_in (table_of g) c) a.number Truth) there.0 ∙ ap (λ ts. slice_index_or ts a.number Truth) (arrays_are w.code g x.function of.accepted fine.found plain_g))
+
+    -- ---- before the first instruction
+
+    depth_is : value s.locals (plus w (waiting_calls w) 1) ≡ suc (length c.waiting)
+    depth_is =
+        let waiting : s.locals (w.local place.Depth) ≡ length c.waiting = st.holds.depth ∙ sym (ap length st.waiting_is) in
+        ap (λ n. (n + 1 % 2 ^ 32) % 2 ^ 32) waiting ∙ mod-eq_of_lt (omega (arith, few)) ∙ (let same : length c.waiting + 1 % 2 ^ 32 ≡ suc (length c.waiting) = omega arith in same)
+
+    holds : Holds callee begun.scalars begun.vectors begun.masks entered.locals
+    holds =
+        record {
+          scalars_are = λ r. got (place.Scalar r) (λ e. cc) (λ j lt e. cc) ∙ ap (λ n. At places given (place.Scalar n)) (zero_more r) ∙ all.scalars r ∙ scalars r (slice_get (numbers class.Scalar x.arguments) r);
+          vectors_are = λ r j i l q. ap (lane (shape callee (vector_register r)) i) (got (place.Vector r j) (λ e. cc) (λ k lt e. cc) ∙ ap (λ n. At places given (place.Vector n j)) (zero_more r) ∙ all.vectors r j)
+              ∙ vectors r j i (slice_get (numbers class.Vector x.arguments) r) refl l q;
+          masks_are = λ r j i l. masks r j i l (cases_eq r 0) (cases_lt j (parts w I8x16));
+          fits = λ r. scalar_fits r (slice_get (numbers class.Scalar x.arguments) r) refl;
+          members = λ r p h. members r p (cases_eq r 0) h;
+          bases = λ a. got (place.Base a) (λ e. cc) (λ j lt e. cc) ∙ ap (λ n. At places given (place.Base n)) (zero_more a) ∙ all.bases a ∙ bases a (which a);
+          counts = λ a. got (place.Count a) (λ e. cc) (λ j lt e. cc) ∙ ap (λ n. At places given (place.Count n)) (zero_more a) ∙ all.counts a ∙ counts a (which a);
+          depth = depth_got ∙ depth_is;
+        }
+
+    counter_is : entered.locals (callee.local Counter) ≡ 0
+    counter_is = got Counter (λ e. cc) (λ j lt e. cc) ∙ all.others Counter tt
+
+    head_is : callee.heads (entered.locals (callee.local Counter)) ≡ 0
+    head_is = ap callee.heads counter_is ∙ (first_head g.code (length g.code) (some_code w.code g x.function of.accepted fine.found plain_g)).1
+
+    stands : Stands callee 0 begun entered
+    stands = record { home_is = home_is; waiting_is = refl; pc_is = refl; out_is = st.out_is; holds = holds; keeps = keeps_in c.arrays s.memory s.size st.keeps }
+
+    is_of : IsOf callee
+    is_of =
+        record {
+          accepted = of.accepted;
+          settled = settled;
+          texts_at = refl;
+          begins_past = λ b le. of.begins_past b (omega (arith, le));
+          stored = stored;
+          plain = λ p k h. of.plain pc x has;
+        }
+
+    -- ---- what its result says
+
+    brings : (r : Returns) (d y : Option Register) (conf : Conf) (v : Option ℕ) → gives_vector r ≡ false → IsGiven w.routine r d → IsGiven g r y → v ≡ bits_of callee conf y
+        → ((r : ℕ) → conf.scalars r < 2 ^ width (elem callee (scalar_register r))) → Brings w d y conf v
+    brings Nothing None None conf v none given back is fits = is
+    brings Nothing None (Some y) conf v none given back is fits = absurd back
+    brings Nothing (Some d) y conf v none given back is fits = absurd given
+    brings (GivesScalar t) None y conf v none given back is fits = absurd given
+    brings (GivesScalar t) (Some d) None conf v none given back is fits = absurd back
+    brings (GivesScalar t) (Some d) (Some y) conf v none given back is fits = (
+      is,
+      subst (λ u. conf.scalars y.number < 2 ^ width u)
+          (ap (λ a. elem callee (record { class = a; number = y.number })) (sym (back.0).0) ∙ back.1 ∙ sym (ap (λ a. elem w (record { class = a; number = d.number })) (sym (given.0).0) ∙ given.1)) (fits y.number),
+    )
+    brings (GivesVector t) d y conf v none given back is fits = absurd cc
+
+    abbrev pub Comes : ℕ → Conf → Result → Type 0
+    Comes f d r = Told (the_machine callee) (ComesBack callee (waits c x.result mask) c.waiting) f d r
+
+    told : (f : ℕ) (d : Conf) (r : Result) → Comes f d r → Told (the_machine w) (Back w x c) f d r
+    told f d (Fell t) h = h
+    told f d (Branched k t) h = h
+    told f d (Returned v t) h =
+        record {
+          conf = h.conf;
+          steps = h.steps;
+          register = h.register;
+          goes = h.goes;
+          brings = brings g.returns x.result h.register h.conf v (gives_none w.code g x.function of.accepted fine.found plain_g) fine.result h.given h.value_is h.fits;
+          out_is = h.out_is;
+          keeps = keeps_out h.conf.arrays (below c.home.opened h.conf.arrays) t.memory t.size (kept h.conf.arrays) h.keeps;
+        }
+    told f d (Trapped None t) h = h
+    told f d (Trapped (Some q) t) h =
+        record { conf = h.conf; steps = h.steps; trap = h.trap; fails = h.fails; report_is = h.report_is; out_is = h.out_is; keeps = keeps_out h.conf.arrays h.conf.arrays t.memory t.size (λ b e lt. refl) h.keeps }
+    told f d (OutOfFuel t) h = record { conf = h.conf; steps = h.steps; goes = h.goes; far = h.far; out_is = h.out_is }
+
+    abbrev pub functions : ℕ → Code
+    functions = code_in (module_of w.code)
+
+    -- with one more for the loop than its calls have
+    pub one_more : (f : ℕ) → CallsAgree callee f (called functions f) → Told (the_machine w) (Back w x c) (suc f) begun (called functions (suc f) (called_number w x) (map (value s.locals) (arguments_of w x)) s)
+    one_more f right =
+        subst (λ code. Told (the_machine w) (Back w x c) (suc f) begun (left (run (suc f) (called functions f) code entered))) (sym (inner_code w.code w.routine w.home.fn pc x of.settled.found has (of.plain pc x has) g fine.found))
+        (told (suc f) begun (left (run (suc f) (called functions f) (function_code callee) entered))
+        (calls_come_back callee settled (covered w.code g x.function of.accepted fine.found plain_g (λ p k h. of.plain pc x has) (inner_local (gang w) g) home (waits c x.result mask ∷ c.waiting) w.begins w.elems w.before)
+        (all_thin w.code g x.function of.accepted fine.found plain_g (λ p k h. of.plain pc x has) (inner_local (gang w) g) home (waits c x.result mask ∷ c.waiting) w.begins w.elems w.before stored)
+        (waits c x.result mask) c.waiting refl (called functions f) (suc f) (λ n e. subst (λ m. CallsAgree callee m (called functions f)) (let same : f ≡ n = omega (arith, e) in same) right) begun entered
+        (subst (λ n. n < callee.rungs) (sym counter_is) (first_head g.code (length g.code) (some_code w.code g x.function of.accepted fine.found plain_g)).0)
+        (subst (λ n. Stands callee n begun entered) (sym head_is) stands)))
+
+-- all functions that others call
+pub calls_agree : (f : ℕ) (w : Setting) → IsOf w → CallsAgree w f (called (code_in (module_of w.code)) f)
+calls_agree zero w of x pc c s has fine st few = record { conf = calls.called c x fine.callee; steps = 0; goes = refl; far = omega arith; out_is = st.out_is }
+calls_agree (suc f) w of x pc c s has fine st few = one_more w of x pc has fine c s st few f (calls_agree f (callee w of x pc has fine c s st few) (is_of w of x pc has fine c s st few))

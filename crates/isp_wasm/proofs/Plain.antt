@@ -1,0 +1,241 @@
+-- What accepted code says of a function whose form is covered, whoever calls it.
+use Rattle.std.proofs.Common.{◌≡◌, ℕ, zero, suc, ◌+◌, ◌-◌, ◌^◌, ◌<◌, ◌≤◌, ◌⊎◌, inl, inr, List, [], ◌∷◌, ◌++◌, length, map, take, Option, Some, None, Bool, true, false, not, ◌&&◌, ◌||◌, refl, sym, ap, ◌∙◌, subst, eq-eqb, append-nil, arith}
+use Rattle.std.specs.Prelude.{slice_get, slice_index_or, nat_lt, nat_le}
+use Rattle.std.specs.List.{list_all, list_any}
+use Rattle.std.proofs.lemmas.Bool.{cases_lt, ltb-true, not-true}
+use Rattle.std.proofs.lemmas.Option.{slice_get_past, slice_get-get_or}
+use Rattle.std.proofs.lemmas.List.{get_or_past}
+use Rattle.std.proofs.Math.ListN.{get_or}
+use Rattle.isp_base.specs.declared.types.Elem.{Elem}
+use Rattle.isp_code.specs.Calls.{shared_sizes}
+use Rattle.isp_code.specs.Conf.{Home, Frame}
+use Rattle.isp_code.specs.Fine.{AllFine, CallsFine, CallFine, IsGiven, IsThere}
+use Rattle.isp_code.specs.Listing.{Listing, Routine}
+use Rattle.isp_code.specs.Operands.{operands}
+use Rattle.isp_code.specs.Registers.{is_own, param_elems, arrays_of, local_elem, elem_of}
+use Rattle.isp_code.specs.declared.function.Local.{Local}
+use Rattle.isp_code.specs.declared.function.Returns.{Returns}
+use Rattle.isp_code.specs.declared.function.Returns.TheVariants.{Nothing, Scalar as GivesScalar, Vector as GivesVector}
+use Rattle.isp_code.specs.declared.instr.Call.{Call}
+use Rattle.isp_code.specs.declared.instr.Instr.{Instr}
+use Rattle.isp_code.specs.declared.instr.Instr.TheVariants as instr
+use Rattle.isp_code.specs.declared.register.Class.TheVariants as class
+use Rattle.isp_code.specs.declared.register.Register.{Register}
+use Rattle.isp_verify.specs.Accepted.{IsFine}
+use Rattle.isp_verify.specs.Faults.{gives_vector, stays, last}
+use Rattle.isp_wasm.specs.Places.{Setting, Place}
+use Rattle.isp_wasm.specs.Lines.{HasArrays, HasTemplate}
+use Rattle.isp_wasm.specs.Module.{goes_to, is_head, heads_of, joined, text_start, has_form, none_open, is_plain, all_plain, is_call, has_call, is_covered, numbered}
+use Rattle.isp_wasm.specs.Thin.{IsHead, IsScalarResult, IsCovered, IsLast, AllThin}
+use Rattle.isp_wasm.proofs.Operands.{fine_is_thin}
+use Rattle.isp_wasm.proofs.Passing.{both_first, both_second, no_number}
+use Rattle.isp_wasm.proofs.Heads.{few, up, inside, target_is}
+use Rattle.isp_wasm.proofs.TextPlaces.{text_ends}
+
+pub no_locals : (ls : List Local) → none_open ls ≡ true → ls ≡ []
+no_locals [] e = refl
+no_locals (l ∷ ls) e = absurd cc
+
+-- ---- lists
+
+pub all_at : {A : Type 0} (p : A → Bool) (xs : List A) (k : ℕ) (x : A) → list_all p xs ≡ true → slice_get xs k ≡ Some x → p x ≡ true
+all_at p [] k x all has = absurd cc
+all_at p (y ∷ xs) zero x all has = let same : y ≡ x = cc in ap p (sym same) ∙ both_first (p y) (list_all p xs) all
+all_at p (y ∷ xs) (suc k) x all has = all_at p xs k x (both_second (p y) (list_all p xs) all) has
+
+or_left : (a b : Bool) → a ≡ true → (a || b) ≡ true
+or_left true b e = refl
+or_left false b e = absurd cc
+
+or_right : (a b : Bool) → b ≡ true → (a || b) ≡ true
+or_right true b e = refl
+or_right false b e = e
+
+pub any_at : {A : Type 0} (p : A → Bool) (xs : List A) (k : ℕ) (x : A) → slice_get xs k ≡ Some x → p x ≡ true → list_any p xs ≡ true
+any_at p [] k x has e = absurd cc
+any_at p (y ∷ xs) zero x has e = let same : y ≡ x = cc in or_left (p y) (list_any p xs) (ap p same ∙ e)
+any_at p (y ∷ xs) (suc k) x has e = or_right (p y) (list_any p xs) (any_at p xs k x has e)
+
+-- a function that calls has a call
+pub calls_some : (h : Routine) (pc : ℕ) (k : Call) → slice_get h.code pc ≡ Some (instr.Call k) → has_call h ≡ true
+calls_some h pc k has = any_at is_call h.code pc (instr.Call k) has refl
+
+-- what is covered, and where it calls, all functions are so
+pub covered_plain : (code : Listing) (h : Routine) → is_covered code h ≡ true → is_plain code h ≡ true
+covered_plain code h covers = both_first (is_plain code h) (not (has_call h) || all_plain code) covers
+
+pub covered_calls : (code : Listing) (h : Routine) → is_covered code h ≡ true → (pc : ℕ) (k : Call) → slice_get h.code pc ≡ Some (instr.Call k) → all_plain code ≡ true
+covered_calls code h covers pc k has = ap (λ b. not b || all_plain code) (sym (calls_some h pc k has)) ∙ both_second (is_plain code h) (not (has_call h) || all_plain code) covers
+
+-- ---- lines
+
+given_scalar : (w : Setting) (h : Routine) (g : Returns) (x : Option Register) → gives_vector g ≡ false → IsGiven h g x → IsScalarResult w x
+given_scalar w h g None none is = tt
+given_scalar w h Nothing (Some x) none is = absurd is
+given_scalar w h (GivesScalar t) (Some x) none is = is.0.0
+given_scalar w h (GivesVector t) (Some x) none is = absurd cc
+
+last_is : (o : Option Instr) → stays o ≡ true → (w : Setting) → IsLast w o
+last_is None e w = absurd cc
+last_is (Some (instr.Jump to)) e w = tt
+last_is (Some (instr.Return x)) e w = tt
+last_is (Some (instr.Scalar d i)) e w = absurd cc
+last_is (Some (instr.Vector d i)) e w = absurd cc
+last_is (Some (instr.Mask d i)) e w = absurd cc
+last_is (Some (instr.Divide o d x y k q)) e w = absurd cc
+last_is (Some (instr.Store a i y k q)) e w = absurd cc
+last_is (Some (instr.Scatter a i y k q)) e w = absurd cc
+last_is (Some (instr.StoreRun a i y k q)) e w = absurd cc
+last_is (Some (instr.PackedStore d a i y k q)) e w = absurd cc
+last_is (Some (instr.PackedLoad d a i y k q)) e w = absurd cc
+last_is (Some (instr.Clear a k)) e w = absurd cc
+last_is (Some (instr.JumpIf t x to)) e w = absurd cc
+last_is (Some (instr.Say t)) e w = absurd cc
+last_is (Some (instr.PrintScalar x)) e w = absurd cc
+last_is (Some (instr.PrintVector x k)) e w = absurd cc
+last_is (Some (instr.Fail x q)) e w = absurd cc
+last_is (Some (instr.Call c)) e w = absurd cc
+
+module _ (w : Setting) (no_vector : gives_vector w.routine.returns ≡ false) (callees : (pc : ℕ) (k : Call) → slice_get w.routine.code pc ≡ Some (instr.Call k) → (fine : CallFine w.code w.routine k) → gives_vector fine.callee.returns ≡ false)
+    (heads : (pc to : ℕ) (i : Instr) → slice_get w.routine.code pc ≡ Some i → goes_to to i ≡ true → to < length w.routine.code → IsHead w to) where
+  template : (pc : ℕ) (i : Instr) → slice_get w.routine.code pc ≡ Some i → has_form i ≡ true → AllFine w.code w.routine (operands i) → CallsFine w.code w.routine i → HasTemplate w i
+  template pc (instr.Clear a k) has e fine calls = absurd cc
+  template pc (instr.PrintScalar x) has e fine calls = absurd cc
+  template pc (instr.PrintVector x k) has e fine calls = absurd cc
+  template pc (instr.Jump to) has e fine calls = heads pc to (instr.Jump to) has (eq-eqb to to refl) fine.0
+  template pc (instr.JumpIf t x to) has e fine calls = heads pc to (instr.JumpIf t x to) has (eq-eqb to to refl) (fine.1).0
+  template pc (instr.Scalar d i) has e fine calls = tt
+  template pc (instr.Vector d i) has e fine calls = tt
+  template pc (instr.Mask d i) has e fine calls = tt
+  template pc (instr.Divide o d x y k q) has e fine calls = tt
+  template pc (instr.Store a i y k q) has e fine calls = tt
+  template pc (instr.Scatter a i y k q) has e fine calls = tt
+  template pc (instr.StoreRun a i y k q) has e fine calls = tt
+  template pc (instr.PackedStore d a i y k q) has e fine calls = tt
+  template pc (instr.PackedLoad d a i y k q) has e fine calls = tt
+  template pc (instr.Say t) has e fine calls = tt
+  template pc (instr.Fail x q) has e fine calls = tt
+  template pc (instr.Call k) has e fine calls = (calls, given_scalar w w.routine calls.callee.returns k.result (callees pc k has calls) calls.result)
+  template pc (instr.Return x) has e fine calls = given_scalar w w.routine w.routine.returns x no_vector fine.0
+
+-- ---- a function
+
+module _ (code : Listing) (h : Routine) where
+  -- in a call, with its locals numbered so
+  abbrev pub placed : (Place → ℕ) → Home → List Frame → (ℕ → ℕ) → (ℕ → Elem) → (ℕ → ℕ) → Setting
+  placed local home waiting begins elems before =
+      record (numbered code h) { local = local; home = home; waiting = waiting; begins = begins; elems = elems; before = before }
+
+module _ (code : Listing) (h : Routine) (f : ℕ) (accepted : IsFine code) (found : slice_get code.routines f ≡ Some h) (plain : is_plain code h ≡ true) where
+  pub forms : list_all has_form h.code ≡ true
+  forms = both_first (list_all has_form h.code) (none_open h.locals && (not (gives_vector h.returns) && (nat_lt (length h.code) (2 ^ 32) && nat_lt (length (joined code.texts)) (2 ^ 32)))) plain
+
+  rooms : (none_open h.locals && (not (gives_vector h.returns) && (nat_lt (length h.code) (2 ^ 32) && nat_lt (length (joined code.texts)) (2 ^ 32)))) ≡ true
+  rooms = both_second (list_all has_form h.code) (none_open h.locals && (not (gives_vector h.returns) && (nat_lt (length h.code) (2 ^ 32) && nat_lt (length (joined code.texts)) (2 ^ 32)))) plain
+
+  pub none : h.locals ≡ []
+  none = no_locals h.locals (both_first (none_open h.locals) (not (gives_vector h.returns) && (nat_lt (length h.code) (2 ^ 32) && nat_lt (length (joined code.texts)) (2 ^ 32))) rooms)
+
+  others : (not (gives_vector h.returns) && (nat_lt (length h.code) (2 ^ 32) && nat_lt (length (joined code.texts)) (2 ^ 32))) ≡ true
+  others = both_second (none_open h.locals) (not (gives_vector h.returns) && (nat_lt (length h.code) (2 ^ 32) && nat_lt (length (joined code.texts)) (2 ^ 32))) rooms
+
+  pub gives_none : gives_vector h.returns ≡ false
+  gives_none = not-true (gives_vector h.returns) (both_first (not (gives_vector h.returns)) (nat_lt (length h.code) (2 ^ 32) && nat_lt (length (joined code.texts)) (2 ^ 32)) others)
+
+  sizes_fit : (nat_lt (length h.code) (2 ^ 32) && nat_lt (length (joined code.texts)) (2 ^ 32)) ≡ true
+  sizes_fit = both_second (not (gives_vector h.returns)) (nat_lt (length h.code) (2 ^ 32) && nat_lt (length (joined code.texts)) (2 ^ 32)) others
+
+  pub code_low : length h.code < 2 ^ 32
+  code_low = ltb-true (length h.code) (2 ^ 32) (both_first (nat_lt (length h.code) (2 ^ 32)) (nat_lt (length (joined code.texts)) (2 ^ 32)) sizes_fit)
+
+  texts_low : length (joined code.texts) < 2 ^ 32
+  texts_low = ltb-true (length (joined code.texts)) (2 ^ 32) (both_second (nat_lt (length h.code) (2 ^ 32)) (nat_lt (length (joined code.texts)) (2 ^ 32)) sizes_fit)
+
+  pub text_low : (t : ℕ) → (text_start code.texts t < 2 ^ 32) × (length (slice_index_or code.texts t []) < 2 ^ 32)
+  text_low t = let ends = text_ends code.texts t in (omega (arith, ends, texts_low), omega (arith, ends, texts_low))
+
+  pub few_heads : length (heads_of h.code) < 2 ^ 32
+  few_heads = let le = few h.code (length h.code) 0 in omega (arith, le, code_low)
+
+  pub heads_rise : (k : ℕ) → k < length (heads_of h.code) → slice_index_or (heads_of h.code) k (length h.code) < slice_index_or (heads_of h.code) (suc k) (length h.code)
+  heads_rise k lt = up h.code (length h.code) 0 (length h.code) (omega arith) k lt
+
+  stays_last : stays (slice_get h.code (last h)) ≡ true
+  stays_last = accepted.ends f h found
+
+  pub some_code : 0 < length h.code
+  some_code = by (cases_lt 0 (length h.code))
+    where
+      by : (0 < length h.code) ⊎ (length h.code ≤ 0) → 0 < length h.code
+      by (inl lt) = lt
+      by (inr le) = absurd (let gone : slice_get h.code (last h) ≡ None = slice_get_past h.code (last h) (omega (arith, le)) in let impossible : false ≡ true = ap stays (sym gone) ∙ stays_last in cc)
+
+  -- its arrays are parameters, which all lanes share
+  pub arrays_are : arrays_of h ≡ param_elems class.Array h.params
+  arrays_are = ap (λ ls. param_elems class.Array h.params ++ map local_elem ls) none ∙ append-nil (param_elems class.Array h.params)
+
+  pub no_sizes : (n : ℕ) → length (shared_sizes (take n h.locals)) ≡ 0
+  no_sizes n = ap (λ ls. length (shared_sizes (take n ls))) none ∙ nothing n
+    where
+      nothing : (n : ℕ) → length (shared_sizes (take n [])) ≡ 0
+      nothing zero = refl
+      nothing (suc n) = refl
+
+  pub no_stores : length (shared_sizes h.locals) ≡ 0
+  no_stores = ap (λ ls. length (shared_sizes ls)) none
+
+  pub no_size : (n : ℕ) → slice_index_or (shared_sizes h.locals) n 0 ≡ 0
+  no_size n = ap (λ ls. slice_index_or (shared_sizes ls) n 0) none ∙ no_number n
+
+  module _ (calls : (pc : ℕ) (k : Call) → slice_get h.code pc ≡ Some (instr.Call k) → all_plain code ≡ true) (local : Place → ℕ) (home : Home) (waiting : List Frame) (begins : ℕ → ℕ) (elems : ℕ → Elem) (before : ℕ → ℕ) where
+    w : Setting
+    w = placed code h local home waiting begins elems before
+
+    heads_end : w.heads w.rungs ≡ length h.code
+    unfolding w
+    heads_end = get_or_past (heads_of h.code) (length (heads_of h.code)) (length h.code) (omega arith)
+
+    head_at : (to : ℕ) → is_head h.code to ≡ true → to < length h.code → IsHead w to
+    unfolding w
+    head_at to is lt = let found = inside h.code (length h.code) 0 (length h.code) to is (omega arith) (omega arith) in record { low = found.low; here = found.here }
+
+    pub covered : IsCovered (placed code h local home waiting begins elems before)
+    unfolding w
+    covered =
+        record {
+          there = λ pc lt none. (let le = absurd_past pc (subst (λ n. pc < n) heads_end lt) none in le);
+          ends = λ k pc all e. (let at_end : last h ≡ pc = (let n : pc + 1 ≡ length h.code = e ∙ heads_end in omega (arith, n)) in subst (λ p. IsLast w (slice_get h.code p)) at_end (last_is (slice_get h.code (last h)) stays_last w));
+        }
+      where
+        absurd_past : (pc : ℕ) → pc < length h.code → slice_get h.code pc ≡ None → ⊥
+        absurd_past pc lt none = let some = slice_get-get_or h.code pc (instr.Jump 0) lt in let impossible : None ≡ Some (get_or h.code pc (instr.Jump 0)) = sym none ∙ some in cc
+
+    arrays : ((a : Register) → IsThere h class.Array a → elems (home.named a.number) ≡ elem_of h a) → HasArrays w
+    unfolding w
+    arrays stored =
+        record {
+          shared = λ a. ap (λ ls. nat_le (length (param_elems class.Array h.params)) a.number && is_own (slice_get ls (a.number - length (param_elems class.Array h.params)))) none
+              ∙ unowned (nat_le (length (param_elems class.Array h.params)) a.number) (a.number - length (param_elems class.Array h.params));
+          stored_as = stored;
+        }
+      where
+        unowned : (b : Bool) (n : ℕ) → (b && is_own (slice_get [] n)) ≡ false
+        unowned true zero = refl
+        unowned true (suc n) = refl
+        unowned false n = refl
+
+    callees : (pc : ℕ) (k : Call) → slice_get h.code pc ≡ Some (instr.Call k) → (fine : CallFine code h k) → gives_vector fine.callee.returns ≡ false
+    callees pc k has fine =
+        let g = fine.callee in
+        let is = all_at (is_plain code) code.routines k.function g (calls pc k has) fine.found in
+        not-true (gives_vector g.returns) (both_first (not (gives_vector g.returns)) (nat_lt (length g.code) (2 ^ 32) && nat_lt (length (joined code.texts)) (2 ^ 32))
+        (both_second (none_open g.locals) (not (gives_vector g.returns) && (nat_lt (length g.code) (2 ^ 32) && nat_lt (length (joined code.texts)) (2 ^ 32)))
+        (both_second (list_all has_form g.code) (none_open g.locals && (not (gives_vector g.returns) && (nat_lt (length g.code) (2 ^ 32) && nat_lt (length (joined code.texts)) (2 ^ 32)))) is)))
+
+    pub all_thin : ((a : Register) → IsThere h class.Array a → elems (home.named a.number) ≡ elem_of h a) → AllThin (placed code h local home waiting begins elems before)
+    unfolding w
+    all_thin stored pc i has =
+        let line = accepted.lines f h found pc i has in
+        fine_is_thin w (arrays stored) i
+        (template w gives_none callees (λ pc to i has goes lt. head_at to (target_is h.code to pc i has goes) lt) pc i has (all_at has_form h.code pc i forms has) line.0 line.1)
+        line.0
