@@ -116,17 +116,24 @@ def code_rows():
     yield "return", "Return None", "(return)", ""
     yield "return_value", "Return (Some (Local 2))", "(return (local.get 2))", "i64"
     yield "unreachable", "Unreachable", "(unreachable)", ""
-    yield "call", "Call 3 [] None", "(call 5)", ""
-    yield "call_with", "Call 2 (Local 0 ∷ Local 2 ∷ []) (Some 1)", "(local.set 1 (call 4 (local.get 0) (local.get 2)))", ""
+    yield "call", "Call 3 [] None", "(call 9)", ""
+    yield "call_with", "Call 2 (Local 0 ∷ Local 2 ∷ []) (Some 1)", "(local.set 1 (call 8 (local.get 0) (local.get 2)))", ""
     yield "write", "Write (Local 0) (Const32 12)", "(call 0 (local.get 0) (i32.const 12))", ""
+    for name, said, number, local in (("signed", "SignedText", 2, 2), ("unsigned", "UnsignedText", 3, 2), ("bool", "TruthText", 4, 0), ("byte", "ByteText", 5, 0)):
+        yield f"print_{name}", f"Print {said} (Local {local})", f"(call {number} (local.get {local}))", ""
+    yield "get_global", "GetGlobal 4 1", "(local.set 4 (global.get 1))", ""
+    yield "set_global", "SetGlobal 1 (Local 5)", "(global.set 1 (local.get 5))", ""
     yield ("fail", "Fail 2 70 4294967295 (Local 1)", "(call 1 (i32.const 2) (i32.const 70) (i32.const -1) (local.get 1)) (unreachable)", "")
 
 
 def function_text(row):
-    """Returns the module whose function 2 is the row's code."""
+    """Returns the module whose function 6 is the row's code."""
     _, _, text, result = row
     gives = f"(result {result})" if result else ""
-    return f"""(module (import "isp" "write" (func (param i32 i32))) (import "isp" "fail" (func (param i32 i32 i32 i32))) (memory 1)
+    return f"""(module (import "isp" "write" (func (param i32 i32))) (import "isp" "fail" (func (param i32 i32 i32 i32)))
+  (import "isp" "print_signed" (func (param i64))) (import "isp" "print_unsigned" (func (param i64)))
+  (import "isp" "print_bool" (func (param i32))) (import "isp" "print_byte" (func (param i32)))
+  (memory 1) (global i32 (i32.const 0)) (global (mut v128) (v128.const i64x2 0 0))
   (func {HEAD} {gives} {MANY} {text}) (func)
   (func (param i32 i64) (result i32) (i32.const 0)) (func))"""
 
@@ -172,7 +179,7 @@ SECTIONS = ("all_sections", """(module (type (func (param i32 i32))) (type (func
   (import "isp" "write" (func (type 0))) (import "isp" "trap" (func (type 1)))
   (func (type 2) (local i32 i32 i64 v128 v128 v128) (local.set 3 (local.get 0)) (return (i32.add (local.get 3) (i32.const 1))) (unreachable))
   (func (type 0) (unreachable)) (memory 17)
-  (global i32 (i32.const 1024)) (global (mut i32) (i32.const -1))
+  (global i32 (i32.const 1024)) (global (mut i32) (i32.const -1)) (global i64 (i64.const -5)) (global (mut v128) (v128.const i64x2 258 3))
   (export "double" (func 2)) (export "memory" (memory 0)) (export "isp.base" (global 0)) (export "\\c3\\a9" (func 3))
   (data (i32.const 64) "hello\\0a") (data (i32.const 300) ""))""",
             """record {
@@ -186,7 +193,8 @@ SECTIONS = ("all_sections", """(module (type (func (param i32 i32))) (type (func
         }
         ∷ record { type = 0; locals = []; code = Unreachable } ∷ [];
     pages = 17;
-    globals = record { changes = false; first = 1024 } ∷ record { changes = true; first = 2 ^ 32 - 1 } ∷ [];
+    globals = record { type = types.I32; changes = false; first = 1024 } ∷ record { type = types.I32; changes = true; first = 2 ^ 32 - 1 }
+        ∷ record { type = types.I64; changes = false; first = 2 ^ 64 - 5 } ∷ record { type = types.V128; changes = true; first = 258 + 3 * 2 ^ 64 } ∷ [];
     exports =
         record { name = codes "double"; kind = FunctionKind; index = 2 } ∷ record { name = codes "memory"; kind = MemoryKind; index = 0 }
         ∷ record { name = codes "isp.base"; kind = GlobalKind; index = 0 } ∷ record { name = 195 ∷ 169 ∷ []; kind = FunctionKind; index = 3 } ∷ [];
@@ -194,11 +202,14 @@ SECTIONS = ("all_sections", """(module (type (func (param i32 i32))) (type (func
   }""")
 
 MODULE = ("whole_module", """(module (type (func (param i32 i32))) (type (func (param i32 i32 i32 i32)))
+  (type (func (param i64))) (type (func (param i64))) (type (func (param i32))) (type (func (param i32)))
   (type (func (param i32 i32 i64) (result i32))) (type (func)) (type (func (param i64)))
-  (import "isp" "write" (func (type 0))) (import "isp" "trap" (func (type 1)))
-  (func (type 2) (local i32 i32 v128 v128 i64 i32) (call 0 (local.get 1) (i32.const 6)) (return (local.get 0)) (unreachable))
-  (func (type 3) (unreachable)) (func (type 4) (return) (unreachable)) (memory 1) (global i32 (i32.const 6))
-  (export "isp.memory" (memory 0)) (export "isp.base" (global 0)) (export "first" (func 2)) (export "last" (func 4)) (data (i32.const 0) "hello\\0a"))""",
+  (import "isp" "write" (func (type 0))) (import "isp" "trap" (func (type 1))) (import "isp" "print_signed" (func (type 2)))
+  (import "isp" "print_unsigned" (func (type 3))) (import "isp" "print_bool" (func (type 4))) (import "isp" "print_byte" (func (type 5)))
+  (func (type 6) (local i32 i32 v128 v128 i64 i32) (call 0 (local.get 1) (i32.const 6)) (return (local.get 0)) (unreachable))
+  (func (type 7) (unreachable)) (func (type 8) (return) (unreachable)) (memory 1) (global i32 (i32.const 6)) RESULTS
+  (export "isp.memory" (memory 0)) (export "isp.base" (global 0)) (export "first" (func 6)) (export "last" (func 8))
+  (data (i32.const 0) "hello\\0a"))""".replace("RESULTS", "(global (mut v128) (v128.const i64x2 0 0)) " * 16),
           """record {
     functions =
         record {
@@ -218,7 +229,7 @@ def listed(numbers):
 
 def theorems():
     lines = ["-- What wat2wasm made of each instruction, and of a module, and that the definitions say the same. Written by tools/wasm_bytes.py.",
-             "use Rattle.std.proofs.Common.{◌≡◌, ◌^◌, ◌-◌, [], ◌∷◌, refl, Some, None, true, false}",
+             "use Rattle.std.proofs.Common.{◌≡◌, ◌^◌, ◌-◌, ◌+◌, ◌*◌, [], ◌∷◌, refl, Some, None, true, false}",
              "use Rattle.std.specs.Prelude.{codes}",
              "use Rattle.isp_wasm_meaning.specs.Lists.{evens}",
              "use Rattle.isp_wasm_meaning.specs.Syntax.{I8x16, I16x8, I32x4, I64x2, I32, I64, Add, Sub, Mul, And, Or, Xor, Shl, ShrU, ShrS, "
@@ -227,6 +238,7 @@ def theorems():
              "use Rattle.isp_wasm_meaning.specs.Syntax.{Of, BitsOf, ShiftOf, Compare, Lanes, CompareLanes, Bits, Replace, Shuffle}",
              "use Rattle.isp_wasm_meaning.specs.Syntax.{Const32, Const64, Const128, Local, One, Two, Select, Bitselect}",
              "use Rattle.isp_wasm_meaning.specs.Syntax.{Skip, Then, Set, Load, Store, Divide, If, Block, Loop, Br, BrTable, Return, Unreachable, Call, Write, Fail}",
+             "use Rattle.isp_wasm_meaning.specs.Syntax.{SignedText, UnsignedText, TruthText, ByteText, Print, GetGlobal, SetGlobal}",
              "use Rattle.isp_wasm_binary.specs.Numbers.{groups, u32, signed_groups, i32, i64, low_bytes, v128}",
              "use Rattle.isp_wasm_binary.specs.Instructions.{code_bytes}",
              "use Rattle.isp_wasm_binary.specs.Modules.{FunctionKind, MemoryKind, GlobalKind, sections_bytes}",

@@ -5,7 +5,7 @@ named as the constructors of specs/Syntax.antt.
 """
 import itertools
 
-NAMES = "Skip Unreachable Then Set Load Store Divide If Block Loop Br BrTable Return Call".split()
+NAMES = "Skip Unreachable Then Set Load Store Divide If Block Loop Br BrTable Return Call GetGlobal SetGlobal".split()
 GIVEN, CHOICE, NEXT, SPARE = ("Local", 0), ("Local", 1), ("Local", 2), 3
 
 
@@ -83,6 +83,9 @@ def plain():
                          ("i32", row(("Set", 3, ("Sub", GIVEN, CHOICE)), ("Return", ("Local", 3)), ("Unreachable",)))], few),
         ("call_has_its_locals", [("i32", row(("Set", SPARE, number(4)), ("Call", 1, (GIVEN, CHOICE), None), ("Return", ("Local", SPARE)), ("Unreachable",))),
                                  (None, row(("Store", 1, NEXT, 0, add(("Local", SPARE), number(6))), ("Set", SPARE, number(8)), ("Br", 0), ("Unreachable",)))], few),
+        ("globals_stay", [("i32", row(("SetGlobal", 1, GIVEN), ("Call", 1, (CHOICE, GIVEN), None), ("GetGlobal", SPARE, 2), ("Return", add(("Local", SPARE), CHOICE)),
+                                      ("Unreachable",))),
+                          (None, row(("GetGlobal", SPARE, 1), ("SetGlobal", 2, add(("Local", SPARE), GIVEN)), ("SetGlobal", 1, number(3)), ("Return",)))], few),
         ("call_traps", [(None, row(point(1), ("Call", 1, (GIVEN, CHOICE), None), point(2))),
                         (None, row(("Set", 2, number(1)), point(3), ("If", GIVEN, ("Unreachable",), ("Skip",))))], few),
         ("call_of_itself", [("i32", row(("Call", 1, (GIVEN, CHOICE), SPARE), ("Return", ("Local", SPARE)), ("Unreachable",))), ("i32", power)], few),
@@ -127,6 +130,10 @@ def code_text(code, first):
         return f"(if {expr_text(parts[0])} (then {code_text(parts[1], first)}) (else {code_text(parts[2], first)}))"
     if word in ("Block", "Loop"):
         return f"({word.lower()} {code_text(parts[0], first)})"
+    if word == "GetGlobal":
+        return f"(local.set {parts[0]} (global.get {parts[1]}))"
+    if word == "SetGlobal":
+        return f"(global.set {parts[0]} {expr_text(parts[1])})"
     if word == "Br":
         return f"(br {parts[0]})"
     if word == "BrTable":
@@ -141,7 +148,7 @@ def code_text(code, first):
 
 def text(rows):
     """Returns the module: f0, f1 .. are the functions that are called, each with those that it calls behind it."""
-    lines, at = ["(module (memory (export \"memory\") 1)"], 0
+    lines, at = ["(module (memory (export \"memory\") 1) (global i32 (i32.const 0))" + " (global (mut i32) (i32.const 0))" * 2], 0
     for place, (_, functions, _) in enumerate(rows):
         for which, (result, code) in enumerate(functions):
             export = f" (export \"f{place}\")" if which == 0 else ""
@@ -215,7 +222,7 @@ use Rattle.std.proofs.Common.{◌≡◌, ℕ, List, [], ◌∷◌, Some, None, r
 use Rattle.std.specs.Prelude.{map, slice_index_or}
 use Rattle.isp_wasm_meaning.specs.Digits.{digit, packed}
 use Rattle.isp_wasm_meaning.specs.Syntax.{I32, Add, Sub, Mul, DivU, Eqz, Of, Const32, Const64, Local, One, Two}
-use Rattle.isp_wasm_meaning.specs.Syntax.{Code, Skip, Unreachable, Then, Set, Load, Store, Divide, If, Block, Loop, Br, BrTable, Return, Call}
+use Rattle.isp_wasm_meaning.specs.Syntax.{Code, Skip, Unreachable, Then, Set, Load, Store, Divide, If, Block, Loop, Br, BrTable, Return, Call, GetGlobal, SetGlobal}
 use Rattle.isp_wasm_meaning.specs.Meaning.{State, Result, Returned, Trapped, called, bytes}
 
 -- a byte at the address that local 2 has, which is the next one then
@@ -223,7 +230,7 @@ abbrev point : ℕ → Code
 point p = Then (Store 1 (Local 2) 0 (Const32 p)) (Set 2 (Two (Of I32 Add) (Local 2) (Const32 1)))
 
 abbrev page : State
-page = record { locals = λ x. 0; memory = λ a. 0; size = 65536; out = [] }
+page = record { locals = λ x. 0; globals = λ x. 0; memory = λ a. 0; size = 65536; out = [] }
 
 -- how a call ended: it gave nothing back (0), or a value (1), or it trapped (2); and the first n bytes of the memory
 abbrev seen : ℕ → Result → List ℕ

@@ -53,6 +53,18 @@ def codes():
     rows = [(f"code_{name}", control.code_term(code), control.code_text(code, 0), sorts) for name, code, sorts in found]
     pairs = [("", pair) for pair in itertools.product(TYPES, repeat=2)]
     rows.append(("code_write", "Write (Local 0) (Local 1)", "(call 0 (local.get 0) (local.get 1))", pairs))
+    every = [("", tried) for tried in itertools.product(TYPES, repeat=3)]
+    rows.append(("code_call", "Call 0 (Local 0 ∷ Local 1 ∷ []) (Some 2)", "(local.set 2 (call 6 (local.get 0) (local.get 1)))", every))
+    rows.append(("code_call_few", "Call 0 (Local 0 ∷ []) (Some 0)", "(local.set 0 (call 6 (local.get 0)))", one))
+    rows.append(("code_call_none", "Call 1 (Local 0 ∷ []) None", "(call 7 (local.get 0))", one))
+    rows.append(("code_call_nothing", "Call 1 (Local 0 ∷ []) (Some 0)", "(local.set 0 (call 7 (local.get 0)))", one))
+    rows.append(("code_call_dropped", "Call 0 (Local 0 ∷ Local 1 ∷ []) None", "(call 6 (local.get 0) (local.get 1))", pairs))
+    rows.append(("code_call_no_one", "Call 2 [] None", "(call 9)", one))
+    for name, said, number in (("signed", "SignedText", 2), ("unsigned", "UnsignedText", 3), ("bool", "TruthText", 4), ("byte", "ByteText", 5)):
+        rows.append((f"code_print_{name}", f"Print {said} (Local 0)", f"(call {number} (local.get 0))", one))
+    for place in (0, 1, 16, 17):
+        rows.append((f"code_get_global_{place}", f"GetGlobal 0 {place}", f"(local.set 0 (global.get {place}))", one))
+        rows.append((f"code_set_global_{place}", f"SetGlobal {place} (Local 0)", f"(global.set {place} (local.get 0))", one))
     rows.append(("code_fail", "Fail 1 2 3 (Local 0)", "(call 1 (i32.const 1) (i32.const 2) (i32.const 3) (local.get 0)) (unreachable)", one))
     return rows
 
@@ -60,8 +72,11 @@ def codes():
 def module(text, result, types):
     params = f"(param {' '.join(types)})" if types else ""
     gives = f"(result {result})" if result else ""
-    return ('(module (import "isp" "write" (func (param i32 i32))) (import "isp" "trap" (func (param i32 i32 i32 i32))) (memory 1) '
-            f"(func {params} {gives} {text}))")
+    prints = " ".join(f'(import "isp" "{name}" (func (param {kind})))'
+                      for name, kind in (("print_signed", "i64"), ("print_unsigned", "i64"), ("print_bool", "i32"), ("print_byte", "i32")))
+    return (f'(module (import "isp" "write" (func (param i32 i32))) (import "isp" "trap" (func (param i32 i32 i32 i32))) {prints} (memory 1) '
+            f"(global i32 (i32.const 0)) {'(global (mut v128) (v128.const i64x2 0 0)) ' * 16}"
+            f"(func (param i32 i64) (result i64) (local.get 1)) (func (param v128)) (func {params} {gives} {text}))")
 
 
 def ask(rows):
@@ -91,12 +106,14 @@ use Rattle.isp_wasm_meaning.specs.Module.{ValueType, I32 as W, I64 as L, V128 as
 SYNTAX
 use Rattle.isp_wasm_meaning.specs.Valid.{is_valid_function}
 
--- a function of this code that takes and gives values of these types
+-- a function of this code that takes and gives values of these types, in a module with two others
 abbrev takes : Code → Option ValueType → List ValueType → Bool
-takes c r ts = is_valid_function [] (record { export = None; params = ts; result = r; locals = []; code = c })
+takes c r ts =
+    is_valid_function (record { export = None; params = W ∷ L ∷ []; result = Some L; locals = []; code = Return (Some (Local 1)) } ∷ record { export = None; params = V ∷ []; result = None; locals = []; code = Skip } ∷ [])
+    (record { export = None; params = ts; result = r; locals = []; code = c })
 """
 SHORT = {"i32": "W", "i64": "L", "v128": "V"}
-OTHERS = {"Local", "Unreachable"}
+OTHERS = {"Local", "Unreachable", "Return", "Skip"}
 
 
 def theorems(rows, answers):
@@ -109,6 +126,6 @@ def theorems(rows, answers):
             given = f"(Some {SHORT[result]})" if result else "None"
             called = f"{name}_{result}" if result else name
             lines += ["", f"{called} : map (takes ({term}) {given}) ({lists}) ≡ ({said})", f"{called} = refl"]
-    words = sorted(set(re.findall(r"\b[A-Z]\w+\b", "\n".join(line for line in lines if " : " in line))) - {"None", "Some"})
+    words = sorted((set(re.findall(r"\b[A-Z]\w+\b", "\n".join(line for line in lines if " : " in line))) | OTHERS) - {"None", "Some"})
     syntax = f"use Rattle.isp_wasm_meaning.specs.Syntax.{{Code, {', '.join(words)}}}"
     return "\n".join([HEAD.rstrip("\n").replace("SYNTAX", syntax), *lines]) + "\n"

@@ -17,4 +17,4 @@ abbrev pub sample_addresses : List ℕ
 sample_addresses = 0 ∷ []
 
 abbrev pub sample_state : State
-sample_state = record { locals = λ y. 0; memory = slice_index pixels; size = 65536; out = [] }
+sample_state = record { locals = λ y. 0; globals = λ y. 0; memory = slice_index pixels; size = 65536; out = [] }

@@ -6,11 +6,11 @@ use Rattle.std.proofs.lemmas.Grind.{flat_map-append}
 use Rattle.std.proofs.Math.Nat.{mod-lt, mod-mod}
 use Rattle.std.proofs.lemmas.Nat.{pow_pos}
 use Rattle.isp_wasm_meaning.specs.Syntax.{Binary, Of, BitsOf, ShiftOf, Compare, Lanes, CompareLanes, Bits, Replace, Shuffle, Expr, Const32, Const64, Const128, Local, One, Two, Select, Bitselect}
-use Rattle.isp_wasm_meaning.specs.Syntax.{Code, Skip, Then, Set, Load, Store, Divide, If, Block, Loop, Br, BrTable, Return, Unreachable, Call, Write, Fail}
+use Rattle.isp_wasm_meaning.specs.Syntax.{Code, Skip, Then, Set, Load, Store, Divide, If, Block, Loop, Br, BrTable, Return, Unreachable, Call, Write, Fail, Print, GetGlobal, SetGlobal}
 use Rattle.isp_wasm_binary.specs.Numbers.{u32, signed_groups, i32, i64, low_bytes, v128}
 use Rattle.isp_wasm_binary.specs.Operators.{binary_bytes}
 use Rattle.isp_wasm_binary.specs.Instructions.{Word, Const32_word, Const64_word, Const128_word, Get_word, Set_word, Unary_word, Binary_word, Division_word, Select_word, Bitselect_word, Load_word, Store_word}
-use Rattle.isp_wasm_binary.specs.Instructions.{Block_word, Loop_word, If_word, Else_word, End_word, Br_word, BrTable_word, Return_word, Call_word, Unreachable_word, word_bytes, access, is_nothing, host_write, host_trap, hosts}
+use Rattle.isp_wasm_binary.specs.Instructions.{Block_word, Loop_word, If_word, Else_word, End_word, Br_word, BrTable_word, Return_word, Call_word, Unreachable_word, GetGlobal_word, SetGlobal_word, word_bytes, access, is_nothing, host_write, host_trap, host_print, hosts}
 use Rattle.isp_wasm_binary.specs.Instructions.{expr_bytes, result_bytes, returned_bytes, else_bytes, code_bytes}
 use Rattle.isp_wasm_binary.specs.Same.{sixteen, expr_words, result_words, returned_words, else_words, code_words}
 use Rattle.isp_wasm_binary.proofs.ReadWords.{IsWord, AllWords}
@@ -19,11 +19,11 @@ pub same_i32 : (n : ℕ) → i32 (n % 2 ^ 32) ≡ i32 n
 unfolding i32
 same_i32 n = ap (signed_groups 4 32) (mod-mod n (2 ^ 32))
 
-same_i64 : (n : ℕ) → i64 (n % 2 ^ 64) ≡ i64 n
+pub same_i64 : (n : ℕ) → i64 (n % 2 ^ 64) ≡ i64 n
 unfolding i64
 same_i64 n = ap (signed_groups 9 64) (mod-mod n (2 ^ 64))
 
-same_v128 : (n : ℕ) → v128 (n % 2 ^ 128) ≡ v128 n
+pub same_v128 : (n : ℕ) → v128 (n % 2 ^ 128) ≡ v128 n
 unfolding v128
 same_v128 n = ap (low_bytes 16) (mod-mod n (2 ^ 128))
 
@@ -101,6 +101,9 @@ code_flat (Write a n) = join (expr_words a) _ _ _ (expr_flat a) (join (expr_word
 code_flat (Fail k a b p) =
     ap₂ (λ x y. x ++ y) (const k) (ap₂ (λ x y. x ++ y) (const a) (ap₂ (λ x y. x ++ y) (const b)
     (join (expr_words p) _ _ _ (expr_flat p) (front (Call_word host_trap) _ _ (one Unreachable_word _ refl)))))
+code_flat (Print o e) = join (expr_words e) _ _ _ (expr_flat e) (one (Call_word (host_print o)) _ refl)
+code_flat (GetGlobal x g) = front (GetGlobal_word g) _ _ (one (Set_word x) _ refl)
+code_flat (SetGlobal g e) = join (expr_words e) _ _ _ (expr_flat e) (one (SetGlobal_word g) _ refl)
 
 -- ---- its numbers are within their bits
 
@@ -164,3 +167,6 @@ code_all (Call f xs x) = both (flat_map expr_words xs) _ (exprs_all xs) (tt, res
 code_all (Write a n) = both (expr_words a) _ (expr_all a) (both (expr_words n) _ (expr_all n) (tt, tt))
 code_all (Fail k a b p) =
     (mod-lt k (pow_pos 32), (mod-lt a (pow_pos 32), (mod-lt b (pow_pos 32), both (expr_words p) _ (expr_all p) (tt, (tt, tt)))))
+code_all (Print o e) = both (expr_words e) _ (expr_all e) (tt, tt)
+code_all (GetGlobal x g) = (tt, (tt, tt))
+code_all (SetGlobal g e) = both (expr_words e) _ (expr_all e) (tt, tt)

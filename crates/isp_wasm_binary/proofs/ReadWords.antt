@@ -8,7 +8,7 @@ use Rattle.isp_wasm_meaning.specs.Syntax.{Unary, Eqz, Ctz, Wrap, ExtendU, Extend
 use Rattle.isp_wasm_meaning.specs.Syntax.{Binary, Of, BitsOf, ShiftOf, Compare, Lanes, CompareLanes, Bits, Replace, Shuffle}
 use Rattle.isp_wasm_binary.specs.Numbers.{groups, u32}
 use Rattle.isp_wasm_binary.specs.Instructions.{Access, Bytes1, Bytes2, Bytes4, Bytes8, NoAccess, Word, Const32_word, Const64_word, Const128_word, Get_word, Set_word, Unary_word, Binary_word, Division_word, Select_word, Bitselect_word, Load_word, Store_word}
-use Rattle.isp_wasm_binary.specs.Instructions.{Block_word, Loop_word, If_word, Else_word, End_word, Br_word, BrTable_word, Return_word, Call_word, Unreachable_word, word_bytes}
+use Rattle.isp_wasm_binary.specs.Instructions.{Block_word, Loop_word, If_word, Else_word, End_word, Br_word, BrTable_word, Return_word, Call_word, Unreachable_word, GetGlobal_word, SetGlobal_word, word_bytes}
 use Rattle.isp_wasm_binary.proofs.Numbers.{Read, read_groups, read_signed, read_low, u32_back, i32_back, i64_back, v128_back}
 
 -- an instruction whose numbers are within its bits, and whose shuffle names 16 bytes
@@ -143,7 +143,9 @@ number_step b r =
     (choose (nat_eq b 0x21) (with_number Set_word (read_groups 4 r))
     (choose (nat_eq b 0x0C) (with_number Br_word (read_groups 4 r))
     (choose (nat_eq b 0x0E) (table (read_groups 4 r))
-    (choose (nat_eq b 0x10) (with_number Call_word (read_groups 4 r)) None))))))
+    (choose (nat_eq b 0x10) (with_number Call_word (read_groups 4 r))
+    (choose (nat_eq b 0x23) (with_number GetGlobal_word (read_groups 4 r))
+    (choose (nat_eq b 0x24) (with_number SetGlobal_word (read_groups 4 r)) None))))))))
 
 abbrev memory_step : ℕ → List ℕ → Step
 memory_step b r =
@@ -400,6 +402,8 @@ word_read (BrTable_word ks k) h r = table_read ks k r
 word_read Return_word h r = refl
 word_read (Call_word f) h r = ap (λ t. Some (Call_word t.0, t.1)) (u32_back f r)
 word_read Unreachable_word h r = refl
+word_read (GetGlobal_word x) h r = ap (λ t. Some (GetGlobal_word t.0, t.1)) (u32_back x r)
+word_read (SetGlobal_word x) h r = ap (λ t. Some (SetGlobal_word t.0, t.1)) (u32_back x r)
 
 -- ---- and so is a list of them
 

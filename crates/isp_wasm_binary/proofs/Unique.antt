@@ -1,20 +1,21 @@
 -- The bytes of a module tell what it is.
-use Rattle.std.proofs.Common.{◌≡◌, ℕ, ◌%◌, ◌^◌, Bool, true, false, List, [], ◌∷◌, ◌++◌, length, map, refl, sym, ap, ap₂, ◌∙◌, append_assoc, arith}
+use Rattle.std.proofs.Common.{◌≡◌, ℕ, ◌%◌, ◌^◌, Bool, true, false, List, [], ◌∷◌, ◌++◌, length, map, refl, sym, ap, ap₂, ◌∙◌, subst, append_assoc, arith}
 use Rattle.std.specs.Prelude.{nat_eq, if◌then◌else◌}
 use Rattle.std.specs.List.{flat_map}
 use Rattle.std.proofs.lemmas.List.{map-id, append_cancel_right}
 use Rattle.std.proofs.lemmas.Grind.{flat_map-append}
 use Rattle.std.proofs.Math.Nat.{mod-lt}
 use Rattle.std.proofs.lemmas.Nat.{pow_pos}
-use Rattle.isp_wasm_binary.specs.Numbers.{u32, i32, vector, bytes}
+use Rattle.isp_wasm_binary.specs.Numbers.{u32, i32, i64, v128, vector, bytes}
 use Rattle.isp_wasm_binary.specs.Instructions.{Word, End_word, word_bytes, code_bytes}
 use Rattle.isp_wasm_meaning.specs.Module.{ValueType, I32, I64, V128}
-use Rattle.isp_wasm_binary.specs.Modules.{Sections, Import, Group, Body, Kind, FunctionKind, MemoryKind, GlobalKind, Export}
-use Rattle.isp_wasm_binary.specs.Modules.{value_type, func_type, import_bytes, type_bytes, memory_bytes, changes_byte, constant, global_bytes, kind_byte, export_bytes, group_bytes, inner_bytes, body_bytes, piece_bytes, section, head, sections_bytes}
-use Rattle.isp_wasm_binary.specs.Same.{code_words, kept, placed, SameSections}
-use Rattle.isp_wasm_binary.proofs.Numbers.{read_signed, u32_free, i32_back}
+use Rattle.isp_wasm_binary.specs.Modules.{Sections, Import, Global, Group, Body, Kind, FunctionKind, MemoryKind, GlobalKind, Export}
+use Rattle.isp_wasm_binary.specs.Modules.{value_type, func_type, import_bytes, type_bytes, memory_bytes, changes_byte, constant, first_of as first_value, global_bytes, kind_byte, export_bytes, group_bytes, inner_bytes, body_bytes, piece_bytes, section, head, sections_bytes}
+use Rattle.isp_wasm_binary.specs.Operators.{simd}
+use Rattle.isp_wasm_binary.specs.Same.{code_words, kept_by, kept, placed, SameSections}
+use Rattle.isp_wasm_binary.proofs.Numbers.{read_signed, read_low, u32_free, i32_back, i64_back, v128_back}
 use Rattle.isp_wasm_binary.proofs.ReadWords.{AllWords, words_same}
-use Rattle.isp_wasm_binary.proofs.Folded.{same_i32, code_flat, code_all}
+use Rattle.isp_wasm_binary.proofs.Folded.{same_i32, same_i64, same_v128, code_flat, code_all}
 
 -- from its bytes, whatever follows, one knows of a value what g says of it
 abbrev Tells : {A B : Type 0} → (A → List ℕ) → (A → B) → Type 0
@@ -150,11 +151,37 @@ constant_tells x y r s e =
     let a = behind_first 0x41 0x41 _ _ e in
     let b = then_more i32 (λ n. n % 2 ^ 32) i32_tells x y (0x0B ∷ []) (0x0B ∷ []) r s a.1 in (b.0, (behind_first 0x0B 0x0B _ _ b.1).1)
 
+i64_tells : Tells i64 (λ n. n % 2 ^ 64)
+i64_tells x y r s e =
+    let back : (n : ℕ) (t : List ℕ) → read_signed 9 64 (i64 n ++ t) ≡ (n % 2 ^ 64, t) =
+    λ n t. ap (λ l. read_signed 9 64 (l ++ t)) (sym (same_i64 n)) ∙ i64_back (n % 2 ^ 64) t (mod-lt n (pow_pos 64)) in
+    let same = sym (back x r) ∙ ap (read_signed 9 64) e ∙ back y s in (ap (λ t. t.0) same, ap (λ t. t.1) same)
+
+v128_tells : Tells v128 (λ n. n % 2 ^ 128)
+v128_tells x y r s e =
+    let back : (n : ℕ) (t : List ℕ) → read_low 16 (v128 n ++ t) ≡ (n % 2 ^ 128, t) =
+    λ n t. ap (λ l. read_low 16 (l ++ t)) (sym (same_v128 n)) ∙ v128_back (n % 2 ^ 128) t (mod-lt n (pow_pos 128)) in
+    let same = sym (back x r) ∙ ap (read_low 16) e ∙ back y s in (ap (λ t. t.0) same, ap (λ t. t.1) same)
+
+first_tells : (t : ValueType) → Tells (first_value t) (kept_by t)
+first_tells I32 x y r s e = constant_tells x y r s e
+first_tells I64 x y r s e =
+    let a = behind_first 0x42 0x42 _ _ e in
+    let b = then_more i64 (λ n. n % 2 ^ 64) i64_tells x y (0x0B ∷ []) (0x0B ∷ []) r s a.1 in (b.0, (behind_first 0x0B 0x0B _ _ b.1).1)
+first_tells V128 x y r s e =
+    let a = pieces (simd 12) (simd 12) _ _ refl (sym (append_assoc (simd 12) _ r) ∙ ap (λ l. l ++ r) (sym (append_assoc (simd 12) (v128 x) (0x0B ∷ []))) ∙ e
+    ∙ ap (λ l. l ++ s) (append_assoc (simd 12) (v128 y) (0x0B ∷ [])) ∙ append_assoc (simd 12) _ s) in
+    let b = then_more v128 (λ n. n % 2 ^ 128) v128_tells x y (0x0B ∷ []) (0x0B ∷ []) r s a.1 in (b.0, (behind_first 0x0B 0x0B _ _ b.1).1)
+
+abbrev pub global_of : ValueType → Bool → ℕ → Global
+global_of t c n = record { type = t; changes = c; first = n }
+
 global_tells : Tells global_bytes kept
 global_tells x y r s e =
-    let a = then_more value_type (λ t. t) val_tells I32 I32 _ _ r s e in
+    let a = then_more value_type (λ t. t) val_tells x.type y.type _ _ r s e in
     let b = then_more changes_byte (λ t. t) changes_tell x.changes y.changes _ _ r s a.1 in
-    let c = constant_tells x.first y.first r s b.1 in (ap₂ (λ p q. record { changes = p; first = q }) b.0 c.0, c.1)
+    let c = first_tells y.type x.first y.first r s (subst (λ t. first_value t x.first ++ r ≡ first_value y.type y.first ++ s) a.0 b.1) in
+    (ap (λ t. global_of t x.changes (kept_by t x.first)) a.0 ∙ ap (λ c. global_of y.type c (kept_by y.type x.first)) b.0 ∙ ap (global_of y.type y.changes) c.0, c.1)
 
 abbrev export_of : List ℕ → Kind → ℕ → Export
 export_of n k i = record { name = n; kind = k; index = i }

@@ -1,8 +1,8 @@
 -- The bytes of a module of isp_wasm_meaning, with what each has in common.
-use Rattle.std.specs.Prelude.{◌≡◌, ℕ, suc, ◌+◌, ◌/◌, List, [], ◌∷◌, length, map, Option, Some, None, Bool, true, false, codes}
+use Rattle.std.specs.Prelude.{◌≡◌, ℕ, zero, suc, ◌+◌, ◌/◌, List, [], ◌∷◌, length, map, Option, Some, None, Bool, true, false, codes}
 use Rattle.isp_wasm_meaning.specs.Module.{ValueType, I32, I64, V128, Function, Module}
 use Rattle.isp_wasm_binary.specs.Instructions.{hosts}
-use Rattle.isp_wasm_binary.specs.Modules.{FuncType, Import, Group, Body, FunctionKind, MemoryKind, GlobalKind, Export, Piece, Sections, sections_bytes}
+use Rattle.isp_wasm_binary.specs.Modules.{FuncType, Import, Global, Group, Body, FunctionKind, MemoryKind, GlobalKind, Export, Piece, Sections, sections_bytes}
 use Rattle.isp_wasm_binary.specs.Same.{code_words}
 
 -- ---- types: those of the host's functions, and then one for each function
@@ -13,6 +13,13 @@ write_type = record { params = I32 ∷ I32 ∷ []; results = [] }
 abbrev pub trap_type : FuncType
 trap_type = record { params = I32 ∷ I32 ∷ I32 ∷ I32 ∷ []; results = [] }
 
+-- of what the host writes of a value
+abbrev pub long_type : FuncType
+long_type = record { params = I64 ∷ []; results = [] }
+
+abbrev pub word_type : FuncType
+word_type = record { params = I32 ∷ []; results = [] }
+
 abbrev pub results_of : Option ValueType → List ValueType
 results_of None = []
 results_of (Some t) = t ∷ []
@@ -22,7 +29,14 @@ type_of f = record { params = f.params; results = results_of f.result }
 
 abbrev pub host_imports : List Import
 host_imports =
-    record { from = codes "isp"; name = codes "write"; type = 0 } ∷ record { from = codes "isp"; name = codes "trap"; type = 1 } ∷ []
+    record { from = codes "isp"; name = codes "write"; type = 0 } ∷ record { from = codes "isp"; name = codes "trap"; type = 1 }
+    ∷ record { from = codes "isp"; name = codes "print_signed"; type = 2 } ∷ record { from = codes "isp"; name = codes "print_unsigned"; type = 3 }
+    ∷ record { from = codes "isp"; name = codes "print_bool"; type = 4 } ∷ record { from = codes "isp"; name = codes "print_byte"; type = 5 } ∷ []
+
+-- the parts of a vector that a function gives back
+abbrev pub results : ℕ → List Global
+results zero = []
+results (suc n) = record { type = V128; changes = true; first = 0 } ∷ results n
 
 -- ---- functions
 
@@ -67,11 +81,11 @@ pieces_of (b ∷ bs) = record { at = 0; has = b ∷ bs } ∷ []
 abbrev pub sections_of : Module → Sections
 sections_of m =
     record {
-      types = write_type ∷ trap_type ∷ map type_of m.functions;
+      types = write_type ∷ trap_type ∷ long_type ∷ long_type ∷ word_type ∷ word_type ∷ map type_of m.functions;
       imports = host_imports;
       functions = bodies 0 m.functions;
       pages = length m.memory / 65536 + 1;
-      globals = record { changes = false; first = length m.memory } ∷ [];
+      globals = record { type = I32; changes = false; first = length m.memory } ∷ results 16;
       exports =
           record { name = codes "isp.memory"; kind = MemoryKind; index = 0 } ∷ record { name = codes "isp.base"; kind = GlobalKind; index = 0 }
           ∷ names 0 m.functions;

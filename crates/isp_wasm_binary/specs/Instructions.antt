@@ -2,7 +2,8 @@
 use Rattle.std.specs.Prelude.{ℕ, ◌+◌, List, [], ◌∷◌, ◌++◌, Option, Some, None, Bool, true, false, ◌&&◌, if◌then◌else◌, nat_eq}
 use Rattle.std.specs.List.{flat_map}
 use Rattle.isp_wasm_meaning.specs.Syntax.{Size, Division, Unary, Binary, Expr, Const32, Const64, Const128, Local, One, Two, Select, Bitselect}
-use Rattle.isp_wasm_meaning.specs.Syntax.{Code, Skip, Then, Set, Load, Store, Divide, If, Block, Loop, Br, BrTable, Return, Unreachable, Call, Write, Fail}
+use Rattle.isp_wasm_meaning.specs.Syntax.{Printed, SignedText, UnsignedText, TruthText, ByteText}
+use Rattle.isp_wasm_meaning.specs.Syntax.{Code, Skip, Then, Set, Load, Store, Divide, If, Block, Loop, Br, BrTable, Return, Unreachable, Call, Write, Fail, Print, GetGlobal, SetGlobal}
 use Rattle.isp_wasm_binary.specs.Numbers.{u32, i32, i64, v128, vector}
 use Rattle.isp_wasm_binary.specs.Operators.{simd, no_such, unary_bytes, binary_bytes, division_bytes}
 
@@ -41,6 +42,8 @@ pub data Word : Type 0 where
   Return_word : Word
   Call_word : (function : ℕ) → Word
   Unreachable_word : Word
+  GetGlobal_word : (global : ℕ) → Word
+  SetGlobal_word : (global : ℕ) → Word
 
 -- 5.4.6 memarg: the alignment, as the power of two that the bytes are, and the offset. i32.load8_u, i32.load16_u, i32.load,
 -- i64.load; i32.store8, i32.store16, i32.store, i64.store
@@ -83,6 +86,8 @@ word_bytes (BrTable_word ks k) = 0x0E ∷ (vector u32 ks ++ u32 k)
 word_bytes Return_word = 0x0F ∷ []
 word_bytes (Call_word f) = 0x10 ∷ u32 f
 word_bytes Unreachable_word = 0x00 ∷ []
+word_bytes (GetGlobal_word x) = 0x23 ∷ u32 x
+word_bytes (SetGlobal_word x) = 0x24 ∷ u32 x
 
 -- ---- folded code, as these instructions
 
@@ -97,15 +102,21 @@ expr_bytes (Two o x y) = expr_bytes x ++ (expr_bytes y ++ word_bytes (Binary_wor
 expr_bytes (Select c x y) = expr_bytes x ++ (expr_bytes y ++ (expr_bytes c ++ word_bytes Select_word))
 expr_bytes (Bitselect x y c) = expr_bytes x ++ (expr_bytes y ++ (expr_bytes c ++ word_bytes Bitselect_word))
 
--- the host's functions, which come first (2.5.1): one writes bytes, one is told of a trap
+-- the host's functions, which come first (2.5.1): one writes bytes, one is told of a trap, four write a value
 abbrev pub host_write : ℕ
 host_write = 0
 
 abbrev pub host_trap : ℕ
 host_trap = 1
 
+abbrev pub host_print : Printed → ℕ
+host_print SignedText = 2
+host_print UnsignedText = 3
+host_print TruthText = 4
+host_print ByteText = 5
+
 abbrev pub hosts : ℕ
-hosts = 2
+hosts = 6
 
 -- what a local gets of a call's result
 abbrev pub result_bytes : Option ℕ → List ℕ
@@ -144,3 +155,6 @@ code_bytes (Call f xs x) = flat_map expr_bytes xs ++ (word_bytes (Call_word (hos
 code_bytes (Write a n) = expr_bytes a ++ (expr_bytes n ++ word_bytes (Call_word host_write))
 code_bytes (Fail k a b p) =
     word_bytes (Const32_word k) ++ (word_bytes (Const32_word a) ++ (word_bytes (Const32_word b) ++ (expr_bytes p ++ (word_bytes (Call_word host_trap) ++ word_bytes Unreachable_word))))
+code_bytes (Print o e) = expr_bytes e ++ word_bytes (Call_word (host_print o))
+code_bytes (GetGlobal x g) = word_bytes (GetGlobal_word g) ++ word_bytes (Set_word x)
+code_bytes (SetGlobal g e) = expr_bytes e ++ word_bytes (SetGlobal_word g)

@@ -3,7 +3,7 @@ use Rattle.std.specs.Prelude.{ℕ, List, [], ◌∷◌, ◌++◌, Bool, true, fa
 use Rattle.isp_wasm_meaning.specs.Syntax.{Code}
 use Rattle.isp_wasm_meaning.specs.Module.{ValueType, I32, I64, V128}
 use Rattle.isp_wasm_binary.specs.Numbers.{u32, vector, byte, bytes}
-use Rattle.isp_wasm_binary.specs.Instructions.{word_bytes, code_bytes, End_word, Const32_word}
+use Rattle.isp_wasm_binary.specs.Instructions.{word_bytes, code_bytes, End_word, Const32_word, Const64_word, Const128_word}
 
 -- ---- what the sections have
 
@@ -28,8 +28,9 @@ pub record Body : Type 0 where
   pub locals : List Group
   pub code : Code
 
--- an i32, which may change or not
+-- a value of a type, which may change or not
 pub record Global : Type 0 where
+  pub type : ValueType
   pub changes : Bool
   pub first : ℕ
 
@@ -90,8 +91,13 @@ changes_byte true = byte 0x01
 abbrev pub constant : ℕ → List ℕ
 constant n = word_bytes (Const32_word n) ++ word_bytes End_word
 
+abbrev pub first_of : ValueType → ℕ → List ℕ
+first_of I32 n = constant n
+first_of I64 n = word_bytes (Const64_word n) ++ word_bytes End_word
+first_of V128 n = word_bytes (Const128_word n) ++ word_bytes End_word
+
 abbrev pub global_bytes : Global → List ℕ
-global_bytes g = value_type I32 ++ (changes_byte g.changes ++ constant g.first)
+global_bytes g = value_type g.type ++ (changes_byte g.changes ++ first_of g.type g.first)
 
 -- 5.5.10 exports
 abbrev pub kind_byte : Kind → List ℕ

@@ -2,10 +2,11 @@
 use Rattle.std.specs.Prelude.{◌≡◌, ℕ, ◌+◌, ◌%◌, ◌^◌, List, [], ◌∷◌, ◌++◌, map, Option, Some, None, Bool, true, false, slice_index}
 use Rattle.std.specs.List.{flat_map}
 use Rattle.isp_wasm_meaning.specs.Lists.{listed}
+use Rattle.isp_wasm_meaning.specs.Module.{ValueType, I32, I64, V128}
 use Rattle.isp_wasm_meaning.specs.Syntax.{Binary, Shuffle, Expr, Const32, Const64, Const128, Local, One, Two, Select, Bitselect}
-use Rattle.isp_wasm_meaning.specs.Syntax.{Code, Skip, Then, Set, Load, Store, Divide, If, Block, Loop, Br, BrTable, Return, Unreachable, Call, Write, Fail}
+use Rattle.isp_wasm_meaning.specs.Syntax.{Code, Skip, Then, Set, Load, Store, Divide, If, Block, Loop, Br, BrTable, Return, Unreachable, Call, Write, Fail, Print, GetGlobal, SetGlobal}
 use Rattle.isp_wasm_binary.specs.Instructions.{Word, Const32_word, Const64_word, Const128_word, Get_word, Set_word, Unary_word, Binary_word, Division_word, Select_word, Bitselect_word, Load_word, Store_word}
-use Rattle.isp_wasm_binary.specs.Instructions.{Block_word, Loop_word, If_word, Else_word, End_word, Br_word, BrTable_word, Return_word, Call_word, Unreachable_word, access, is_nothing, host_write, host_trap, hosts}
+use Rattle.isp_wasm_binary.specs.Instructions.{Block_word, Loop_word, If_word, Else_word, End_word, Br_word, BrTable_word, Return_word, Call_word, Unreachable_word, GetGlobal_word, SetGlobal_word, access, is_nothing, host_write, host_trap, host_print, hosts}
 use Rattle.isp_wasm_binary.specs.Modules.{Global, Piece, Sections, sections_bytes}
 
 -- ---- the instructions of folded code, one behind the other
@@ -55,10 +56,18 @@ code_words (Call f xs x) = flat_map expr_words xs ++ Call_word (hosts + f) ∷ r
 code_words (Write a n) = expr_words a ++ (expr_words n ++ Call_word host_write ∷ [])
 code_words (Fail k a b p) =
     Const32_word (k % 2 ^ 32) ∷ Const32_word (a % 2 ^ 32) ∷ Const32_word (b % 2 ^ 32) ∷ (expr_words p ++ Call_word host_trap ∷ Unreachable_word ∷ [])
+code_words (Print o e) = expr_words e ++ Call_word (host_print o) ∷ []
+code_words (GetGlobal x g) = GetGlobal_word g ∷ Set_word x ∷ []
+code_words (SetGlobal g e) = expr_words e ++ SetGlobal_word g ∷ []
 
--- what an i32 keeps of a number
+-- what a global keeps of a number, by its type
+abbrev pub kept_by : ValueType → ℕ → ℕ
+kept_by I32 n = n % 2 ^ 32
+kept_by I64 n = n % 2 ^ 64
+kept_by V128 n = n % 2 ^ 128
+
 abbrev pub kept : Global → Global
-kept g = record g { first = g.first % 2 ^ 32 }
+kept g = record g { first = kept_by g.type g.first }
 
 abbrev pub placed : Piece → Piece
 placed p = record p { at = p.at % 2 ^ 32 }

@@ -260,6 +260,22 @@ impl Bytes {
         self.unsigned(function)
     }
 
+    /// The value of a global.
+    pub fn get_global(&mut self, global: u32) -> Result<(), AllocError>
+        ensures { OnOk result (self.new ≡ self.old ++ word_bytes (instructions.GetGlobal_word global)) }
+    {
+        self.byte(0x23)?;
+        self.unsigned(global)
+    }
+
+    /// A value to a global.
+    pub fn set_global(&mut self, global: u32) -> Result<(), AllocError>
+        ensures { OnOk result (self.new ≡ self.old ++ word_bytes (instructions.SetGlobal_word global)) }
+    {
+        self.byte(0x24)?;
+        self.unsigned(global)
+    }
+
     /// What is never reached.
     pub fn unreachable(&mut self) -> Result<(), AllocError>
         ensures { OnOk result (self.new ≡ self.old ++ word_bytes instructions.Unreachable_word) }

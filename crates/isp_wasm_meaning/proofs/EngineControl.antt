@@ -3,7 +3,7 @@ use Rattle.std.proofs.Common.{◌≡◌, ℕ, List, [], ◌∷◌, Some, None, r
 use Rattle.std.specs.Prelude.{map, slice_index_or}
 use Rattle.isp_wasm_meaning.specs.Digits.{digit, packed}
 use Rattle.isp_wasm_meaning.specs.Syntax.{I32, Add, Sub, Mul, DivU, Eqz, Of, Const32, Const64, Local, One, Two}
-use Rattle.isp_wasm_meaning.specs.Syntax.{Code, Skip, Unreachable, Then, Set, Load, Store, Divide, If, Block, Loop, Br, BrTable, Return, Call}
+use Rattle.isp_wasm_meaning.specs.Syntax.{Code, Skip, Unreachable, Then, Set, Load, Store, Divide, If, Block, Loop, Br, BrTable, Return, Call, GetGlobal, SetGlobal}
 use Rattle.isp_wasm_meaning.specs.Meaning.{State, Result, Returned, Trapped, called, bytes}
 
 -- a byte at the address that local 2 has, which is the next one then
@@ -11,7 +11,7 @@ abbrev point : ℕ → Code
 point p = Then (Store 1 (Local 2) 0 (Const32 p)) (Set 2 (Two (Of I32 Add) (Local 2) (Const32 1)))
 
 abbrev page : State
-page = record { locals = λ x. 0; memory = λ a. 0; size = 65536; out = [] }
+page = record { locals = λ x. 0; globals = λ x. 0; memory = λ a. 0; size = 65536; out = [] }
 
 -- how a call ended: it gave nothing back (0), or a value (1), or it trapped (2); and the first n bytes of the memory
 abbrev seen : ℕ → Result → List ℕ
@@ -79,6 +79,10 @@ call_result = refl
 call_has_its_locals : map (ends 2 ((Then (Set 3 (Const32 4)) (Then (Call 1 ((Local 0) ∷ (Local 1) ∷ []) None) (Then (Return (Some (Local 3))) Unreachable))) ∷ (Then (Store 1 (Local 2) 0 (Two (Of I32 Add) (Local 3) (Const32 6))) (Then (Set 3 (Const32 8)) (Then (Br 0) Unreachable))) ∷ [])) ((0 ∷ 0 ∷ []) ∷ (1 ∷ 5 ∷ []) ∷ (3 ∷ 2 ∷ []) ∷ []) ≡ ((1 ∷ 4 ∷ 6 ∷ 0 ∷ []) ∷ (1 ∷ 4 ∷ 6 ∷ 0 ∷ []) ∷ (1 ∷ 4 ∷ 6 ∷ 0 ∷ []) ∷ [])
 unfolding digit packed
 call_has_its_locals = refl
+
+globals_stay : map (ends 1 ((Then (SetGlobal 1 (Local 0)) (Then (Call 1 ((Local 1) ∷ (Local 0) ∷ []) None) (Then (GetGlobal 3 2) (Then (Return (Some (Two (Of I32 Add) (Local 3) (Local 1)))) Unreachable)))) ∷ (Then (GetGlobal 3 1) (Then (SetGlobal 2 (Two (Of I32 Add) (Local 3) (Local 0))) (Then (SetGlobal 1 (Const32 3)) (Return None)))) ∷ [])) ((0 ∷ 0 ∷ []) ∷ (1 ∷ 5 ∷ []) ∷ (3 ∷ 2 ∷ []) ∷ []) ≡ ((1 ∷ 0 ∷ 0 ∷ []) ∷ (1 ∷ 11 ∷ 0 ∷ []) ∷ (1 ∷ 7 ∷ 0 ∷ []) ∷ [])
+unfolding digit packed
+globals_stay = refl
 
 call_traps : map (ends 3 ((Then (point 1) (Then (Call 1 ((Local 0) ∷ (Local 1) ∷ []) None) (point 2))) ∷ (Then (Set 2 (Const32 1)) (Then (point 3) (If (Local 0) Unreachable Skip))) ∷ [])) ((0 ∷ 0 ∷ []) ∷ (1 ∷ 5 ∷ []) ∷ (3 ∷ 2 ∷ []) ∷ []) ≡ ((0 ∷ 0 ∷ 1 ∷ 2 ∷ 0 ∷ []) ∷ (2 ∷ 0 ∷ 1 ∷ 3 ∷ 0 ∷ []) ∷ (2 ∷ 0 ∷ 1 ∷ 3 ∷ 0 ∷ []) ∷ [])
 unfolding digit packed

@@ -2,12 +2,14 @@
 use Rattle.std.proofs.Common.{◌≡◌, List, [], ◌∷◌, map, Option, Some, None, Bool, true, false, refl}
 use Rattle.isp_wasm_meaning.specs.Lists.{evens}
 use Rattle.isp_wasm_meaning.specs.Module.{ValueType, I32 as W, I64 as L, V128 as V}
-use Rattle.isp_wasm_meaning.specs.Syntax.{Code, Add, And, Bitmask, Bits, BitsOf, Bitselect, Block, Br, BrTable, Compare, CompareLanes, Const32, Ctz, DivU, Divide, Eq, Eqz, Extend16S, Extend8S, ExtendHigh, ExtendLow, ExtendS, ExtendU, Extract, Fail, I16x8, I32, I32x4, I64, I64x2, I8x16, If, Lanes, Load, Local, Loop, LtS, LtU, Mul, Ne, Of, One, Or, RemU, Replace, Return, Select, Set, ShiftOf, Shl, ShrS, ShrU, Shuffle, Skip, Splat, Store, Sub, Then, Two, Unreachable, Wrap, Write, Xor}
+use Rattle.isp_wasm_meaning.specs.Syntax.{Code, Add, And, Bitmask, Bits, BitsOf, Bitselect, Block, Br, BrTable, ByteText, Call, Compare, CompareLanes, Const32, Ctz, DivU, Divide, Eq, Eqz, Extend16S, Extend8S, ExtendHigh, ExtendLow, ExtendS, ExtendU, Extract, Fail, GetGlobal, I16x8, I32, I32x4, I64, I64x2, I8x16, If, Lanes, Load, Local, Loop, LtS, LtU, Mul, Ne, Of, One, Or, Print, RemU, Replace, Return, Select, Set, SetGlobal, ShiftOf, Shl, ShrS, ShrU, Shuffle, SignedText, Skip, Splat, Store, Sub, Then, TruthText, Two, Unreachable, UnsignedText, Wrap, Write, Xor}
 use Rattle.isp_wasm_meaning.specs.Valid.{is_valid_function}
 
--- a function of this code that takes and gives values of these types
+-- a function of this code that takes and gives values of these types, in a module with two others
 abbrev takes : Code → Option ValueType → List ValueType → Bool
-takes c r ts = is_valid_function [] (record { export = None; params = ts; result = r; locals = []; code = c })
+takes c r ts =
+    is_valid_function (record { export = None; params = W ∷ L ∷ []; result = Some L; locals = []; code = Return (Some (Local 1)) } ∷ record { export = None; params = V ∷ []; result = None; locals = []; code = Skip } ∷ [])
+    (record { export = None; params = ts; result = r; locals = []; code = c })
 
 add_i32 : map (takes (Set 2 (Two (Of I32 Add) (Local 0) (Local 1))) None) ((W ∷ W ∷ W ∷ []) ∷ (W ∷ W ∷ L ∷ []) ∷ (W ∷ W ∷ V ∷ []) ∷ (W ∷ L ∷ W ∷ []) ∷ (W ∷ L ∷ L ∷ []) ∷ (W ∷ L ∷ V ∷ []) ∷ (W ∷ V ∷ W ∷ []) ∷ (W ∷ V ∷ L ∷ []) ∷ (W ∷ V ∷ V ∷ []) ∷ (L ∷ W ∷ W ∷ []) ∷ (L ∷ W ∷ L ∷ []) ∷ (L ∷ W ∷ V ∷ []) ∷ (L ∷ L ∷ W ∷ []) ∷ (L ∷ L ∷ L ∷ []) ∷ (L ∷ L ∷ V ∷ []) ∷ (L ∷ V ∷ W ∷ []) ∷ (L ∷ V ∷ L ∷ []) ∷ (L ∷ V ∷ V ∷ []) ∷ (V ∷ W ∷ W ∷ []) ∷ (V ∷ W ∷ L ∷ []) ∷ (V ∷ W ∷ V ∷ []) ∷ (V ∷ L ∷ W ∷ []) ∷ (V ∷ L ∷ L ∷ []) ∷ (V ∷ L ∷ V ∷ []) ∷ (V ∷ V ∷ W ∷ []) ∷ (V ∷ V ∷ L ∷ []) ∷ (V ∷ V ∷ V ∷ []) ∷ []) ≡ (true ∷ false ∷ false ∷ false ∷ false ∷ false ∷ false ∷ false ∷ false ∷ false ∷ false ∷ false ∷ false ∷ false ∷ false ∷ false ∷ false ∷ false ∷ false ∷ false ∷ false ∷ false ∷ false ∷ false ∷ false ∷ false ∷ false ∷ [])
 add_i32 = refl
@@ -488,6 +490,60 @@ code_end_table_i32 = refl
 
 code_write : map (takes (Write (Local 0) (Local 1)) None) ((W ∷ W ∷ []) ∷ (W ∷ L ∷ []) ∷ (W ∷ V ∷ []) ∷ (L ∷ W ∷ []) ∷ (L ∷ L ∷ []) ∷ (L ∷ V ∷ []) ∷ (V ∷ W ∷ []) ∷ (V ∷ L ∷ []) ∷ (V ∷ V ∷ []) ∷ []) ≡ (true ∷ false ∷ false ∷ false ∷ false ∷ false ∷ false ∷ false ∷ false ∷ [])
 code_write = refl
+
+code_call : map (takes (Call 0 (Local 0 ∷ Local 1 ∷ []) (Some 2)) None) ((W ∷ W ∷ W ∷ []) ∷ (W ∷ W ∷ L ∷ []) ∷ (W ∷ W ∷ V ∷ []) ∷ (W ∷ L ∷ W ∷ []) ∷ (W ∷ L ∷ L ∷ []) ∷ (W ∷ L ∷ V ∷ []) ∷ (W ∷ V ∷ W ∷ []) ∷ (W ∷ V ∷ L ∷ []) ∷ (W ∷ V ∷ V ∷ []) ∷ (L ∷ W ∷ W ∷ []) ∷ (L ∷ W ∷ L ∷ []) ∷ (L ∷ W ∷ V ∷ []) ∷ (L ∷ L ∷ W ∷ []) ∷ (L ∷ L ∷ L ∷ []) ∷ (L ∷ L ∷ V ∷ []) ∷ (L ∷ V ∷ W ∷ []) ∷ (L ∷ V ∷ L ∷ []) ∷ (L ∷ V ∷ V ∷ []) ∷ (V ∷ W ∷ W ∷ []) ∷ (V ∷ W ∷ L ∷ []) ∷ (V ∷ W ∷ V ∷ []) ∷ (V ∷ L ∷ W ∷ []) ∷ (V ∷ L ∷ L ∷ []) ∷ (V ∷ L ∷ V ∷ []) ∷ (V ∷ V ∷ W ∷ []) ∷ (V ∷ V ∷ L ∷ []) ∷ (V ∷ V ∷ V ∷ []) ∷ []) ≡ (false ∷ false ∷ false ∷ false ∷ true ∷ false ∷ false ∷ false ∷ false ∷ false ∷ false ∷ false ∷ false ∷ false ∷ false ∷ false ∷ false ∷ false ∷ false ∷ false ∷ false ∷ false ∷ false ∷ false ∷ false ∷ false ∷ false ∷ [])
+code_call = refl
+
+code_call_few : map (takes (Call 0 (Local 0 ∷ []) (Some 0)) None) ((W ∷ []) ∷ (L ∷ []) ∷ (V ∷ []) ∷ []) ≡ (false ∷ false ∷ false ∷ [])
+code_call_few = refl
+
+code_call_none : map (takes (Call 1 (Local 0 ∷ []) None) None) ((W ∷ []) ∷ (L ∷ []) ∷ (V ∷ []) ∷ []) ≡ (false ∷ false ∷ true ∷ [])
+code_call_none = refl
+
+code_call_nothing : map (takes (Call 1 (Local 0 ∷ []) (Some 0)) None) ((W ∷ []) ∷ (L ∷ []) ∷ (V ∷ []) ∷ []) ≡ (false ∷ false ∷ false ∷ [])
+code_call_nothing = refl
+
+code_call_dropped : map (takes (Call 0 (Local 0 ∷ Local 1 ∷ []) None) None) ((W ∷ W ∷ []) ∷ (W ∷ L ∷ []) ∷ (W ∷ V ∷ []) ∷ (L ∷ W ∷ []) ∷ (L ∷ L ∷ []) ∷ (L ∷ V ∷ []) ∷ (V ∷ W ∷ []) ∷ (V ∷ L ∷ []) ∷ (V ∷ V ∷ []) ∷ []) ≡ (false ∷ false ∷ false ∷ false ∷ false ∷ false ∷ false ∷ false ∷ false ∷ [])
+code_call_dropped = refl
+
+code_call_no_one : map (takes (Call 2 [] None) None) ((W ∷ []) ∷ (L ∷ []) ∷ (V ∷ []) ∷ []) ≡ (false ∷ false ∷ false ∷ [])
+code_call_no_one = refl
+
+code_print_signed : map (takes (Print SignedText (Local 0)) None) ((W ∷ []) ∷ (L ∷ []) ∷ (V ∷ []) ∷ []) ≡ (false ∷ true ∷ false ∷ [])
+code_print_signed = refl
+
+code_print_unsigned : map (takes (Print UnsignedText (Local 0)) None) ((W ∷ []) ∷ (L ∷ []) ∷ (V ∷ []) ∷ []) ≡ (false ∷ true ∷ false ∷ [])
+code_print_unsigned = refl
+
+code_print_bool : map (takes (Print TruthText (Local 0)) None) ((W ∷ []) ∷ (L ∷ []) ∷ (V ∷ []) ∷ []) ≡ (true ∷ false ∷ false ∷ [])
+code_print_bool = refl
+
+code_print_byte : map (takes (Print ByteText (Local 0)) None) ((W ∷ []) ∷ (L ∷ []) ∷ (V ∷ []) ∷ []) ≡ (true ∷ false ∷ false ∷ [])
+code_print_byte = refl
+
+code_get_global_0 : map (takes (GetGlobal 0 0) None) ((W ∷ []) ∷ (L ∷ []) ∷ (V ∷ []) ∷ []) ≡ (true ∷ false ∷ false ∷ [])
+code_get_global_0 = refl
+
+code_set_global_0 : map (takes (SetGlobal 0 (Local 0)) None) ((W ∷ []) ∷ (L ∷ []) ∷ (V ∷ []) ∷ []) ≡ (false ∷ false ∷ false ∷ [])
+code_set_global_0 = refl
+
+code_get_global_1 : map (takes (GetGlobal 0 1) None) ((W ∷ []) ∷ (L ∷ []) ∷ (V ∷ []) ∷ []) ≡ (false ∷ false ∷ true ∷ [])
+code_get_global_1 = refl
+
+code_set_global_1 : map (takes (SetGlobal 1 (Local 0)) None) ((W ∷ []) ∷ (L ∷ []) ∷ (V ∷ []) ∷ []) ≡ (false ∷ false ∷ true ∷ [])
+code_set_global_1 = refl
+
+code_get_global_16 : map (takes (GetGlobal 0 16) None) ((W ∷ []) ∷ (L ∷ []) ∷ (V ∷ []) ∷ []) ≡ (false ∷ false ∷ true ∷ [])
+code_get_global_16 = refl
+
+code_set_global_16 : map (takes (SetGlobal 16 (Local 0)) None) ((W ∷ []) ∷ (L ∷ []) ∷ (V ∷ []) ∷ []) ≡ (false ∷ false ∷ true ∷ [])
+code_set_global_16 = refl
+
+code_get_global_17 : map (takes (GetGlobal 0 17) None) ((W ∷ []) ∷ (L ∷ []) ∷ (V ∷ []) ∷ []) ≡ (false ∷ false ∷ false ∷ [])
+code_get_global_17 = refl
+
+code_set_global_17 : map (takes (SetGlobal 17 (Local 0)) None) ((W ∷ []) ∷ (L ∷ []) ∷ (V ∷ []) ∷ []) ≡ (false ∷ false ∷ false ∷ [])
+code_set_global_17 = refl
 
 code_fail : map (takes (Fail 1 2 3 (Local 0)) None) ((W ∷ []) ∷ (L ∷ []) ∷ (V ∷ []) ∷ []) ≡ (true ∷ false ∷ false ∷ [])
 code_fail = refl

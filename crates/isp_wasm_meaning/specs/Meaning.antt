@@ -1,12 +1,14 @@
 -- What code does, by the core specification of WebAssembly 2.0; the number of its section stands beside each rule. A value is
 -- its bits, a natural number below 2 ^ 32, 2 ^ 64 or 2 ^ 128; an engine takes valid modules alone, where each operator gets
 -- values of its types.
-use Rattle.std.specs.Prelude.{ℕ, zero, suc, ◌+◌, ◌-◌, ◌*◌, ◌/◌, ◌%◌, ◌^◌, List, [], ◌∷◌, ◌++◌, map, Option, Some, None, Bool, true, false, not, if◌then◌else◌, nat_lt, nat_le, nat_eq, slice_index, slice_index_or, ◌&&◌, bit_and, bit_or, bit_xor}
+use Rattle.std.specs.Prelude.{ℕ, zero, suc, ◌+◌, ◌-◌, ◌*◌, ◌/◌, ◌%◌, ◌^◌, List, [], ◌∷◌, ◌++◌, map, Option, Some, None, Bool, true, false, not, if◌then◌else◌, nat_lt, nat_le, nat_eq, slice_index, slice_index_or, ◌&&◌, bit_and, bit_or, bit_xor, pos, ◌-ℤ◌, codes}
+use Rattle.std.specs.Fmt.{signed_decimal}
 use Rattle.isp_wasm_meaning.specs.Digits.{digit, packed}
 use Rattle.isp_wasm_meaning.specs.Syntax.{Shape, I8x16, I16x8, I32x4, I64x2, Size, I32, I64, Whole, Add, Sub, Mul, Bitwise, And, Or, Xor, Shift, Shl, ShrU, ShrS, Test, Eq, Ne, LtU, LtS, Division, DivU, RemU}
 use Rattle.isp_wasm_meaning.specs.Syntax.{Unary, Eqz, Ctz, Wrap, ExtendU, ExtendS, Extend8S, Extend16S, Splat, Extract, ExtendLow, ExtendHigh, Bitmask}
 use Rattle.isp_wasm_meaning.specs.Syntax.{Binary, Of, BitsOf, ShiftOf, Compare, Lanes, CompareLanes, Bits, Replace, Shuffle, Expr, Const32, Const64, Const128, Local, One, Two, Select, Bitselect}
-use Rattle.isp_wasm_meaning.specs.Syntax.{Code, Skip, Unreachable, Then, Set, Load, Store, Divide, If, Block, Loop, Br, BrTable, Return, Call, Write, Fail}
+use Rattle.isp_wasm_meaning.specs.Syntax.{Printed, SignedText, UnsignedText, TruthText, ByteText}
+use Rattle.isp_wasm_meaning.specs.Syntax.{Code, Skip, Unreachable, Then, Set, Load, Store, Divide, If, Block, Loop, Br, BrTable, Return, Call, Write, Fail, Print, GetGlobal, SetGlobal}
 
 -- ---- numbers
 
@@ -136,9 +138,10 @@ binary (Bits o) x y = bitwise o x y
 binary (Replace s k) v x = of_lanes s (λ j. if nat_eq j k then x % 2 ^ wide s else lane s j v)
 binary (Shuffle cs) x y = of_lanes I8x16 (λ i. byte_of_two (slice_index cs i) x y)
 
--- the locals of a call, the bytes of the memory and their number, and what was written
+-- the locals of a call, the globals, the bytes of the memory and their number, and what was written
 pub record State : Type 0 where
   pub locals : ℕ → ℕ
+  pub globals : ℕ → ℕ
   pub memory : ℕ → ℕ
   pub size : ℕ
   pub out : List ℕ
@@ -191,6 +194,17 @@ abbrev pub bytes : ℕ → ℕ → (ℕ → ℕ) → List ℕ
 bytes zero a memory = []
 bytes (suc n) a memory = memory a ∷ bytes n (suc a) memory
 
+-- what the host writes of a value: a number in decimal, a bool by its word
+abbrev pub printed : Printed → ℕ → List ℕ
+printed SignedText v = signed_decimal (if nat_lt v (2 ^ 63) then pos v else pos v -ℤ pos (2 ^ 64))
+printed UnsignedText v = signed_decimal (pos v)
+printed TruthText v = if nat_eq v 0 then codes "false" else codes "true"
+printed ByteText v = v % 2 ^ 8 ∷ []
+
+-- 4.4.5 global.set
+abbrev pub set_global : ℕ → ℕ → State → State
+set_global g v s = record s { globals = λ y. if nat_eq y g then v else s.globals y }
+
 -- 4.4.9 what follows in a sequence, where it falls through
 abbrev pub then_to : Result → (State → Result) → Result
 then_to (Fell s) go = go s
@@ -240,8 +254,8 @@ back x s (OutOfFuel t) = OutOfFuel t
 
 -- with this fuel for each loop, and what the calls of functions do
 module _ (fuel : ℕ) (call : ℕ → List ℕ → State → Result) where
-  -- 4.4.5 local.set; 4.4.7 load, store; 4.4.1 binop of div_u and rem_u, which trap at the divisor 0; 4.4.8 unreachable,
-  -- block, loop, if, br, br_table, return, call; 4.4.10 the two functions of the host
+  -- 4.4.5 local.set, global.get, global.set; 4.4.7 load, store; 4.4.1 binop of div_u and rem_u, which trap at the divisor 0; 4.4.8 unreachable,
+  -- block, loop, if, br, br_table, return, call; 4.4.10 the functions of the host
   abbrev pub run : Code → State → Result
   run Skip s = Fell s
   run Unreachable s = Trapped None s
@@ -259,6 +273,9 @@ module _ (fuel : ℕ) (call : ℕ → List ℕ → State → Result) where
   run (Call f xs x) s = back x s (call f (map (value s.locals) xs) s)
   run (Write a n) s = inside (value s.locals n) (value s.locals a) s (Fell (record s { out = s.out ++ bytes (value s.locals n) (value s.locals a) s.memory }))
   run (Fail k a b p) s = Trapped (Some (record { kind = k; start = a; end = b; instance = value s.locals p })) s
+  run (Print o e) s = Fell (record s { out = s.out ++ printed o (value s.locals e) })
+  run (GetGlobal x g) s = Fell (set_local x (s.globals g) s)
+  run (SetGlobal g e) s = Fell (set_global g (value s.locals e) s)
 
 -- 4.4.10 a function ends where its code does
 abbrev pub left : Result → Result

@@ -2,8 +2,13 @@
 --
 --     import 0    "isp" "write": an address and a number of bytes (i32 i32), nothing back
 --     import 1    "isp" "trap": kind, start and end of the place, instance (i32 i32 i32 i32); it does not return
+--     import 2    "isp" "print_signed": a number, which is written in decimal (i64), nothing back
+--     import 3    "isp" "print_unsigned": one without a sign (i64)
+--     import 4    "isp" "print_bool": `false` for 0, else `true` (i32)
+--     import 5    "isp" "print_byte": the byte that is written (i32)
 --     memory 0    as many pages as its first bytes need and one more, without a most; exported as "isp.memory"
 --     global 0    i32, which never changes: how many first bytes there are; exported as "isp.base"
+--     globals 1 to 16    v128, which change: what a function gave back that is a vector
 use Rattle.std.specs.Prelude.{ℕ, List, [], length, ◌≡◌, ◌≤◌, Option, None, slice_index_or}
 use Rattle.isp_wasm_meaning.specs.Syntax.{Code, Unreachable}
 use Rattle.isp_wasm_meaning.specs.Meaning.{State, bytes}

@@ -90,6 +90,13 @@ pub data Expr : Type 0 where
   -- v128.bitselect: the bits of the first where those of the third are 1, else of the second
   Bitselect : Expr → Expr → Expr → Expr
 
+-- the texts that the host makes of values: a number of 64 bits with and without a sign, a bool, one byte
+pub data Printed : Type 0 where
+  SignedText : Printed
+  UnsignedText : Printed
+  TruthText : Printed
+  ByteText : Printed
+
 pub data Code : Type 0 where
   Skip : Code
   Unreachable : Code
@@ -115,3 +122,8 @@ pub data Code : Type 0 where
   Write : (address count : Expr) → Code
   -- a call of the host, which is told of a trap and does not return: kind, start and end of the place, instance
   Fail : (kind start end : ℕ) (instance : Expr) → Code
+  -- a call of the host, which writes a value as a text
+  Print : Printed → Expr → Code
+  -- global.get, to a local; global.set
+  GetGlobal : (local global : ℕ) → Code
+  SetGlobal : (global : ℕ) → Expr → Code

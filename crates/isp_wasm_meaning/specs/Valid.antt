@@ -1,11 +1,11 @@
 -- Which functions an engine takes, by chapter 3 of the core specification: each operator and each local gets values of its type.
-use Rattle.std.specs.Prelude.{ℕ, suc, ◌^◌, List, [], ◌∷◌, ◌++◌, length, Option, Some, None, Bool, true, false, ◌&&◌, ◌||◌, nat_lt, nat_eq, if◌then◌else◌, slice_get}
+use Rattle.std.specs.Prelude.{ℕ, suc, ◌^◌, List, [], ◌∷◌, ◌++◌, length, Option, Some, None, Bool, true, false, not, ◌&&◌, ◌||◌, nat_lt, nat_eq, if◌then◌else◌, slice_get}
 use Rattle.std.specs.List.{list_all}
 use Rattle.isp_wasm_meaning.specs.Syntax as wasm
 use Rattle.isp_wasm_meaning.specs.Syntax.{Size, Unary, Eqz, Ctz, Wrap, ExtendU, ExtendS, Extend8S, Extend16S, Splat, Extract, ExtendLow, ExtendHigh, Bitmask}
 use Rattle.isp_wasm_meaning.specs.Syntax.{Binary, Of, BitsOf, ShiftOf, Compare, Lanes, CompareLanes, Bits, Replace, Shuffle, Shape, I8x16, I64x2, Mul, LtU}
 use Rattle.isp_wasm_meaning.specs.Syntax.{Expr, Const32, Const64, Const128, Local, One, Two, Select, Bitselect}
-use Rattle.isp_wasm_meaning.specs.Syntax.{Code, Skip, Unreachable, Then, Set, Load, Store, Divide, If, Block, Loop, Br, BrTable, Return, Call, Write, Fail}
+use Rattle.isp_wasm_meaning.specs.Syntax.{Printed, TruthText, ByteText, Code, Skip, Unreachable, Then, Set, Load, Store, Divide, If, Block, Loop, Br, BrTable, Return, Call, Write, Fail, Print, GetGlobal, SetGlobal}
 use Rattle.isp_wasm_meaning.specs.Meaning.{count}
 use Rattle.isp_wasm_meaning.specs.Module.{ValueType, I32, I64, V128, Function}
 
@@ -86,6 +86,19 @@ is_binary o = true
 abbrev pub held : ℕ → Option ValueType
 held n = if nat_eq n 8 then Some I64 else (if nat_eq n 4 || (nat_eq n 2 || nat_eq n 1) then Some I32 else None)
 
+-- what the host takes of what it writes
+abbrev pub taken_by : Printed → ValueType
+taken_by TruthText = I32
+taken_by ByteText = I32
+taken_by o = I64
+
+-- the globals that each module has, and those that change
+abbrev pub global_type : ℕ → Option ValueType
+global_type g = if nat_eq g 0 then Some I32 else (if nat_lt g 17 then Some V128 else None)
+
+abbrev pub changes : ℕ → Bool
+changes g = not (nat_eq g 0)
+
 module _ (local : ℕ → Option ValueType) where
   abbrev pub has_type : Expr → ValueType → Bool
   has_type (Const32 n) t = same_type I32 t
@@ -146,6 +159,9 @@ module _ (local : ℕ → Option ValueType) where
     is_valid depth (Call f xs x) = call_fits (slice_get functions f) xs x
     is_valid depth (Write a n) = has_type a I32 && has_type n I32
     is_valid depth (Fail k a b p) = has_type p I32
+    is_valid depth (Print o e) = has_type e (taken_by o)
+    is_valid depth (GetGlobal x g) = of_type (Local x) (global_type g)
+    is_valid depth (SetGlobal g e) = changes g && of_type e (global_type g)
 
 -- behind it anything may stand
 abbrev pub ends_there : Code → Bool
