@@ -1,5 +1,5 @@
 -- From the loop's result to the machine's runs and back: a machine that has stopped stays, so it stopped where the result says.
-use Rattle.std.proofs.Common.{◌≡◌, ℕ, zero, suc, ◌+◌, ◌-◌, ◌≤◌, ◌<◌, ◌⊎◌, inl, inr, List, [], ◌∷◌, ◌++◌, Option, Some, None, refl, sym, ap, ◌∙◌, subst, arith, append_assoc, append-nil}
+use Rattle.std.proofs.Common.{◌≡◌, ℕ, zero, suc, ◌+◌, ◌-◌, ◌≤◌, ◌<◌, ◌⊎◌, inl, inr, List, [], ◌∷◌, ◌++◌, Option, Some, None, false, refl, sym, ap, ◌∙◌, subst, arith, append_assoc, append-nil}
 use Rattle.std.proofs.lemmas.Bool.{cases_lt}
 use Rattle.isp_base.specs.Prefixes.{IsPrefix}
 use Rattle.isp_base.specs.declared.trap.Trap.{Trap}
@@ -8,14 +8,18 @@ use Rattle.isp_code.specs.Conf as machine
 use Rattle.isp_code.specs.Conf.{Conf, Frame, Move, Go, Say, Fail, Over}
 use Rattle.isp_code.specs.Calls as calls
 use Rattle.isp_code.specs.Listing.{Listing}
+use Rattle.isp_code.specs.Fine.{IsGiven}
+use Rattle.isp_code.specs.declared.function.Returns.{Returns as Gives}
+use Rattle.isp_code.specs.declared.function.Returns.TheVariants.{Nothing, Scalar as GivesScalar, Vector as GivesVector}
 use Rattle.isp_code.specs.declared.register.Register.{Register}
+use Rattle.isp_verify.specs.Faults.{gives_vector}
 use Rattle.isp_code.specs.Machine.{after, advance, arrive, step}
 use Rattle.isp_code.proofs.Steps.{after-sum}
 use Rattle.isp_wasm_meaning.specs.Meaning.{Report, State, Result, Fell, Branched, Returned, Trapped, OutOfFuel, run, left}
 use Rattle.isp_wasm_meaning.specs.Ladder.{Whole, Told}
 use Rattle.isp_wasm.specs.Places.{Setting, Counter}
 use Rattle.isp_wasm.specs.Templates.{function_code}
-use Rattle.isp_wasm.specs.Standing.{bits_of, Keeps, Ends, Fails, Cut, the_machine, report_of}
+use Rattle.isp_wasm.specs.Standing.{bits_by, bits_of, Keeps, Ends, Fails, Cut, the_machine, report_of}
 use Rattle.isp_wasm.specs.Agreement.{Returns, Reports, Agrees, FunctionsAgree, CallsAgree, ComesBack, CallsComeBack, out_of, value_bits}
 use Rattle.isp_wasm.proofs.Chains.{function_runs}
 
@@ -87,17 +91,22 @@ Judged w f c (Trapped (Some q) s) = Fails w c q s
 Judged w f c (OutOfFuel s) = Cut w f c s
 Judged w f c r = ⊥
 
-module _ (w : Setting) (top : w.waiting ≡ []) where
-  answer_bits : (c : Conf) (r : Option Register) → bits_of w c r ≡ value_bits (calls.answer w.routine c r)
-  answer_bits c None = refl
-  answer_bits c (Some x) = refl
+module _ (w : Setting) (top : w.waiting ≡ []) (scalar : gives_vector w.routine.returns ≡ false) where
+  answer_by : (g : Gives) (c : Conf) (x : Register) → gives_vector g ≡ false → IsGiven w.routine g (Some x) → bits_by w x.class c x ≡ Some (c.scalars x.number)
+  answer_by Nothing c x none is = absurd is
+  answer_by (GivesScalar t) c x none is = ap (λ a. bits_by w a c x) is.0.0
+  answer_by (GivesVector t) c x none is = absurd cc
+
+  answer_bits : (c : Conf) (r : Option Register) → IsGiven w.routine w.routine.returns r → bits_of w c r ≡ value_bits (calls.answer w.routine c r)
+  answer_bits c None is = refl
+  answer_bits c (Some x) is = answer_by w.routine.returns c x scalar is
 
   judged : (f : ℕ) (c : Conf) (r : Result) → Whole (the_machine w) (w.local Counter) w.rungs f f c r → Judged w f c (left r)
   judged f c (Fell s) h = absurd (let low = h.stands.low in omega arith)
   judged f c (Branched d s) h = absurd h
   judged f c (Returned v s) h = (
     calls.answer w.routine h.conf h.register,
-    h.value_is ∙ answer_bits h.conf h.register,
+    h.value_is ∙ answer_bits h.conf h.register h.given,
     record { conf = h.conf; steps = h.steps; ends = h.leaves ∙ ap (λ ws. arrive w.code (calls.left w.routine h.conf h.register ws) h.conf) top; out_is = h.out_is; keeps = h.keeps },
   )
   judged f c (Trapped None s) h = absurd h
@@ -167,9 +176,9 @@ module _ (w : Setting) (top : w.waiting ≡ []) where
       }
 
 pub functions_agree : FunctionsAgree
-functions_agree w ready covered thin top call right c s low st =
-    agree w top c (λ f. left (run f (call f) (function_code w) s))
-    (λ f. judged w top f c (run f (call f) (function_code w) s) (function_runs w ready covered thin f (call f) (λ g e. subst (λ n. CallsAgree w g (call n)) (sym e) (right g)) c s low st))
+functions_agree w ready covered thin top scalar call right c s low st =
+    agree w top scalar c (λ f. left (run f (call f) (function_code w) s))
+    (λ f. judged w top scalar f c (run f (call f) (function_code w) s) (function_runs w ready covered thin f (call f) (λ g e. subst (λ n. CallsAgree w g (call n)) (sym e) (right g)) c s low st))
 
 told : (w : Setting) (fr : Frame) (rest : List Frame) → w.waiting ≡ fr ∷ rest → (f : ℕ) (c : Conf) (r : Result) → Whole (the_machine w) (w.local Counter) w.rungs f f c r → Told (the_machine w) (ComesBack w fr rest) f c (left r)
 told w fr rest e f c (Fell s) h = absurd (let low = h.stands.low in omega arith)
@@ -182,6 +191,7 @@ told w fr rest e f c (Returned v s) h =
       given = h.given;
       fits = h.fits;
       value_is = h.value_is;
+      lanes_are = h.lanes_are;
       goes = h.leaves ∙ ap (λ ws. arrive w.code (calls.left w.routine h.conf h.register ws) h.conf) e;
       out_is = h.out_is;
       keeps = h.keeps;

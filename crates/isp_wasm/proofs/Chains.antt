@@ -18,9 +18,9 @@ use Rattle.isp_wasm_meaning.specs.Syntax.{Unreachable}
 use Rattle.isp_wasm_meaning.specs.Ladder.{Meets, Whole, dispatched}
 use Rattle.isp_wasm_meaning.proofs.Ladders.{meets_then, dispatches}
 use Rattle.isp_wasm.specs.Places.{Setting, Counter, elem}
-use Rattle.isp_wasm.specs.Templates.{lane_checks, lane_stores, own_index, run_index, scalar_code, vector_code, quotients, code_of, code_at, span, rung, function_code}
+use Rattle.isp_wasm.specs.Templates.{lane_checks, lane_stores, own_index, run_index, scalar_code, vector_code, quotients, return_code, code_of, code_at, span, rung, function_code}
 use Rattle.isp_wasm.specs.Agreement.{CallsAgree}
-use Rattle.isp_wasm.specs.Standing.{Stands, StandsBefore, IsSettled, the_machine, vector_register}
+use Rattle.isp_wasm.specs.Standing.{Stands, Final, StandsBefore, IsSettled, the_machine, vector_register}
 use Rattle.isp_wasm.specs.Thin.{IsArray, IsCovered, IsLast, IsThin, AllThin, IsThinScalar, IsThinVector, IsThinDivision}
 use Rattle.isp_wasm.proofs.Steps.{machine_laws}
 use Rattle.isp_wasm.proofs.Scalars.{scalars_fall, jumps_to, tests_fall, returns, answers, asserts}
@@ -40,6 +40,14 @@ module _ (w : Setting) (ready : IsSettled w) (covered : IsCovered w) (thin : All
 
   abbrev pub Good : ℕ → ℕ → Conf → Result → Type 0
   Good k pc = Meets (the_machine w) (w.local Counter) w.rungs fuel (Stands w pc) (suc k)
+
+  -- where it is over, control goes nowhere
+  over : (P : Conf → State → Type 0) (k : ℕ) (c : Conf) (r : Result) → Final w c r → Meets (the_machine w) (w.local Counter) w.rungs fuel P k c r
+  over P k c (Fell s) h = absurd h
+  over P k c (Branched d s) h = absurd h
+  over P k c (Returned v s) h = h
+  over P k c (Trapped t s) h = h
+  over P k c (OutOfFuel s) h = absurd h
 
   module _ (k : ℕ) (low : k < w.rungs) (pc : ℕ) (c : Conf) (s : State) (st : Stands w pc c s) where
     scalar_at : (d : Register) (i : ScalarInstr) → slice_get w.routine.code pc ≡ Some (instr.Scalar d i) → d.class ≡ class.Scalar → IsThinScalar w (elem w d) i → Good k (pc + 1) c (run fuel call (scalar_code w d i) s)
@@ -111,9 +119,9 @@ module _ (w : Setting) (ready : IsSettled w) (covered : IsCovered w) (thin : All
     template (instr.JumpIf t x to) has h = tests_fall w ready fuel w.rungs k call pc c s st to t x has low h refl
     template (instr.Say t) has h = says_fall w ready fuel w.rungs k call pc c s t st has
     template (instr.Fail x q) has h = asserts w ready fuel w.rungs k call pc c s st x q has
-    template (instr.Call x) has h = calls_fall w ready last w.rungs k call right pc c s st x has h.0 h.1
-    template (instr.Return None) has h = returns w ready fuel w.rungs k call pc c s st has h.0
-    template (instr.Return (Some x)) has h = answers w ready fuel w.rungs k call pc c s st x has h.0
+    template (instr.Call x) has h = calls_fall w ready last w.rungs k call right pc c s st x has h
+    template (instr.Return None) has h = returns w ready fuel w.rungs k call pc c s st has h
+    template (instr.Return (Some x)) has h = over (Stands w (pc + 1)) (suc k) c (run fuel call (return_code w x.class x) s) (answers w ready fuel w.rungs k call pc c s st x has h)
     template i has h = absurd h
 
   template_at : (k : ℕ) → k < w.rungs → (pc : ℕ) → pc < w.heads w.rungs → (c : Conf) (s : State) (o : Option Instr) → Stands w pc c s → slice_get w.routine.code pc ≡ o
@@ -139,8 +147,8 @@ module _ (w : Setting) (ready : IsSettled w) (covered : IsCovered w) (thin : All
 
   leaves_at : (k : ℕ) → k < w.rungs → (pc : ℕ) (c : Conf) (s : State) (o : Option Instr) → Stands w pc c s → slice_get w.routine.code pc ≡ o → IsLast w o → Gone k c (run fuel call (code_at w (w.rungs - suc k) o) s)
   leaves_at k low pc c s (Some (instr.Jump to)) st has h = jumps_to w ready fuel w.rungs k call pc c s st to (instr.Jump to) has low (thin pc (instr.Jump to) has) refl refl
-  leaves_at k low pc c s (Some (instr.Return None)) st has h = returns w ready fuel w.rungs k call pc c s st has (thin pc (instr.Return None) has).0
-  leaves_at k low pc c s (Some (instr.Return (Some x))) st has h = answers w ready fuel w.rungs k call pc c s st x has (thin pc (instr.Return (Some x)) has).0
+  leaves_at k low pc c s (Some (instr.Return None)) st has h = returns w ready fuel w.rungs k call pc c s st has (thin pc (instr.Return None) has)
+  leaves_at k low pc c s (Some (instr.Return (Some x))) st has h = over Never (suc k) c (run fuel call (return_code w x.class x) s) (answers w ready fuel w.rungs k call pc c s st x has (thin pc (instr.Return (Some x)) has))
   leaves_at k low pc c s o st has h = absurd h
 
   last_spans : (k : ℕ) → suc k ≡ w.rungs → (m pc : ℕ) → pc + suc m ≡ w.heads w.rungs → (c : Conf) (s : State) → Stands w pc c s → Gone k c (run fuel call (span w (w.rungs - suc k) pc (suc m)) s)

@@ -96,9 +96,9 @@ module _ (w : Setting) (ready : IsSettled w) where
             ∙ plain_address (w.begins store) x each_bytes (omega arith) (omega arith) (omega arith) in
             omega arith
 
-        module _ (fuel : ℕ) (call : ℕ → List ℕ → State → Result) (out : List ℕ) where
+        module _ (fuel : ℕ) (call : ℕ → List ℕ → State → Result) (out : List ℕ) (globals : ℕ → ℕ) where
           abbrev pub at_state : State
-          at_state = record { locals = l; memory = memory; size = bytes; out = out }
+          at_state = record { globals = globals; locals = l; memory = memory; size = bytes; out = out }
 
           pub load_is : (d : ℕ) → x < many → run fuel call (Load (bytes_of (elem w a)) d (address_at w a e) 0) at_state ≡ Fell (set_local d (arrays store x) at_state)
           load_is d lt =

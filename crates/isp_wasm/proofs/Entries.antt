@@ -186,7 +186,7 @@ module _ (w : Setting) (ready : IsSettled w) where
       agrees : Agrees w (first w xs) (λ n. left (run n (calls_of n) (function_code w) begun))
       unfolding calls_of
       agrees =
-          functions_agree w ready covered thin call_is.alone calls_of right (first w xs) begun (subst (λ z. z < w.rungs) (sym counter_at) call_is.some)
+          functions_agree w ready covered thin call_is.alone call_is.no_vector calls_of right (first w xs) begun (subst (λ z. z < w.rungs) (sym counter_at) call_is.some)
           (subst (λ z. Stands w z (first w xs) begun) (sym (ap w.heads counter_at ∙ call_is.head_is)) stands)
 
       result_is : (n : ℕ) → called module_code (suc n) f arguments s ≡ left (run (suc n) (calls_of (suc n)) (function_code w) begun)

@@ -248,7 +248,7 @@ module _ (w : Setting) (ready : IsSettled w) (fuel n k : ℕ) (call : ℕ → Li
           let v = c.arrays (store w ready a (elem w d) el) (c.scalars i.number) in
           subst (Good (pc + 1) c)
           (sym (ap (λ r. then_to r after) (checked_is a i m q (elem w d) el is true e)
-          ∙ load_is w ready a (elem w d) el c.arrays s.memory s.size st.keeps s.locals (scalar_local w i) (c.scalars i.number) (st.holds.bases a.number) (st.holds.scalars_are i.number) fuel call s.out (w.local (place.Scalar d.number)) lt))
+          ∙ load_is w ready a (elem w d) el c.arrays s.memory s.size st.keeps s.locals (scalar_local w i) (c.scalars i.number) (st.holds.bases a.number) (st.holds.scalars_are i.number) fuel call s.out s.globals (w.local (place.Scalar d.number)) lt))
           (falls_scalar w ready fuel n k call pc c s st (instr.Scalar d (scalar.Load a i m q)) d v s has cl
           (ap (λ b. moved (unless w.code w.routine c (failing w.code w.routine c b m) kind.Index q (item w.code w.routine c a (element I64 (c.scalars i.number)) 0)) (set_scalar c d)) (outside_here a i m q (elem w d) el is true e)
           ∙ ap (λ x. Go (set_scalar c d x)) (item_is w ready a (elem w d) el pc c s (element I64 (c.scalars i.number)) 0 st ∙ ap (c.arrays (store w ready a (elem w d) el)) (element_is (c.scalars i.number) (omega arith))))

@@ -25,10 +25,10 @@ use Rattle.isp_code.specs.declared.function.Returns.{Returns}
 use Rattle.isp_code.specs.declared.function.Returns.TheVariants.{Nothing, Scalar as GivesScalar, Vector as GivesVector}
 use Rattle.isp_code.specs.declared.instr.Call.{Call}
 use Rattle.isp_code.specs.declared.instr.Instr.TheVariants as instr
+use Rattle.isp_code.specs.declared.register.Class.{Class}
 use Rattle.isp_code.specs.declared.register.Class.TheVariants as class
 use Rattle.isp_code.specs.declared.register.Register.{Register}
 use Rattle.isp_verify.specs.Accepted.{IsFine}
-use Rattle.isp_verify.specs.Faults.{gives_vector}
 use Rattle.isp_wasm_meaning.specs.Syntax.{I8x16, Code, Const128}
 use Rattle.isp_wasm_meaning.specs.Meaning.{State, Result, Fell, Branched, Returned, Trapped, OutOfFuel, called, run, left, value, lane, flags, count, bytes}
 use Rattle.isp_wasm_meaning.specs.Module.{Function, code_in, unused}
@@ -38,9 +38,9 @@ use Rattle.isp_wasm.specs.Places.{Setting, Place, Counter, gang, parts, elem, sh
 use Rattle.isp_wasm.specs.Rows.{cell, widened}
 use Rattle.isp_wasm.specs.Locals.{row, taken_from, taken_places, own_places, inner_local, local_at}
 use Rattle.isp_wasm.specs.Module.{text_start, is_plain, all_plain, has_call, calls_function, is_called, inner, inner_of, inner_function, inner_functions, function_of, module_of}
-use Rattle.isp_wasm.specs.Standing.{Holds, Keeps, Stands, IsSettled, bits_of, scalar_register, vector_register, the_machine}
+use Rattle.isp_wasm.specs.Standing.{Holds, Keeps, Stands, IsSettled, bits_by, bits_of, LanesBy, LanesOf, scalar_register, vector_register, the_machine}
 use Rattle.isp_wasm.specs.Templates.{listed, plus, waiting_calls, part_under, vector_local, mask_local, passed_all, arguments_of, called_number, function_code}
-use Rattle.isp_wasm.specs.Agreement.{Brings, Back, CallsAgree, ComesBack}
+use Rattle.isp_wasm.specs.Agreement.{BringsTo, Brings, Back, CallsAgree, ComesBack}
 use Rattle.isp_wasm.proofs.Agreement.{calls_come_back}
 use Rattle.isp_wasm.proofs.Cells.{select_cells, zero_cells}
 use Rattle.isp_wasm.proofs.Entries.{digit_zero, no_cell}
@@ -49,7 +49,7 @@ use Rattle.isp_wasm.proofs.Given.{Gives, gives, in_row, past_row, scalar_got, ba
 use Rattle.isp_wasm.proofs.Heads.{first_head}
 use Rattle.isp_wasm.proofs.Numbers.{place_apart}
 use Rattle.isp_wasm.proofs.Passing.{At, first_at, other_at, no_number}
-use Rattle.isp_wasm.proofs.Plain.{placed, all_at, any_at, calls_some, none, gives_none, text_low, few_heads, heads_rise, some_code, arrays_are, no_sizes, no_stores, no_size, covered, all_thin}
+use Rattle.isp_wasm.proofs.Plain.{placed, all_at, any_at, calls_some, text_low, few_heads, heads_rise, some_code, arrays_are, no_sizes, no_stores, no_size, covered, all_thin}
 use Rattle.isp_wasm.proofs.Rows.{enough}
 use Rattle.isp_wasm.proofs.Vectors.{chosen_over, mask_row}
 
@@ -393,19 +393,42 @@ module _ (w : Setting) (of : IsOf w) (x : Call) (pc : ℕ) (has : slice_get w.ro
 
     -- ---- what its result says
 
-    brings : (r : Returns) (d y : Option Register) (conf : Conf) (v : Option ℕ) → gives_vector r ≡ false → IsGiven w.routine r d → IsGiven g r y → v ≡ bits_of callee conf y
-        → ((r : ℕ) → conf.scalars r < 2 ^ width (elem callee (scalar_register r))) → Brings w d y conf v
-    brings Nothing None None conf v none given back is fits = is
-    brings Nothing None (Some y) conf v none given back is fits = absurd back
-    brings Nothing (Some d) y conf v none given back is fits = absurd given
-    brings (GivesScalar t) None y conf v none given back is fits = absurd given
-    brings (GivesScalar t) (Some d) None conf v none given back is fits = absurd back
-    brings (GivesScalar t) (Some d) (Some y) conf v none given back is fits = (
-      is,
-      subst (λ u. conf.scalars y.number < 2 ^ width u)
-          (ap (λ a. elem callee (record { class = a; number = y.number })) (sym (back.0).0) ∙ back.1 ∙ sym (ap (λ a. elem w (record { class = a; number = d.number })) (sym (given.0).0) ∙ given.1)) (fits y.number),
-    )
-    brings (GivesVector t) d y conf v none given back is fits = absurd cc
+    module _ (conf : Conf) (v : Option ℕ) (u : State) (fits : (r : ℕ) → conf.scalars r < 2 ^ width (elem callee (scalar_register r))) where
+      brings_scalar : (t : Elem) (a b : Class) (d y : ℕ) → a ≡ class.Scalar → b ≡ class.Scalar → elem w (record { class = a; number = d }) ≡ t → elem callee (record { class = b; number = y }) ≡ t
+          → v ≡ bits_by callee b conf (record { class = b; number = y }) → BringsTo w a (record { class = a; number = d }) (record { class = b; number = y }) conf v u
+      brings_scalar t class.Scalar class.Scalar d y p q e f is = (is, subst (λ t. conf.scalars y < 2 ^ width t) (f ∙ sym e) (fits y))
+      brings_scalar t class.Vector b d y p q e f is = absurd cc
+      brings_scalar t class.Mask b d y p q e f is = absurd cc
+      brings_scalar t class.Array b d y p q e f is = absurd cc
+      brings_scalar t class.Scalar class.Vector d y p q e f is = absurd cc
+      brings_scalar t class.Scalar class.Mask d y p q e f is = absurd cc
+      brings_scalar t class.Scalar class.Array d y p q e f is = absurd cc
+
+      brings_vector : (t : Elem) (a b : Class) (d y : ℕ) → a ≡ class.Vector → b ≡ class.Vector → elem w (record { class = a; number = d }) ≡ t → elem callee (record { class = b; number = y }) ≡ t
+          → v ≡ bits_by callee b conf (record { class = b; number = y }) → LanesBy callee b conf (record { class = b; number = y }) u → BringsTo w a (record { class = a; number = d }) (record { class = b; number = y }) conf v u
+      brings_vector t class.Vector class.Vector d y p q e f is lanes = (
+        is,
+        subst
+            (λ t. (j i : ℕ) → i < count (shape_of t) → j * count (shape_of t) + i < gang w → lane (shape_of t) i (u.globals (suc j)) ≡ cell t (conf.vectors y (j * count (shape_of t) + i)))
+            (f ∙ sym e) lanes,
+      )
+      brings_vector t class.Scalar b d y p q e f is lanes = absurd cc
+      brings_vector t class.Mask b d y p q e f is lanes = absurd cc
+      brings_vector t class.Array b d y p q e f is lanes = absurd cc
+      brings_vector t class.Vector class.Scalar d y p q e f is lanes = absurd cc
+      brings_vector t class.Vector class.Mask d y p q e f is lanes = absurd cc
+      brings_vector t class.Vector class.Array d y p q e f is lanes = absurd cc
+
+      brings : (r : Returns) (d y : Option Register) → IsGiven w.routine r d → IsGiven g r y → v ≡ bits_of callee conf y → LanesOf callee conf y u → Brings w d y conf v u
+      brings Nothing None None goes back is lanes = is
+      brings Nothing None (Some y) goes back is lanes = absurd back
+      brings Nothing (Some d) y goes back is lanes = absurd goes
+      brings (GivesScalar t) None y goes back is lanes = absurd goes
+      brings (GivesScalar t) (Some d) None goes back is lanes = absurd back
+      brings (GivesScalar t) (Some d) (Some y) goes back is lanes = brings_scalar t d.class y.class d.number y.number (goes.0).0 (back.0).0 goes.1 back.1 is
+      brings (GivesVector t) None y goes back is lanes = absurd goes
+      brings (GivesVector t) (Some d) None goes back is lanes = absurd back
+      brings (GivesVector t) (Some d) (Some y) goes back is lanes = brings_vector t d.class y.class d.number y.number (goes.0).0 (back.0).0 goes.1 back.1 is lanes
 
     abbrev pub Comes : ℕ → Conf → Result → Type 0
     Comes f d r = Told (the_machine callee) (ComesBack callee (waits c x.result mask) c.waiting) f d r
@@ -419,7 +442,7 @@ module _ (w : Setting) (of : IsOf w) (x : Call) (pc : ℕ) (has : slice_get w.ro
           steps = h.steps;
           register = h.register;
           goes = h.goes;
-          brings = brings g.returns x.result h.register h.conf v (gives_none w.code g x.function of.accepted fine.found plain_g) fine.result h.given h.value_is h.fits;
+          brings = brings h.conf v t h.fits g.returns x.result h.register fine.result h.given h.value_is h.lanes_are;
           out_is = h.out_is;
           keeps = keeps_out h.conf.arrays (below c.home.opened h.conf.arrays) t.memory t.size (kept h.conf.arrays) h.keeps;
         }
@@ -436,8 +459,8 @@ module _ (w : Setting) (of : IsOf w) (x : Call) (pc : ℕ) (has : slice_get w.ro
     one_more f right =
         subst (λ code. Told (the_machine w) (Back w x c) (suc f) begun (left (run (suc f) (called functions f) code entered))) (sym (inner_code w.code w.routine w.home.fn pc x of.settled.found has (of.plain pc x has) g fine.found))
         (told (suc f) begun (left (run (suc f) (called functions f) (function_code callee) entered))
-        (calls_come_back callee settled (covered w.code g x.function of.accepted fine.found plain_g (λ p k h. of.plain pc x has) (inner_local (gang w) g) home (waits c x.result mask ∷ c.waiting) w.begins w.elems w.before)
-        (all_thin w.code g x.function of.accepted fine.found plain_g (λ p k h. of.plain pc x has) (inner_local (gang w) g) home (waits c x.result mask ∷ c.waiting) w.begins w.elems w.before stored)
+        (calls_come_back callee settled (covered w.code g x.function of.accepted fine.found plain_g (inner_local (gang w) g) home (waits c x.result mask ∷ c.waiting) w.begins w.elems w.before)
+        (all_thin w.code g x.function of.accepted fine.found plain_g (inner_local (gang w) g) home (waits c x.result mask ∷ c.waiting) w.begins w.elems w.before stored)
         (waits c x.result mask) c.waiting refl (called functions f) (suc f) (λ n e. subst (λ m. CallsAgree callee m (called functions f)) (let same : f ≡ n = omega (arith, e) in same) right) begun entered
         (subst (λ n. n < callee.rungs) (sym counter_is) (first_head g.code (length g.code) (some_code w.code g x.function of.accepted fine.found plain_g)).0)
         (subst (λ n. Stands callee n begun entered) (sym head_is) stands)))

@@ -81,6 +81,9 @@ module _ (code : Listing) (h : Routine) (f : ℕ) (accepted : IsFine code) (foun
   pub no_vector : list_any is_vector h.params ≡ false
   no_vector = not-true (list_any is_vector h.params) (both_first (not (list_any is_vector h.params)) (not (gives_vector h.returns)) can)
 
+  pub gives_none : gives_vector h.returns ≡ false
+  gives_none = not-true (gives_vector h.returns) (both_second (not (list_any is_vector h.params)) (not (gives_vector h.returns)) can)
+
   module _ (xs : List Argument) (signature : has_signature (parameters_of h) xs ≡ true) (at : List ℕ) (s : State) (laid : IsLaidOut code xs at s) where
     w : Setting
     w = in_call code xs at f h s
@@ -233,6 +236,7 @@ module _ (code : Listing) (h : Routine) (f : ℕ) (accepted : IsFine code) (foun
         record {
           home_is = refl;
           alone = refl;
+          no_vector = gives_none;
           some = (first_head h.code (length h.code) (some_code code h f accepted found plain)).0;
           head_is = (first_head h.code (length h.code) (some_code code h f accepted found plain)).1;
           counter_is = places.others Counter tt;
@@ -277,8 +281,8 @@ module _ (code : Listing) (h : Routine) (f : ℕ) (accepted : IsFine code) (foun
     same_outcomes : SameOutcomes w xs (λ n. called (code_in (module_of code)) n f (passed xs at) s)
     unfolding w
     same_outcomes =
-        entries_agree w ready (covered code h f accepted found plain (covered_calls code h covers) (local_in (gang_width code.gang) h) (first_conf code f h xs).home [] (slice_index at) (row_elem (rows xs)) s.memory)
-        (all_thin code h f accepted found plain (covered_calls code h covers) (local_in (gang_width code.gang) h) (first_conf code f h xs).home [] (slice_index at) (row_elem (rows xs)) s.memory stored)
+        entries_agree w ready (covered code h f accepted found plain (local_in (gang_width code.gang) h) (first_conf code f h xs).home [] (slice_index at) (row_elem (rows xs)) s.memory)
+        (all_thin code h f accepted found plain (local_in (gang_width code.gang) h) (first_conf code f h xs).home [] (slice_index at) (row_elem (rows xs)) s.memory stored)
         (code_in (module_of code)) f code_is (λ n. calls_agree n w of) xs (passed xs at) s call_is
 
 pub kernels_agree : KernelsAgree

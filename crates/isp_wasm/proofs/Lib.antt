@@ -11,6 +11,7 @@ mod MaskWords
 mod Indices
 mod Ranges
 mod Masks
+mod Results
 mod Scalars
 mod LaneLoops
 mod Elements

@@ -73,7 +73,7 @@ module _ (w : Setting) (ready : IsSettled w) (fuel n k : ℕ) (call : ℕ → Li
                 ∙ ap (λ v. behind (if nat_eq v 0 then run fuel call (fault w 1 q (syntax.Const32 p)) at else run fuel call (Then (Load (bytes_of (elem w a)) (spare w (elem w a)) (address_at w a (index p)) 0) (set_lane w (vector_register d) p (Local (spare w (elem w a))))) at))
                 (test_is a f.locals (index p) (x p) (f.holds.counts a.number) here ∙ ap flag (not-false (nat_lt (x p) (many w ready a t el)) good))
                 ∙ ap (λ r. behind (then_to r (run fuel call (set_lane w (vector_register d) p (Local (spare w (elem w a)))))))
-                (load_is w ready a t el c.arrays s.memory s.size st.keeps f.locals (index p) (x p) (f.holds.bases a.number) here fuel call s.out (spare w (elem w a)) lt);
+                (load_is w ready a t el c.arrays s.memory s.size st.keeps f.locals (index p) (x p) (f.holds.bases a.number) here fuel call s.out s.globals (spare w (elem w a)) lt);
             holds =
                 filled_set w ready fuel call c s d m got p low f.locals (set_local (w.local part) new loaded).locals (value loaded.locals (as_cell t (Local (spare w (elem w a))))) f.holds on
                 (cell_written t loaded.locals (Local (spare w (elem w a))) (got p) (there w ready (Spare (size_of (elem w a)) 0) (got p) at) (element_fits w ready a t el c.arrays s.memory s.size st.keeps (x p) lt))

@@ -143,7 +143,7 @@ module _ (w : Setting) (has : HasArrays w) where
   thin (instr.JumpIf jump.All x to) t f = t
   thin (instr.Say n) t f = tt
   thin (instr.Fail x q) t f = tt
-  thin (instr.Return x) t f = (f.0, t)
+  thin (instr.Return x) t f = f.0
   thin (instr.Clear a k) t f = absurd t
   thin (instr.PrintScalar x) t f = absurd t
   thin (instr.PrintVector x k) t f = absurd t

@@ -2,31 +2,29 @@
 use Rattle.std.proofs.Common.{◌≡◌, ℕ, zero, suc, ◌+◌, ◌-◌, ◌^◌, ◌<◌, ◌≤◌, ◌⊎◌, inl, inr, List, [], ◌∷◌, ◌++◌, length, map, take, Option, Some, None, Bool, true, false, not, ◌&&◌, ◌||◌, refl, sym, ap, ◌∙◌, subst, eq-eqb, append-nil, arith}
 use Rattle.std.specs.Prelude.{slice_get, slice_index_or, nat_lt, nat_le}
 use Rattle.std.specs.List.{list_all, list_any}
-use Rattle.std.proofs.lemmas.Bool.{cases_lt, ltb-true, not-true}
+use Rattle.std.proofs.lemmas.Bool.{cases_lt, ltb-true}
 use Rattle.std.proofs.lemmas.Option.{slice_get_past, slice_get-get_or}
 use Rattle.std.proofs.lemmas.List.{get_or_past}
 use Rattle.std.proofs.Math.ListN.{get_or}
 use Rattle.isp_base.specs.declared.types.Elem.{Elem}
 use Rattle.isp_code.specs.Calls.{shared_sizes}
 use Rattle.isp_code.specs.Conf.{Home, Frame}
-use Rattle.isp_code.specs.Fine.{AllFine, CallsFine, CallFine, IsGiven, IsThere}
+use Rattle.isp_code.specs.Fine.{AllFine, CallsFine, IsThere}
 use Rattle.isp_code.specs.Listing.{Listing, Routine}
 use Rattle.isp_code.specs.Operands.{operands}
 use Rattle.isp_code.specs.Registers.{is_own, param_elems, arrays_of, local_elem, elem_of}
 use Rattle.isp_code.specs.declared.function.Local.{Local}
-use Rattle.isp_code.specs.declared.function.Returns.{Returns}
-use Rattle.isp_code.specs.declared.function.Returns.TheVariants.{Nothing, Scalar as GivesScalar, Vector as GivesVector}
 use Rattle.isp_code.specs.declared.instr.Call.{Call}
 use Rattle.isp_code.specs.declared.instr.Instr.{Instr}
 use Rattle.isp_code.specs.declared.instr.Instr.TheVariants as instr
 use Rattle.isp_code.specs.declared.register.Class.TheVariants as class
 use Rattle.isp_code.specs.declared.register.Register.{Register}
 use Rattle.isp_verify.specs.Accepted.{IsFine}
-use Rattle.isp_verify.specs.Faults.{gives_vector, stays, last}
+use Rattle.isp_verify.specs.Faults.{stays, last}
 use Rattle.isp_wasm.specs.Places.{Setting, Place}
 use Rattle.isp_wasm.specs.Lines.{HasArrays, HasTemplate}
 use Rattle.isp_wasm.specs.Module.{goes_to, is_head, heads_of, joined, text_start, has_form, none_open, is_plain, all_plain, is_call, has_call, is_covered, numbered}
-use Rattle.isp_wasm.specs.Thin.{IsHead, IsScalarResult, IsCovered, IsLast, AllThin}
+use Rattle.isp_wasm.specs.Thin.{IsHead, IsCovered, IsLast, AllThin}
 use Rattle.isp_wasm.proofs.Operands.{fine_is_thin}
 use Rattle.isp_wasm.proofs.Passing.{both_first, both_second, no_number}
 use Rattle.isp_wasm.proofs.Heads.{few, up, inside, target_is}
@@ -69,12 +67,6 @@ covered_calls code h covers pc k has = ap (λ b. not b || all_plain code) (sym (
 
 -- ---- lines
 
-given_scalar : (w : Setting) (h : Routine) (g : Returns) (x : Option Register) → gives_vector g ≡ false → IsGiven h g x → IsScalarResult w x
-given_scalar w h g None none is = tt
-given_scalar w h Nothing (Some x) none is = absurd is
-given_scalar w h (GivesScalar t) (Some x) none is = is.0.0
-given_scalar w h (GivesVector t) (Some x) none is = absurd cc
-
 last_is : (o : Option Instr) → stays o ≡ true → (w : Setting) → IsLast w o
 last_is None e w = absurd cc
 last_is (Some (instr.Jump to)) e w = tt
@@ -96,8 +88,7 @@ last_is (Some (instr.PrintVector x k)) e w = absurd cc
 last_is (Some (instr.Fail x q)) e w = absurd cc
 last_is (Some (instr.Call c)) e w = absurd cc
 
-module _ (w : Setting) (no_vector : gives_vector w.routine.returns ≡ false) (callees : (pc : ℕ) (k : Call) → slice_get w.routine.code pc ≡ Some (instr.Call k) → (fine : CallFine w.code w.routine k) → gives_vector fine.callee.returns ≡ false)
-    (heads : (pc to : ℕ) (i : Instr) → slice_get w.routine.code pc ≡ Some i → goes_to to i ≡ true → to < length w.routine.code → IsHead w to) where
+module _ (w : Setting) (heads : (pc to : ℕ) (i : Instr) → slice_get w.routine.code pc ≡ Some i → goes_to to i ≡ true → to < length w.routine.code → IsHead w to) where
   template : (pc : ℕ) (i : Instr) → slice_get w.routine.code pc ≡ Some i → has_form i ≡ true → AllFine w.code w.routine (operands i) → CallsFine w.code w.routine i → HasTemplate w i
   template pc (instr.Clear a k) has e fine calls = absurd cc
   template pc (instr.PrintScalar x) has e fine calls = absurd cc
@@ -115,8 +106,8 @@ module _ (w : Setting) (no_vector : gives_vector w.routine.returns ≡ false) (c
   template pc (instr.PackedLoad d a i y k q) has e fine calls = tt
   template pc (instr.Say t) has e fine calls = tt
   template pc (instr.Fail x q) has e fine calls = tt
-  template pc (instr.Call k) has e fine calls = (calls, given_scalar w w.routine calls.callee.returns k.result (callees pc k has calls) calls.result)
-  template pc (instr.Return x) has e fine calls = given_scalar w w.routine w.routine.returns x no_vector fine.0
+  template pc (instr.Call k) has e fine calls = calls
+  template pc (instr.Return x) has e fine calls = tt
 
 -- ---- a function
 
@@ -128,22 +119,16 @@ module _ (code : Listing) (h : Routine) where
 
 module _ (code : Listing) (h : Routine) (f : ℕ) (accepted : IsFine code) (found : slice_get code.routines f ≡ Some h) (plain : is_plain code h ≡ true) where
   pub forms : list_all has_form h.code ≡ true
-  forms = both_first (list_all has_form h.code) (none_open h.locals && (not (gives_vector h.returns) && (nat_lt (length h.code) (2 ^ 32) && nat_lt (length (joined code.texts)) (2 ^ 32)))) plain
+  forms = both_first (list_all has_form h.code) (none_open h.locals && (nat_lt (length h.code) (2 ^ 32) && nat_lt (length (joined code.texts)) (2 ^ 32))) plain
 
-  rooms : (none_open h.locals && (not (gives_vector h.returns) && (nat_lt (length h.code) (2 ^ 32) && nat_lt (length (joined code.texts)) (2 ^ 32)))) ≡ true
-  rooms = both_second (list_all has_form h.code) (none_open h.locals && (not (gives_vector h.returns) && (nat_lt (length h.code) (2 ^ 32) && nat_lt (length (joined code.texts)) (2 ^ 32)))) plain
+  rooms : (none_open h.locals && (nat_lt (length h.code) (2 ^ 32) && nat_lt (length (joined code.texts)) (2 ^ 32))) ≡ true
+  rooms = both_second (list_all has_form h.code) (none_open h.locals && (nat_lt (length h.code) (2 ^ 32) && nat_lt (length (joined code.texts)) (2 ^ 32))) plain
 
   pub none : h.locals ≡ []
-  none = no_locals h.locals (both_first (none_open h.locals) (not (gives_vector h.returns) && (nat_lt (length h.code) (2 ^ 32) && nat_lt (length (joined code.texts)) (2 ^ 32))) rooms)
-
-  others : (not (gives_vector h.returns) && (nat_lt (length h.code) (2 ^ 32) && nat_lt (length (joined code.texts)) (2 ^ 32))) ≡ true
-  others = both_second (none_open h.locals) (not (gives_vector h.returns) && (nat_lt (length h.code) (2 ^ 32) && nat_lt (length (joined code.texts)) (2 ^ 32))) rooms
-
-  pub gives_none : gives_vector h.returns ≡ false
-  gives_none = not-true (gives_vector h.returns) (both_first (not (gives_vector h.returns)) (nat_lt (length h.code) (2 ^ 32) && nat_lt (length (joined code.texts)) (2 ^ 32)) others)
+  none = no_locals h.locals (both_first (none_open h.locals) (nat_lt (length h.code) (2 ^ 32) && nat_lt (length (joined code.texts)) (2 ^ 32)) rooms)
 
   sizes_fit : (nat_lt (length h.code) (2 ^ 32) && nat_lt (length (joined code.texts)) (2 ^ 32)) ≡ true
-  sizes_fit = both_second (not (gives_vector h.returns)) (nat_lt (length h.code) (2 ^ 32) && nat_lt (length (joined code.texts)) (2 ^ 32)) others
+  sizes_fit = both_second (none_open h.locals) (nat_lt (length h.code) (2 ^ 32) && nat_lt (length (joined code.texts)) (2 ^ 32)) rooms
 
   pub code_low : length h.code < 2 ^ 32
   code_low = ltb-true (length h.code) (2 ^ 32) (both_first (nat_lt (length h.code) (2 ^ 32)) (nat_lt (length (joined code.texts)) (2 ^ 32)) sizes_fit)
@@ -187,7 +172,7 @@ module _ (code : Listing) (h : Routine) (f : ℕ) (accepted : IsFine code) (foun
   pub no_size : (n : ℕ) → slice_index_or (shared_sizes h.locals) n 0 ≡ 0
   no_size n = ap (λ ls. slice_index_or (shared_sizes ls) n 0) none ∙ no_number n
 
-  module _ (calls : (pc : ℕ) (k : Call) → slice_get h.code pc ≡ Some (instr.Call k) → all_plain code ≡ true) (local : Place → ℕ) (home : Home) (waiting : List Frame) (begins : ℕ → ℕ) (elems : ℕ → Elem) (before : ℕ → ℕ) where
+  module _ (local : Place → ℕ) (home : Home) (waiting : List Frame) (begins : ℕ → ℕ) (elems : ℕ → Elem) (before : ℕ → ℕ) where
     w : Setting
     w = placed code h local home waiting begins elems before
 
@@ -224,18 +209,10 @@ module _ (code : Listing) (h : Routine) (f : ℕ) (accepted : IsFine code) (foun
         unowned true (suc n) = refl
         unowned false n = refl
 
-    callees : (pc : ℕ) (k : Call) → slice_get h.code pc ≡ Some (instr.Call k) → (fine : CallFine code h k) → gives_vector fine.callee.returns ≡ false
-    callees pc k has fine =
-        let g = fine.callee in
-        let is = all_at (is_plain code) code.routines k.function g (calls pc k has) fine.found in
-        not-true (gives_vector g.returns) (both_first (not (gives_vector g.returns)) (nat_lt (length g.code) (2 ^ 32) && nat_lt (length (joined code.texts)) (2 ^ 32))
-        (both_second (none_open g.locals) (not (gives_vector g.returns) && (nat_lt (length g.code) (2 ^ 32) && nat_lt (length (joined code.texts)) (2 ^ 32)))
-        (both_second (list_all has_form g.code) (none_open g.locals && (not (gives_vector g.returns) && (nat_lt (length g.code) (2 ^ 32) && nat_lt (length (joined code.texts)) (2 ^ 32)))) is)))
-
     pub all_thin : ((a : Register) → IsThere h class.Array a → elems (home.named a.number) ≡ elem_of h a) → AllThin (placed code h local home waiting begins elems before)
     unfolding w
     all_thin stored pc i has =
         let line = accepted.lines f h found pc i has in
         fine_is_thin w (arrays stored) i
-        (template w gives_none callees (λ pc to i has goes lt. head_at to (target_is h.code to pc i has goes) lt) pc i has (all_at has_form h.code pc i forms has) line.0 line.1)
+        (template w (λ pc to i has goes lt. head_at to (target_is h.code to pc i has goes) lt) pc i has (all_at has_form h.code pc i forms has) line.0 line.1)
         line.0

@@ -24,16 +24,20 @@ use Rattle.isp_code.specs.declared.instr.JumpTest.{JumpTest}
 use Rattle.isp_code.specs.declared.instr.JumpTest.TheVariants as jump
 use Rattle.isp_code.specs.declared.instr.ScalarInstr.{ScalarInstr}
 use Rattle.isp_code.specs.declared.instr.ScalarInstr.TheVariants as scalar
+use Rattle.isp_code.specs.Listing.{Routine}
+use Rattle.isp_code.specs.declared.function.Returns.{Returns}
+use Rattle.isp_code.specs.declared.function.Returns.TheVariants.{Nothing, Scalar as GivesScalar, Vector as GivesVector}
+use Rattle.isp_code.specs.declared.register.Class.{Class}
 use Rattle.isp_code.specs.declared.register.Class.TheVariants as class
 use Rattle.isp_code.specs.declared.register.Register.{Register}
 use Rattle.isp_wasm_meaning.specs.Syntax as wasm
-use Rattle.isp_wasm_meaning.specs.Syntax.{Code, Set}
-use Rattle.isp_wasm_meaning.specs.Meaning.{State, Result, Fell, Trapped, behind, run, set_local, value, flag, chosen, lane, Report}
+use Rattle.isp_wasm_meaning.specs.Syntax.{Code, Set, Return}
+use Rattle.isp_wasm_meaning.specs.Meaning.{State, Result, Fell, Trapped, behind, then_to, run, set_local, value, flag, chosen, lane, Report}
 use Rattle.isp_wasm_meaning.specs.Ladder.{Jumps, Meets}
 use Rattle.isp_wasm.specs.Places as place
-use Rattle.isp_wasm.specs.Places.{Setting, Counter, Scalar, IsKept, elem, gang}
-use Rattle.isp_wasm.specs.Templates.{scalar_of, scalar_local, jump_to, code_of, lanes_as_bits, lowest_of}
-use Rattle.isp_wasm.specs.Standing.{bits_of, Stands, Holds, Keeps, Leaves, IsSettled, the_machine}
+use Rattle.isp_wasm.specs.Places.{Setting, Counter, Scalar, IsKept, elem, gang, shape, parts}
+use Rattle.isp_wasm.specs.Templates.{scalar_of, scalar_local, vector_local, return_code, jump_to, code_of, lanes_as_bits, lowest_of}
+use Rattle.isp_wasm.specs.Standing.{bits_of, LanesOf, Stands, Holds, Keeps, Leaves, Final, IsSettled, vector_register, the_machine}
 use Rattle.isp_wasm.specs.Thin.{IsHead, IsThinScalar, IsThin}
 use Rattle.isp_wasm.proofs.Frames.{Alike, holds_scalar, there, elsewhere}
 use Rattle.isp_wasm.proofs.Steps.{step_is, falls_on, fails_here}
@@ -41,7 +45,14 @@ use Rattle.isp_wasm.proofs.WordLaws.{constant_is, compare_is, compare_fits, plai
 use Rattle.isp_wasm.proofs.Converts.{unary_is, unary_fits, convert_is, convert_fits}
 use Rattle.isp_wasm.proofs.Vectors.{narrow, scalar_fits}
 use Rattle.isp_wasm.proofs.MaskWords.{some_is, full_is, lowest_is}
+use Rattle.isp_wasm.proofs.Results.{are_given}
+use Rattle.isp_wasm.proofs.Rows.{enough}
 use Rattle.isp_wasm.proofs.Lowest.{which_lowest, IsNone, IsLowest}
+
+given_class : (h : Routine) (g : Returns) (x : Register) → IsGiven h g (Some x) → (x.class ≡ class.Scalar) ⊎ (x.class ≡ class.Vector)
+given_class h Nothing x is = absurd is
+given_class h (GivesScalar t) x is = inl is.0.0
+given_class h (GivesVector t) x is = inr is.0.0
 
 none_any : (n : ℕ) (a : Mask) → ((r : ℕ) → r < n → a r ≡ false) → any n a ≡ false
 none_any zero a h = refl
@@ -271,9 +282,13 @@ module _ (w : Setting) (ready : IsSettled w) (fuel n k : ℕ) (call : ℕ → Li
       most : (2 ^ gang w - 1) % 2 ^ 32 ≡ 2 ^ gang w - 1
       most = all_lanes w.code.gang
 
+  -- wherever control goes then
+  abbrev pub Gone : Result → Type 0
+  Gone r = Final w c r
+
   -- back to the caller, or out
-  leaves_with : (x : Option Register) (v : Option ℕ) → slice_get w.routine.code pc ≡ Some (instr.Return x) → IsGiven w.routine w.routine.returns x → v ≡ bits_of w c x → Leaves w c v s
-  leaves_with x v has given is =
+  leaves_with : (x : Option Register) (v : Option ℕ) → slice_get w.routine.code pc ≡ Some (instr.Return x) → IsGiven w.routine w.routine.returns x → v ≡ bits_of w c x → (u : State) → u.out ≡ s.out → u.memory ≡ s.memory → u.size ≡ s.size → LanesOf w c x u → Leaves w c v u
+  leaves_with x v has given is u out memory size lanes =
       record {
         conf = c;
         steps = 1;
@@ -282,15 +297,30 @@ module _ (w : Setting) (ready : IsSettled w) (fuel n k : ℕ) (call : ℕ → Li
         fits = st.holds.fits;
         leaves = step_is w ready pc c s (instr.Return x) (left w.routine c x w.waiting) st has (ap (left w.routine c x) st.waiting_is);
         value_is = is;
-        out_is = st.out_is;
-        keeps = st.keeps;
+        lanes_are = lanes;
+        out_is = out ∙ st.out_is;
+        keeps = subst (λ m. Keeps w c.arrays m u.size) (sym memory) (subst (λ n. Keeps w c.arrays s.memory n) (sym size) st.keeps);
       }
 
   pub returns : slice_get w.routine.code pc ≡ Some (instr.Return None) → IsGiven w.routine w.routine.returns None → Leaves w c None s
-  returns has given = leaves_with None None has given refl
+  returns has given = leaves_with None None has given refl s refl refl refl tt
 
-  pub answers : (x : Register) → slice_get w.routine.code pc ≡ Some (instr.Return (Some x)) → IsGiven w.routine w.routine.returns (Some x) → Leaves w c (Some (s.locals (w.local (Scalar x.number)))) s
-  answers x has given = leaves_with (Some x) (Some (s.locals (w.local (Scalar x.number)))) has given (ap Some (st.holds.scalars_are x.number))
+  -- a scalar, or a vector whose parts are in the globals then
+  answers_by : (a : Class) (x : ℕ) → slice_get w.routine.code pc ≡ Some (instr.Return (Some (record { class = a; number = x }))) → IsGiven w.routine w.routine.returns (Some (record { class = a; number = x })) → (a ≡ class.Scalar) ⊎ (a ≡ class.Vector)
+      → Gone (run fuel call (return_code w a (record { class = a; number = x })) s)
+  answers_by class.Scalar x has given is =
+      leaves_with (Some (record { class = class.Scalar; number = x })) (Some (s.locals (w.local (Scalar x)))) has given (ap Some (st.holds.scalars_are x)) s refl refl refl tt
+  answers_by class.Vector x has given is =
+      let r = vector_register x in
+      let all = are_given w ready fuel call (parts w (shape w r)) (vector_local w r) s in
+      subst Gone (sym (ap (λ z. then_to z (run fuel call (Return None))) all.fell))
+      (leaves_with (Some r) None has given refl (record s { globals = all.globals }) refl refl refl
+      (λ j i l q. ap (lane (shape w r) i) (all.given j (enough w (shape w r) j i q)) ∙ st.holds.vectors_are x j i l q))
+  answers_by class.Mask x has given is = absurd (elim is [ inl e ↦ cc | inr e ↦ cc ])
+  answers_by class.Array x has given is = absurd (elim is [ inl e ↦ cc | inr e ↦ cc ])
+
+  pub answers : (x : Register) → slice_get w.routine.code pc ≡ Some (instr.Return (Some x)) → IsGiven w.routine w.routine.returns (Some x) → Gone (run fuel call (return_code w x.class x) s)
+  answers x has given = answers_by x.class x.number has given (given_class w.routine w.routine.returns x given)
 
   -- where a mask has a lane, it traps
   abbrev pub told : Register → ℕ → Report

@@ -19,7 +19,7 @@ module _ (w : Setting) where
 
   ended_before : (a : ℕ) (x y : Conf) (r : Result) → Goes w a x y → Final w y r → Final w x r
   ended_before a x y (Returned v s) g f =
-      record { conf = f.conf; steps = f.steps + a; register = f.register; given = f.given; fits = f.fits; leaves = further a f.steps x y g ∙ f.leaves; value_is = f.value_is; out_is = f.out_is; keeps = f.keeps }
+      record { conf = f.conf; steps = f.steps + a; register = f.register; given = f.given; fits = f.fits; leaves = further a f.steps x y g ∙ f.leaves; value_is = f.value_is; lanes_are = f.lanes_are; out_is = f.out_is; keeps = f.keeps }
   ended_before a x y (Trapped (Some t) s) g f =
       record { conf = f.conf; steps = f.steps + a; trap = f.trap; fails = further a f.steps x y g ∙ f.fails; report_is = f.report_is; out_is = f.out_is; keeps = f.keeps }
   ended_before a x y (Trapped None s) g f = f

@@ -158,7 +158,7 @@ module _ (w : Setting) (ready : IsSettled w) (fuel n k : ℕ) (call : ℕ → Li
             state = record s { memory = _ };
             fell =
                 ap (run fuel call (store_lane p)) f.is
-                ∙ store_is w ready a t el (put c.arrays (store w ready a t el) (left_after p)) f.memory s.size f.keeps s.locals (index p) (x p) (st.holds.bases a.number) (index_is p low on) fuel call s.out
+                ∙ store_is w ready a t el (put c.arrays (store w ready a t el) (left_after p)) f.memory s.size f.keeps s.locals (index p) (x p) (st.holds.bases a.number) (index_is p low on) fuel call s.out s.globals
                 (lane_at (elem w a) (vector_local w y) p) v lane lt;
             holds =
                 record {
@@ -343,7 +343,7 @@ module _ (w : Setting) (ready : IsSettled w) (fuel n k : ℕ) (call : ℕ → Li
           let keeps = keeps_stored w ready a t el c.arrays s.memory s.size st.keeps index v lt fit in
           subst (Good (pc + 1) c)
           (sym (ap (λ r. then_to r after) (checked_is w ready fuel n k call pc c s st a i m q t el is true e)
-          ∙ store_is w ready a t el c.arrays s.memory s.size st.keeps s.locals (scalar_local w i) index (st.holds.bases a.number) (st.holds.scalars_are i.number) fuel call s.out (scalar_local w y) v (st.holds.scalars_are y.number) lt))
+          ∙ store_is w ready a t el c.arrays s.memory s.size st.keeps s.locals (scalar_local w i) index (st.holds.bases a.number) (st.holds.scalars_are i.number) fuel call s.out s.globals (scalar_local w y) v (st.holds.scalars_are y.number) lt))
           (falls_on w ready fuel n k pc c s (instr.Store a i y m q) st has (stored w.code w.routine c a i y) (record s { memory = memory })
           (ap (λ b. moved (unless w.code w.routine c (failing w.code w.routine c b m) kind.Index q (stored w.code w.routine c a i y)) (λ c1. c1)) (outside_here w ready fuel n k call pc c s st a i m q t el is true e)) refl refl refl refl st.holds
           (subst (λ h. Keeps w (put c.arrays (h.named a.number) (put (c.arrays (h.named a.number)) (element I64 index) v)) memory s.size) (sym st.home_is)

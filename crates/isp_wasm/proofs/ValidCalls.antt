@@ -1,10 +1,9 @@
 -- The code of a call is valid: what is passed has the types that the function takes.
-use Rattle.std.proofs.Common.{◌≡◌, ℕ, zero, suc, ◌+◌, ◌-◌, ◌<◌, List, [], ◌∷◌, ◌++◌, map, Option, Some, None, true, false, refl, sym, ap, ◌∙◌, subst, arith}
+use Rattle.std.proofs.Common.{◌≡◌, ℕ, zero, suc, ◌+◌, ◌-◌, ◌<◌, ◌⊎◌, inl, inr, List, [], ◌∷◌, ◌++◌, map, Option, Some, None, true, refl, sym, ap, ◌∙◌, subst, arith}
 use Rattle.std.specs.Prelude.{slice_get, slice_index_or}
 use Rattle.isp_base.specs.Depths.{most_calls}
 use Rattle.isp_base.specs.declared.types.Elem.{Elem}
 use Rattle.isp_base.specs.declared.types.Elem.TheVariants.{Bool as Truth}
-use Rattle.isp_code.specs.Entries.{result_of}
 use Rattle.isp_code.specs.Fine.{ArePassed, CallFine, IsGiven, IsThere}
 use Rattle.isp_code.specs.Listing.{Routine}
 use Rattle.isp_code.specs.Registers.{class_of, same_class, if_class, param_elems, scalars_of, count_of}
@@ -17,19 +16,18 @@ use Rattle.isp_code.specs.declared.instr.Call.{Call}
 use Rattle.isp_code.specs.declared.register.Class.{Class}
 use Rattle.isp_code.specs.declared.register.Class.TheVariants as class
 use Rattle.isp_code.specs.declared.register.Register.{Register}
-use Rattle.isp_verify.specs.Faults.{gives_vector}
 use Rattle.isp_wasm_meaning.specs.Module.{ValueType, V128, Function}
 use Rattle.isp_wasm_meaning.specs.Module as valued
 use Rattle.isp_wasm_meaning.specs.Syntax as wasm
-use Rattle.isp_wasm_meaning.specs.Syntax.{I8x16, LtU, Expr, Const32, Const128, Local, Two, Code, Skip, If, Call as CallFunction}
-use Rattle.isp_wasm_meaning.specs.Valid.{is_type, sized, has_type, have_types, gets, call_fits, is_valid}
+use Rattle.isp_wasm_meaning.specs.Syntax.{I8x16, LtU, Expr, Const32, Const128, Local, Two, Code, Skip, Then, Set, If, Bitselect, GetGlobal, Call as CallFunction}
+use Rattle.isp_wasm_meaning.specs.Valid.{is_type, sized, has_type, have_types, of_type, gets, call_fits, is_valid}
 use Rattle.isp_wasm.specs.Locals.{row, taking, taken_from, taken_places}
-use Rattle.isp_wasm.specs.Module.{given_type}
-use Rattle.isp_wasm.specs.Places.{Setting, Place, gang, parts, elem, shape, size_of, Scalar as ScalarAt, Vector as VectorAt, Mask as MaskAt, Base, Count, Depth}
+use Rattle.isp_wasm.specs.Module.{back_type}
+use Rattle.isp_wasm.specs.Places.{Setting, Place, gang, parts, elem, shape, size_of, Scalar as ScalarAt, Vector as VectorAt, Mask as MaskAt, Base, Count, Fresh, Depth}
 use Rattle.isp_wasm.specs.Rows.{widened}
-use Rattle.isp_wasm.specs.Templates.{fault, lowest_of, scalar_local, vector_local, mask_local, plus, waiting_calls, listed, part_under, passed_of, passed_all, arguments_of, called_number, result_local, call_code}
+use Rattle.isp_wasm.specs.Templates.{fault, lowest_of, scalar_local, vector_local, mask_local, plus, waiting_calls, listed, part_under, passed_of, passed_all, arguments_of, called_number, scalar_result, result_local, select_lanes, vector_result, take_result, each, call_code}
 use Rattle.isp_wasm.proofs.Typed.{both, same, two, bitselect, source, widened_typed}
-use Rattle.isp_wasm.proofs.ValidLines.{HasTypes, source_low, then_valid, if_valid, local_typed, scalar_at, scalar_typed, vector_typed, mask_part_typed, lowest_typed, plus_typed}
+use Rattle.isp_wasm.proofs.ValidLines.{HasTypes, fresh_low, source_low, global_at, few_results, each_valid, set_valid, then_valid, if_valid, local_typed, scalar_at, scalar_typed, vector_typed, mask_part_typed, lowest_typed, plus_typed}
 
 module _ (w : Setting) (local : ℕ → Option ValueType) (functions : List Function) (result : Option ValueType) (typed : HasTypes w local) where
   abbrev pub T : Expr → ValueType → Type 0
@@ -128,22 +126,54 @@ module _ (w : Setting) (local : ℕ → Option ValueType) (functions : List Func
     pub types : IsTyped place_type h
     pub found : slice_get functions (called_number w c) ≡ Some g
     pub params_are : g.params ≡ map place_type (taken_places (gang w) h)
-    pub no_vector : gives_vector h.returns ≡ false
-    pub result_is : g.result ≡ given_type (result_of h.returns)
+    pub result_is : g.result ≡ back_type h.returns
 
-  gets_result : (r : Returns) (x : Option Register) → gives_vector r ≡ false → IsGiven w.routine r x → gets local (given_type (result_of r)) (result_local w x) ≡ true
-  gets_result Nothing None none is = refl
-  gets_result Nothing (Some x) none is = absurd is
-  gets_result (GivesScalar t) None none is = absurd is
-  gets_result (GivesScalar t) (Some x) none is = ap (λ o. is_type o (sized (size_of t))) (scalar_at w local functions result typed x is.0 t is.1) ∙ same (sized (size_of t))
-  gets_result (GivesVector t) x none is = absurd cc
+  gets_scalar : (t : Elem) (a : Class) (x : ℕ) → IsThere w.routine class.Scalar (record { class = a; number = x }) → elem w (record { class = a; number = x }) ≡ t → gets local (Some (sized (size_of t))) (scalar_result w a (record { class = a; number = x })) ≡ true
+  gets_scalar t class.Scalar x is e = ap (λ o. is_type o (sized (size_of t))) (scalar_at w local functions result typed (record { class = class.Scalar; number = x }) is t e) ∙ same (sized (size_of t))
+  gets_scalar t class.Vector x is e = absurd (let other = is.0 in cc)
+  gets_scalar t class.Mask x is e = absurd (let other = is.0 in cc)
+  gets_scalar t class.Array x is e = absurd (let other = is.0 in cc)
+
+  gets_result : (r : Returns) (x : Option Register) → IsGiven w.routine r x → gets local (back_type r) (result_local w x) ≡ true
+  gets_result Nothing None is = refl
+  gets_result Nothing (Some x) is = absurd is
+  gets_result (GivesScalar t) None is = absurd is
+  gets_result (GivesScalar t) (Some x) is = gets_scalar t x.class x.number is.0 is.1
+  gets_result (GivesVector t) None is = absurd is
+  gets_result (GivesVector t) (Some x) is = ap (λ a. gets local None (scalar_result w a (record { class = a; number = x.number }))) (is.0).0
+
+  -- the parts of a vector come from the globals
+  takes_vector : (n : ℕ) (a : Class) (x : ℕ) (k : Register) → IsM k → (a ≡ class.Scalar) ⊎ IsV (record { class = a; number = x }) → C n (vector_result w a (record { class = a; number = x }) k)
+  takes_vector n class.Vector x k ks (inl e) = absurd cc
+  takes_vector n class.Vector x k ks (inr is) =
+      let r : Register = record { class = class.Vector; number = x } in
+      then_valid w local functions result typed n (each (parts w (shape w r)) (λ j. GetGlobal (w.local (Fresh j)) (suc j))) (select_lanes w r k)
+      (each_valid w local functions result typed n (parts w (shape w r)) (λ j. GetGlobal (w.local (Fresh j)) (suc j))
+      (λ j l. ap (of_type local (Local (w.local (Fresh j)))) (global_at w local functions result typed j (few_results w local functions result typed (shape w r) j l)).1
+      ∙ local_typed w local functions result typed (w.local (Fresh j)) V128 (typed.fresh j (fresh_low (gang w) (shape w r) j l))))
+      (each_valid w local functions result typed n (parts w (shape w r)) (λ j. Set (w.local (VectorAt x j)) (Bitselect (Local (w.local (Fresh j))) (vector_local w r j) (widened (shape w r) (mask_local w k) j)))
+      (λ j l. set_valid w local functions result typed n (w.local (VectorAt x j)) (Bitselect (Local (w.local (Fresh j))) (vector_local w r j) (widened (shape w r) (mask_local w k) j)) V128 (typed.vectors r is j l)
+      (bitselect local (Local (w.local (Fresh j))) (vector_local w r j) (widened (shape w r) (mask_local w k) j) (local_typed w local functions result typed (w.local (Fresh j)) V128 (typed.fresh j (fresh_low (gang w) (shape w r) j l)))
+      (vector_typed w local functions result typed r is (elem w r) refl j l)
+      (widened_typed local (shape w r) (mask_local w k) j (mask_part_typed w local functions result typed k ks (source (shape w r) j) (source_low (gang w) (shape w r) j l))))))
+  takes_vector n class.Scalar x k ks is = refl
+  takes_vector n class.Mask x k ks is = refl
+  takes_vector n class.Array x k ks is = refl
+
+  takes_valid : (n : ℕ) (r : Returns) (x : Option Register) (k : Register) → IsM k → IsGiven w.routine r x → C n (take_result w x k)
+  takes_valid n r None k ks is = refl
+  takes_valid n Nothing (Some x) k ks is = absurd is
+  takes_valid n (GivesScalar t) (Some x) k ks is = takes_vector n x.class x.number k ks (inl (is.0).0)
+  takes_valid n (GivesVector t) (Some x) k ks is = takes_vector n x.class x.number k ks (inr is.0)
 
   pub call_valid : (n : ℕ) (c : Call) (fine : CallFine w.code w.routine c) (g : Function) → IsCallee c fine.callee g → IsM c.mask → C n (call_code w c)
   call_valid n c fine g is ks =
-      then_valid w local functions result typed n (If (Two (wasm.Compare wasm.I32 LtU) (waiting_calls w) (Const32 (most_calls - 1))) Skip (fault w 3 c.place (lowest_of w c.mask))) (CallFunction (called_number w c) (arguments_of w c) (result_local w c.result))
+      then_valid w local functions result typed n (If (Two (wasm.Compare wasm.I32 LtU) (waiting_calls w) (Const32 (most_calls - 1))) Skip (fault w 3 c.place (lowest_of w c.mask))) (Then (CallFunction (called_number w c) (arguments_of w c) (result_local w c.result)) (take_result w c.result c.mask))
       (if_valid w local functions result typed n (Two (wasm.Compare wasm.I32 LtU) (waiting_calls w) (Const32 (most_calls - 1))) Skip (fault w 3 c.place (lowest_of w c.mask))
       (two local (wasm.Compare wasm.I32 LtU) (waiting_calls w) (Const32 (most_calls - 1)) refl (local_typed w local functions result typed (w.local Depth) valued.I32 typed.depth) refl) refl (lowest_typed w local functions result typed c.mask ks))
+      (then_valid w local functions result typed n (CallFunction (called_number w c) (arguments_of w c) (result_local w c.result)) (take_result w c.result c.mask)
       (ap (λ o. call_fits local o (arguments_of w c) (result_local w c.result)) is.found
       ∙ both (have_types local (arguments_of w c) g.params) (gets local g.result (result_local w c.result))
       (subst (T_all (arguments_of w c)) (sym is.params_are) (arguments_typed is.place_type fine.callee is.types c.mask ks c.arguments c refl refl fine.passed))
-      (subst (λ r. gets local r (result_local w c.result) ≡ true) (sym is.result_is) (gets_result fine.callee.returns c.result is.no_vector fine.result)))
+      (subst (λ r. gets local r (result_local w c.result) ≡ true) (sym is.result_is) (gets_result fine.callee.returns c.result fine.result)))
+      (takes_valid n fine.callee.returns c.result c.mask ks fine.result))

@@ -1,7 +1,7 @@
 -- The code of each instruction is valid, where the locals of a function have their types.
 use Rattle.std.proofs.Common.{◌≡◌, ℕ, zero, suc, ◌+◌, ◌-◌, ◌*◌, ◌/◌, ◌%◌, ◌^◌, ◌<◌, ◌≤◌, Option, Some, None, List, [], ◌∷◌, Bool, true, false, ◌&&◌, refl, sym, ap, ◌∙◌, subst, arith, lit≤}
-use Rattle.std.specs.Prelude.{nat_lt, if◌then◌else◌, ◌++◌, map}
-use Rattle.std.proofs.lemmas.Bool.{ltb-true, ltb-false, lt-ltb}
+use Rattle.std.specs.Prelude.{nat_lt, nat_eq, not, if◌then◌else◌, ◌++◌, map}
+use Rattle.std.proofs.lemmas.Bool.{ltb-true, ltb-false, lt-ltb, ne_eqb, cond-true, cond-false}
 use Rattle.isp_base.specs.Ranks.{widened as sum_type}
 use Rattle.isp_base.specs.Types.{gang_width}
 use Rattle.isp_base.specs.Values.{width}
@@ -51,14 +51,14 @@ use Rattle.isp_wasm_meaning.specs.Module.{ValueType, V128, Function}
 use Rattle.isp_wasm_meaning.specs.Module as valued
 use Rattle.isp_wasm_meaning.specs.Syntax as wasm
 use Rattle.isp_wasm_meaning.specs.Syntax.{Size, Shape, I8x16, I16x8, I32x4, I64x2, Add, Sub, Mul, And, Or, Xor, Eq, Ne, LtU, LtS, Eqz, Ctz, Wrap, ExtendU, Splat, Extract, Bitmask, Of, BitsOf, CompareLanes, Bits, Replace}
-use Rattle.isp_wasm_meaning.specs.Syntax.{Expr, Const32, Const64, Const128, Local, One, Two, Select, Code, Skip, Then, Set, Load, Store, Divide, If, Br}
-use Rattle.isp_wasm_meaning.specs.Valid.{is_type, sized, held, has_type, of_type, is_label, gives, is_valid}
+use Rattle.isp_wasm_meaning.specs.Syntax.{Expr, Const32, Const64, Const128, Local, One, Two, Select, Code, Skip, Then, Set, Load, Store, Divide, If, Br, Return, SetGlobal}
+use Rattle.isp_wasm_meaning.specs.Valid.{is_type, sized, held, has_type, of_type, global_type, changes, is_label, gives, is_valid}
 use Rattle.isp_wasm.specs.Places.{Setting, gang, parts, parts_for, elem, shape, shape_of, size_of, bytes_of, Counter, Scalar as ScalarAt, Vector as VectorAt, Mask as MaskAt, Base, Count, Fresh, Spare, Depth}
 use Rattle.isp_wasm.specs.Words.{constant, below, whole_expr, plain_expr, unary_expr, compare_expr, convert_expr}
 use Rattle.isp_wasm.specs.Rows.{as_cell, lane_at, widened, by_lane, ones, compare_row, present}
 use Rattle.isp_wasm.specs.Templates.{each, scalar_local, vector_local, mask_local, set_lanes, set_mask, is_member, lanes_as_bits, lowest_of, lane_or, lane_or_zero, picked, first_value, folded, modulo, plus, exchange_expr, of_both, scan_expr, reduce_expr, scalar_code, vector_of, vector_code, mask_under}
 use Rattle.isp_wasm.specs.Templates.{best_step, best_of, fault, address_at, is_there, spare, lane_loop, set_lane, lane_loads, lane_checks, lane_stores, own_index, run_index, rank_expr, packed_index, set_count, checked}
-use Rattle.isp_wasm.specs.Templates.{mask_bits, mask_of, numbers_part, range_count, quotients, code_of, magnitude_expr, division_of, turns_sign, quotient_to, jump_to, call_code}
+use Rattle.isp_wasm.specs.Templates.{mask_bits, mask_of, numbers_part, range_count, quotients, code_of, magnitude_expr, division_of, turns_sign, quotient_to, jump_to, return_code, call_code}
 use Rattle.isp_wasm.proofs.Typed.{both, same, one, two, select, bitselect, number, unary_typed, compare_typed, plain_typed, whole_typed, below_typed, convert_typed, zero_typed, negated, magnitude_typed, low, lane_typed, cell_typed, source, widened_typed, part_low, unary_row_typed, compare_row_typed, plain_row_typed, present_typed, narrowed_typed, by_lane_typed}
 
 -- ---- how many parts
@@ -69,7 +69,7 @@ gang_low W8 = lit≤ tt
 gang_low W16 = lit≤ tt
 gang_low W32 = lit≤ tt
 
-fresh_low : (lanes : ℕ) (s : Shape) (j : ℕ) → j < parts_for lanes s → j < parts_for lanes I64x2
+pub fresh_low : (lanes : ℕ) (s : Shape) (j : ℕ) → j < parts_for lanes s → j < parts_for lanes I64x2
 fresh_low n I8x16 j h = omega (arith, h)
 fresh_low n I16x8 j h = omega (arith, h)
 fresh_low n I32x4 j h = omega (arith, h)
@@ -610,14 +610,45 @@ module _ (w : Setting) (local : ℕ → Option ValueType) (functions : List Func
   abbrev pub Gives : Returns → Type 0
   Gives Nothing = result ≡ None
   Gives (GivesScalar t) = result ≡ Some (sized (size_of t))
-  Gives (GivesVector t) = ⊥
+  Gives (GivesVector t) = result ≡ None
+
+  scalar_back : (t : Elem) (a : Class) (x : ℕ) → result ≡ Some (sized (size_of t)) → IsThere w.routine class.Scalar (record { class = a; number = x }) → elem w (record { class = a; number = x }) ≡ t → (n : ℕ)
+      → C n (return_code w a (record { class = a; number = x }))
+  scalar_back t class.Scalar x e is same n = ap (λ r. gives local r (Some (scalar_local w (record { class = class.Scalar; number = x })))) e ∙ scalar_typed (record { class = class.Scalar; number = x }) is t same
+  scalar_back t class.Vector x e is same n = absurd (let other = is.0 in cc)
+  scalar_back t class.Mask x e is same n = absurd (let other = is.0 in cc)
+  scalar_back t class.Array x e is same n = absurd (let other = is.0 in cc)
+
+  -- there are as many globals as a vector has parts
+  pub global_at : (j : ℕ) → j < 16 → (changes (suc j) ≡ true) × (global_type (suc j) ≡ Some V128)
+  global_at j l = (
+    ap not (ne_eqb (suc j) 0 (λ e. omega (arith, e))),
+    cond-false (nat_eq (suc j) 0) (Some valued.I32) (if nat_lt (suc j) 17 then Some V128 else None) (ne_eqb (suc j) 0 (λ e. omega (arith, e))) ∙ cond-true (nat_lt (suc j) 17) (Some V128) None (lt-ltb (suc j) 17 (omega (arith, l))),
+  )
+
+  pub few_results : (s : Shape) (j : ℕ) → j < parts w s → j < 16
+  few_results s j l = let fresh = fresh_low (gang w) s j l in let gang_is = gang_low w.code.gang in omega (arith, fresh, gang_is)
+
+  vector_back : (t : Elem) (a : Class) (x : ℕ) → result ≡ None → IsThere w.routine class.Vector (record { class = a; number = x }) → elem w (record { class = a; number = x }) ≡ t → (n : ℕ)
+      → C n (return_code w a (record { class = a; number = x }))
+  vector_back t class.Vector x e is same n =
+      let r : Register = record { class = class.Vector; number = x } in
+      then_valid n (each (parts w (shape w r)) (λ j. SetGlobal (suc j) (vector_local w r j))) (Return None)
+      (each_valid n (parts w (shape w r)) (λ j. SetGlobal (suc j) (vector_local w r j))
+      (λ j l. (let at = global_at j (few_results (shape w r) j l) in
+      both (changes (suc j)) (of_type local (vector_local w r j) (global_type (suc j))) at.0 (ap (of_type local (vector_local w r j)) at.1 ∙ vector_typed r is (elem w r) refl j l))))
+      (ap (λ z. gives local z None) e)
+  vector_back t class.Scalar x e is same n = absurd (let other = is.0 in cc)
+  vector_back t class.Mask x e is same n = absurd (let other = is.0 in cc)
+  vector_back t class.Array x e is same n = absurd (let other = is.0 in cc)
 
   gives_valid : (g : Returns) (x : Option Register) → Gives g → IsGiven w.routine g x → (n : ℕ) → C n (code_of w 0 (instr.Return x))
   gives_valid Nothing None e is n = ap (λ r. gives local r None) e
   gives_valid Nothing (Some x) e is n = absurd is
   gives_valid (GivesScalar t) None e is n = absurd is
-  gives_valid (GivesScalar t) (Some x) e is n = ap (λ r. gives local r (Some (scalar_local w x))) e ∙ scalar_typed x is.0 t is.1
-  gives_valid (GivesVector t) x e is n = absurd e
+  gives_valid (GivesScalar t) (Some x) e is n = scalar_back t x.class x.number e is.0 is.1 n
+  gives_valid (GivesVector t) None e is n = absurd is
+  gives_valid (GivesVector t) (Some x) e is n = vector_back t x.class x.number e is.0 is.1 n
 
   -- the mask of a call is one
   mask_last : (xs : List Register) (k : Register) → AllFine w.code w.routine (map any_register xs ++ MaskOperand k ∷ []) → IsM k

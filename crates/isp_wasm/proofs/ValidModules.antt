@@ -33,12 +33,13 @@ use Rattle.isp_wasm_meaning.specs.Valid.{sized, has_type, is_label, is_valid, en
 use Rattle.isp_wasm.specs.Entry.{entry_code}
 use Rattle.isp_wasm.specs.Kernel.{ModulesValid}
 use Rattle.isp_wasm.specs.Locals.{row, param_places, taken_from, taken_places, vector_places, mask_places, own_places, local_at}
-use Rattle.isp_wasm.specs.Module.{heads_of, has_form, is_plain, all_plain, is_covered, has_call, is_called, given_type, numbered, type_of, kernel_of, inner_of, function_of, inner_function, inner_functions, module_of}
+use Rattle.isp_wasm.specs.Module.{heads_of, has_form, is_plain, all_plain, is_covered, has_call, is_called, given_type, back_type, numbered, type_of, kernel_of, inner_of, function_of, inner_function, inner_functions, module_of}
 use Rattle.isp_wasm.specs.Places.{Setting, Place, Counter, Scalar, Vector, Mask, Base, Count, Fresh, Spare, Depth, gang, parts, parts_for, elem, shape_of, size_of}
 use Rattle.isp_wasm.specs.Standing.{scalar_register}
 use Rattle.isp_wasm.specs.Templates.{each, mask_part, call_code, code_at, span, rung, function_code}
 use Rattle.isp_wasm.proofs.Inner.{inner_at}
-use Rattle.isp_wasm.proofs.Plain.{covered_plain, covered_calls, forms, gives_none, heads_rise, arrays_are, all_at}
+use Rattle.isp_wasm.proofs.Kernels.{gives_none}
+use Rattle.isp_wasm.proofs.Plain.{covered_plain, covered_calls, forms, heads_rise, arrays_are, all_at}
 use Rattle.isp_wasm.proofs.LocalTypes.{Has, has_next, has_left, has_right, local_type, row_has, has_scalar, has_array, has_vector, has_mask, has_taken_scalar, has_taken_array}
 use Rattle.isp_wasm.proofs.Passing.{both_first, both_second}
 use Rattle.isp_wasm.proofs.Typed.{both}
@@ -204,13 +205,15 @@ module _ (code : Listing) (h : Routine) (f : ℕ) (accepted : IsFine code) (foun
   functions : List Function
   functions = (module_of code).functions
 
-  result : Option ValueType
-  result = given_type (result_of h.returns)
-
   gives_back : (g : Returns) → gives_vector g ≡ false → Gives w locals functions (given_type (result_of g)) has_types g
   gives_back Nothing e = refl
   gives_back (GivesScalar t) e = refl
   gives_back (GivesVector t) e = absurd cc
+
+  inner_back : (g : Returns) → Gives w locals functions (back_type g) has_types g
+  inner_back Nothing = refl
+  inner_back (GivesScalar t) = refl
+  inner_back (GivesVector t) = refl
 
   masked : 0 < h.masks
   masked =
@@ -218,7 +221,7 @@ module _ (code : Listing) (h : Routine) (f : ℕ) (accepted : IsFine code) (foun
       (both_second (names_differ h.params) (export_fits h.exported h && not (h.masks == 0)) (both_second (not (list_any (is_function h.name) (take f code.routines))) (names_differ h.params && (export_fits h.exported h && not (h.masks == 0)))
       (accepted.headers f h found))))
 
-  module _ (calling : (pc : ℕ) (k : Call) → slice_get h.code pc ≡ Some (instr.Call k) → all_plain code ≡ true) where
+  module _ (result : Option ValueType) (back : Gives w locals functions result has_types h.returns) (calling : (pc : ℕ) (k : Call) → slice_get h.code pc ≡ Some (instr.Call k) → all_plain code ≡ true) where
     -- what is called is a function of the module
     calls : (pc n : ℕ) (c : Call) → slice_get h.code pc ≡ Some (instr.Call c) → CallFine code h c → IsThere h class.Mask c.mask → is_valid locals functions result n (call_code w c) ≡ true
     unfolding functions
@@ -231,7 +234,6 @@ module _ (code : Listing) (h : Routine) (f : ℕ) (accepted : IsFine code) (foun
           types = record { depth_is = refl; scalar_is = λ r. refl; vector_is = λ r j. refl; mask_is = λ r j. refl; base_is = λ a. refl; count_is = λ a. refl };
           found = inner_at code h f pc c found has all g fine.found;
           params_are = refl;
-          no_vector = gives_none code g c.function accepted fine.found (all_at (is_plain code) code.routines c.function g all fine.found);
           result_is = refl;
         })
         ks
@@ -243,25 +245,23 @@ module _ (code : Listing) (h : Routine) (f : ℕ) (accepted : IsFine code) (foun
     heads_end = get_or_past (heads_of h.code) (length (heads_of h.code)) (length h.code) (omega arith)
 
     body_valid : is_valid locals functions result 0 (function_code w) ≡ true
-    unfolding result
     body_valid =
-        code_valid w locals functions result has_types (gives_back h.returns (gives_none code h f accepted found plain)) (forms code h f accepted found plain) lines calls (heads_rise code h f accepted found plain) heads_end
+        code_valid w locals functions result has_types back (forms code h f accepted found plain) lines calls (heads_rise code h f accepted found plain) heads_end
 
     whole_valid : is_valid locals functions result 0 (entry_code w) ≡ true
-    unfolding result
     whole_valid =
-        entry_valid w locals functions result has_types (gives_back h.returns (gives_none code h f accepted found plain)) (forms code h f accepted found plain) lines calls (heads_rise code h f accepted found plain) heads_end masked
+        entry_valid w locals functions result has_types back (forms code h f accepted found plain) lines calls (heads_rise code h f accepted found plain) heads_end masked
 
     -- a function of this code
-    abbrev pub function_with : Option (List ℕ) → Code → Function
-    function_with name c = record { export = name; params = map (type_of code h) qs; result = given_type (result_of h.returns); locals = map (type_of code h) (own_places (gang_width code.gang) h); code = c }
+    abbrev function_with : Option (List ℕ) → Code → Function
+    function_with name c = record { export = name; params = map (type_of code h) qs; result = result; locals = map (type_of code h) (own_places (gang_width code.gang) h); code = c }
 
-    pub inner_ends : is_valid_function (module_of code).functions (function_with None (function_code w)) ≡ true
-    unfolding locals functions result
+    inner_ends : is_valid_function (module_of code).functions (function_with None (function_code w)) ≡ true
+    unfolding locals functions
     inner_ends = both (is_valid locals functions result 0 (function_code w)) (may_end result (function_code w)) body_valid (ended result (function_code w) refl)
 
-    pub kernel_ends : is_valid_function (module_of code).functions (function_with (Some h.name) (entry_code w)) ≡ true
-    unfolding locals functions result
+    kernel_ends : is_valid_function (module_of code).functions (function_with (Some h.name) (entry_code w)) ≡ true
+    unfolding locals functions
     kernel_ends = both (is_valid locals functions result 0 (entry_code w)) (may_end result (entry_code w)) whole_valid (ended result (entry_code w) refl)
 
 -- ---- all of them
@@ -269,30 +269,38 @@ module _ (code : Listing) (h : Routine) (f : ℕ) (accepted : IsFine code) (foun
 from_zero : (n : ℕ) → 0 + n ≡ n
 from_zero n = omega arith
 
-kernel_valid : (code : Listing) (h : Routine) (f : ℕ) → IsFine code → slice_get code.routines f ≡ Some h → is_covered code h ≡ true → is_valid_function (module_of code).functions (kernel_of code h) ≡ true
-kernel_valid code h f accepted found covers =
-    kernel_ends code h f accepted found (covered_plain code h covers) (param_places h)
-    (λ r lt. subst (λ n. Has (param_places h) (Scalar n)) (from_zero r) (has_scalar h.params 0 0 r lt))
-    (λ a lt. (let has = has_array h.params 0 0 a lt in (subst (λ n. Has (param_places h) (Base n)) (from_zero a) has.0, subst (λ n. Has (param_places h) (Count n)) (from_zero a) has.1)))
-    (covered_calls code h covers)
+kernel_valid : (code : Listing) (h : Routine) (f : ℕ) → IsFine code → slice_get code.routines f ≡ Some h → h.exported ≡ true → is_covered code h ≡ true → is_valid_function (module_of code).functions (kernel_of code h) ≡ true
+kernel_valid code h f accepted found exported covers =
+    kernel_ends code h f accepted found (covered_plain code h covers) (param_places h) scalars arrays (given_type (result_of h.returns))
+    (gives_back code h f accepted found (covered_plain code h covers) (param_places h) scalars arrays h.returns (gives_none code h f accepted found exported covers)) (covered_calls code h covers)
+  where
+    scalars : (r : ℕ) → r < length (param_elems class.Scalar h.params) → Has (param_places h) (Scalar r)
+    scalars r lt = subst (λ n. Has (param_places h) (Scalar n)) (from_zero r) (has_scalar h.params 0 0 r lt)
+
+    arrays : (a : ℕ) → a < length (param_elems class.Array h.params) → Has (param_places h) (Base a) × Has (param_places h) (Count a)
+    arrays a lt = let has = has_array h.params 0 0 a lt in (subst (λ n. Has (param_places h) (Base n)) (from_zero a) has.0, subst (λ n. Has (param_places h) (Count n)) (from_zero a) has.1)
 
 inner_valid : (code : Listing) (h : Routine) (f : ℕ) → IsFine code → slice_get code.routines f ≡ Some h → all_plain code ≡ true → is_valid_function (module_of code).functions (inner_of code h) ≡ true
 inner_valid code h f accepted found all =
-    inner_ends code h f accepted found (all_at (is_plain code) code.routines f h all found) (taken_places (gang_width code.gang) h) (λ r lt. behind (Scalar r) (subst (λ n. Has taken (Scalar n)) (from_zero r) (has_taken_scalar (gang_width code.gang) h.params 0 0 0 r lt)))
-    (λ a lt. (let has = has_taken_array (gang_width code.gang) h.params 0 0 0 a lt in (behind (Base a) (subst (λ n. Has taken (Base n)) (from_zero a) has.0), behind (Count a) (subst (λ n. Has taken (Count n)) (from_zero a) has.1))))
-    (λ pc k has. all)
+    inner_ends code h f accepted found (all_at (is_plain code) code.routines f h all found) (taken_places (gang_width code.gang) h) scalars arrays (back_type h.returns)
+    (inner_back code h f accepted found (all_at (is_plain code) code.routines f h all found) (taken_places (gang_width code.gang) h) scalars arrays h.returns) (λ pc k has. all)
   where
-    taken : List Place
-    taken = taken_from (gang_width code.gang) h.params 0 0 0
-
     behind : (p : Place) → Has (taken_from (gang_width code.gang) h.params 0 0 0) p → Has (taken_places (gang_width code.gang) h) p
     behind p has = has_next Depth (row (parts_for (gang_width code.gang) I8x16) (Mask 0) ++ taken_from (gang_width code.gang) h.params 0 0 0) p (has_right (row (parts_for (gang_width code.gang) I8x16) (Mask 0)) (taken_from (gang_width code.gang) h.params 0 0 0) p has)
+
+    scalars : (r : ℕ) → r < length (param_elems class.Scalar h.params) → Has (taken_places (gang_width code.gang) h) (Scalar r)
+    scalars r lt = behind (Scalar r) (subst (λ n. Has (taken_from (gang_width code.gang) h.params 0 0 0) (Scalar n)) (from_zero r) (has_taken_scalar (gang_width code.gang) h.params 0 0 0 r lt))
+
+    arrays : (a : ℕ) → a < length (param_elems class.Array h.params) → Has (taken_places (gang_width code.gang) h) (Base a) × Has (taken_places (gang_width code.gang) h) (Count a)
+    arrays a lt =
+        let has = has_taken_array (gang_width code.gang) h.params 0 0 0 a lt in
+        (behind (Base a) (subst (λ n. Has (taken_from (gang_width code.gang) h.params 0 0 0) (Base n)) (from_zero a) has.0), behind (Count a) (subst (λ n. Has (taken_from (gang_width code.gang) h.params 0 0 0) (Count n)) (from_zero a) has.1))
 
 function_valid : (code : Listing) (h : Routine) (f : ℕ) → IsFine code → slice_get code.routines f ≡ Some h → (a b : Bool) → h.exported ≡ a → is_covered code h ≡ b
     → is_valid_function (module_of code).functions (if a && b then kernel_of code h else unused) ≡ true
 function_valid code h f accepted found false b e g = refl
 function_valid code h f accepted found true false e g = refl
-function_valid code h f accepted found true true e g = kernel_valid code h f accepted found g
+function_valid code h f accepted found true true e g = kernel_valid code h f accepted found e g
 
 called_valid : (code : Listing) (h : Routine) (f : ℕ) → IsFine code → slice_get code.routines f ≡ Some h → (a b : Bool) → all_plain code ≡ b → is_valid_function (module_of code).functions (if a && b then inner_of code h else unused) ≡ true
 called_valid code h f accepted found false b e = refl

@@ -40,7 +40,7 @@ use Rattle.isp_wasm.proofs.Rows.{IsRow, row_same, row_widened, row_narrowed, row
 use Rattle.isp_wasm.proofs.Converts.{convert_is, convert_fits}
 use Rattle.isp_wasm.proofs.Cells.{IsCells, split_lane, cell_fits, cell_written, cell_of_bool, bool_flags, lane_value, by_lane_is, plain_cells, unary_cells, compare_cells, select_cells}
 
-other_part : (r d i j : ℕ) → i < j → place.Vector r j ≡ place.Vector d i → ⊥
+pub other_part : (r d i j : ℕ) → i < j → place.Vector r j ≡ place.Vector d i → ⊥
 other_part r d i j h e = let same : j ≡ i = cc in omega arith
 
 -- a mask's lanes under another shape read the mask alone

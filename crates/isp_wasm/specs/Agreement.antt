@@ -1,5 +1,5 @@
 -- A function in WebAssembly does what its code does on the machine.
-use Rattle.std.specs.Prelude.{◌≡◌, ℕ, suc, ◌^◌, ◌<◌, List, [], ◌∷◌, map, Option, Some, None, slice_get}
+use Rattle.std.specs.Prelude.{◌≡◌, ℕ, suc, ◌^◌, ◌<◌, List, [], ◌∷◌, map, Option, Some, None, false, slice_get}
 use Rattle.isp_base.specs.Depths.{most_calls}
 use Rattle.isp_base.specs.Prefixes.{IsPrefix}
 use Rattle.isp_base.specs.Stores.{below}
@@ -13,13 +13,16 @@ use Rattle.isp_code.specs.Calls.{with_result, resumed, waits}
 use Rattle.isp_code.specs.Fine.{CallFine, IsGiven}
 use Rattle.isp_code.specs.declared.instr.Call.{Call}
 use Rattle.isp_code.specs.declared.instr.Instr.TheVariants as instr
+use Rattle.isp_code.specs.declared.register.Class.{Class}
+use Rattle.isp_code.specs.declared.register.Class.TheVariants as class
 use Rattle.isp_code.specs.declared.register.Register.{Register}
+use Rattle.isp_verify.specs.Faults.{gives_vector}
 use Rattle.isp_wasm_meaning.specs.Ladder.{Told}
 use Rattle.isp_code.specs.Machine.{after}
 use Rattle.isp_wasm_meaning.specs.Meaning.{Report, State, Result, Fell, Branched, Returned, Trapped, OutOfFuel, run, left, value}
 use Rattle.isp_wasm.specs.Places.{Setting, Counter, elem}
 use Rattle.isp_wasm.specs.Templates.{called_number, arguments_of, function_code}
-use Rattle.isp_wasm.specs.Standing.{Stands, Keeps, Ends, Fails, Cut, IsSettled, bits_of, report_of, scalar_register, the_machine}
+use Rattle.isp_wasm.specs.Standing.{Stands, Keeps, Ends, Fails, Cut, IsSettled, bits_of, AreLanes, LanesOf, report_of, scalar_register, the_machine}
 use Rattle.isp_wasm.specs.Thin.{IsCovered, AllThin}
 
 abbrev pub out_of : Result → List ℕ
@@ -62,10 +65,14 @@ module _ (w : Setting) (c : Conf) where
 
 module _ (w : Setting) where
   -- what a register that gets the result of a call gets: the value that is returned, which is one of its type
-  abbrev pub Brings : Option Register → Option Register → Conf → Option ℕ → Type 0
-  Brings None None c v = v ≡ None
-  Brings (Some d) (Some x) c v = (v ≡ Some (c.scalars x.number)) × (c.scalars x.number < 2 ^ width (elem w (scalar_register d.number)))
-  Brings d x c v = ⊥
+  abbrev pub BringsTo : Class → Register → Register → Conf → Option ℕ → State → Type 0
+  BringsTo class.Vector d x c v s = (v ≡ None) × AreLanes w s.globals d (c.vectors x.number)
+  BringsTo a d x c v s = (v ≡ Some (c.scalars x.number)) × (c.scalars x.number < 2 ^ width (elem w (scalar_register d.number)))
+
+  abbrev pub Brings : Option Register → Option Register → Conf → Option ℕ → State → Type 0
+  Brings None None c v s = v ≡ None
+  Brings (Some d) (Some x) c v s = BringsTo d.class d x c v s
+  Brings d x c v s = ⊥
 
   -- from before the first instruction of call k, which was made at c, the machine comes back to it
   pub record Back (k : Call) (c d : Conf) (v : Option ℕ) (s : State) : Type 0 where
@@ -74,7 +81,7 @@ module _ (w : Setting) where
     pub register : Option Register
     pub goes : after w.code steps (machine.Runs d) ≡ machine.Runs
         (record (with_result conf k.result register (c.masks k.mask.number) (resumed conf (waits c k.result (c.masks k.mask.number)) c.waiting)) { out = conf.out })
-    pub brings : Brings k.result register conf v
+    pub brings : Brings k.result register conf v s
     pub out_is : s.out ≡ conf.out
     pub keeps : Keeps w (below c.home.opened conf.arrays) s.memory s.size
 
@@ -84,10 +91,10 @@ module _ (w : Setting) where
       (k : Call) (pc : ℕ) (c : Conf) (s : State) → slice_get w.routine.code pc ≡ Some (instr.Call k) → (fine : CallFine w.code w.routine k) → Stands w pc c s
       → calls.depth c < most_calls → Told (the_machine w) (Back k c) f (calls.called c k fine.callee) (call (called_number w k) (map (value s.locals) (arguments_of w k)) s)
 
--- no call waits for the function
+-- no call waits for the function, and it gives no vector back
 abbrev pub FunctionsAgree : Type 0
 FunctionsAgree =
-    (w : Setting) → IsSettled w → IsCovered w → AllThin w → w.waiting ≡ [] → (call : ℕ → ℕ → List ℕ → State → Result)
+    (w : Setting) → IsSettled w → IsCovered w → AllThin w → w.waiting ≡ [] → gives_vector w.routine.returns ≡ false → (call : ℕ → ℕ → List ℕ → State → Result)
     → ((f : ℕ) → CallsAgree w f (call (suc f))) → (c : Conf) (s : State) → s.locals (w.local Counter) < w.rungs
     → Stands w (w.heads (s.locals (w.local Counter))) c s → Agrees w c (λ f. left (run f (call f) (function_code w) s))
 
@@ -99,6 +106,7 @@ pub record ComesBack (w : Setting) (fr : Frame) (rest : List Frame) (c : Conf) (
   pub given : IsGiven w.routine w.routine.returns register
   pub fits : (r : ℕ) → conf.scalars r < 2 ^ width (elem w (scalar_register r))
   pub value_is : v ≡ bits_of w conf register
+  pub lanes_are : LanesOf w conf register s
   pub goes : after w.code steps (machine.Runs c) ≡ machine.Runs
       (record (with_result conf fr.result register fr.under (resumed conf fr rest)) { out = conf.out })
   pub out_is : s.out ≡ conf.out

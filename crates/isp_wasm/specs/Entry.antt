@@ -1,5 +1,5 @@
 -- A call of an exported function by a host, and what its outcomes are.
-use Rattle.std.specs.Prelude.{◌≡◌, ℕ, suc, ◌+◌, ◌*◌, ◌^◌, ◌<◌, ◌≤◌, List, [], length, Option, Some, slice_index}
+use Rattle.std.specs.Prelude.{◌≡◌, ℕ, suc, ◌+◌, ◌*◌, ◌^◌, ◌<◌, ◌≤◌, List, [], length, Option, Some, false, slice_index}
 use Rattle.isp_base.specs.Arguments.{row_bits}
 use Rattle.isp_base.specs.Outcomes as outcomes
 use Rattle.isp_base.specs.Outcomes.{Outcome}
@@ -12,6 +12,7 @@ use Rattle.isp_base.specs.declared.trap.Trap.{Trap}
 use Rattle.isp_base.specs.declared.types.Value.{Value}
 use Rattle.isp_code.specs.Conf.{Conf}
 use Rattle.isp_code.specs.Machine.{values, first_conf, outcome_after}
+use Rattle.isp_verify.specs.Faults.{gives_vector}
 use Rattle.isp_wasm_meaning.specs.Syntax.{I8x16, Code, Then, Set, Const128}
 use Rattle.isp_wasm_meaning.specs.Meaning.{Report, State, Result, Returned, Trapped, OutOfFuel, called, loaded}
 use Rattle.isp_wasm.specs.Places.{Setting, Counter, Scalar, Vector, Mask, Base, Count, Depth, elem, gang, parts, bytes_of}
@@ -34,6 +35,7 @@ module _ (w : Setting) where
   pub record IsCalled (xs : List Argument) (arguments : List ℕ) (s : State) : Type 0 where
     pub home_is : (first xs).home ≡ w.home
     pub alone : w.waiting ≡ []
+    pub no_vector : gives_vector w.routine.returns ≡ false
     pub some : 0 < w.rungs
     pub head_is : w.heads 0 ≡ 0
     pub counter_is : slice_index arguments (w.local Counter) ≡ 0

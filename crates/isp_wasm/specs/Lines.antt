@@ -8,7 +8,7 @@ use Rattle.isp_code.specs.declared.instr.Instr.TheVariants as instr
 use Rattle.isp_code.specs.declared.register.Class.TheVariants as class
 use Rattle.isp_code.specs.declared.register.Register.{Register}
 use Rattle.isp_wasm.specs.Places.{Setting, elem}
-use Rattle.isp_wasm.specs.Thin.{IsHead, IsScalarResult, IsThin}
+use Rattle.isp_wasm.specs.Thin.{IsHead, IsThin}
 
 module _ (w : Setting) where
   -- no lane has an array of its own, and each array lies in memory as it is declared
@@ -21,8 +21,7 @@ module _ (w : Setting) where
   HasTemplate (instr.Clear a k) = ⊥
   HasTemplate (instr.PrintScalar x) = ⊥
   HasTemplate (instr.PrintVector x k) = ⊥
-  HasTemplate (instr.Call k) = CallFine w.code w.routine k × IsScalarResult w k.result
-  HasTemplate (instr.Return x) = IsScalarResult w x
+  HasTemplate (instr.Call k) = CallFine w.code w.routine k
   HasTemplate (instr.Jump to) = IsHead w to
   HasTemplate (instr.JumpIf t x to) = IsHead w to
   HasTemplate i = Unit {0}

@@ -8,9 +8,10 @@ use Rattle.isp_code.specs.Listing.{Listing, Routine}
 use Rattle.isp_code.specs.Registers.{elem_of}
 use Rattle.isp_code.specs.Entries.{result_of}
 use Rattle.isp_code.specs.declared.function.Local.{Local}
+use Rattle.isp_code.specs.declared.function.Returns.{Returns}
+use Rattle.isp_code.specs.declared.function.Returns.TheVariants.{Nothing, Scalar as GivesScalar, Vector as GivesVector}
 use Rattle.isp_code.specs.declared.instr.Instr.{Instr}
 use Rattle.isp_code.specs.declared.instr.Instr.TheVariants as instr
-use Rattle.isp_verify.specs.Faults.{gives_vector}
 use Rattle.isp_wasm_meaning.specs.Valid.{sized}
 use Rattle.isp_wasm_meaning.specs.Module.{ValueType, I32, I64, V128, Function, Module, unused}
 use Rattle.isp_wasm.specs.Entry.{entry_code}
@@ -62,10 +63,10 @@ abbrev pub none_open : List Local → Bool
 none_open [] = true
 none_open (l ∷ ls) = false
 
--- a function that gives no vector back; numbers of instructions and of bytes of text have 32 bits
+-- a function; numbers of instructions and of bytes of text have 32 bits
 abbrev pub is_plain : Listing → Routine → Bool
 is_plain code h =
-    list_all has_form h.code && (none_open h.locals && (not (gives_vector h.returns) && (nat_lt (length h.code) (2 ^ 32) && nat_lt (length (joined code.texts)) (2 ^ 32))))
+    list_all has_form h.code && (none_open h.locals && (nat_lt (length h.code) (2 ^ 32) && nat_lt (length (joined code.texts)) (2 ^ 32)))
 
 abbrev pub all_plain : Listing → Bool
 all_plain code = list_all (is_plain code) code.routines
@@ -94,6 +95,12 @@ is_covered code h = is_plain code h && (not (has_call h) || all_plain code)
 abbrev pub given_type : Option Elem → Option ValueType
 given_type None = None
 given_type (Some t) = Some (sized (size_of t))
+
+-- a vector is not given back as such
+abbrev pub back_type : Returns → Option ValueType
+back_type Nothing = None
+back_type (GivesScalar t) = Some (sized (size_of t))
+back_type (GivesVector t) = None
 
 module _ (code : Listing) where
   module _ (h : Routine) where
@@ -128,12 +135,15 @@ module _ (code : Listing) where
     type_of (Spare t j) = sized t
     type_of p = V128
 
+    abbrev pub given : Option Elem → Option ValueType
+    given o = given_type o
+
     abbrev pub kernel_of : Function
     kernel_of =
         record {
           export = Some h.name;
           params = map type_of (param_places h);
-          result = given_type (result_of h.returns);
+          result = given (result_of h.returns);
           locals = map type_of (own_places (gang_width code.gang) h);
           code = entry_code numbered;
         }
@@ -143,7 +153,7 @@ module _ (code : Listing) where
         record {
           export = None;
           params = map type_of (taken_places (gang_width code.gang) h);
-          result = given_type (result_of h.returns);
+          result = back_type h.returns;
           locals = map type_of (own_places (gang_width code.gang) h);
           code = function_code inner;
         }

@@ -12,6 +12,7 @@ use Rattle.isp_code.specs.Conf.{Conf}
 use Rattle.isp_code.specs.Machine.{after, arrive}
 use Rattle.isp_code.specs.Calls.{left}
 use Rattle.isp_code.specs.Fine.{IsGiven}
+use Rattle.isp_code.specs.declared.register.Class.{Class}
 use Rattle.isp_code.specs.declared.register.Class.TheVariants as class
 use Rattle.isp_code.specs.declared.register.Register.{Register}
 use Rattle.isp_wasm_meaning.specs.Syntax.{I8x16}
@@ -74,9 +75,26 @@ module _ (w : Setting) where
     pub keeps : Keeps conf.arrays s.memory s.size
 
   -- what a scalar register that is returned has
+  abbrev pub bits_by : Class → Conf → Register → Option ℕ
+  bits_by class.Vector c x = None
+  bits_by a c x = Some (c.scalars x.number)
+
   abbrev pub bits_of : Conf → Option Register → Option ℕ
   bits_of c None = None
-  bits_of c (Some x) = Some (c.scalars x.number)
+  bits_of c (Some x) = bits_by x.class c x
+
+  -- and the lanes of a vector register, which are in the globals
+  abbrev pub AreLanes : (ℕ → ℕ) → Register → Lanes → Type 0
+  AreLanes globals x f =
+      (j i : ℕ) → i < count (shape w x) → j * count (shape w x) + i < gang w → lane (shape w x) i (globals (suc j)) ≡ cell (elem w x) (f (j * count (shape w x) + i))
+
+  abbrev pub LanesBy : Class → Conf → Register → State → Type 0
+  LanesBy class.Vector c x s = AreLanes s.globals x (c.vectors x.number)
+  LanesBy a c x s = Unit {0}
+
+  abbrev pub LanesOf : Conf → Option Register → State → Type 0
+  LanesOf c None s = Unit {0}
+  LanesOf c (Some x) s = LanesBy x.class c x s
 
   -- the machine comes to where the function returns: the run ends, or the call that waits goes on
   pub record Leaves (c : Conf) (v : Option ℕ) (s : State) : Type 0 where
@@ -87,6 +105,7 @@ module _ (w : Setting) where
     pub fits : (r : ℕ) → conf.scalars r < 2 ^ width (elem w (scalar_register r))
     pub leaves : after w.code steps (machine.Runs c) ≡ arrive w.code (left w.routine conf register w.waiting) conf
     pub value_is : v ≡ bits_of conf register
+    pub lanes_are : LanesOf conf register s
     pub out_is : s.out ≡ conf.out
     pub keeps : Keeps conf.arrays s.memory s.size
 

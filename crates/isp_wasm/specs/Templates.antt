@@ -36,7 +36,7 @@ use Rattle.isp_wasm_meaning.specs.Meaning.{of_lanes, flags, count}
 use Rattle.isp_wasm_meaning.specs.Ladder.{dispatched}
 use Rattle.isp_wasm_meaning.specs.Syntax as wasm
 use Rattle.isp_wasm_meaning.specs.Syntax.{Shape, I8x16, Add, Sub, Mul, And, Or, Xor, Eq, Ne, LtU, LtS, DivU, RemU, Eqz, Ctz, Wrap, ExtendU, Splat, Extract, Bitmask, Of, BitsOf, CompareLanes, Bits, Replace, Expr, Const32, Const64, Const128, Local, One, Two, Select, Bitselect}
-use Rattle.isp_wasm_meaning.specs.Syntax.{Code, Skip, Unreachable, Then, Set, Load, Store, Divide, Fail, Write, If, Br, Return, Call as CallFunction}
+use Rattle.isp_wasm_meaning.specs.Syntax.{Code, Skip, Unreachable, Then, Set, Load, Store, Divide, Fail, Write, If, Br, Return, Call as CallFunction, GetGlobal, SetGlobal}
 use Rattle.isp_wasm.specs.Places.{Setting, gang, text, Counter, Scalar, Vector, Mask, Base, Count, Fresh, Spare, Depth, bytes_of, elem, shape, parts, size_of}
 use Rattle.isp_wasm.specs.Words.{constant, below, whole_expr, plain_expr, unary_expr, compare_expr, convert_expr}
 use Rattle.isp_wasm.specs.Rows.{as_cell, lane_at, widened, narrowed, ones, compare_row, unary_row, by_lane, present, plain_row}
@@ -59,6 +59,12 @@ module _ (w : Setting) where
 
   abbrev pub mask_local : Register → ℕ → Expr
   mask_local k j = Local (w.local (Mask k.number j))
+
+  -- the lanes of a mask are set to what is worked out
+  abbrev pub select_lanes : Register → Register → Code
+  select_lanes d k =
+      each (parts w (shape w d)) (λ j. Set (w.local (Vector d.number j))
+      (Bitselect (Local (w.local (Fresh j))) (vector_local d j) (widened (shape w d) (mask_local k) j)))
 
   -- the lanes of a mask are set; what they get is worked out before
   abbrev pub set_lanes : Register → Register → (ℕ → Expr) → Code
@@ -372,15 +378,34 @@ module _ (w : Setting) where
   abbrev pub called_number : Call → ℕ
   called_number k = length w.code.routines + k.function
 
+  -- A scalar is given back as WebAssembly does. A vector is in globals, a part in each, from 1 on.
+  abbrev pub return_code : Class → Register → Code
+  return_code class.Vector x = Then (each (parts w (shape w x)) (λ j. SetGlobal (suc j) (vector_local x j))) (Return None)
+  return_code c x = Return (Some (scalar_local x))
+
+  abbrev pub scalar_result : Class → Register → Option ℕ
+  scalar_result class.Vector d = None
+  scalar_result c d = Some (w.local (Scalar d.number))
+
   abbrev pub result_local : Option Register → Option ℕ
   result_local None = None
-  result_local (Some d) = Some (w.local (Scalar d.number))
+  result_local (Some d) = scalar_result d.class d
+
+  -- the lanes of a mask are set to what a call left in the globals
+  abbrev pub vector_result : Class → Register → Register → Code
+  vector_result class.Vector d k =
+      Then (each (parts w (shape w d)) (λ j. GetGlobal (w.local (Fresh j)) (suc j))) (select_lanes d k)
+  vector_result c d k = Skip
+
+  abbrev pub take_result : Option Register → Register → Code
+  take_result None k = Skip
+  take_result (Some d) k = vector_result d.class d k
 
   -- where as many calls run as may, it traps
   abbrev pub call_code : Call → Code
   call_code k =
       Then (If (Two (wasm.Compare wasm.I32 LtU) waiting_calls (Const32 (most_calls - 1))) Skip (fault 3 k.place (lowest_of k.mask)))
-      (CallFunction (called_number k) (arguments_of k) (result_local k.result))
+      (Then (CallFunction (called_number k) (arguments_of k) (result_local k.result)) (take_result k.result k.mask))
 
   -- ---- control
 
@@ -409,7 +434,7 @@ module _ (w : Setting) where
   code_of depth (instr.Call k) = call_code k
   code_of depth (instr.Fail x q) = If (lanes_as_bits x) (fault 2 q (lowest_of x)) Skip
   code_of depth (instr.Return None) = Return None
-  code_of depth (instr.Return (Some x)) = Return (Some (scalar_local x))
+  code_of depth (instr.Return (Some x)) = return_code x.class x
   code_of depth i = Skip
 
   abbrev pub code_at : ℕ → Option Instr → Code

@@ -104,11 +104,6 @@ module _ (w : Setting) where
   IsThinDivision class.Vector t x y = IsInteger t × IsVector x t × IsVector y t
   IsThinDivision c t x y = ⊥
 
-  -- a result that is a scalar, if there is one
-  abbrev pub IsScalarResult : Option Register → Type 0
-  IsScalarResult None = Unit {0}
-  IsScalarResult (Some x) = x.class ≡ class.Scalar
-
   -- an instruction that is covered
   abbrev pub IsThin : Instr → Type 0
   IsThin (instr.Scalar d i) = (d.class ≡ class.Scalar) × IsThinScalar (elem w d) i
@@ -128,8 +123,8 @@ module _ (w : Setting) where
   IsThin (instr.JumpIf jump.All x to) = IsHead to
   IsThin (instr.Say t) = Unit {0}
   IsThin (instr.Fail x q) = Unit {0}
-  IsThin (instr.Call k) = CallFine w.code w.routine k × IsScalarResult k.result
-  IsThin (instr.Return x) = IsGiven w.routine w.routine.returns x × IsScalarResult x
+  IsThin (instr.Call k) = CallFine w.code w.routine k
+  IsThin (instr.Return x) = IsGiven w.routine w.routine.returns x
   IsThin i = ⊥
 
   -- where control does not go on to the next instruction

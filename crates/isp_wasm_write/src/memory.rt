@@ -13,21 +13,24 @@ ghost use Rattle.isp_wasm_write.specs.Settings.{setting};
 use crate::kernel::{Kernel, Place};
 use crate::refusal::Refusal;
 use crate::types::width_of;
-use isp_code::Register;
+use isp_code::{Class, Register};
 use isp_wasm_binary::Bytes;
 
 impl<'a> Kernel<'a> {
-    /// Appends `ret`, of nothing or of a scalar register.
+    /// Appends `ret`, of nothing or of a scalar register. A kernel gives no vector back: `NoLocal`.
     pub fn return_line(&self, out: &mut Bytes, register: Option<Register>) -> Result<(), Refusal>
         ensures { OnOk result (out.new ≡ out.old ++ code_bytes (templates.code_of (setting self.now) 0 (instrs.Return register))) }
     {
         match register {
             None => Ok(out.give_back()?),
-            Some(register) => {
-                self.get(out, Place::Scalar(register.number))?;
-                out.give_back()?;
-                Ok(())
-            }
+            Some(register) => match register.class {
+                Class::Scalar => {
+                    self.get(out, Place::Scalar(register.number))?;
+                    out.give_back()?;
+                    Ok(())
+                }
+                Class::Vector | Class::Mask | Class::Array => Err(Refusal::NoLocal),
+            },
         }
     }
 
