@@ -32,6 +32,7 @@ use Rattle.isp_wasm.proofs.Stores.{ends_so, scatters, stores_in_row, packed_stor
 use Rattle.isp_wasm.proofs.Across.{scans, exchanges, shuffles, shuffles_two, inserts, extracts}
 use Rattle.isp_wasm.proofs.Reductions.{reduces}
 use Rattle.isp_wasm.proofs.Texts.{says_fall}
+use Rattle.isp_wasm.proofs.Prints.{prints_scalar, prints_vector}
 use Rattle.isp_wasm.proofs.Calls.{calls_fall}
 
 module _ (w : Setting) (ready : IsSettled w) (covered : IsCovered w) (thin : AllThin w) (last : ℕ) (call : ℕ → List ℕ → State → Result) (right : CallsAgree w last call) where
@@ -119,6 +120,8 @@ module _ (w : Setting) (ready : IsSettled w) (covered : IsCovered w) (thin : All
     template (instr.JumpIf t x to) has h = tests_fall w ready fuel w.rungs k call pc c s st to t x has low h refl
     template (instr.Say t) has h = says_fall w ready fuel w.rungs k call pc c s t st has
     template (instr.Fail x q) has h = asserts w ready fuel w.rungs k call pc c s st x q has
+    template (instr.PrintScalar x) has h = prints_scalar w ready fuel w.rungs k call pc c s st x has h
+    template (instr.PrintVector x m) has h = prints_vector w ready fuel w.rungs k call pc c s st x m has h
     template (instr.Call x) has h = calls_fall w ready last w.rungs k call right pc c s st x has h
     template (instr.Return None) has h = returns w ready fuel w.rungs k call pc c s st has h
     template (instr.Return (Some x)) has h = over (Stands w (pc + 1)) (suc k) c (run fuel call (return_code w x.class x) s) (answers w ready fuel w.rungs k call pc c s st x has h)

@@ -24,6 +24,7 @@ mod Picks
 mod Across
 mod Reductions
 mod Texts
+mod Prints
 mod Calls
 mod Chains
 mod Agreement

@@ -145,8 +145,8 @@ module _ (w : Setting) (has : HasArrays w) where
   thin (instr.Fail x q) t f = tt
   thin (instr.Return x) t f = f.0
   thin (instr.Clear a k) t f = absurd t
-  thin (instr.PrintScalar x) t f = absurd t
-  thin (instr.PrintVector x k) t f = absurd t
+  thin (instr.PrintScalar x) t f = any_scalar x (f.0).0
+  thin (instr.PrintVector x k) t f = any_vector x (f.0).0
   thin (instr.Call c) t f = t
 
 pub fine_is_thin : FineIsThin

@@ -91,8 +91,8 @@ last_is (Some (instr.Call c)) e w = absurd cc
 module _ (w : Setting) (heads : (pc to : ℕ) (i : Instr) → slice_get w.routine.code pc ≡ Some i → goes_to to i ≡ true → to < length w.routine.code → IsHead w to) where
   template : (pc : ℕ) (i : Instr) → slice_get w.routine.code pc ≡ Some i → has_form i ≡ true → AllFine w.code w.routine (operands i) → CallsFine w.code w.routine i → HasTemplate w i
   template pc (instr.Clear a k) has e fine calls = absurd cc
-  template pc (instr.PrintScalar x) has e fine calls = absurd cc
-  template pc (instr.PrintVector x k) has e fine calls = absurd cc
+  template pc (instr.PrintScalar x) has e fine calls = tt
+  template pc (instr.PrintVector x k) has e fine calls = tt
   template pc (instr.Jump to) has e fine calls = heads pc to (instr.Jump to) has (eq-eqb to to refl) fine.0
   template pc (instr.JumpIf t x to) has e fine calls = heads pc to (instr.JumpIf t x to) has (eq-eqb to to refl) (fine.1).0
   template pc (instr.Scalar d i) has e fine calls = tt

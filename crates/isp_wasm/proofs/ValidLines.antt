@@ -58,7 +58,7 @@ use Rattle.isp_wasm.specs.Words.{constant, below, whole_expr, plain_expr, unary_
 use Rattle.isp_wasm.specs.Rows.{as_cell, lane_at, widened, by_lane, ones, compare_row, present}
 use Rattle.isp_wasm.specs.Templates.{each, scalar_local, vector_local, mask_local, set_lanes, set_mask, is_member, lanes_as_bits, lowest_of, lane_or, lane_or_zero, picked, first_value, folded, modulo, plus, exchange_expr, of_both, scan_expr, reduce_expr, scalar_code, vector_of, vector_code, mask_under}
 use Rattle.isp_wasm.specs.Templates.{best_step, best_of, fault, address_at, is_there, spare, lane_loop, set_lane, lane_loads, lane_checks, lane_stores, own_index, run_index, rank_expr, packed_index, set_count, checked}
-use Rattle.isp_wasm.specs.Templates.{mask_bits, mask_of, numbers_part, range_count, quotients, code_of, magnitude_expr, division_of, turns_sign, quotient_to, jump_to, return_code, call_code}
+use Rattle.isp_wasm.specs.Templates.{mask_bits, mask_of, numbers_part, range_count, quotients, code_of, magnitude_expr, division_of, turns_sign, quotient_to, jump_to, return_code, call_code, print_value, print_byte, print_comma, print_item, print_list}
 use Rattle.isp_wasm.proofs.Typed.{both, same, one, two, select, bitselect, number, unary_typed, compare_typed, plain_typed, whole_typed, below_typed, convert_typed, zero_typed, negated, magnitude_typed, low, lane_typed, cell_typed, source, widened_typed, part_low, unary_row_typed, compare_row_typed, plain_row_typed, present_typed, narrowed_typed, by_lane_typed}
 
 -- ---- how many parts
@@ -612,6 +612,32 @@ module _ (w : Setting) (local : ℕ → Option ValueType) (functions : List Func
   Gives (GivesScalar t) = result ≡ Some (sized (size_of t))
   Gives (GivesVector t) = result ≡ None
 
+  -- what the host writes
+  print_valid : (n : ℕ) (t : Elem) (e : Expr) → V e t → C n (print_value w t e)
+  print_valid n Truth e h = h
+  print_valid n I8 e h = convert_typed local I8 I64 e h
+  print_valid n I16 e h = convert_typed local I16 I64 e h
+  print_valid n I32 e h = convert_typed local I32 I64 e h
+  print_valid n I64 e h = convert_typed local I64 I64 e h
+  print_valid n U8 e h = convert_typed local U8 U64 e h
+  print_valid n U16 e h = convert_typed local U16 U64 e h
+  print_valid n U32 e h = convert_typed local U32 U64 e h
+  print_valid n U64 e h = convert_typed local U64 U64 e h
+
+  comma_valid : (n p : ℕ) → C n (print_comma w p)
+  comma_valid n zero = refl
+  comma_valid n (suc p) = refl
+
+  list_valid : (n : ℕ) (x k : Register) → IsV x → IsM k → C n (print_list w x k)
+  list_valid n x k xs ks =
+      then_valid n (print_byte w 91) (Then (each (gang w) (print_item w x k)) (print_byte w 93)) refl
+      (then_valid n (each (gang w) (print_item w x k)) (print_byte w 93)
+      (each_valid n (gang w) (print_item w x k)
+      (λ p l. then_valid n (print_comma w p) (If (is_member w k p) (print_value w (elem w x) (lane_at (elem w x) (vector_local w x) p)) (print_byte w 95)) (comma_valid n p)
+      (if_valid n (is_member w k p) (print_value w (elem w x) (lane_at (elem w x) (vector_local w x) p)) (print_byte w 95) (member_typed k ks p l)
+      (print_valid (suc n) (elem w x) (lane_at (elem w x) (vector_local w x) p) (lane_of x xs (elem w x) refl p l)) refl)))
+      refl)
+
   scalar_back : (t : Elem) (a : Class) (x : ℕ) → result ≡ Some (sized (size_of t)) → IsThere w.routine class.Scalar (record { class = a; number = x }) → elem w (record { class = a; number = x }) ≡ t → (n : ℕ)
       → C n (return_code w a (record { class = a; number = x }))
   scalar_back t class.Scalar x e is same n = ap (λ r. gives local r (Some (scalar_local w (record { class = class.Scalar; number = x })))) e ∙ scalar_typed (record { class = class.Scalar; number = x }) is t same
@@ -696,6 +722,6 @@ module _ (w : Setting) (local : ℕ → Option ValueType) (functions : List Func
   line_valid g n k h (instr.Fail x q) called form f fits = if_valid n (lanes_as_bits w x) (fault w 2 q (lowest_of w x)) Skip (bits_typed x f.0) (lowest_typed x f.0) refl
   line_valid g n k h (instr.Return x) called form f fits = gives_valid w.routine.returns x g f.0 n
   line_valid g n k h (instr.Clear a m) called form f fits = absurd cc
-  line_valid g n k h (instr.PrintScalar x) called form f fits = absurd cc
-  line_valid g n k h (instr.PrintVector x m) called form f fits = absurd cc
+  line_valid g n k h (instr.PrintScalar x) called form f fits = print_valid n (elem w x) (scalar_local w x) (scalar_typed x (f.0).0 (elem w x) refl)
+  line_valid g n k h (instr.PrintVector x m) called form f fits = list_valid n x m (f.0).0 (f.1).0
   line_valid g n k h (instr.Call c) called form f fits = called c refl fits (mask_of_call c c.result f)

@@ -19,8 +19,6 @@ module _ (w : Setting) where
   -- a form that has a template; a jump is to a rung, and a call fits what it calls
   abbrev pub HasTemplate : Instr → Type 0
   HasTemplate (instr.Clear a k) = ⊥
-  HasTemplate (instr.PrintScalar x) = ⊥
-  HasTemplate (instr.PrintVector x k) = ⊥
   HasTemplate (instr.Call k) = CallFine w.code w.routine k
   HasTemplate (instr.Jump to) = IsHead w to
   HasTemplate (instr.JumpIf t x to) = IsHead w to

@@ -52,11 +52,9 @@ text_start (x ∷ xs) (suc t) = length x + text_start xs t
 
 -- ---- what is covered
 
--- no array that a function opens, no text of a value
+-- no array that a function opens
 abbrev pub has_form : Instr → Bool
 has_form (instr.Clear a k) = false
-has_form (instr.PrintScalar x) = false
-has_form (instr.PrintVector x k) = false
 has_form i = true
 
 abbrev pub none_open : List Local → Bool

@@ -6,7 +6,7 @@ use Rattle.isp_base.specs.Sets as Sets
 use Rattle.isp_base.specs.Sets.{everyone, nobody}
 use Rattle.isp_base.specs.Values.{width, wrap}
 use Rattle.isp_base.specs.declared.types.Elem.{Elem}
-use Rattle.isp_base.specs.declared.types.Elem.TheVariants.{I64}
+use Rattle.isp_base.specs.declared.types.Elem.TheVariants.{Bool as Truth, I8, I16, I32, I64, U64}
 use Rattle.isp_code.specs.Calls.{place_at}
 use Rattle.isp_code.specs.declared.instr.Call.{Call}
 use Rattle.isp_code.specs.declared.instr.Division.{Division}
@@ -36,7 +36,7 @@ use Rattle.isp_wasm_meaning.specs.Meaning.{of_lanes, flags, count}
 use Rattle.isp_wasm_meaning.specs.Ladder.{dispatched}
 use Rattle.isp_wasm_meaning.specs.Syntax as wasm
 use Rattle.isp_wasm_meaning.specs.Syntax.{Shape, I8x16, Add, Sub, Mul, And, Or, Xor, Eq, Ne, LtU, LtS, DivU, RemU, Eqz, Ctz, Wrap, ExtendU, Splat, Extract, Bitmask, Of, BitsOf, CompareLanes, Bits, Replace, Expr, Const32, Const64, Const128, Local, One, Two, Select, Bitselect}
-use Rattle.isp_wasm_meaning.specs.Syntax.{Code, Skip, Unreachable, Then, Set, Load, Store, Divide, Fail, Write, If, Br, Return, Call as CallFunction, GetGlobal, SetGlobal}
+use Rattle.isp_wasm_meaning.specs.Syntax.{Code, Skip, Unreachable, Then, Set, Load, Store, Divide, Fail, Write, If, Br, Return, Call as CallFunction, GetGlobal, SetGlobal, Print, SignedText, UnsignedText, TruthText, ByteText}
 use Rattle.isp_wasm.specs.Places.{Setting, gang, text, Counter, Scalar, Vector, Mask, Base, Count, Fresh, Spare, Depth, bytes_of, elem, shape, parts, size_of}
 use Rattle.isp_wasm.specs.Words.{constant, below, whole_expr, plain_expr, unary_expr, compare_expr, convert_expr}
 use Rattle.isp_wasm.specs.Rows.{as_cell, lane_at, widened, narrowed, ones, compare_row, unary_row, by_lane, present, plain_row}
@@ -346,6 +346,32 @@ module _ (w : Setting) where
       lane_loop k (λ p. quotient_to o (elem w d) (lane_at (elem w d) (vector_local x) p) (lane_at (elem w d) (vector_local y) p) (set_lane d p) q (Const32 p))
   quotients c o d x y k q = quotient_to o (elem w d) (scalar_local x) (scalar_local y) (Set (w.local (Scalar d.number))) q (lowest_of k)
 
+  -- ---- values as texts: the host writes a number of 64 bits, with its sign or without
+
+  abbrev pub print_value : Elem → Expr → Code
+  print_value Truth x = Print TruthText x
+  print_value I8 x = Print SignedText (convert_expr I8 I64 x)
+  print_value I16 x = Print SignedText (convert_expr I16 I64 x)
+  print_value I32 x = Print SignedText (convert_expr I32 I64 x)
+  print_value I64 x = Print SignedText (convert_expr I64 I64 x)
+  print_value t x = Print UnsignedText (convert_expr t U64 x)
+
+  abbrev pub print_byte : ℕ → Code
+  print_byte b = Print ByteText (Const32 b)
+
+  -- `,` before each but the first
+  abbrev pub print_comma : ℕ → Code
+  print_comma zero = Skip
+  print_comma (suc p) = print_byte 44
+
+  -- `_` where the mask has the lane not
+  abbrev pub print_item : Register → Register → ℕ → Code
+  print_item x k p = Then (print_comma p) (If (is_member k p) (print_value (elem w x) (lane_at (elem w x) (vector_local x) p)) (print_byte 95))
+
+  -- in brackets
+  abbrev pub print_list : Register → Register → Code
+  print_list x k = Then (print_byte 91) (Then (each (gang w) (print_item x k)) (print_byte 93))
+
   -- ---- calls
 
   abbrev pub waiting_calls : Expr
@@ -432,6 +458,8 @@ module _ (w : Setting) where
   code_of depth (instr.JumpIf jump.All x to) = If (Two (wasm.Compare wasm.I32 Eq) (lanes_as_bits x) (Const32 (2 ^ gang w - 1))) (jump_to (suc depth) to) Skip
   code_of depth (instr.Say t) = Write (Const32 (w.text_at t)) (Const32 (length (text w t)))
   code_of depth (instr.Call k) = call_code k
+  code_of depth (instr.PrintScalar x) = print_value (elem w x) (scalar_local x)
+  code_of depth (instr.PrintVector x k) = print_list x k
   code_of depth (instr.Fail x q) = If (lanes_as_bits x) (fault 2 q (lowest_of x)) Skip
   code_of depth (instr.Return None) = Return None
   code_of depth (instr.Return (Some x)) = return_code x.class x

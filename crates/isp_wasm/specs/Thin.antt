@@ -123,6 +123,8 @@ module _ (w : Setting) where
   IsThin (instr.JumpIf jump.All x to) = IsHead to
   IsThin (instr.Say t) = Unit {0}
   IsThin (instr.Fail x q) = Unit {0}
+  IsThin (instr.PrintScalar x) = IsScalar x (elem w x)
+  IsThin (instr.PrintVector x k) = IsVector x (elem w x)
   IsThin (instr.Call k) = CallFine w.code w.routine k
   IsThin (instr.Return x) = IsGiven w.routine w.routine.returns x
   IsThin i = ⊥

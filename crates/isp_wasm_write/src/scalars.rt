@@ -59,12 +59,7 @@ fn amount(out: &mut Bytes, elem: Elem) -> Result<(), AllocError>
 }
 
 /// Whether a value is below another.
-pub fn below(
-    out: &mut Bytes,
-    elem: Elem,
-    left: Operand,
-    right: Operand,
-) -> Result<(), AllocError>
+pub fn below(out: &mut Bytes, elem: Elem, left: Operand, right: Operand) -> Result<(), AllocError>
     ensures { OnOk result (out.new ≡ out.old ++ expr_bytes (words.below elem (operand_expr left) (operand_expr right))) }
 {
     left.write(out)?;
