@@ -45,3 +45,4 @@ mod ValidCalls
 mod ValidModules
 mod Numbered
 mod Samples
+mod CallSamples
