@@ -9,3 +9,4 @@ mod Parts
 mod Written
 mod Finished
 mod Loaded
+mod Called

@@ -1,5 +1,5 @@
 -- Where rows are added, code lies as it did.
-use Rattle.std.proofs.Common.{◌≡◌, ℕ, List, [], ◌∷◌, ◌++◌, length, Bool, true, refl, sym, ap, ◌∙◌, append_assoc, append-nil}
+use Rattle.std.proofs.Common.{◌≡◌, ℕ, zero, suc, ◌-◌, List, [], ◌∷◌, ◌++◌, length, Bool, true, refl, sym, ap, ◌∙◌, append_assoc, append-nil}
 use Rattle.std.specs.Prelude.{is_some}
 use Rattle.isp_base.specs.declared.types.Elem.{Elem}
 use Rattle.isp_base.specs.declared.types.Rate.{Rate}
@@ -9,7 +9,7 @@ use Rattle.isp_lower_code.specs.FirstRows.{Begins}
 use Rattle.isp_registers.specs.Growth.{Grows, HasRow, rows_of}
 use Rattle.isp_lower_code.specs.Layout.{Layout}
 use Rattle.isp_registers.specs.Reserved.{Has}
-use Rattle.isp_lower_code.specs.Rows.{keeps as keeps_constant, Name, Variable, Fresh, Row, Rows, elem_in, number_in, rows_at, layout_of, with_fresh, with_fresh_at}
+use Rattle.isp_lower_code.specs.Rows.{keeps as keeps_constant, Name, Variable, Fresh, Row, Rows, elem_in, number_in, rows_at, layout_of, with_fresh, with_fresh_from, with_fresh_from_at, with_many_fresh}
 use Rattle.isp_registers.specs.declared.registers.Registers.{Registers}
 use Rattle.isp_registers.specs.declared.reserve.Reserve.{Reserve}
 use Rattle.isp_emitted.specs.Staying.{KeepsPlaces, RegistersGrow, CodeStays}
@@ -30,6 +30,22 @@ begins_on xs ys zs a b =
 begins_fresh : (t : Elem) (xs ys : List Row) → ys ≡ with_fresh t xs → Begins xs ys
 begins_fresh t xs ys e = record { more = record { name = Fresh (length xs); elem = t } ∷ []; is = e }
 
+begins_many : (k : ℕ) (t : Elem) (xs : List Row) → Begins xs (with_many_fresh k t xs)
+begins_many zero t xs = begins_same xs xs refl
+begins_many (suc k) t xs = begins_on xs (with_fresh t xs) (with_many_fresh k t (with_fresh t xs)) (begins_fresh t xs (with_fresh t xs) refl) (begins_many k t (with_fresh t xs))
+
+begins_from : (n : ℕ) (t : Elem) (xs ys : List Row) → ys ≡ with_fresh_from n t xs → Begins xs ys
+begins_from n t xs ys e =
+    let many = with_many_fresh (n - length xs) t xs in begins_on xs many ys (begins_many (n - length xs) t xs) (begins_fresh t many ys e)
+
+many_keep : (k : ℕ) (t : Elem) (xs : List Row) (u : Elem) (b : ℕ) → keeps_constant (with_many_fresh k t xs) u b ≡ keeps_constant xs u b
+many_keep zero t xs u b = refl
+many_keep (suc k) t xs u b = many_keep k t (with_fresh t xs) u b ∙ fresh_keeps (length xs) t xs u b
+
+from_keep : (n : ℕ) (t : Elem) (xs : List Row) (u : Elem) (b : ℕ) → keeps_constant (with_fresh_from n t xs) u b ≡ keeps_constant xs u b
+from_keep n t xs u b =
+    let many = with_many_fresh (n - length xs) t xs in fresh_keeps (length many) t many u b ∙ many_keep (n - length xs) t xs u b
+
 same_grows : (old new : Registers) → rows_of new ≡ rows_of old → Grows old new
 same_grows old new e =
     record {
@@ -41,24 +57,24 @@ same_grows old new e =
       kept_vectors = λ u b. ap (λ (r : Rows). keeps_constant r.vectors u b) e;
     }
 
-fresh_grows : (old new : Registers) (r : Rate) (t : Elem) → rows_of new ≡ with_fresh_at r t (rows_of old) → Grows old new
-fresh_grows old new Uniform t e =
+fresh_grows : (old new : Registers) (n : ℕ) (r : Rate) (t : Elem) → rows_of new ≡ with_fresh_from_at n r t (rows_of old) → Grows old new
+fresh_grows old new n Uniform t e =
     record {
-      scalars = begins_fresh t (rows_of old).scalars (rows_of new).scalars (ap (λ (r : Rows). r.scalars) e);
+      scalars = begins_from n t (rows_of old).scalars (rows_of new).scalars (ap (λ (r : Rows). r.scalars) e);
       vectors = begins_same (rows_of old).vectors (rows_of new).vectors (ap (λ (r : Rows). r.vectors) e);
       arrays = begins_same (rows_of old).arrays (rows_of new).arrays (ap (λ (r : Rows). r.arrays) e);
       loaded = begins_same (rows_of old).loaded (rows_of new).loaded (ap (λ (r : Rows). r.loaded) e);
-      kept_scalars = λ u b. ap (λ (r : Rows). keeps_constant r.scalars u b) e ∙ fresh_keeps (length (rows_of old).scalars) t (rows_of old).scalars u b;
+      kept_scalars = λ u b. ap (λ (r : Rows). keeps_constant r.scalars u b) e ∙ from_keep n t (rows_of old).scalars u b;
       kept_vectors = λ u b. ap (λ (r : Rows). keeps_constant r.vectors u b) e;
     }
-fresh_grows old new Varying t e =
+fresh_grows old new n Varying t e =
     record {
       scalars = begins_same (rows_of old).scalars (rows_of new).scalars (ap (λ (r : Rows). r.scalars) e);
-      vectors = begins_fresh t (rows_of old).vectors (rows_of new).vectors (ap (λ (r : Rows). r.vectors) e);
+      vectors = begins_from n t (rows_of old).vectors (rows_of new).vectors (ap (λ (r : Rows). r.vectors) e);
       arrays = begins_same (rows_of old).arrays (rows_of new).arrays (ap (λ (r : Rows). r.arrays) e);
       loaded = begins_same (rows_of old).loaded (rows_of new).loaded (ap (λ (r : Rows). r.loaded) e);
       kept_scalars = λ u b. ap (λ (r : Rows). keeps_constant r.scalars u b) e;
-      kept_vectors = λ u b. ap (λ (r : Rows). keeps_constant r.vectors u b) e ∙ fresh_keeps (length (rows_of old).vectors) t (rows_of old).vectors u b;
+      kept_vectors = λ u b. ap (λ (r : Rows). keeps_constant r.vectors u b) e ∙ from_keep n t (rows_of old).vectors u b;
     }
 
 on_grows : (old mid new : Registers) → Grows old mid → Grows mid new → Grows old new

@@ -4,3 +4,4 @@ pub mod Staying
 pub mod Parts
 pub mod Finished
 pub mod Written
+pub mod Called

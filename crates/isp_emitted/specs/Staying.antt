@@ -8,7 +8,7 @@ use Rattle.isp_lower_code.specs.Code.{expr_code}
 use Rattle.isp_lower_code.specs.Found.{found}
 use Rattle.isp_registers.specs.Growth.{Grows, rows_of}
 use Rattle.isp_registers.specs.Reserved.{Has}
-use Rattle.isp_lower_code.specs.Rows.{layout_of, with_fresh_at}
+use Rattle.isp_lower_code.specs.Rows.{layout_of, with_fresh_from_at}
 use Rattle.isp_lower_code.specs.Simple.{simple_code}
 use Rattle.isp_registers.specs.declared.registers.Registers.{Registers}
 use Rattle.isp_registers.specs.declared.reserve.Reserve.{Reserve}
@@ -21,7 +21,7 @@ ReservedStays =
 -- registers are added where no row changes, where a fresh register is, and by two steps that add some
 pub record RegistersGrow : Type 0 where
   pub same : (old new : Registers) → rows_of new ≡ rows_of old → Grows old new
-  pub fresh : (old new : Registers) (r : Rate) (t : Elem) → rows_of new ≡ with_fresh_at r t (rows_of old) → Grows old new
+  pub fresh : (old new : Registers) (n : ℕ) (r : Rate) (t : Elem) → rows_of new ≡ with_fresh_from_at n r t (rows_of old) → Grows old new
   pub on : (old mid new : Registers) → Grows old mid → Grows mid new → Grows old new
 
 -- Registers are added, and the same variables are copied where they are read: those that packed loads write.

@@ -1,6 +1,7 @@
 //! What the contracts of an emitter come to. No code is run here: each function carries a law in its contract.
 ghost use Rattle.isp_base.specs.declared.types.Span.{Span};
 ghost use Rattle.isp_code.specs.declared.instr.Instr.{Instr};
+ghost use Rattle.isp_emitted.specs.Called.{FinishedIsWritten};
 ghost use Rattle.isp_emitted.specs.Finished.{FinishedHas};
 ghost use Rattle.isp_emitted.specs.Fitting.{WrittenFits};
 ghost use Rattle.isp_emitted.specs.Parts.{PartsStay, PatchedStays};
@@ -45,6 +46,13 @@ pub fn parts_stay()
 pub fn finished_has()
     ensures { FinishedHas }
 {}
+
+/// What `expr` or `store` added is in the code that `finish` gave as the laws ask, where the function was at work last.
+pub fn finished_is_written()
+    ensures { FinishedIsWritten }
+{
+    finished_has();
+}
 
 /// The instructions that `expr` added give the value of the expression in the register that it named, trap as it traps, and
 /// go on where it is cut; those that `store` added leave the state after the assignment. Both within 32 for each unit of

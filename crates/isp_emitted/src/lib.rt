@@ -5,6 +5,6 @@
 mod laws;
 
 pub use laws::{
-    code_stays, finished_has, parts_stay, registers_grow, reserved_stays, written_fits,
-    written_goes_on, written_runs,
+    code_stays, finished_has, finished_is_written, parts_stay, registers_grow, reserved_stays,
+    written_fits, written_goes_on, written_runs,
 };

@@ -1,5 +1,5 @@
 -- What is written apart, and then taken, is appended; and what it names is there.
-use Rattle.std.proofs.Common.{◌≡◌, ℕ, zero, suc, ◌+◌, ◌≤◌, List, [], ◌∷◌, ◌++◌, length, drop, ap, subst, sym, ◌∙◌, arith, length-append}
+use Rattle.std.proofs.Common.{◌≡◌, ℕ, zero, suc, ◌+◌, ◌-◌, ◌≤◌, List, [], ◌∷◌, ◌++◌, length, drop, ap, subst, sym, ◌∙◌, arith, length-append}
 use Rattle.std.proofs.Math.Seq.{drop-append_seam}
 use Rattle.isp_base.specs.declared.types.Elem.{Elem}
 use Rattle.isp_base.specs.declared.types.Rate.{Rate}
@@ -16,7 +16,7 @@ use Rattle.isp_registers.specs.Growth.{Grows, rows_of}
 use Rattle.isp_lower.specs.Emitted.{Appends}
 use Rattle.isp_lower_code.specs.Named.{InCode, InInstr, IsOf, count_of}
 use Rattle.isp_lower_code.specs.Patched.{patched, retargeted}
-use Rattle.isp_lower_code.specs.Rows.{Fresh, Row, Rows, with_fresh, with_fresh_at}
+use Rattle.isp_lower_code.specs.Rows.{Fresh, Row, Rows, with_fresh, with_fresh_from, with_fresh_from_at, with_many_fresh}
 use Rattle.isp_lower.specs.Adding.{AddsCode}
 use Rattle.isp_registers.specs.declared.registers.Registers.{Registers}
 use Rattle.isp_lower.specs.declared.types.Body.{Body}
@@ -64,27 +64,38 @@ all_named old new c s w part h =
 one_longer : (t : Elem) (xs : List Row) → length xs ≤ length (with_fresh t xs)
 one_longer t xs = omega (arith, length-append xs (record { name = Fresh (length xs); elem = t } ∷ []))
 
-with_more : (r : Rate) (t : Elem) (rows : Rows) (masks : ℕ) (c : Class) → count_of rows masks c ≤ count_of (with_fresh_at r t rows) masks c
-with_more Uniform t rows masks class.Scalar = one_longer t rows.scalars
-with_more Uniform t rows masks class.Vector = omega arith
-with_more Uniform t rows masks class.Array = omega arith
-with_more Uniform t rows masks class.Mask = omega arith
-with_more Varying t rows masks class.Scalar = omega arith
-with_more Varying t rows masks class.Vector = one_longer t rows.vectors
-with_more Varying t rows masks class.Array = omega arith
-with_more Varying t rows masks class.Mask = omega arith
+many_longer : (k : ℕ) (t : Elem) (xs : List Row) → length xs ≤ length (with_many_fresh k t xs)
+many_longer zero t xs = omega arith
+many_longer (suc k) t xs = omega (arith, one_longer t xs, many_longer k t (with_fresh t xs))
 
-pub fresh_named : (r : Rate) (t : Elem) (rows : Rows) (masks : ℕ) (code : List Instr) → InCode (IsOf rows masks) code → InCode (IsOf (with_fresh_at r t rows) masks) code
-fresh_named r t rows masks code h = code_weaker (IsOf rows masks) (IsOf (with_fresh_at r t rows) masks) (λ x lt. omega (arith, lt, with_more r t rows masks x.class)) code h
+all_longer : (n : ℕ) (t : Elem) (xs : List Row) → length xs ≤ length (with_fresh_from n t xs)
+all_longer n t xs =
+    let more = with_many_fresh (n - length xs) t xs in
+    omega (arith, many_longer (n - length xs) t xs, one_longer t more)
 
-with_mask_more : (rows : Rows) (masks : ℕ) (c : Class) → count_of rows masks c ≤ count_of rows (masks + 1) c
-with_mask_more rows masks class.Scalar = omega arith
-with_mask_more rows masks class.Vector = omega arith
-with_mask_more rows masks class.Array = omega arith
-with_mask_more rows masks class.Mask = omega arith
+with_more : (n : ℕ) (r : Rate) (t : Elem) (rows : Rows) (masks : ℕ) (c : Class) → count_of rows masks c ≤ count_of (with_fresh_from_at n r t rows) masks c
+with_more n Uniform t rows masks class.Scalar = all_longer n t rows.scalars
+with_more n Uniform t rows masks class.Vector = omega arith
+with_more n Uniform t rows masks class.Array = omega arith
+with_more n Uniform t rows masks class.Mask = omega arith
+with_more n Varying t rows masks class.Scalar = omega arith
+with_more n Varying t rows masks class.Vector = all_longer n t rows.vectors
+with_more n Varying t rows masks class.Array = omega arith
+with_more n Varying t rows masks class.Mask = omega arith
 
-pub fresh_mask_named : (rows : Rows) (masks : ℕ) (code : List Instr) → InCode (IsOf rows masks) code → InCode (IsOf rows (masks + 1)) code
-fresh_mask_named rows masks code h = code_weaker (IsOf rows masks) (IsOf rows (masks + 1)) (λ x lt. omega (arith, lt, with_mask_more rows masks x.class)) code h
+pub fresh_named : (n : ℕ) (r : Rate) (t : Elem) (rows : Rows) (masks : ℕ) (code : List Instr) → InCode (IsOf rows masks) code → InCode (IsOf (with_fresh_from_at n r t rows) masks) code
+fresh_named n r t rows masks code h =
+    code_weaker (IsOf rows masks) (IsOf (with_fresh_from_at n r t rows) masks) (λ x lt. omega (arith, lt, with_more n r t rows masks x.class)) code h
+
+with_mask_more : (rows : Rows) (masks more : ℕ) (c : Class) → masks ≤ more → count_of rows masks c ≤ count_of rows more c
+with_mask_more rows masks more class.Scalar le = omega arith
+with_mask_more rows masks more class.Vector le = omega arith
+with_mask_more rows masks more class.Array le = omega arith
+with_mask_more rows masks more class.Mask le = le
+
+pub fresh_mask_named : (rows : Rows) (masks more : ℕ) (code : List Instr) → masks ≤ more → InCode (IsOf rows masks) code → InCode (IsOf rows more) code
+fresh_mask_named rows masks more code le h =
+    code_weaker (IsOf rows masks) (IsOf rows more) (λ x lt. omega (arith, lt, with_mask_more rows masks more x.class le)) code h
 
 -- ---- another target names no other register
 

@@ -11,3 +11,4 @@ mod Headers
 mod Naming
 mod Aparts
 mod NamedThere
+mod Behind

@@ -1,5 +1,5 @@
--- What holds of all registers that code names; and that the next one of a class is named by none of it.
-use Rattle.std.proofs.Common.{◌≡◌, ◌≢◌, ℕ, List, [], ◌∷◌, ◌++◌, length, Option, Some, None, refl, ap, ◌∙◌, arith}
+-- What holds of all registers that code names.
+use Rattle.std.proofs.Common.{◌≡◌, ℕ, List, [], ◌∷◌, ◌++◌, length, Option, Some, None, refl}
 use Rattle.isp_base.specs.declared.types.Rate.{Rate}
 use Rattle.isp_base.specs.declared.types.Rate.TheVariants.{Uniform, Varying}
 use Rattle.isp_code.specs.Operands.{operands}
@@ -7,8 +7,8 @@ use Rattle.isp_code.specs.declared.instr.Instr.{Instr}
 use Rattle.isp_code.specs.declared.operand.Operand.{Operand}
 use Rattle.isp_code.specs.declared.operand.Operand.TheVariants.{Any as AnyRegister, Scalar, Vector, Mask, Array, Number, Place, Text, Target, Back}
 use Rattle.isp_code.specs.declared.register.Register.{Register}
-use Rattle.isp_lower_code.specs.Layout.{class_at, mask_register, register}
-use Rattle.isp_lower_code.specs.Named.{InOption, InOperand, InOperands, InCode, IsOf, Unnamed, count_of}
+use Rattle.isp_lower_code.specs.Layout.{class_at}
+use Rattle.isp_lower_code.specs.Named.{InOption, InOperand, InOperands, InCode, count_of}
 use Rattle.isp_lower_code.specs.Rows.{Rows, rows_at}
 
 -- ---- something weaker holds too of what is named
@@ -42,28 +42,8 @@ pub code_both : (P : Register → Type 0) (xs ys : List Instr) → InCode P xs �
 code_both P [] ys h g = g
 code_both P (x ∷ xs) ys h g = (h.0, code_both P xs ys h.1 g)
 
--- ---- the next register of a class is not named
+-- ---- how many registers of a rate there are
 
-count_at : (rows : Rows) (masks : ℕ) (r : Rate) → count_of rows masks (class_at r) ≡ length (rows_at rows r)
+pub count_at : (rows : Rows) (masks : ℕ) (r : Rate) → count_of rows masks (class_at r) ≡ length (rows_at rows r)
 count_at rows masks Uniform = refl
 count_at rows masks Varying = refl
-
-not_next : (rows : Rows) (masks : ℕ) (r : Rate) (x : Register) → IsOf rows masks x → x ≢ register r (length (rows_at rows r))
-not_next rows masks r x h e =
-    let n : x.number ≡ length (rows_at rows r) = ap (λ (y : Register). y.number) e in
-    let k : count_of rows masks x.class ≡ length (rows_at rows r) = ap (λ (y : Register). count_of rows masks y.class) e ∙ count_at rows masks r in
-    omega (arith, h, n, k)
-
-pub next_unnamed : (rows : Rows) (masks : ℕ) (r : Rate) (code : List Instr) → InCode (IsOf rows masks) code → Unnamed (register r (length (rows_at rows r))) code
-next_unnamed rows masks r code h = code_weaker (IsOf rows masks) (λ y. y ≢ register r (length (rows_at rows r))) (λ x f. not_next rows masks r x f) code h
-
--- ---- nor is the next mask
-
-not_next_mask : (rows : Rows) (masks : ℕ) (x : Register) → IsOf rows masks x → x ≢ mask_register masks
-not_next_mask rows masks x h e =
-    let n : x.number ≡ masks = ap (λ (y : Register). y.number) e in
-    let k : count_of rows masks x.class ≡ masks = ap (λ (y : Register). count_of rows masks y.class) e in
-    omega (arith, h, n, k)
-
-pub next_mask_unnamed : (rows : Rows) (masks : ℕ) (code : List Instr) → InCode (IsOf rows masks) code → Unnamed (mask_register masks) code
-next_mask_unnamed rows masks code h = code_weaker (IsOf rows masks) (λ y. y ≢ mask_register masks) (λ x f. not_next_mask rows masks x f) code h

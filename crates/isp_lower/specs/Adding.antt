@@ -8,10 +8,12 @@ use Rattle.isp_lower_code.specs.Callees.{rates_in}
 use Rattle.isp_typed.specs.Typed.{TExpr, TSimple}
 use Rattle.isp_lower_code.specs.Code.{expr_code}
 use Rattle.isp_lower_code.specs.Spans.{expr_places}
-use Rattle.isp_lower.specs.Drafts.{draft_of}
+use Rattle.isp_lower.specs.Drafts.{Draft, draft_of}
 use Rattle.isp_registers.specs.Growth.{Grows, rows_of}
 use Rattle.isp_lower.specs.Emitted.{Appends}
+use Rattle.isp_lower_code.specs.Asks.{Ask}
 use Rattle.isp_lower_code.specs.Layout.{Layout}
+use Rattle.isp_lower_code.specs.Room.{GrowsBy, masks_with, registers_asked}
 use Rattle.isp_lower_code.specs.Rows.{layout_of}
 use Rattle.isp_lower_code.specs.Simple.{simple_code, simple_places}
 use Rattle.isp_lower.specs.Written.{Piece}
@@ -27,6 +29,11 @@ pub record AddsCode (old new : Emitter) (c : ℕ → ℕ → List Instr) (s : Li
   pub rows : Grows old.reserved.registers new.reserved.registers
   pub masks : old.reserved.masks ≤ new.reserved.masks
   pub kept : draft_of new ≡ record (draft_of old) { places = (draft_of new).places; rows = (draft_of new).rows; masks = (draft_of new).masks; code = (draft_of new).code }
+
+-- No more registers are added than are asked for, and no arrays; and there are as many masks as there were and are asked for.
+pub record FewMore (old new : Draft) (a : Ask) : Type 0 where
+  pub rows : GrowsBy (registers_asked a) old.rows new.rows
+  pub masks : new.masks ≡ masks_with old.masks a
 
 -- the code of an expression, and of what stands before a semicolon, where the registers of the function at work lie
 

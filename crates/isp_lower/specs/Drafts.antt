@@ -1,5 +1,5 @@
 -- A program's code while it is written: what an emitter has, as lists.
-use Rattle.std.specs.Prelude.{◌≡◌, ℕ, ◌+◌, ◌≤◌, List, [], ◌∷◌, ◌++◌, length, map, true, Option, Some, None, IsSome, option_map}
+use Rattle.std.specs.Prelude.{◌≡◌, ℕ, ◌+◌, ◌≤◌, List, [], ◌∷◌, ◌++◌, length, map, max, true, Option, Some, None, IsSome, option_map}
 use Rattle.std.specs.List.{list_all}
 use Rattle.isp_base.specs.declared.types.Elem.{Elem}
 use Rattle.isp_base.specs.declared.types.Gang.{Gang}
@@ -8,6 +8,7 @@ use Rattle.isp_base.specs.declared.types.Span.{Span}
 use Rattle.isp_code.specs.Listing.{Listing, Routine, routine_of}
 use Rattle.isp_code.specs.Writable.{has_byte, parts_fit, place_fits}
 use Rattle.isp_code.specs.declared.instr.Instr.{Instr}
+use Rattle.isp_code.specs.declared.register.Class.TheVariants.{Mask}
 use Rattle.isp_typed.specs.Typed.{Program, TFunction}
 use Rattle.isp_typed.specs.Views.{functions_of}
 use Rattle.isp_lower_code.specs.FirstRows.{first_rows}
@@ -16,9 +17,10 @@ use Rattle.isp_lower.specs.Emitted.{texts_of}
 use Rattle.isp_lower_code.specs.Header.{Heading, heading_of, routine_with}
 pub use Rattle.isp_lower.specs.Headings.{heading_in}
 use Rattle.isp_lower_code.specs.Lines.{has_small_numbers}
-use Rattle.isp_lower_code.specs.Named.{InCode, InInstr, IsOf}
+use Rattle.isp_lower_code.specs.Layout.{class_at}
+use Rattle.isp_lower_code.specs.Named.{InCode, InInstr, IsOf, behind_named}
 use Rattle.isp_lower_code.specs.Patched.{patched}
-use Rattle.isp_lower_code.specs.Rows.{Rows, with_fresh_at}
+use Rattle.isp_lower_code.specs.Rows.{Rows, rows_at, with_fresh_from_at}
 use Rattle.isp_lower.specs.declared.closing.Closed.{Closed}
 use Rattle.isp_lower.specs.declared.types.Emitter.{Emitter}
 
@@ -97,11 +99,18 @@ with_text t d = record d { texts = d.texts ++ t ∷ [] }
 abbrev pub with_instr : Instr → Draft → Draft
 with_instr i d = record d { code = d.code ++ i ∷ [] }
 
+-- the next register is behind those that are there and those that the code names; so is the next mask
+abbrev pub next_register : Rate → Draft → ℕ
+next_register r d = max (length (rows_at d.rows r)) (behind_named (class_at r) d.code)
+
+abbrev pub next_mask : Draft → ℕ
+next_mask d = max d.masks (behind_named Mask d.code)
+
 abbrev pub with_register : Rate → Elem → Draft → Draft
-with_register r t d = record d { rows = with_fresh_at r t d.rows }
+with_register r t d = record d { rows = with_fresh_from_at (behind_named (class_at r) d.code) r t d.rows }
 
 abbrev pub with_mask : Draft → Draft
-with_mask d = record d { masks = d.masks + 1 }
+with_mask d = record d { masks = next_mask d + 1 }
 
 abbrev pub with_target : ℕ → ℕ → Draft → Draft
 with_target at to d = record d { code = patched d.code at to }
@@ -111,9 +120,9 @@ with_target at to d = record d { code = patched d.code at to }
 -- the text of code can have its places and its texts, each by a number
 pub record TablesCanBeWritten (d : Draft) : Type 0 where
   pub places : list_all place_fits d.places ≡ true
-  pub few_places : length d.places ≤ 4294967295
+  pub few_places : length d.places ≤ 4294967296
   pub texts : list_all has_byte d.texts ≡ true
-  pub few_texts : length d.texts ≤ 4294967295
+  pub few_texts : length d.texts ≤ 4294967296
 
 -- and of each function the names, the local arrays, the constants and the numbers
 pub record CanBeWritten (d : Draft) : Type 0 where

@@ -3,3 +3,4 @@ pub mod Written
 pub mod Headings
 pub mod Drafts
 pub mod Adding
+pub mod Behind

@@ -1,19 +1,20 @@
 //! The code of a program while it is written.
 ghost use Rattle.std.specs.Prelude.{◌≡◌, ◌<◌, length, IfOk, OnErr, OnOk};
 ghost use Rattle.isp_typed.specs.Views.{function_of, program_of};
-ghost use Rattle.isp_lower.specs.Drafts.{CanBeWritten, HasAllNamed, HasNamed, IsBegun, begun, draft_of, finished, first_draft, with_instr, with_mask, with_place, with_register, with_target, with_text};
+ghost use Rattle.isp_lower.specs.Drafts.{CanBeWritten, HasAllNamed, HasNamed, IsBegun, begun, draft_of, finished, first_draft, next_mask, next_register, with_instr, with_mask, with_place, with_register, with_target, with_text};
 ghost use Rattle.isp_lower_code.specs.Header.{HeadingFits};
 ghost use Rattle.isp_lower_code.specs.Layout.{mask_register, register};
 ghost use Rattle.isp_lower_code.specs.Named.{Unnamed};
 ghost use Rattle.isp_lower_code.specs.Patched.{IsJump, instr_at};
-ghost use Rattle.isp_lower_code.specs.Rows.{fresh_at, rows_at};
+ghost use Rattle.isp_lower_code.specs.Rows.{fresh_at};
 
 use crate::header::heading_of;
 use crate::line::Line;
 use crate::listing::{add_functions, add_places, add_texts};
+use crate::named::{behind_named, class_at};
 use crate::types::{Body, Emitter};
 use isp_base::{Elem, Rate, Span};
-use isp_code::Code;
+use isp_code::{Class, Code};
 use isp_rates::Checked;
 use isp_registers::{
     MaskNumber, PlaceNumber, RegisterNumber, Reserve, TextNumber, begin, no_registers,
@@ -91,32 +92,39 @@ impl<'p> Emitter<'p> {
         Ok(number)
     }
 
-    /// A register of the function at work for values of a type, and its number: no instruction names it, and no other call
-    /// gives it. There are fewer than 4,294,967,295 registers of the rate. 0 where memory is refused.
+    /// A register of the function at work for values of a type, and its number: behind those that are there and those that
+    /// instructions name, so no instruction names it, and no other call gives it. The number has 32 bits. It takes time in
+    /// step with the code so far. 0 where memory is refused.
     pub fn fresh(&mut self, rate: Rate, elem: Elem) -> Result<RegisterNumber, AllocError>
         requires begun { IsBegun (draft_of self.old) }
-        requires few { length (rows_at (draft_of self.old).rows rate) < 4294967295 }
-        ensures number { IfOk result (λ d. d.number ≡ length (rows_at (draft_of self.old).rows rate)) }
+        requires few { next_register rate (draft_of self.old) < 4294967296 }
+        ensures number { IfOk result (λ d. d.number ≡ next_register rate (draft_of self.old)) }
         ensures added { OnOk result (draft_of self.new ≡ with_register rate elem (draft_of self.old)) }
         ensures named { IfOk result (λ d. fresh_at (draft_of self.new).rows rate d.number ≡ d.number) }
         ensures all_named { HasAllNamed (draft_of self.old) → OnOk result (HasAllNamed (draft_of self.new)) }
-        ensures unnamed { HasAllNamed (draft_of self.old) → IfOk result (λ d. Unnamed (register rate d.number) (draft_of self.old).code) }
+        ensures unnamed { IfOk result (λ d. Unnamed (register rate d.number) (draft_of self.old).code) }
         ensures refused { OnErr result (draft_of self.new ≡ draft_of self.old) }
     {
-        self.reserved.registers.fresh(rate, elem)
+        let alloc = *self.functions.allocator();
+        let behind = behind_named(class_at(rate), self.body.code.as_slice());
+        self.reserved
+            .registers
+            .fresh_from(alloc, behind, rate, elem)
     }
 
-    /// One more mask register of the function at work, and its number: no instruction names it, and no earlier call gave
-    /// it. Code in the slots behind its number leaves it as it is. There are fewer than 4,294,967,295 masks.
+    /// One more mask register of the function at work, and its number: behind those that are there and those that
+    /// instructions name, so no instruction names it, and no earlier call gave it. Code in the slots behind its number leaves
+    /// it as it is. There are fewer than 4,294,967,295 masks then. It takes time in step with the code so far.
     pub fn fresh_mask(&mut self) -> MaskNumber
         requires begun { IsBegun (draft_of self.old) }
-        requires few { (draft_of self.old).masks < 4294967295 }
-        ensures number { result.number ≡ (draft_of self.old).masks }
+        requires few { next_mask (draft_of self.old) < 4294967295 }
+        ensures number { result.number ≡ next_mask (draft_of self.old) }
         ensures added { draft_of self.new ≡ with_mask (draft_of self.old) }
         ensures all_named { HasAllNamed (draft_of self.old) → HasAllNamed (draft_of self.new) }
-        ensures unnamed { HasAllNamed (draft_of self.old) → Unnamed (mask_register result.number) (draft_of self.old).code }
+        ensures unnamed { Unnamed (mask_register result.number) (draft_of self.old).code }
     {
-        self.reserved.fresh_mask()
+        let behind = behind_named(Class::Mask, self.body.code.as_slice());
+        self.reserved.fresh_mask_from(behind)
     }
 
     /// The jump of a number leads to another instruction; nothing else changes.

@@ -5,10 +5,10 @@ ghost use Rattle.isp_lower_code.specs.Found.{found};
 ghost use Rattle.isp_lower.specs.Drafts.{HasAllNamed, IsBegun, draft_of};
 ghost use Rattle.isp_lower_code.specs.Asks.{expr_asks, simple_asks};
 ghost use Rattle.isp_lower_code.specs.Rated.{IsFineExpr, IsFineSimple, IsRated, SimpleRated};
-ghost use Rattle.isp_lower_code.specs.Room.{HasNumbers, HasRoom, FewMore};
+ghost use Rattle.isp_lower_code.specs.Room.{HasNumbers, HasRoom};
 ghost use Rattle.isp_lower_code.specs.Own.{HasOwn};
 ghost use Rattle.isp_registers.specs.Reserved.{Has};
-ghost use Rattle.isp_lower.specs.Adding.{Adds, expr_in, layout_in, simple_in};
+ghost use Rattle.isp_lower.specs.Adding.{Adds, FewMore, expr_in, layout_in, simple_in};
 
 use crate::expression::expr;
 use crate::sites::Site;
@@ -33,7 +33,7 @@ impl Emitter<'_> {
         ensures register { IfOk result (λ d. d.number ≡ found (layout_in self.new) (expr_of x.now) site.slot.number) }
         ensures code { OnOk result (Adds self.old self.new (expr_in self.new (expr_of x.now) site)) }
         ensures has { OnOk result (Has self.new.reserved (expr_asks (expr_of x.now) site.slot.number)) }
-        ensures few { OnOk result (FewMore (draft_of self.old).rows (draft_of self.new).rows (expr_asks (expr_of x.now) site.slot.number)) }
+        ensures few { OnOk result (FewMore (draft_of self.old) (draft_of self.new) (expr_asks (expr_of x.now) site.slot.number)) }
         ensures all_named { HasAllNamed (draft_of self.old) → OnOk result (HasAllNamed (draft_of self.new)) }
         ensures refused { OnErr result (draft_of self.new ≡ draft_of self.old) }
     {
@@ -67,7 +67,7 @@ impl Emitter<'_> {
         requires room { HasRoom (draft_of self.old).rows (simple_asks (simple_of x.now) site.slot.number) }
         ensures code { OnOk result (Adds self.old self.new (simple_in self.new (simple_of x.now) site)) }
         ensures has { OnOk result (Has self.new.reserved (simple_asks (simple_of x.now) site.slot.number)) }
-        ensures few { OnOk result (FewMore (draft_of self.old).rows (draft_of self.new).rows (simple_asks (simple_of x.now) site.slot.number)) }
+        ensures few { OnOk result (FewMore (draft_of self.old) (draft_of self.new) (simple_asks (simple_of x.now) site.slot.number)) }
         ensures all_named { HasAllNamed (draft_of self.old) → OnOk result (HasAllNamed (draft_of self.new)) }
         ensures refused { OnErr result (draft_of self.new ≡ draft_of self.old) }
     {

@@ -1,10 +1,13 @@
 //! Lines of code while it is written: an instruction, and beside it the number that it names, which may be any. It gets its 32 bits when
 //! the code is done, so no number is too great before.
-ghost use Rattle.std.specs.Prelude.{◌≡◌, ◌<◌};
+ghost use Rattle.std.specs.Prelude.{◌≡◌, ◌<◌, ◌≤◌};
+ghost use Rattle.isp_code.specs.Operands.{operands};
+ghost use Rattle.isp_lower_code.specs.Named.{behind_registers, registers_named};
 ghost use Rattle.isp_lower_code.specs.Patched.{IsJump, retargeted};
 ghost use Rattle.isp_lower_code.specs.Lines.{naming, number_named, scalar_naming, vector_naming};
 
-use isp_code::{Instr, ScalarInstr, VectorInstr};
+use crate::named::behind_instr;
+use isp_code::{Class, Instr, ScalarInstr, VectorInstr};
 use std::marker::Model;
 
 /// An instruction. Contracts see it with the number that it names.
@@ -55,6 +58,15 @@ impl Line {
         ensures { self.new ≡ retargeted self.old target }
     {
         self.number = Some(target);
+    }
+
+    /// The number behind the registers of a class that it names.
+    #[tactic(auto, using(crate::proofs::Behind::named_same))]
+    pub(crate) fn behind(&self, class: Class) -> usize
+        ensures is { result ≡ behind_registers class (registers_named (operands self.now)) }
+        ensures few { result ≤ 4294967296 }
+    {
+        behind_instr(class, &self.instr)
     }
 
     /// The instruction, whose number has 32 bits.

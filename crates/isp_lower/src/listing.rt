@@ -16,7 +16,7 @@ use std::alloc::{AllocError, Global};
 /// Adds places, in their order.
 pub fn add_places(code: &mut Code, places: &[Span]) -> Result<(), AllocError>
     requires fit { list_all place_fits places.now ≡ true }
-    requires few { length code.old.places + length places.now ≤ 4294967295 }
+    requires few { length code.old.places + length places.now ≤ 4294967296 }
     ensures { OnOk result (code.new ≡ record code.old { places = code.old.places ++ places.now }) }
 {
     for place in places.iter() {
@@ -32,7 +32,7 @@ pub fn add_places(code: &mut Code, places: &[Span]) -> Result<(), AllocError>
 /// Adds texts, in their order.
 pub fn add_texts(code: &mut Code, texts: &[Vec<u8>]) -> Result<(), AllocError>
     requires fit { list_all has_byte (map (λ t. t.items) texts.now) ≡ true }
-    requires few { length code.old.texts + length texts.now ≤ 4294967295 }
+    requires few { length code.old.texts + length texts.now ≤ 4294967296 }
     ensures { OnOk result (code.new ≡ record code.old { texts = code.old.texts ++ map (λ t. t.items) texts.now }) }
 {
     for text in texts.iter() {

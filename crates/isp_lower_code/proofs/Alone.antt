@@ -53,7 +53,7 @@ module _ (w : Setting) (ready : IsSettled w) where
           run = run_each w.layout.run w.start w.members (c.scalars (w.layout.place Uniform)) s.varying s1.varying (λ i ei. ap (λ z. z.varying i) (sym gives.state)) st.run;
           constants = st.constants;
         };
-        spares = record { scalars_stay = λ e j lt. refl; vectors_stay = λ e j lt. refl };
+        spares = record { scalars_stay = λ e j lt. refl; vectors_stay = λ e j lt. refl; fresh_scalars = λ j. refl; fresh_vectors = λ j. refl };
         masks = λ r lt. refl;
         bound = run.bound;
       }

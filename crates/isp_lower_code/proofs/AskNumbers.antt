@@ -48,7 +48,7 @@ place_some : (p : TPlace) → 1 ≤ place_nodes p
 place_some (t_variable v t s) = omega arith
 place_some (t_element a i t s) = omega arith
 
-argument_some : (x : TArgument) → 1 ≤ argument_nodes x
+pub argument_some : (x : TArgument) → 1 ≤ argument_nodes x
 argument_some (t_by_value x) = expr_some x
 argument_some (t_by_name b s) = omega arith
 
@@ -87,15 +87,15 @@ sides_numbers : (r : Rate) (n : ℕ) → n + 2 < 4294967295 → HasNumbers (side
 sides_numbers Uniform n low = tt
 sides_numbers Varying n low = (omega arith, (omega arith, omega arith))
 
-first_near : (r : Rate) (n : ℕ) → first_slot r n ≤ n + 1
+pub first_near : (r : Rate) (n : ℕ) → first_slot r n ≤ n + 1
 first_near Uniform n = omega arith
 first_near Varying n = omega arith
 
-second_near : (r : Rate) (n : ℕ) → second_slot r n ≤ n + 2
+pub second_near : (r : Rate) (n : ℕ) → second_slot r n ≤ n + 2
 second_near Uniform n = omega arith
 second_near Varying n = omega arith
 
-beyond_near : (p : TPlace) (n : ℕ) → beyond p n ≤ n + 1
+pub beyond_near : (p : TPlace) (n : ℕ) → beyond p n ≤ n + 1
 beyond_near (t_variable v t s) n = omega arith
 beyond_near (t_element a i t s) n = omega arith
 

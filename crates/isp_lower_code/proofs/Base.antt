@@ -36,13 +36,23 @@ put_other f d x r ne = cond-false (nat_eq r d) x (f r) (ne_eqb r d ne)
 
 module _ (w : Setting) where
   pub spares_all : (n : ℕ) (c : Conf) → Spares w n c c
-  spares_all n c = record { scalars_stay = λ t j lt. refl; vectors_stay = λ t j lt. refl }
+  spares_all n c = record { scalars_stay = λ t j lt. refl; vectors_stay = λ t j lt. refl; fresh_scalars = λ j. refl; fresh_vectors = λ j. refl }
 
   pub spares_less : (n m : ℕ) (c c' : Conf) → n ≤ m → Spares w m c c' → Spares w n c c'
-  spares_less n m c c' le k = record { scalars_stay = λ t j lt. k.scalars_stay t j (omega arith); vectors_stay = λ t j lt. k.vectors_stay t j (omega arith) }
+  spares_less n m c c' le k = record {
+    scalars_stay = λ t j lt. k.scalars_stay t j (omega arith);
+    vectors_stay = λ t j lt. k.vectors_stay t j (omega arith);
+    fresh_scalars = k.fresh_scalars;
+    fresh_vectors = k.fresh_vectors;
+  }
 
   pub spares_on : (n : ℕ) (c c1 c2 : Conf) → Spares w n c c1 → Spares w n c1 c2 → Spares w n c c2
-  spares_on n c c1 c2 k h = record { scalars_stay = λ t j lt. h.scalars_stay t j lt ∙ k.scalars_stay t j lt; vectors_stay = λ t j lt. h.vectors_stay t j lt ∙ k.vectors_stay t j lt }
+  spares_on n c c1 c2 k h = record {
+    scalars_stay = λ t j lt. h.scalars_stay t j lt ∙ k.scalars_stay t j lt;
+    vectors_stay = λ t j lt. h.vectors_stay t j lt ∙ k.vectors_stay t j lt;
+    fresh_scalars = λ j. h.fresh_scalars j ∙ k.fresh_scalars j;
+    fresh_vectors = λ j. h.fresh_vectors j ∙ k.fresh_vectors j;
+  }
 
   -- ---- steps
 

@@ -133,7 +133,7 @@ module _ (w : Setting) (ready : IsSettled w) where
         run = run_each w.layout.run w.start w.members (c.scalars (w.layout.place Uniform)) s.varying s1.varying (λ i ei. ap (λ z. z.varying i) (sym gives.state)) st.run;
         constants = st.constants;
       })
-      (record { scalars_stay = λ e j lt. refl; vectors_stay = λ e j lt. refl }) (λ r lt. refl) run.bound
+      (record { scalars_stay = λ e j lt. refl; vectors_stay = λ e j lt. refl; fresh_scalars = λ j. refl; fresh_vectors = λ j. refl }) (λ r lt. refl) run.bound
       (subst (λ z. at_rate t.rate a z ≡ z) (sym gives.value) (answer_held t.rate a gives.last))
       (subst (Filled t.rate a) (sym gives.value) (answer_filled t.rate a gives.last))
   back_leaves InSlot t kc pc pc' n q a s c (Fails p s1) er at to st gives run = run

@@ -112,12 +112,18 @@ module _ (w : Setting) (ready : IsSettled w) where
     scalars_stay = λ u i lt. let ne : i ≢ j = omega arith in put_other c.scalars (w.layout.spare Uniform t j)
         (sole x) (w.layout.spare Uniform u i) (ready.apart.spares Uniform u t i j ne);
     vectors_stay = λ u i lt. refl;
+    fresh_scalars = λ i. put_other c.scalars (w.layout.spare Uniform t j) (sole x) (w.layout.fresh Uniform i) (λ e. ready.apart.spare_fresh Uniform t j i (sym e));
+    fresh_vectors = λ i. refl;
   }
   set_spares Varying c t n j x le = record {
     scalars_stay = λ u i lt. refl;
     vectors_stay = λ u i lt. let ne : i ≢ j = omega arith in put_other
         c.vectors (w.layout.spare Varying t j) (over (spread nobody x) (c.vectors (w.layout.spare Varying t j))) (w.layout.spare Varying u i)
         (ready.apart.spares Varying u t i j ne);
+    fresh_scalars = λ i. refl;
+    fresh_vectors = λ i. put_other
+        c.vectors (w.layout.spare Varying t j) (over (spread nobody x) (c.vectors (w.layout.spare Varying t j))) (w.layout.fresh Varying i)
+        (λ e. ready.apart.spare_fresh Varying t j i (sym e));
   }
 
   pub set_stands : (r : Rate) (c : Conf) (t : Elem) (j : ℕ) (x : Payload) (s : State) → Stands w s c → Stands w s (set_at r c (w.layout.spare r t j) x)

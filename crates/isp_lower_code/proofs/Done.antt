@@ -48,12 +48,21 @@ module _ (w : Setting) (ready : IsSettled w) where
   -- ---- a variable gets a value
 
   pub variable_spares : (r : Rate) (v n : ℕ) (c : Conf) (y : Payload) → Spares w n c (set_at r c (w.layout.variable r v) y)
-  variable_spares Uniform v n c y = record { scalars_stay = λ t j lt. put_other c.scalars (w.layout.variable Uniform v) (sole y) (w.layout.spare Uniform t j) (λ e. ready.apart.variable_spare Uniform t v j (sym e)); vectors_stay = λ t j lt. refl }
+  variable_spares Uniform v n c y = record {
+    scalars_stay = λ t j lt. put_other c.scalars (w.layout.variable Uniform v) (sole y) (w.layout.spare Uniform t j) (λ e. ready.apart.variable_spare Uniform t v j (sym e));
+    vectors_stay = λ t j lt. refl;
+    fresh_scalars = λ j. put_other c.scalars (w.layout.variable Uniform v) (sole y) (w.layout.fresh Uniform j) (λ e. ready.apart.variable_fresh Uniform v j (sym e));
+    fresh_vectors = λ j. refl;
+  }
   variable_spares Varying v n c y = record {
     scalars_stay = λ t j lt. refl;
     vectors_stay = λ t j lt. put_other c.vectors (w.layout.variable Varying v)
         (over (spread nobody y) (c.vectors (w.layout.variable Varying v))) (w.layout.spare Varying t j)
         (λ e. ready.apart.variable_spare Varying t v j (sym e));
+    fresh_scalars = λ j. refl;
+    fresh_vectors = λ j. put_other c.vectors (w.layout.variable Varying v)
+        (over (spread nobody y) (c.vectors (w.layout.variable Varying v))) (w.layout.fresh Varying j)
+        (λ e. ready.apart.variable_fresh Varying v j (sym e));
   }
 
   pub variable_done : (r : Rate) (v : ℕ) (m : Payload) (a : Mask) (s : State) (c c2 : Conf) (st pc pc' k x n q : ℕ) → Comes w c st c2 → At w c2 pc

@@ -35,6 +35,7 @@ pub use Rattle.isp_lower_code.proofs.SoundParts.{here_then}
 pub use Rattle.isp_lower_code.proofs.SoundFound.{found_there, operand_there}
 pub use Rattle.isp_lower_code.proofs.SoundExprs.{value_sound, values_sound, part_sound}
 pub use Rattle.isp_lower_code.proofs.SoundSimples.{simple_sound, items_sound}
+pub use Rattle.isp_lower_code.proofs.InRows.{counts, expr_in_rows, in_rows, many, simple_in_rows, with_places, with_rows}
 -- ---- registers: those of rows, those with which a function begins, and those that are the function's own
 
 pub use Rattle.isp_lower_code.proofs.Rows.{few_ranks, kept_of, kept_row, kept_there, layout_apart, register_there, row_typed, rows_stay}
@@ -44,6 +45,8 @@ pub use Rattle.isp_lower_code.proofs.Own.{all_held, expr_own, operand_own, simpl
 -- ---- what the text of code can have
 
 pub use Rattle.isp_lower_code.proofs.Writable.{all_at, all_both, differ, no_room}
+pub use Rattle.isp_lower_code.proofs.SmallNumbers.{numbers_small}
+pub use Rattle.isp_lower_code.proofs.SoundConstants.{constants_fit}
 pub use Rattle.isp_lower_code.proofs.Spans.{Placed, placed_both, placed_one, expr_placed, shown_placed, simple_placed, items_placed}
 -- ---- how long code is, and how many places it names
 

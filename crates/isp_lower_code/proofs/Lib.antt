@@ -56,9 +56,15 @@ mod SoundExprs
 mod SoundSimples
 mod Counts
 mod Writable
+mod InRows
+mod SmallNumbers
+mod SoundConstants
+mod OwnRows
+mod WritableCode
 mod Spans
 mod GoingOn
 mod PieceLengths
 mod CodeLengths
 mod PlaceCounts
 mod AskNumbers
+mod AskMasks

@@ -52,6 +52,7 @@ layout_apart rates rows = record {
   variable_fresh = λ r v j e. let h = one_number (rows_at rows r) (Variable v) (Fresh j) e in omega (arith, h);
   result_fresh = λ r j e. let h = one_number (rows_at rows r) Result (Fresh j) e in omega (arith, h);
   spare_fresh = λ r t i j e. let h = one_number (rows_at rows r) (Spare t i) (Fresh j) e in omega (arith, h);
+  place_fresh = λ r j e. let h = one_number (rows_at rows r) Place (Fresh j) e in omega (arith, h);
   place_variable = λ r v e. let h = one_number (rows_at rows r) Place (Variable v) e in omega (arith, h);
   place_result = λ r e. let h = one_number (rows_at rows r) Place Result e in omega (arith, h);
   place_spare = λ r t j e. let h = one_number (rows_at rows r) Place (Spare t j) e in omega (arith, h);
@@ -65,6 +66,7 @@ layout_apart rates rows = record {
   kept_result = λ r t b k e. let h = one_number (rows_at rows r) (Kept t b) Result e in omega (arith, h);
   kept_spare = λ r t b u j k e. let h = one_number (rows_at rows r) (Kept t b) (Spare u j) e in omega (arith, h);
   kept_place = λ r t b k e. let h = one_number (rows_at rows r) (Kept t b) Place e in omega (arith, h);
+  kept_fresh = λ r t b j k e. let h = one_number (rows_at rows r) (Kept t b) (Fresh j) e in omega (arith, h);
 }
 
 -- the type of a row stands at its number

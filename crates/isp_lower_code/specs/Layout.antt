@@ -40,12 +40,14 @@ pub record IsApart (l : Layout) : Type 0 where
   pub variable_fresh : (r : Rate) (v j : ℕ) → l.variable r v ≢ l.fresh r j
   pub result_fresh : (r : Rate) (j : ℕ) → l.result r ≢ l.fresh r j
   pub spare_fresh : (r : Rate) (t : Elem) (i j : ℕ) → l.spare r t i ≢ l.fresh r j
+  pub place_fresh : (r : Rate) (j : ℕ) → l.place r ≢ l.fresh r j
   pub arrays : (v w : ℕ) → v ≢ w → l.array v ≢ l.array w
   pub constants : (r : Rate) (t u : Elem) (b c : ℕ) → l.constant r t b ≡ l.constant r u c → (t ≡ u) × (b ≡ c)
   pub kept_variable : (r : Rate) (t : Elem) (b v : ℕ) → l.kept r t b ≡ true → l.constant r t b ≢ l.variable r v
   pub kept_result : (r : Rate) (t : Elem) (b : ℕ) → l.kept r t b ≡ true → l.constant r t b ≢ l.result r
   pub kept_spare : (r : Rate) (t : Elem) (b : ℕ) (u : Elem) (j : ℕ) → l.kept r t b ≡ true → l.constant r t b ≢ l.spare r u j
   pub kept_place : (r : Rate) (t : Elem) (b : ℕ) → l.kept r t b ≡ true → l.constant r t b ≢ l.place r
+  pub kept_fresh : (r : Rate) (t : Elem) (b j : ℕ) → l.kept r t b ≡ true → l.constant r t b ≢ l.fresh r j
 
 -- For lanes that need be no members of a run: a variable still counts those that are. For members of a run of which a variable counts the
 -- lanes: if there is no other, and no packed load writes the variable.

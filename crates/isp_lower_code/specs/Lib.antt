@@ -23,6 +23,7 @@ pub mod Asks
 pub mod Tables
 pub mod Room
 pub mod Own
+pub mod Asked
 pub mod Sound
 pub mod Rows
 pub mod FirstRows

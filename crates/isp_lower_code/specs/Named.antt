@@ -1,5 +1,5 @@
--- The registers that instructions name, and whether a function has them.
-use Rattle.std.specs.Prelude.{◌≢◌, ◌<◌, ℕ, List, [], ◌∷◌, length, Option, Some, None}
+-- The registers that instructions name, whether a function has them, and which number is behind them.
+use Rattle.std.specs.Prelude.{◌≢◌, ◌<◌, ◌+◌, ℕ, List, [], ◌∷◌, length, max, Option, Some, None, if◌then◌else◌}
 use Rattle.isp_code.specs.Operands.{operands}
 use Rattle.isp_code.specs.declared.instr.Instr.{Instr}
 use Rattle.isp_code.specs.declared.operand.Operand.{Operand}
@@ -7,6 +7,7 @@ use Rattle.isp_code.specs.declared.operand.Operand.TheVariants.{Any as AnyRegist
 use Rattle.isp_code.specs.declared.register.Class.{Class}
 use Rattle.isp_code.specs.declared.register.Class.TheVariants as class
 use Rattle.isp_code.specs.declared.register.Register.{Register}
+use Rattle.isp_code.specs.Registers.{same_class}
 use Rattle.isp_lower_code.specs.Rows.{Rows}
 
 -- something holds of each register that is named
@@ -51,3 +52,36 @@ IsOf rows masks x = x.number < count_of rows masks x.class
 -- a register that is not named
 abbrev pub Unnamed : Register → List Instr → Type 0
 Unnamed x code = InCode (λ y. y ≢ x) code
+
+-- ---- the number behind those of a class: one more than the greatest, and 0 where none is named
+
+abbrev pub register_named : Operand → Option Register
+register_named (AnyRegister x) = Some x
+register_named (Scalar x w) = Some x
+register_named (Vector x w) = Some x
+register_named (Mask x) = Some x
+register_named (Array x k w) = Some x
+register_named (Number z x) = None
+register_named (Place q) = None
+register_named (Text t) = None
+register_named (Target to) = None
+register_named (Back x) = x
+
+abbrev pub named_then : Option Register → List Register → List Register
+named_then None xs = xs
+named_then (Some x) xs = x ∷ xs
+
+abbrev pub registers_named : List Operand → List Register
+registers_named [] = []
+registers_named (o ∷ os) = named_then (register_named o) (registers_named os)
+
+abbrev pub behind_one : Class → Register → ℕ
+behind_one c x = if same_class x.class c then x.number + 1 else 0
+
+abbrev pub behind_registers : Class → List Register → ℕ
+behind_registers c [] = 0
+behind_registers c (x ∷ xs) = max (behind_one c x) (behind_registers c xs)
+
+abbrev pub behind_named : Class → List Instr → ℕ
+behind_named c [] = 0
+behind_named c (i ∷ is) = max (behind_registers c (registers_named (operands i))) (behind_named c is)

@@ -1,6 +1,6 @@
 -- What code asks for is the function's own, its variables and what it gives back: by the function, and by the registers that
 -- are there.
-use Rattle.std.specs.Prelude.{◌≡◌, ℕ, List, Option, Some, slice_get}
+use Rattle.std.specs.Prelude.{◌≡◌, ◌<◌, ℕ, List, Option, Some, slice_get}
 use Rattle.isp_base.specs.declared.types.Elem.{Elem}
 use Rattle.isp_base.specs.declared.types.Rate.{Rate}
 use Rattle.isp_base.specs.declared.types.Ty.{Ty}
@@ -9,7 +9,7 @@ use Rattle.isp_typed.specs.Typed.{ty_of}
 use Rattle.isp_typed.specs.declared.variable.ArrayVariable.{ArrayVariable}
 use Rattle.isp_typed.specs.declared.variable.Holds.TheVariants as holds
 use Rattle.isp_typed.specs.declared.variable.Variable as declared
-use Rattle.isp_lower_code.specs.Asks.{Ask, Nothing, Both, Register, ArrayOf, LocalOf, MaskOf, Number, Loads}
+use Rattle.isp_lower_code.specs.Asks.{All, Ask, Nothing, Both, Register, ArrayOf, LocalOf, MaskOf, Number, Loads}
 use Rattle.isp_lower_code.specs.Rows as row
 use Rattle.isp_lower_code.specs.Rows.{Name, Variable, Result, Spare, Place, Fresh, Kept, Rows, elem_in}
 
@@ -56,3 +56,11 @@ module _ (rows : Rows) where
   HasOwn (MaskOf k) = Unit {0}
   HasOwn (Number k) = Unit {0}
   HasOwn (Loads v) = Unit {0}
+
+-- ---- and all that is asked for
+
+abbrev pub HasArrayRow : Rows → ArrayVariable → Type 0
+HasArrayRow rows b = elem_in rows.arrays (Variable b.number) ≡ Some b.ty.elem
+
+abbrev pub HasAll : Rows → ℕ → Ask → Type 0
+HasAll rows masks a = All (row.HasRow rows) (HasArrayRow rows) (HasArrayRow rows) (λ k. k < masks) (row.IsLoaded rows) a

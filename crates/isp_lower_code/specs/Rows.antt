@@ -1,7 +1,7 @@
 -- A layout from lists of rows: a register has the number of the first row of its class that has its name. So rows are
 -- added at the end, as names come up, and no number changes. A name that no row has gets a number past the last row. The variables
 -- that packed loads write are rows too, which are no registers.
-use Rattle.std.specs.Prelude.{◌≡◌, ℕ, ◌+◌, ◌*◌, ◌==◌, List, [], ◌∷◌, ◌++◌, length, Option, Some, None, Bool, is_some, true, false, if◌then◌else◌}
+use Rattle.std.specs.Prelude.{◌≡◌, ℕ, zero, suc, ◌+◌, ◌-◌, ◌*◌, ◌==◌, List, [], ◌∷◌, ◌++◌, length, Option, Some, None, Bool, is_some, true, false, if◌then◌else◌}
 use Rattle.isp_base.specs.Ranks.{rank, same_elem}
 use Rattle.isp_base.specs.declared.types.Elem.{Elem}
 use Rattle.isp_base.specs.declared.types.Rate.{Rate}
@@ -104,3 +104,16 @@ with_fresh t rows = rows ++ record { name = Fresh (length rows); elem = t } ∷ 
 abbrev pub with_fresh_at : Rate → Elem → Rows → Rows
 with_fresh_at Uniform t rows = record rows { scalars = with_fresh t rows.scalars }
 with_fresh_at Varying t rows = record rows { vectors = with_fresh t rows.vectors }
+
+-- so many more
+abbrev pub with_many_fresh : ℕ → Elem → List Row → List Row
+with_many_fresh zero t rows = rows
+with_many_fresh (suc k) t rows = with_many_fresh k t (with_fresh t rows)
+
+-- one more that has number n or a greater one: the numbers before it that no row has are given to fresh registers too
+abbrev pub with_fresh_from : ℕ → Elem → List Row → List Row
+with_fresh_from n t rows = with_fresh t (with_many_fresh (n - length rows) t rows)
+
+abbrev pub with_fresh_from_at : ℕ → Rate → Elem → Rows → Rows
+with_fresh_from_at n Uniform t rows = record rows { scalars = with_fresh_from n t rows.scalars }
+with_fresh_from_at n Varying t rows = record rows { vectors = with_fresh_from n t rows.vectors }

@@ -30,7 +30,7 @@ module _ (w : Setting) where
     pub used : q ≤ 32 * s.work
     pub low : k < n
 
-  -- the code came to its end with what was asked; the spare registers of lower slots are as they were
+  -- the code came to its end with what was asked; the spare registers of lower slots and all fresh registers are as they were
   pub record Ok (c : Conf) (pc n q : ℕ) (holds_there : Conf → Type 0) (s : State) : Type 0 where
     pub conf : Conf
     pub steps : ℕ

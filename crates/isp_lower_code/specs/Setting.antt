@@ -159,10 +159,12 @@ OtherAt w Varying v = IsOther w v
 abbrev pub Stands : Setting → State → Conf → Type 0
 Stands w s c = StandsFor w.layout (gang_of w) w.start w.members s.uniforms s.varying s.own s.result s.results s.arrays s.out c.scalars c.vectors c.own c.arrays c.out
 
--- the spare registers of lower slots are as they were, whatever variables are written
+-- the spare registers of lower slots and all fresh registers are as they were, whatever variables are written
 pub record SparesStay (l : Layout) (n : ℕ) (scalars : ℕ → ℕ) (vectors : ℕ → Lanes) (scalars' : ℕ → ℕ) (vectors' : ℕ → Lanes) : Type 0 where
   pub scalars_stay : (t : Elem) (j : ℕ) → j < n → scalars' (l.spare Uniform t j) ≡ scalars (l.spare Uniform t j)
   pub vectors_stay : (t : Elem) (j : ℕ) → j < n → vectors' (l.spare Varying t j) ≡ vectors (l.spare Varying t j)
+  pub fresh_scalars : (j : ℕ) → scalars' (l.fresh Uniform j) ≡ scalars (l.fresh Uniform j)
+  pub fresh_vectors : (j : ℕ) → vectors' (l.fresh Varying j) ≡ vectors (l.fresh Varying j)
 
 abbrev pub Spares : Setting → ℕ → Conf → Conf → Type 0
 Spares w n c c' = SparesStay w.layout n c.scalars c.vectors c'.scalars c'.vectors

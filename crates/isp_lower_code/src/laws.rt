@@ -1,4 +1,5 @@
 //! What holds of all code. No code is run here: each function carries a law in its contract.
+ghost use Rattle.isp_lower_code.specs.Asked.{AsksAreFew, CodeIsWritten, OwnIsThere};
 ghost use Rattle.isp_lower_code.specs.Laws.{ExprGoesOn, ExprRuns, ExprSound, ItemsRun, ItemsSound, LayoutsAreApart, SimpleGoesOn, SimpleRuns, SimpleSound};
 
 /// The code of an expression gives its value in the lanes of a mask, traps as it traps, and goes on
@@ -55,4 +56,21 @@ pub fn assignments_sound()
 /// The same of the code of declared variables and arrays.
 pub fn declarations_sound()
     ensures { ItemsSound }
+{}
+
+/// What the code of an expression or an assignment asks for is in step with the nodes of its tree: numbers of slots and
+/// masks, registers and masks.
+pub fn asks_are_few()
+    ensures { AsksAreFew }
+{}
+
+/// A function whose registers begin with those of its variables has the variables and the arrays that its trees name.
+pub fn own_is_there()
+    ensures { OwnIsThere }
+{}
+
+/// The text of code can have the code of an expression or an assignment, and its places, where the function has what the
+/// code asks for, and each instruction and each place has a number of 32 bits.
+pub fn code_is_written()
+    ensures { CodeIsWritten }
 {}

@@ -6,6 +6,7 @@ mod laws;
 
 pub use constant::Constant;
 pub use laws::{
-    assignments_go_on, assignments_run, assignments_sound, declarations_run, declarations_sound,
-    expressions_go_on, expressions_run, expressions_sound, layouts_are_apart,
+    asks_are_few, assignments_go_on, assignments_run, assignments_sound, code_is_written,
+    declarations_run, declarations_sound, expressions_go_on, expressions_run, expressions_sound,
+    layouts_are_apart, own_is_there,
 };

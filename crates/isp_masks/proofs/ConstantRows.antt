@@ -64,7 +64,7 @@ counted_more xs new x r is rate = ap keep_steps is ∙ steps_more xs x ∙ ap (�
 -- ---- registers
 
 pub none_more : (a : Registers) → KeepsAll a a []
-none_more a = record { rows = longer_self a; all = tt; few_scalars = omega arith; few_vectors = omega arith; same_arrays = refl; only = λ r t b e. inl e }
+none_more a = record { rows = longer_self a; all = tt; few = record { scalars = omega arith; vectors = omega arith; arrays = refl }; only = λ r t b e. inl e }
 
 one_constant : (x : Constant) (r : Rate) (t : Elem) (b : ℕ) → (r ≡ x.rate) × ((t ≡ x.elem) × (b ≡ x.bits)) → x ≡ record { rate = r; elem = t; bits = b }
 one_constant x r t b e =
@@ -74,9 +74,7 @@ pub one_more : (a b c : Registers) (x : Constant) (xs : List Constant) → Keeps
 one_more a b c x xs one rest = record {
   rows = longer_then a b c one.rows rest.rows;
   all = (longer_keeps b c rest.rows x.rate x.elem x.bits one.has, rest.all);
-  few_scalars = omega (arith, one.few_scalars, rest.few_scalars);
-  few_vectors = omega (arith, one.few_vectors, rest.few_vectors);
-  same_arrays = rest.same_arrays ∙ one.same_arrays;
+  few = record { scalars = omega (arith, one.few.scalars, rest.few.scalars); vectors = omega (arith, one.few.vectors, rest.few.vectors); arrays = rest.few.arrays ∙ one.few.arrays };
   only = λ r t k e. ⊎_elim (λ before. ⊎_elim (λ old. inl old) (λ new. inr (inl (one_constant x r t k new))) (one.only r t k before)) (λ later. inr (inr later)) (rest.only r t k e);
 }
 

@@ -13,13 +13,12 @@ use Rattle.isp_typed.specs.declared.variable.Variable.{Variable as Declared}
 use Rattle.isp_lower_code.specs.Asks.{Both}
 use Rattle.isp_lower_code.specs.FirstRows.{array_row, array_rows, first_rows, result_rows, row_at, row_where, value_row, value_rows}
 use Rattle.isp_registers.specs.Growth.{row_of, rows_of}
-use Rattle.isp_lower_code.specs.Room.{registers_asked}
+use Rattle.isp_lower_code.specs.Room.{GrowsBy, registers_asked}
 use Rattle.isp_lower_code.specs.Rows.{Result, Row, Rows}
 use Rattle.isp_lower_code.specs.declared.constant.Constant.{Constant}
 use Rattle.isp_registers.specs.declared.registers.Registers.{Registers}
 use Rattle.isp_masks_code.specs.Asks.{block_asks}
 use Rattle.isp_masks_code.specs.Keeping.{constants_asks, keep_steps, steps_at}
-use Rattle.isp_masks.specs.Added.{GrowsBy}
 use Rattle.isp_masks_code.specs.Lowered.{IsSmall}
 use Rattle.isp_masks_code.proofs.Lemmas.{constants_registers}
 
@@ -76,7 +75,7 @@ pub record AreNamed (r : Registers) : Type 0 where
 
 -- what is asked for, and then the constants, come behind those with which the function begins
 pub few_registers : (h : TFunction) (ks : List Constant) (z m r : Registers) → IsSmall h → keep_steps ks ≤ 24 → rows_of z ≡ first_rows h.variables h.answer
-    → GrowsBy (registers_asked (Both (constants_asks 3 ks) (block_asks h.answer h.body 3))) z m → GrowsBy (length ks) m r → AreNamed r
+    → GrowsBy (registers_asked (Both (constants_asks 3 ks) (block_asks h.answer h.body 3))) (rows_of z) (rows_of m) → GrowsBy (length ks) (rows_of m) (rows_of r) → AreNamed r
 few_registers h ks z m r small short first more kept =
     let few = constants_few ks in
     let asked = constants_registers 3 ks in

@@ -45,6 +45,7 @@ lowered_more fs h g places new texts told m u x =
       scalars = x.scalars;
       vectors = x.vectors;
       three = x.three;
+      masks_are = x.masks_are;
       present = x.present;
       constants = x.constants;
       keeps = x.keeps;

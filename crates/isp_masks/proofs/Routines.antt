@@ -18,6 +18,7 @@ use Rattle.isp_lower_code.specs.FirstRows.{Begins, first_rows, result_rows, row_
 use Rattle.isp_registers.specs.Growth.{HasArray, Longer, HasRow, rows_of, HasLoaded}
 use Rattle.isp_lower.specs.Emitted.{texts_of}
 use Rattle.isp_lower_code.specs.Layout.{Layout, class_at}
+use Rattle.isp_lower_code.specs.Room.{masks_with}
 use Rattle.isp_lower_code.specs.Rows.{Row, Rows, layout_of}
 use Rattle.isp_lower_code.specs.Setting.{AreAt}
 use Rattle.isp_lower_code.specs.Asks.{All, Ask, Both}
@@ -110,8 +111,9 @@ pub lowered : (fs : List TFunction) (h : TFunction) (g : Routine) (ks : List Con
     → g.name ≡ h.name → g.exported ≡ h.exported → g.params ≡ params_of h.parameters h.variables → g.returns ≡ returns_of h.answer → g.locals ≡ locals_of h.variables
     → g.scalars ≡ drop (length (param_elems class.Scalar g.params)) (types_of (rows_of r).scalars)
     → g.vectors ≡ drop (length (param_elems class.Vector g.params)) (types_of (rows_of r).vectors)
-    → All (HasRow r) (HasArray r) (HasArray r) (λ k. k < g.masks) (HasLoaded r) (Both (constants_asks 3 ks) (block_asks h.answer h.body 3)) → 3 ≤ g.masks → g.code ≡ b.code.items → IsLowered fs h g b.places.items (texts_of b)
-lowered fs h g ks z r a b none first grows keeps y name exported params returns locals scalars vectors present three code =
+    → All (HasRow r) (HasArray r) (HasArray r) (λ k. k < g.masks) (HasLoaded r) (Both (constants_asks 3 ks) (block_asks h.answer h.body 3)) → 3 ≤ g.masks → g.masks ≡ masks_with 3 (Both (constants_asks 3 ks) (block_asks h.answer h.body 3)) → g.code ≡ b.code.items
+    → IsLowered fs h g b.places.items (texts_of b)
+lowered fs h g ks z r a b none first grows keeps y name exported params returns locals scalars vectors present three masks code =
     let l = layout_of (rates_in fs) (rows_of r) in
     let rows = subst (λ (q : Rows). Begins q.scalars (rows_of r).scalars × Begins q.vectors (rows_of r).vectors × Begins q.arrays (rows_of r).arrays) first (grows.scalars, grows.vectors, grows.arrays) in
     let part : List Instr → List Instr = λ before. before ++ function_code l h.answer ks h.body (length before) (next_of a) in
@@ -130,6 +132,7 @@ lowered fs h g ks z r a b none first grows keeps y name exported params returns 
       vectors = registers_are Varying h.parameters h.variables (result_rows Varying h.answer ++ rows.1.more) (rows_of r).vectors g.params g.vectors params
           (rows.1.is ∙ append_assoc (value_rows Varying 0 h.variables) (result_rows Varying h.answer) rows.1.more) vectors;
       three = three;
+      masks_are = masks;
       constants = ks;
       keeps = keeps;
       present = rows_there (block_asks h.answer h.body 3) present.1;
@@ -147,13 +150,15 @@ lowered fs h g ks z r a b none first grows keeps y name exported params returns 
 
 -- the function at work, whose registers are reserved and whose body is written, is added
 pub adds : (h : TFunction) (ks : List Constant) (old d : Draft) (z r : Reserve) (a b : Body) → d ≡ begun h old → a.code.items ≡ d.code → a.places.items ≡ d.places → texts_of a ≡ d.texts → rows_of z.registers ≡ d.rows → z.masks ≡ d.masks
-    → Longer z.registers r.registers → z.masks ≤ r.masks → KeepsThem (layout_of (rates_in d.callees) (rows_of r.registers)) ks → Has r (Both (constants_asks 3 ks) (block_asks h.answer h.body 3))
+    → Longer z.registers r.registers → z.masks ≤ r.masks → r.masks ≡ masks_with z.masks (Both (constants_asks 3 ks) (block_asks h.answer h.body 3)) → KeepsThem (layout_of (rates_in d.callees) (rows_of r.registers)) ks → Has r (Both (constants_asks 3 ks) (block_asks h.answer h.body 3))
     → Writes a b (body_piece (layout_of (rates_in d.callees) (rows_of r.registers)) ks h)
     → (fs : List TFunction) → FineFunction fs h → block_again h.body ≤ block_nodes h.body
     → AddsLowered h old (record d { places = b.places.items; texts = texts_of b; rows = rows_of r.registers; masks = r.masks; code = b.code.items })
-adds h ks old d z r a b is code places texts rows masks grows more keeps has y fs fine twice =
+adds h ks old d z r a b is code places texts rows masks grows more asked keeps has y fs fine twice =
     let l = layout_of (rates_in d.callees) (rows_of r.registers) in
-    let three : 3 ≤ r.masks = omega (arith, more, masks ∙ ap (λ (x : Draft). x.masks) is) in
+    let begins : z.masks ≡ 3 = masks ∙ ap (λ (x : Draft). x.masks) is in
+    let three : 3 ≤ r.masks = omega (arith, more, begins) in
+    let are = asked ∙ ap (λ m. masks_with m (Both (constants_asks 3 ks) (block_asks h.answer h.body 3))) begins in
     record {
       routine = routine_with (heading_of h) (rows_of r.registers) r.masks b.code.items;
       added = ap (λ (x : Draft). x.routines ++ routine_at_work x.heading (rows_of r.registers) r.masks b.code.items) is;
@@ -168,7 +173,7 @@ adds h ks old d z r a b is code places texts rows masks grows more keeps has y f
       lowered = subst (λ fs. IsLowered fs h (routine_with (heading_of h) (rows_of r.registers) r.masks b.code.items) b.places.items (texts_of b))
           (ap (λ (x : Draft). x.callees) is) (lowered d.callees h (routine_with (heading_of h) (rows_of r.registers) r.masks b.code.items) ks
           z.registers r.registers a b (code ∙ ap (λ (x : Draft). x.code) is)
-          (rows ∙ ap (λ (x : Draft). x.rows) is) grows keeps y refl refl refl refl refl refl refl has three refl);
+          (rows ∙ ap (λ (x : Draft). x.rows) is) grows keeps y refl refl refl refl refl refl refl has three are refl);
     }
 
 -- the register of the result is there from the beginning

@@ -1,4 +1,4 @@
--- What the code of a function adds to a program's: its routine, the places and the texts that it names; and its registers.
+-- What the code of a function adds to a program's: its routine, the places and the texts that it names.
 use Rattle.std.specs.Prelude.{◌≡◌, ◌≤◌, ℕ, ◌+◌, ◌*◌, List, [], ◌∷◌, ◌++◌, length, true}
 use Rattle.std.specs.List.{list_all}
 use Rattle.isp_base.specs.declared.types.Span.{Span}
@@ -7,15 +7,7 @@ use Rattle.isp_code.specs.Writable.{has_byte, place_fits}
 use Rattle.isp_typed.specs.Nodes.{block_nodes}
 use Rattle.isp_typed.specs.Typed.{TFunction}
 use Rattle.isp_lower.specs.Drafts.{Draft, all_routines}
-use Rattle.isp_registers.specs.Growth.{rows_of}
-use Rattle.isp_registers.specs.declared.registers.Registers.{Registers}
 use Rattle.isp_masks_code.specs.Lowered.{IsLowered}
-
--- of each rate there are at most so many registers more, and no array more
-pub record GrowsBy (n : ℕ) (old new : Registers) : Type 0 where
-  pub scalars : length (rows_of new).scalars ≤ length (rows_of old).scalars + n
-  pub vectors : length (rows_of new).vectors ≤ length (rows_of old).vectors + n
-  pub arrays : (rows_of new).arrays ≡ (rows_of old).arrays
 
 -- more is added at the end
 pub record GrowsTo {A : Type 0} (old new : List A) : Type 0 where

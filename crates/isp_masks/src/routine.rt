@@ -5,12 +5,12 @@ ghost use Rattle.isp_lower.specs.Drafts.{draft_of};
 ghost use Rattle.isp_lower_code.specs.FirstRows.{first_rows};
 ghost use Rattle.isp_registers.specs.Growth.{Grows, rows_of};
 ghost use Rattle.isp_lower.specs.Emitted.{Present, layout};
-ghost use Rattle.isp_lower_code.specs.Room.{HasNumbers, registers_asked};
+ghost use Rattle.isp_lower_code.specs.Room.{GrowsBy, HasNumbers, masks_with, registers_asked};
 ghost use Rattle.isp_registers.specs.Reserved.{Has};
 ghost use Rattle.isp_typed.specs.Views.{block_of, function_of};
 ghost use Rattle.isp_masks_code.specs.Asks.{block_asks, result_asks};
 ghost use Rattle.isp_masks_code.specs.Keeping.{Each, constants_asks};
-ghost use Rattle.isp_masks.specs.Added.{AddsLowered, GrowsBy};
+ghost use Rattle.isp_masks.specs.Added.{AddsLowered};
 ghost use Rattle.isp_masks_code.specs.Lowered.{BodyIsOwn, IsFineFunction, IsSmall};
 ghost use Rattle.isp_masks_code.specs.Statements.{returned};
 ghost use Rattle.isp_masks.specs.Written.{Writes, function_at};
@@ -77,7 +77,8 @@ fn reserve(asked: &mut Reserve, kept: &[Constant], f: &TypedFunction) -> Result<
     ensures masks { OnOk result (asked.old.masks ≤ asked.new.masks) }
     ensures body { OnOk result (Has asked.new (Both (constants_asks 3 kept.now) (block_asks (function_of f.now).answer (function_of f.now).body 3))) }
     ensures result { OnOk result (Has asked.new (result_asks (function_of f.now).answer)) }
-    ensures few { OnOk result (GrowsBy (registers_asked (Both (constants_asks 3 kept.now) (block_asks (function_of f.now).answer (function_of f.now).body 3))) asked.old.registers asked.new.registers) }
+    ensures few { OnOk result (GrowsBy (registers_asked (Both (constants_asks 3 kept.now) (block_asks (function_of f.now).answer (function_of f.now).body 3))) (rows_of asked.old.registers) (rows_of asked.new.registers)) }
+    ensures masks_are { OnOk result (asked.new.masks ≡ masks_with asked.old.masks (Both (constants_asks 3 kept.now) (block_asks (function_of f.now).answer (function_of f.now).body 3))) }
 {
     let slot = Slot { number: 3 };
     keeping::reserved(asked, kept, slot)?;

@@ -47,12 +47,14 @@ apart_same l o d a = record {
   variable_fresh = a.variable_fresh;
   result_fresh = a.result_fresh;
   spare_fresh = a.spare_fresh;
+  place_fresh = a.place_fresh;
   arrays = a.arrays;
   constants = a.constants;
   kept_variable = a.kept_variable;
   kept_result = a.kept_result;
   kept_spare = a.kept_spare;
   kept_place = a.kept_place;
+  kept_fresh = a.kept_fresh;
 }
 
 module _ (w : Setting) (o : Option ℕ) (d : Bool) (m : Mask) (b : ℕ) where
@@ -109,7 +111,13 @@ module _ (w : Setting) (o : Option ℕ) (d : Bool) (m : Mask) (b : ℕ) where
     comes = r.comes;
     at = r.at;
     stands = stands_back s r.conf r.stands (keep s r.conf r.stands);
-    spares = record { scalars_stay = r.spares.scalars_stay; vectors_stay = r.spares.vectors_stay };
+    spares =
+        record {
+          scalars_stay = r.spares.scalars_stay;
+          vectors_stay = r.spares.vectors_stay;
+          fresh_scalars = r.spares.fresh_scalars;
+          fresh_vectors = r.spares.fresh_vectors;
+        };
     went = r.went;
     continued = r.continued;
     returned = r.returned;
@@ -196,7 +204,7 @@ module _ (w : Setting) (ready : IsSettled w) (none : w.layout.run ≡ None) wher
 
   pub run_spares : (i : ℕ) (m : Mask) (b n : ℕ) (c c1 : Conf) → Spares (in_run w i m b) n c c1 → Spares w n c c1
   run_spares i m b n c c1 =
-      within_as (λ l. Spares (with_layout w l m b) n c c1 → Spares w n c c1) w.layout i (λ o d sp. record { scalars_stay = sp.scalars_stay; vectors_stay = sp.vectors_stay })
+      within_as (λ l. Spares (with_layout w l m b) n c c1 → Spares w n c c1) w.layout i (λ o d sp. record { scalars_stay = sp.scalars_stay; vectors_stay = sp.vectors_stay; fresh_scalars = sp.fresh_scalars; fresh_vectors = sp.fresh_vectors })
 
   pub foreach_body : (rs : List TRange) (i : ℕ) (x : TStmt) (h : ℕ) (z : Numbers) → last_index_of rs ≡ Some i
       → IsTyped w Varying (w.layout.variable Varying i) I32 → slice_get w.function.variables i ≡ Some foreach_index

@@ -85,10 +85,10 @@ module _ (w : Setting) (ready : IsSettled w) (n : ℕ) where
 
   -- one scalar is written, which is none of a variable
   scalar_goes : (d v pc : ℕ) (t : Elem) (s : State) (c : Conf) → IsTyped w Uniform d t → ((u : ℕ) → w.layout.variable Uniform u ≢ d) → w.layout.result Uniform ≢ d → w.layout.place Uniform ≢ d
-      → ((u : Elem) (j : ℕ) → j < n → w.layout.spare Uniform u j ≢ d)
+      → ((u : Elem) (j : ℕ) → j < n → w.layout.spare Uniform u j ≢ d) → ((j : ℕ) → w.layout.fresh Uniform j ≢ d)
       → ((u : Elem) (b : ℕ) → w.layout.kept Uniform u b ≡ true → w.layout.constant Uniform u b ≡ d → v % 2 ^ width t ≡ b % 2 ^ width u)
       → At w c pc → slice_get w.routine.code pc ≡ Some (constant d t v) → Bare w s c → NoneOutside w c → Goes c (set_at Uniform c d (One (v % 2 ^ width t))) 1 (pc + 1) s
-  scalar_goes d v pc t s c ty variables result place lower same at has st none =
+  scalar_goes d v pc t s c ty variables result place lower fresh same at has st none =
       let z = v % 2 ^ width t in
       record {
         comes = set_comes w ready Uniform c d (One z) pc (constant d t v) at has (ap (λ u. Go (set_at Uniform c d (One (wrap u (number t v))))) ty ∙ ap (λ y. Go (set_at Uniform c d (One y))) (wrap_bits t v));
@@ -104,7 +104,13 @@ module _ (w : Setting) (ready : IsSettled w) (n : ℕ) where
           run = run_place w.layout.run w.start w.members (c.scalars (w.layout.place Uniform)) (put c.scalars d z (w.layout.place Uniform)) s.varying (sym (put_other c.scalars d z (w.layout.place Uniform) place)) st.run;
           constants = λ r u b e. absurd (cc);
         };
-        spares = record { scalars_stay = λ u j lt. put_other c.scalars d z (w.layout.spare Uniform u j) (lower u j lt); vectors_stay = λ u j lt. refl };
+        spares =
+            record {
+              scalars_stay = λ u j lt. put_other c.scalars d z (w.layout.spare Uniform u j) (lower u j lt);
+              vectors_stay = λ u j lt. refl;
+              fresh_scalars = λ j. put_other c.scalars d z (w.layout.fresh Uniform j) (fresh j);
+              fresh_vectors = λ j. refl;
+            };
         masks = λ i. refl;
         none = none;
         still = λ x kept has. stays x.rate x.elem x.bits kept has;
@@ -137,7 +143,13 @@ module _ (w : Setting) (ready : IsSettled w) (n : ℕ) where
         run = st.run;
         constants = λ r u v e. absurd (cc);
       };
-      spares = record { scalars_stay = λ u j lt. refl; vectors_stay = λ u j lt. put_other c.vectors d y (w.layout.spare Varying u j) (λ e. ready.apart.kept_spare Varying t b u j kept (sym e)) };
+      spares =
+          record {
+            scalars_stay = λ u j lt. refl;
+            vectors_stay = λ u j lt. put_other c.vectors d y (w.layout.spare Varying u j) (λ e. ready.apart.kept_spare Varying t b u j kept (sym e));
+            fresh_scalars = λ j. refl;
+            fresh_vectors = λ j. put_other c.vectors d y (w.layout.fresh Varying j) (λ e. ready.apart.kept_fresh Varying t b j kept (sym e));
+          };
       masks = λ i. refl;
       none = λ u v p kept1 out. put_has (λ g. g p ≡ 0) c.vectors d y (w.layout.constant Varying u v) (λ e. ap (λ g. g p) filled ∙ outside_none (gang_of w) k p out) (none u v p kept1 out);
       still = λ x1 kept1 has1. stays x1.rate x1.elem x1.bits kept1 has1;
@@ -183,7 +195,7 @@ module _ (w : Setting) (ready : IsSettled w) (n : ℕ) where
         set_at Uniform c d (One (b % 2 ^ width t)),
         scalar_goes d b pc t s c (ready.constants Uniform t b kept) (λ u e. ready.apart.kept_variable Uniform t b u kept (sym e))
             (λ e. ready.apart.kept_result Uniform t b kept (sym e)) (λ e. ready.apart.kept_place Uniform t b kept (sym e))
-            (λ u j lt e. ready.apart.kept_spare Uniform t b u j kept (sym e))
+            (λ u j lt e. ready.apart.kept_spare Uniform t b u j kept (sym e)) (λ j e. ready.apart.kept_fresh Uniform t b j kept (sym e))
             (λ u v kept1 e. bits_same t u b v (ready.apart.constants Uniform u t v b e)) at has.0 st none,
         put_same c.scalars d (b % 2 ^ width t),
       )
@@ -193,7 +205,7 @@ module _ (w : Setting) (ready : IsSettled w) (n : ℕ) where
       let c1 = set_at Uniform c f (One k) in
       let g : Goes c c1 1 (pc + 1) s = scalar_goes f b pc t s c ty (λ u. ready.apart.variable_spare Uniform t u n)
       (ready.apart.result_spare Uniform t n) (ready.apart.place_spare Uniform t n)
-      (λ u j lt. let ne : j ≢ n = omega arith in ready.apart.spares Uniform u t j n ne)
+      (λ u j lt. let ne : j ≢ n = omega arith in ready.apart.spares Uniform u t j n ne) (λ j e. ready.apart.spare_fresh Uniform t n j (sym e))
       (λ u v kept1 e. absurd (ready.apart.kept_spare Uniform u v t n kept1 e)) at has.0 st none in
       let h = vector_goes t b f (pc + 1) s c1 kept (put_same c.scalars f k) em g.at has.1.0 g.bare g.none in
       let to : pc + 1 + 1 ≡ pc + 2 = omega arith in

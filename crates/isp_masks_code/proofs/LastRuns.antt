@@ -57,7 +57,12 @@ pub record IsRunPlace (w : Setting) (i h m : ℕ) (d : Bool) (x : ℕ) : Type 0 
 
 module _ (w : Setting) (ready : IsSettled w) (none : w.layout.run ≡ None) where
   place_spares : (j : ℕ) (c : Conf) (y : Payload) → Spares w j c (set_at Uniform c (w.layout.place Uniform) y)
-  place_spares j c y = record { scalars_stay = λ t k lt. put_other c.scalars (w.layout.place Uniform) (sole y) (w.layout.spare Uniform t k) (λ e. ready.apart.place_spare Uniform t k (sym e)); vectors_stay = λ t k lt. refl }
+  place_spares j c y = record {
+    scalars_stay = λ t k lt. put_other c.scalars (w.layout.place Uniform) (sole y) (w.layout.spare Uniform t k) (λ e. ready.apart.place_spare Uniform t k (sym e));
+    vectors_stay = λ t k lt. refl;
+    fresh_scalars = λ k. put_other c.scalars (w.layout.place Uniform) (sole y) (w.layout.fresh Uniform k) (λ e. ready.apart.place_fresh Uniform k (sym e));
+    fresh_vectors = λ k. refl;
+  }
 
   place_stands : (c : Conf) (s : State) (y : Payload) → Stands w s c → Stands w s (set_at Uniform c (w.layout.place Uniform) y)
   place_stands c s y st = record {

@@ -142,11 +142,19 @@ module _ (w : Setting) (ready : IsSettled w) where
       }
 
   result_spares : (r : Rate) (n : ℕ) (c : Conf) (y : Payload) → Spares w n c (set_at r c (w.layout.result r) y)
-  result_spares Uniform n c y = record { scalars_stay = λ t j lt. put_other c.scalars (w.layout.result Uniform) (sole y) (w.layout.spare Uniform t j) (λ e. ready.apart.result_spare Uniform t j (sym e)); vectors_stay = λ t j lt. refl }
+  result_spares Uniform n c y = record {
+    scalars_stay = λ t j lt. put_other c.scalars (w.layout.result Uniform) (sole y) (w.layout.spare Uniform t j) (λ e. ready.apart.result_spare Uniform t j (sym e));
+    vectors_stay = λ t j lt. refl;
+    fresh_scalars = λ j. put_other c.scalars (w.layout.result Uniform) (sole y) (w.layout.fresh Uniform j) (λ e. ready.apart.result_fresh Uniform j (sym e));
+    fresh_vectors = λ j. refl;
+  }
   result_spares Varying n c y = record {
     scalars_stay = λ t j lt. refl;
     vectors_stay = λ t j lt. put_other c.vectors (w.layout.result Varying)
         (over (spread nobody y) (c.vectors (w.layout.result Varying))) (w.layout.spare Varying t j) (λ e. ready.apart.result_spare Varying t j (sym e));
+    fresh_scalars = λ j. refl;
+    fresh_vectors = λ j. put_other c.vectors (w.layout.result Varying)
+        (over (spread nobody y) (c.vectors (w.layout.result Varying))) (w.layout.fresh Varying j) (λ e. ready.apart.result_fresh Varying j (sym e));
   }
 
   answered_work : (r : Rate) (a : Mask) (m : Payload) (s : State) → (answered_at r a m s).work ≡ s.work

@@ -71,5 +71,4 @@ mod Bodies
 mod AskNumbers
 mod ListsAsked
 mod FewVariables
-mod SmallNumbers
 mod SmallFunctions

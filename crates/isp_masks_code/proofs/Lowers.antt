@@ -35,13 +35,13 @@ use Rattle.isp_masks_code.proofs.Accepted.{body_sound, code_accepted}
 use Rattle.isp_masks_code.proofs.Checked.{FunctionFits, function_fits}
 use Rattle.isp_masks_code.proofs.CodeLengths.{function_long}
 use Rattle.isp_masks_code.proofs.FewVariables.{nodes_of_one}
+use Rattle.isp_lower_code.proofs.Lemmas.{numbers_small}
 use Rattle.isp_masks_code.proofs.Constants.{routine_parts_fit}
 use Rattle.isp_masks_code.proofs.FirstRows.{parameters_same, result_row}
 use Rattle.isp_masks_code.proofs.Heads.{names_apart, names_same, new_name, exports, head_fits}
 use Rattle.isp_masks_code.proofs.Made.{made_accepted, made_compiled, made_entry}
 use Rattle.isp_masks_code.proofs.Programs.{program_agrees}
 use Rattle.isp_masks_code.proofs.SmallFunctions.{functions_twice}
-use Rattle.isp_masks_code.proofs.SmallNumbers.{numbers_small}
 use Rattle.isp_masks_code.proofs.Standing.{arrays_stand}
 use Rattle.isp_masks_code.specs.Rated.{BlockRated}
 
@@ -196,7 +196,7 @@ routines_fit program code accepted has =
     low.name low.params low.locals)
 
 -- each number that an instruction names has 32 bits, where there are few places and texts: routines are short
-pub numbers_fit : (program : Program) (code : Listing) → IsAccepted program → HasCode program code → length code.places ≤ 4294967295 → length code.texts ≤ 4294967295 → list_all has_small_numbers code.routines ≡ true
+pub numbers_fit : (program : Program) (code : Listing) → IsAccepted program → HasCode program code → length code.places ≤ 4294967296 → length code.texts ≤ 4294967296 → list_all has_small_numbers code.routines ≡ true
 numbers_fit program code accepted has places texts =
     all_of has_small_numbers code.routines
     (λ f g eg.
@@ -206,7 +206,7 @@ numbers_fit program code accepted has places texts =
     let same = ap length low.code_is in
     let most = function_long program.functions h.0.variables h.0.answer (layout_of (rates_in program.functions) low.rows) low.constants h.0.body low.keeps.short fine.body 0 low.numbers in
     let twice = functions_twice program accepted f h.0 h.1 in
-    let short : length g.code ≤ 4294967295 = omega (arith, same, most, twice, nodes_of_one program f h.0 h.1, accepted.fine.few) in
+    let short : length g.code ≤ 4294967296 = omega (arith, same, most, twice, nodes_of_one program f h.0 h.1, accepted.fine.few) in
     numbers_small code g places texts short g.code (body_sound code g (bodies program code accepted has f g eg)))
 
 pub lowered_agrees : LoweredAgrees

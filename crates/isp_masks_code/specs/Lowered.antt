@@ -6,11 +6,11 @@ use Rattle.isp_code.specs.Registers.{scalars_of, vectors_of}
 use Rattle.isp_typed.specs.Fine.{FineFunction}
 use Rattle.isp_typed.specs.Nodes.{block_nodes}
 use Rattle.isp_typed.specs.Typed.{Program, TFunction}
-use Rattle.isp_lower_code.specs.Asks.{All}
+use Rattle.isp_lower_code.specs.Asks.{All, Both}
 use Rattle.isp_lower_code.specs.Callees.{rates_in}
 use Rattle.isp_lower_code.specs.FirstRows.{Begins, first_rows}
 use Rattle.isp_lower_code.specs.Header.{locals_of, params_of, returns_of, types_of}
-use Rattle.isp_lower_code.specs.Room.{HasNumbers, registers_asked}
+use Rattle.isp_lower_code.specs.Room.{HasNumbers, masks_with, registers_asked}
 use Rattle.isp_lower_code.specs.Own.{IsOwn}
 use Rattle.isp_lower_code.specs.Rows.{Rows, HasRow, IsLoaded, layout_of}
 use Rattle.isp_lower_code.specs.Setting.{AreAt}
@@ -61,6 +61,8 @@ pub record IsLowered (fs : List TFunction) (h : TFunction) (g : Routine) (places
   pub constants : List Constant
   pub keeps : KeepsThem (layout_of (rates_in fs) rows) constants
   pub spares : All (HasRow rows) AnyArray AnyArray (HasMask g) (IsLoaded rows) (constants_asks 3 constants)
+  -- and there are no masks but three and those that are asked for
+  pub masks_are : g.masks ≡ masks_with 3 (Both (constants_asks 3 constants) (block_asks h.answer h.body 3))
   -- the code, by the layout of the rows; what it names begins at these numbers
   pub numbers : Numbers
   pub low : numbers.place ≤ length places

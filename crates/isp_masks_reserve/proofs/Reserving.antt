@@ -11,9 +11,9 @@ use Rattle.isp_registers.proofs.Lemmas.{gives_none}
 pub variable_reserved : (a : Reserve) (r : Rate) (v : ℕ) (t : Elem) → Gives a a (Register r (Variable v) t)
 variable_reserved a r v t =
     let none = gives_none a in
-    record { rows = none.rows; masks = none.masks; has = tt; few_scalars = omega arith; few_vectors = omega arith; same_arrays = refl }
+    record { rows = none.rows; masks = none.masks; has = tt; few = record { scalars = omega arith; vectors = omega arith; arrays = refl }; masks_are = refl }
 
 pub number_reserved : (a : Reserve) (k : ℕ) → k < 4294967296 → Gives a a (Number k)
 number_reserved a k low =
     let none = gives_none a in
-    record { rows = none.rows; masks = none.masks; has = low; few_scalars = omega arith; few_vectors = omega arith; same_arrays = refl }
+    record { rows = none.rows; masks = none.masks; has = low; few = record { scalars = omega arith; vectors = omega arith; arrays = refl }; masks_are = refl }

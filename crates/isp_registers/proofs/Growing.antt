@@ -10,9 +10,9 @@ use Rattle.isp_typed.specs.declared.stmt.TypedItem as rust
 use Rattle.isp_typed.specs.declared.variable.ArrayVariable.{ArrayVariable}
 use Rattle.isp_lower_code.specs.Asks.{Ask, Nothing, Both, Register, MaskOf, Number, item_asks, items_asks, first_slot, second_slot, sides_ask}
 use Rattle.isp_registers.specs.Growth.{rows_of, row_of, Grows, HasArray, HasLoaded, HasRow, Keeps, KeepsIn, Longer}
-use Rattle.isp_lower_code.specs.Room.{HasNumbers}
+use Rattle.isp_lower_code.specs.Room.{GrowsBy, HasNumbers, masks_with, registers_asked}
 use Rattle.isp_registers.specs.Reserved.{Gives, Has, HasSpare, IsReserved}
-use Rattle.isp_lower_code.specs.Rows.{Name, Variable, Result, Spare, Place, Fresh, Kept, elem_in, keeps, rows_at}
+use Rattle.isp_lower_code.specs.Rows.{Name, Variable, Result, Spare, Place, Fresh, Kept, Rows, elem_in, keeps, rows_at}
 use Rattle.isp_lower_code.specs.Tables.{AnyArray}
 use Rattle.isp_lower_code.specs.declared.constant.Constant.{Constant}
 use Rattle.isp_registers.specs.declared.registers.RegisterRow.{RegisterRow}
@@ -120,9 +120,7 @@ scalar_kept a xs it rate k = record {
   rows = record { scalars = k.rows; vectors = begins_self (rows_of a).vectors; arrays = begins_self (rows_of a).arrays; loaded = begins_self (rows_of a).loaded };
   has = subst (λ r. keeps (rows_at (rows_of (record a { scalars = xs })) r) it.elem it.bits ≡ true) (sym rate) k.has;
   only = go;
-  few_scalars = k.few;
-  few_vectors = omega arith;
-  same_arrays = refl;
+  few = record { scalars = k.few; vectors = omega arith; arrays = refl };
 }
   where
     go : (r : Rate) (t : Elem) (b : ℕ) → keeps (rows_at (rows_of (record a { scalars = xs })) r) t b ≡ true → (keeps (rows_at (rows_of a) r) t b ≡ true) ⊎ ((r ≡ it.rate) × ((t ≡ it.elem) × (b ≡ it.bits)))
@@ -134,9 +132,7 @@ vector_kept a xs it rate k = record {
   rows = record { scalars = begins_self (rows_of a).scalars; vectors = k.rows; arrays = begins_self (rows_of a).arrays; loaded = begins_self (rows_of a).loaded };
   has = subst (λ r. keeps (rows_at (rows_of (record a { vectors = xs })) r) it.elem it.bits ≡ true) (sym rate) k.has;
   only = go;
-  few_scalars = omega arith;
-  few_vectors = k.few;
-  same_arrays = refl;
+  few = record { scalars = omega arith; vectors = k.few; arrays = refl };
 }
   where
     go : (r : Rate) (t : Elem) (b : ℕ) → keeps (rows_at (rows_of (record a { vectors = xs })) r) t b ≡ true → (keeps (rows_at (rows_of a) r) t b ≡ true) ⊎ ((r ≡ it.rate) × ((t ≡ it.elem) × (b ≡ it.bits)))
@@ -145,8 +141,15 @@ vector_kept a xs it rate k = record {
 
 -- ---- the walk: what one call gives and then another one is given
 
+grown_none : (a : Rows) → GrowsBy 0 a a
+grown_none a = record { scalars = omega arith; vectors = omega arith; arrays = refl }
+
+pub grown_more : (n m : ℕ) (a b c : Rows) → GrowsBy n a b → GrowsBy m b c → GrowsBy (n + m) a c
+grown_more n m a b c g h =
+    record { scalars = omega (arith, g.scalars, h.scalars); vectors = omega (arith, g.vectors, h.vectors); arrays = h.arrays ∙ g.arrays }
+
 pub gives_none : (a : Reserve) → Gives a a Nothing
-gives_none a = record { rows = grows_self a.registers; masks = omega arith; has = tt; few_scalars = omega arith; few_vectors = omega arith; same_arrays = refl }
+gives_none a = record { rows = grows_self a.registers; masks = omega arith; has = tt; few = grown_none (rows_of a.registers); masks_are = refl }
 
 pub both_given : (a b c : Reserve) (x y : Ask) → Gives a b x → Gives b c y → Gives a c (Both x y)
 both_given a b c x y g h =
@@ -154,9 +157,8 @@ both_given a b c x y g h =
       rows = grows_then a.registers b.registers c.registers g.rows h.rows;
       masks = omega (arith, g.masks, h.masks);
       has = (has_grows b c h.rows h.masks x g.has, h.has);
-      few_scalars = omega (arith, g.few_scalars, h.few_scalars);
-      few_vectors = omega (arith, g.few_vectors, h.few_vectors);
-      same_arrays = h.same_arrays ∙ g.same_arrays;
+      few = grown_more (registers_asked x) (registers_asked y) (rows_of a.registers) (rows_of b.registers) (rows_of c.registers) g.few h.few;
+      masks_are = h.masks_are ∙ ap (λ m. masks_with m y) g.masks_are;
     }
 
 -- a variable has its register from the beginning
@@ -166,9 +168,8 @@ variable_given a b r v t x g =
       rows = g.rows;
       masks = g.masks;
       has = (tt, g.has);
-      few_scalars = omega (arith, g.few_scalars);
-      few_vectors = omega (arith, g.few_vectors);
-      same_arrays = g.same_arrays;
+      few = record { scalars = omega (arith, g.few.scalars); vectors = omega (arith, g.few.vectors); arrays = g.few.arrays };
+      masks_are = g.masks_are;
     }
 
 -- a number asks for no register
@@ -178,9 +179,13 @@ then_given a b c k y g h =
       rows = grows_then a.registers b.registers c.registers g.rows h.rows;
       masks = omega (arith, g.masks, h.masks);
       has = h.has;
-      few_scalars = omega (arith, g.few_scalars, h.few_scalars);
-      few_vectors = omega (arith, g.few_vectors, h.few_vectors);
-      same_arrays = h.same_arrays ∙ g.same_arrays;
+      few =
+          record {
+            scalars = omega (arith, g.few.scalars, h.few.scalars);
+            vectors = omega (arith, g.few.vectors, h.few.vectors);
+            arrays = h.few.arrays ∙ g.few.arrays;
+          };
+      masks_are = h.masks_are ∙ ap (λ m. masks_with m y) g.masks_are;
     }
 
 -- the second side's slot is the one behind the first's
@@ -213,9 +218,8 @@ number_given a b k y lt g =
       rows = g.rows;
       masks = g.masks;
       has = (lt, g.has);
-      few_scalars = omega (arith, g.few_scalars);
-      few_vectors = omega (arith, g.few_vectors);
-      same_arrays = g.same_arrays;
+      few = record { scalars = omega (arith, g.few.scalars); vectors = omega (arith, g.few.vectors); arrays = g.few.arrays };
+      masks_are = g.masks_are;
     }
 
 -- a varying test: its two slots and its two masks

@@ -1,5 +1,6 @@
 pub mod Lemmas
 mod Growing
+mod Filling
 mod There
 mod Homes
 mod Lookup

@@ -5,6 +5,7 @@ use Rattle.isp_base.specs.declared.types.Rate.{Rate}
 use Rattle.isp_typed.specs.declared.variable.ArrayVariable.{ArrayVariable}
 use Rattle.isp_lower_code.specs.FirstRows.{Begins}
 pub use Rattle.isp_registers.specs.Lookup.{name_of, row_of}
+use Rattle.isp_lower_code.specs.Room.{GrowsBy}
 use Rattle.isp_lower_code.specs.Rows.{Name, Variable, Row, Rows, rows_at, elem_in, keeps, IsLoaded}
 use Rattle.isp_lower_code.specs.declared.constant.Constant.{Constant}
 use Rattle.isp_registers.specs.declared.registers.Registers.{Registers}
@@ -45,9 +46,7 @@ pub record Keeps (old new : Registers) (it : Constant) : Type 0 where
   pub rows : Longer old new
   pub has : keeps (rows_at (rows_of new) it.rate) it.elem it.bits ≡ true
   pub only : (r : Rate) (t : Elem) (b : ℕ) → keeps (rows_at (rows_of new) r) t b ≡ true → (keeps (rows_at (rows_of old) r) t b ≡ true) ⊎ ((r ≡ it.rate) × ((t ≡ it.elem) × (b ≡ it.bits)))
-  pub few_scalars : length (rows_of new).scalars ≤ length (rows_of old).scalars + 1
-  pub few_vectors : length (rows_of new).vectors ≤ length (rows_of old).vectors + 1
-  pub same_arrays : (rows_of new).arrays ≡ (rows_of old).arrays
+  pub few : GrowsBy 1 (rows_of old) (rows_of new)
 
 -- a register has this name and this type
 abbrev pub HasRow : Registers → Rate → Name → Elem → Type 0

@@ -1,6 +1,6 @@
 -- What a walk reserves: what was there stays, and what is asked for is there. The variables of a function and what it gives
 -- back have their registers from its beginning, so of these nothing is reserved.
-use Rattle.std.specs.Prelude.{◌≡◌, ◌<◌, ◌≤◌, ◌+◌, ℕ, length}
+use Rattle.std.specs.Prelude.{◌≡◌, ◌<◌, ◌≤◌, ◌+◌, ℕ}
 use Rattle.isp_base.specs.declared.types.Elem.{Elem}
 use Rattle.isp_base.specs.declared.types.Elem.TheVariants.{Bool as Truth, I32}
 use Rattle.isp_base.specs.declared.types.Rate.{Rate}
@@ -9,7 +9,7 @@ use Rattle.isp_base.specs.declared.types.Ty.{Ty}
 use Rattle.isp_typed.specs.Typed.{TBase, TExpr, base_array, type_of}
 use Rattle.isp_lower_code.specs.Asks.{Ask, Both, Register, Number, Loads, All, base_asks, expr_asks, operand_asks, operands_asks, sides_ask, spare_ask, test_asks, first_slot, second_slot}
 use Rattle.isp_registers.specs.Growth.{Grows, HasArray, HasLoaded, HasRow, rows_of}
-use Rattle.isp_lower_code.specs.Room.{registers_asked}
+use Rattle.isp_lower_code.specs.Room.{GrowsBy, masks_with, registers_asked}
 use Rattle.isp_lower_code.specs.Rows.{Name, Variable, Result, Spare, Place, Fresh, Kept}
 use Rattle.isp_lower_code.specs.Tables.{AnyArray}
 use Rattle.isp_registers.specs.declared.registers.Registers.{Registers}
@@ -30,15 +30,14 @@ HasSpare r rate (Kept u b) t = HasRow r rate (Kept u b) t
 abbrev pub IsReserved : Reserve → Ask → Type 0
 IsReserved r a = All (HasSpare r.registers) AnyArray AnyArray (λ k. k < r.masks) (HasLoaded r.registers) a
 
--- ---- what a walk gives: what was there stays, what is asked for is there, and no more registers are added than that; arrays are not added
+-- ---- what a walk gives: what was there stays, what is asked for is there, and no more registers and masks are added than that; arrays are not added
 
 pub record Gives (old new : Reserve) (a : Ask) : Type 0 where
   pub rows : Grows old.registers new.registers
   pub masks : old.masks ≤ new.masks
   pub has : IsReserved new a
-  pub few_scalars : length (rows_of new.registers).scalars ≤ length (rows_of old.registers).scalars + registers_asked a
-  pub few_vectors : length (rows_of new.registers).vectors ≤ length (rows_of old.registers).vectors + registers_asked a
-  pub same_arrays : (rows_of new.registers).arrays ≡ (rows_of old.registers).arrays
+  pub few : GrowsBy (registers_asked a) (rows_of old.registers) (rows_of new.registers)
+  pub masks_are : new.masks ≡ masks_with old.masks a
 
 -- ---- what single walks ask for: of two bools, of a choice, and of packed calls
 

@@ -1,8 +1,8 @@
 //! The registers of one class.
-ghost use Rattle.std.specs.Prelude.{◌≡◌, ◌<◌, ◌++◌, ◌∷◌, [], length, map, slice_get, Some, None, IfOk, IfSome, IfNone, OnOk, OnErr};
+ghost use Rattle.std.specs.Prelude.{◌≡◌, ◌<◌, ◌-◌, ◌++◌, ◌∷◌, [], length, map, max, slice_get, Some, None, IfOk, IfSome, IfNone, OnOk, OnErr};
 ghost use Rattle.isp_base.specs.Ranks.{rank};
 ghost use Rattle.isp_registers.specs.Lookup.{HasOwnType, IsNamedAt, name_of, row_of};
-ghost use Rattle.isp_lower_code.specs.Rows.{Fresh, elem_in, name_number, number_in, with_fresh};
+ghost use Rattle.isp_lower_code.specs.Rows.{Fresh, elem_in, name_number, number_in, with_fresh, with_fresh_from, with_many_fresh};
 
 use crate::copies::push_all;
 use crate::numbered::RegisterNumber;
@@ -138,7 +138,7 @@ impl RegisterRows {
 
     /// One more register, which no tree asks for, and its number. Where memory is refused, they stay as they were.
     pub fn fresh(&mut self, elem: Elem) -> Result<RegisterNumber, AllocError>
-        requires { length self.old < 4294967295 }
+        requires { length self.old < 4294967296 }
         ensures number { IfOk result (λ d. d.number ≡ length self.old) }
         ensures added { OnOk result (map row_of self.new ≡ with_fresh elem (map row_of self.old)) }
         ensures named { IfOk result (λ d. number_in (map row_of self.new) (Fresh d.number) ≡ d.number) }
@@ -152,5 +152,42 @@ impl RegisterRows {
         Ok(RegisterNumber {
             number: number as u32,
         })
+    }
+
+    /// Registers that no tree asks for, until there are so many registers.
+    fn fill(&mut self, elem: Elem, end: usize) -> Result<(), AllocError>
+        ensures { OnOk result (map row_of self.new ≡ with_many_fresh (end - length self.old) elem (map row_of self.old)) }
+    {
+        for number in self.rows.len()..end {
+            self.push(RegisterRow {
+                name: RegisterName::Fresh(number),
+                elem,
+            })?;
+        }
+        Ok(())
+    }
+
+    /// One more register, which no tree asks for, and its number: this one at least. Where memory is refused, they stay as
+    /// they were.
+    pub fn fresh_from(
+        &mut self,
+        alloc: Global,
+        number: usize,
+        elem: Elem,
+    ) -> Result<RegisterNumber, AllocError>
+        requires { max (length self.old) number < 4294967296 }
+        ensures number { IfOk result (λ d. d.number ≡ max (length self.old) number) }
+        ensures added { OnOk result (map row_of self.new ≡ with_fresh_from number elem (map row_of self.old)) }
+        ensures named { IfOk result (λ d. number_in (map row_of self.new) (Fresh d.number) ≡ d.number) }
+        ensures refused { OnErr result (self.new ≡ self.old) }
+    {
+        if number <= self.rows.len() {
+            return self.fresh(elem);
+        }
+        let mut all = self.copied(alloc)?;
+        all.fill(elem, number)?;
+        let given = all.fresh(elem)?;
+        *self = all;
+        Ok(given)
     }
 }

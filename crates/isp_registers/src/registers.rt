@@ -1,19 +1,19 @@
 //! The registers of the function in hand.
-ghost use Rattle.std.specs.Prelude.{◌≡◌, ◌<◌, ◌≤◌, ◌+◌, ℕ, length, map, Some, IfOk, OnErr, OnOk};
+ghost use Rattle.std.specs.Prelude.{◌≡◌, ◌<◌, ◌≤◌, ◌+◌, ℕ, length, map, max, Some, IfOk, OnErr, OnOk};
 ghost use Rattle.isp_lower_code.specs.FirstRows.{Begins};
 ghost use Rattle.isp_registers.specs.Growth.{Grows, HasLoaded, HasRow, Keeps, KeepsIn, name_of, row_of, rows_of};
 ghost use Rattle.isp_registers.specs.Lookup.{IsAsked, IsPlain, own_type};
 ghost use Rattle.isp_base.specs.declared.types.Elem.{Elem};
 ghost use Rattle.isp_base.specs.declared.types.Elem.TheVariants.{I64};
 ghost use Rattle.isp_base.specs.declared.types.Rate.TheVariants.{Uniform};
-ghost use Rattle.isp_lower_code.specs.Rows.{Place, Result, Spare, Variable as VariableName, elem_in, fresh_at, keeps, rows_at, with_fresh_at};
+ghost use Rattle.isp_lower_code.specs.Rows.{Place, Result, Spare, Variable as VariableName, elem_in, fresh_at, keeps, rows_at, with_fresh_from_at};
 
 use crate::numbered::{RegisterNumber, Slot};
 use crate::register_rows::RegisterRows;
 use isp_base::{Elem, Rate, Ty};
 use isp_lower_code::Constant;
 use isp_typed::ArrayVariable;
-use std::alloc::AllocError;
+use std::alloc::{AllocError, Global};
 
 /// What a register is for: a variable, by its number, what the function gives back, values of a type in a slot, the place of a run,
 /// what no tree asks for; then it is named by its own number; or a constant, by its type and its bits.
@@ -126,17 +126,24 @@ impl Registers {
         }
     }
 
-    /// One more register of a rate, which no tree asks for, and its number. Where memory is refused, they stay as they were.
-    pub fn fresh(&mut self, rate: Rate, elem: Elem) -> Result<RegisterNumber, AllocError>
-        requires { length (rows_at (rows_of self.old) rate) < 4294967295 }
-        ensures number { IfOk result (λ d. d.number ≡ length (rows_at (rows_of self.old) rate)) }
-        ensures added { OnOk result (rows_of self.new ≡ with_fresh_at rate elem (rows_of self.old)) }
+    /// One more register of a rate, which no tree asks for, and its number: this one at least. Registers between have no
+    /// use. Where memory is refused, all stay as they were.
+    pub fn fresh_from(
+        &mut self,
+        alloc: Global,
+        number: usize,
+        rate: Rate,
+        elem: Elem,
+    ) -> Result<RegisterNumber, AllocError>
+        requires { max (length (rows_at (rows_of self.old) rate)) number < 4294967296 }
+        ensures number { IfOk result (λ d. d.number ≡ max (length (rows_at (rows_of self.old) rate)) number) }
+        ensures added { OnOk result (rows_of self.new ≡ with_fresh_from_at number rate elem (rows_of self.old)) }
         ensures named { IfOk result (λ d. fresh_at (rows_of self.new) rate d.number ≡ d.number) }
         ensures refused { OnErr result (rows_of self.new ≡ rows_of self.old) }
     {
         match rate {
-            Rate::Uniform => self.scalars.fresh(elem),
-            Rate::Varying => self.vectors.fresh(elem),
+            Rate::Uniform => self.scalars.fresh_from(alloc, number, elem),
+            Rate::Varying => self.vectors.fresh_from(alloc, number, elem),
         }
     }
 }

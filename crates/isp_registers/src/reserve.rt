@@ -1,5 +1,5 @@
 //! The registers that code asks for, before it is written.
-ghost use Rattle.std.specs.Prelude.{◌≡◌, ◌<◌, ◌+◌, OnOk};
+ghost use Rattle.std.specs.Prelude.{◌≡◌, ◌<◌, ◌+◌, max, OnOk};
 ghost use Rattle.isp_base.specs.Ranks.{same_elem};
 ghost use Rattle.isp_base.specs.declared.types.Elem.TheVariants.{I64};
 ghost use Rattle.isp_base.specs.declared.types.Rate.TheVariants.{Uniform, Varying};
@@ -65,13 +65,15 @@ impl Reserve {
         }
     }
 
-    /// One more mask, and its number.
-    pub fn fresh_mask(&mut self) -> MaskNumber
-        requires { self.old.masks < 4294967295 }
-        ensures number { result.number ≡ self.old.masks }
-        ensures added { self.new ≡ record self.old { masks = self.old.masks + 1 } }
+    /// One more mask, and its number: this one at least.
+    pub fn fresh_mask_from(&mut self, number: usize) -> MaskNumber
+        requires { max self.old.masks number < 4294967295 }
+        ensures number { result.number ≡ max self.old.masks number }
+        ensures added { self.new ≡ record self.old { masks = max self.old.masks number + 1 } }
     {
-        let slot = Slot { number: self.masks };
+        let slot = Slot {
+            number: self.masks.max(number as u32),
+        };
         self.masks = slot.next().number;
         slot.mask()
     }

@@ -16,9 +16,9 @@ use Rattle.isp_typed.specs.declared.variable.Variable.{Variable}
 use Rattle.isp_lex.specs.Lexing.{limit}
 use Rattle.isp_lower_code.specs.Asks.{Ask, expr_asks, simple_asks, target_asks}
 use Rattle.isp_lower_code.specs.Code.{expr_code}
-use Rattle.isp_lower.specs.Adding.{Adds, AddsCode, expr_in, layout_in, simple_in}
+use Rattle.isp_lower.specs.Adding.{Adds, AddsCode, FewMore, expr_in, layout_in, simple_in}
 use Rattle.isp_lower_code.specs.Lines.{has_small_numbers}
-use Rattle.isp_lower.specs.Drafts.{CanBeWritten, Draft, IsBegun, draft_of, routine_at_work, with_instr, with_target}
+use Rattle.isp_lower.specs.Drafts.{CanBeWritten, Draft, IsBegun, draft_of, next_register, routine_at_work, with_instr, with_target}
 use Rattle.isp_lower_code.specs.FirstRows.{Begins, array_rows, first_rows}
 use Rattle.isp_registers.specs.Growth.{Grows}
 use Rattle.isp_lower_code.specs.Header.{AreSmall, HeadingFits, heading_of, locals_of, routine_with}
@@ -26,9 +26,9 @@ use Rattle.isp_lower_code.specs.Layout.{Layout}
 use Rattle.isp_lower_code.specs.Lines.{has_small_number}
 use Rattle.isp_lower_code.specs.Patched.{IsJump, instr_at, patched}
 use Rattle.isp_lower_code.specs.Rated.{IsFineExpr, IsFineSimple, IsRated, SimpleRated}
-use Rattle.isp_lower_code.specs.Room.{FewMore, HasNumbers, HasRoom, registers_asked}
+use Rattle.isp_lower_code.specs.Room.{HasNumbers, HasRoom, registers_asked}
 use Rattle.isp_lower_code.specs.Own.{HasOwn}
-use Rattle.isp_lower_code.specs.Rows.{Row, Rows, Variable as VariableName, elem_in, rows_at, with_fresh_at}
+use Rattle.isp_lower_code.specs.Rows.{Row, Rows, Variable as VariableName, elem_in, with_fresh_from_at}
 use Rattle.isp_lower_code.specs.Simple.{simple_code, simple_places}
 use Rattle.isp_lower_code.specs.Spans.{expr_places}
 use Rattle.isp_lower.specs.declared.types.Emitter.{Emitter}
@@ -51,13 +51,13 @@ written_in = (omega arith, omega arith)
 element_fine : (fs : List TFunction) (s : Span) → InText s → FinePlace fs variables (element s)
 element_fine fs s h = (record { variable = _; is = refl; ty = refl; constant = refl }, tt, refl, h)
 
-sum_is_fine : (fs : List TFunction) → FineExpr fs variables sum
+pub sum_is_fine : (fs : List TFunction) → FineExpr fs variables sum
 sum_is_fine fs =
     let operands : AreOperands (t_place (t_variable 1 (int Uniform) read)) (number 1) I32 Uniform = record { left = refl; right = refl; rate = refl } in
     let small : 1 ≤ greatest I32 = omega arith in
     (record { constant = _; is = refl }, small, operands, refl, read_in)
 
-assignment_is_fine : (fs : List TFunction) → FineSimple fs variables assignment
+pub assignment_is_fine : (fs : List TFunction) → FineSimple fs variables assignment
 assignment_is_fine fs =
     let one : 1 ≤ greatest I32 = omega arith in
     let two : 2 ≤ greatest I32 = omega arith in
@@ -92,8 +92,8 @@ pub second_small : AreSmall variables
 second_small = (omega arith, (tt, (tt, (tt, (tt, tt)))))
 
 -- a function that begins has room for a register
-pub begins_with_room : (h : TFunction) (vs : List Variable) → IsFunction vs h → length (first_rows vs None).scalars ≤ 10 → length (rows_at (first_rows h.variables h.answer) Uniform) < 4294967295
-begins_with_room h vs is few = rw (is.variables, is.answer) (omega (arith, few))
+pub begins_with_room : (h : TFunction) (vs : List Variable) (d : Draft) → IsFunction vs h → length (first_rows vs None).scalars ≤ 10 → d.rows ≡ first_rows h.variables h.answer → d.code ≡ [] → next_register Uniform d < 4294967296
+begins_with_room h vs d is few rows code = rw (rows, code, is.variables, is.answer) (omega (arith, few))
 
 -- few registers leave room for few more
 room : (d : Draft) (n : ℕ) (a : Ask) → HasFew n d → n + registers_asked a ≤ 100 → HasRoom d.rows a
@@ -207,9 +207,9 @@ record CanBeAdded (k : ℕ) (is : List Instr) (ps : List Span) : Type 0 where
   pub few_places : length ps ≤ k
 
 code_added : (f g : TFunction) (n k : ℕ) (a : Ask) (old new : Emitter) (u : ℕ → ℕ → List Instr) (ps : List Span) → HasCode f g n (draft_of old) → AddsCode old new u ps
-    → FewMore (draft_of old).rows (draft_of new).rows a → registers_asked a ≤ k → NoneKept (draft_of new).rows → CanBeAdded k (u (length (draft_of old).code) (length (draft_of old).places)) ps
+    → FewMore (draft_of old) (draft_of new) a → registers_asked a ≤ k → NoneKept (draft_of new).rows → CanBeAdded k (u (length (draft_of old).code) (length (draft_of old).places)) ps
     → HasCode f g (n + k) (draft_of new)
-code_added f g n k asked old new u ps c a rows less none can =
+code_added f g n k asked old new u ps c a more_of less none can =
     let more = u (length (draft_of old).code) (length (draft_of old).places) in
     record {
       program = c.program;
@@ -228,9 +228,9 @@ code_added f g n k asked old new u ps c a rows less none can =
           record {
             code = omega (arith, ap length a.appends.code, length-append (draft_of old).code more, c.few.code, can.few_code);
             places = omega (arith, ap length a.appends.places, length-append (draft_of old).places ps, c.few.places, can.few_places);
-            scalars = omega (arith, rows.scalars, c.few.scalars, less);
-            vectors = omega (arith, rows.vectors, c.few.vectors, less);
-            arrays = omega (arith, ap length rows.arrays, c.few.arrays);
+            scalars = omega (arith, more_of.rows.scalars, c.few.scalars, less);
+            vectors = omega (arith, more_of.rows.vectors, c.few.vectors, less);
+            arrays = omega (arith, ap length more_of.rows.arrays, c.few.arrays);
           };
     }
 
@@ -240,12 +240,15 @@ module _ (l : Layout) (pc p : ℕ) where
   unfolding number_to
   sum_constants e = rw e refl
 
+  pub sum_short : l.kept Uniform I32 1 ≡ false → length (expr_code l sum pc p 0 3) ≤ 10
+  sum_short e = rw e (omega arith)
+
   sum_can_be : l.kept Uniform I32 1 ≡ false → CanBeAdded 10 (expr_code l sum pc p 0 3) (expr_places l sum)
   sum_can_be e = record {
     constants = sum_constants e;
     numbers = rw e refl;
     places = expr_placed [] variables l sum (sum_is_fine []);
-    few_code = rw e (omega arith);
+    few_code = sum_short e;
     few_places = omega arith;
   }
 
@@ -257,12 +260,15 @@ module _ (l : Layout) (pc p : ℕ) where
     assignment_names : list_all has_small_number (simple_code l assignment pc p 0 3) ≡ (nat_lt (p + 0 + 0) (2 ^ 32) && (nat_lt (p + 0 + 1) (2 ^ 32) && true))
     assignment_names = rw (v1, v2, u1, u2) refl
 
+    pub assignment_short : length (simple_code l assignment pc p 0 3) ≤ 20
+    assignment_short = rw (v1, v2, u1, u2) (omega arith)
+
     assignment_can_be : p ≤ 20 → CanBeAdded 20 (simple_code l assignment pc p 0 3) (simple_places l assignment)
     assignment_can_be less = record {
       constants = assignment_constants;
       numbers = assignment_names ∙ and_from _ _ (lt-ltb (p + 0 + 0) (2 ^ 32) (omega (arith, less))) (and_from _ true (lt-ltb (p + 0 + 1) (2 ^ 32) (omega (arith, less))) refl);
       places = simple_placed [] variables l assignment (assignment_is_fine []);
-      few_code = rw (v1, v2, u1, u2) (omega arith);
+      few_code = assignment_short;
       few_places = omega arith;
     }
 
@@ -270,13 +276,13 @@ module _ (f g : TFunction) (n : ℕ) (old new : Emitter) (c : HasCode f g n (dra
   still_none : Grows old.reserved.registers new.reserved.registers → NoneKept (draft_of new).rows
   still_none r = (r.kept_scalars I32 1 ∙ c.kept.0, r.kept_scalars I32 2 ∙ c.kept.1, r.kept_vectors I32 1 ∙ c.kept.2, r.kept_vectors I32 2 ∙ c.kept.3)
 
-  pub sum_added : (x : TExpr) → x ≡ sum → Adds old new (expr_in new x site) → FewMore (draft_of old).rows (draft_of new).rows (expr_asks x 3) → HasCode f g (n + 10) (draft_of new)
+  pub sum_added : (x : TExpr) → x ≡ sum → Adds old new (expr_in new x site) → FewMore (draft_of old) (draft_of new) (expr_asks x 3) → HasCode f g (n + 10) (draft_of new)
   sum_added x e a more =
       let added : Adds old new (expr_in new sum site) = subst (λ z. Adds old new (expr_in new z site)) e a in
       let none = still_none a.rows in
       code_added f g n 10 (expr_asks x 3) old new _ _ c added more (rw e (omega arith)) none (sum_can_be (layout_in new) (length (draft_of old).code) (length (draft_of old).places) none.0)
 
-  pub assignment_added : n ≤ 20 → (s : TSimple) → s ≡ assignment → Adds old new (simple_in new s site) → FewMore (draft_of old).rows (draft_of new).rows (simple_asks s 3) → HasCode f g (n + 20) (draft_of new)
+  pub assignment_added : n ≤ 20 → (s : TSimple) → s ≡ assignment → Adds old new (simple_in new s site) → FewMore (draft_of old) (draft_of new) (simple_asks s 3) → HasCode f g (n + 20) (draft_of new)
   assignment_added less s e a more =
       let added : Adds old new (simple_in new assignment site) = subst (λ z. Adds old new (simple_in new z site)) e a in
       let none = still_none a.rows in
@@ -291,7 +297,7 @@ routine_fits h vs rows masks code is locals constants = rw (is.named, is.params,
 
 module _ (f g : TFunction) (n : ℕ) (d : Draft) (to : ℕ) (first : IsFunction (value ∷ []) f) (second : IsFunction variables g) (c : HasCode f g n d) (less : n ≤ 100) (near : to ≤ 100) where
   closed_fits : list_all parts_fit d.routines ≡ true
-  closed_fits = ap (list_all parts_fit) c.routines ∙ and_from _ true (routine_fits f (value ∷ []) (with_fresh_at Uniform I64 (first_rows f.variables f.answer)) 3 (instr.Return None ∷ []) first refl refl) refl
+  closed_fits = ap (list_all parts_fit) c.routines ∙ and_from _ true (routine_fits f (value ∷ []) (with_fresh_from_at 0 Uniform I64 (first_rows f.variables f.answer)) 3 (instr.Return None ∷ []) first refl refl) refl
 
   last_fits : list_all parts_fit (routine_at_work (Some (heading_of g)) d.rows d.masks (patched (instr.Jump 0 ∷ c.rest) 0 to)) ≡ true
   last_fits = and_from _ true (routine_fits g variables d.rows d.masks (instr.Jump to ∷ c.rest) second refl c.constants) refl

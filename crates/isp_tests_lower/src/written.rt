@@ -1,12 +1,11 @@
 //! Two functions are written call by call. Each number is as worked out beforehand, and so is the text of the code, by hand
 //! from the tables of docs/LOWERING.md. A call that is refused memory is made once more.
-ghost use Rattle.std.specs.Prelude.{◌≡◌, ◌<◌, length, None, OnErr, OnOk};
+ghost use Rattle.std.specs.Prelude.{◌≡◌, ◌<◌, None, OnErr, OnOk};
 ghost use Rattle.isp_base.specs.declared.types.Elem.TheVariants.{I64};
 ghost use Rattle.isp_base.specs.declared.types.Rate.TheVariants.{Uniform};
 ghost use Rattle.isp_code.specs.declared.instr.Instr.TheVariants as instr;
-ghost use Rattle.isp_lower.specs.Drafts.{IsBegun, begun, draft_of, with_instr, with_place, with_register, with_text};
+ghost use Rattle.isp_lower.specs.Drafts.{IsBegun, begun, draft_of, next_register, with_instr, with_place, with_register, with_text};
 ghost use Rattle.isp_lower_code.specs.Header.{HeadingFits};
-ghost use Rattle.isp_lower_code.specs.Rows.{rows_at};
 ghost use Rattle.isp_typed.specs.Views.{expr_of, function_of, simple_of};
 ghost use Rattle.isp_tests_lower.specs.Stages.{HasCode, HasFirst, HasJump, IsNew, hi, place};
 ghost use Rattle.isp_tests_lower.specs.Trees.{AreTrees};
@@ -146,7 +145,7 @@ fn add_return(e: &mut Emitter, trial: &mut Trial, hoard: &mut Hoard) -> Result<u
 // The function has four scalar registers, so a fifth asks for memory.
 fn add_register(e: &mut Emitter, trial: &mut Trial, hoard: &mut Hoard) -> Result<usize, AllocError>
     requires begun { IsBegun (draft_of e.old) }
-    requires few { length (rows_at (draft_of e.old).rows Uniform) < 4294967295 }
+    requires few { next_register Uniform (draft_of e.old) < 4294967296 }
     ensures { OnOk result (draft_of e.new ≡ with_register Uniform I64 (draft_of e.old)) }
 {
     trial.opens(Call::Fresh, hoard)?;

@@ -21,7 +21,7 @@ returns c =
     let asked = c.in_ok-reserve.ensures in
     let keep = c.in_ok-keep.ensures in
     adds h ks (draft_of c.args.e.now) (draft_of e) e.reserved r e.body c.body.new.b c.in_ok-begin.ensures.begun refl refl refl refl refl
-    (longer_then e.reserved.registers m.registers r.registers (longer_grown e.reserved.registers m.registers asked.rows) keep.rows) asked.masks
+    (longer_then e.reserved.registers m.registers r.registers (longer_grown e.reserved.registers m.registers asked.rows) keep.rows) asked.masks asked.masks_are
     (keeps_them _ h.variables h.answer e.reserved.registers m.registers r.registers ks (ap (λ (d : Draft). d.rows) c.in_ok-begin.ensures.begun)
     asked.rows keep (subst (λ zs. keep_steps zs ≤ 24) (sym c.as_slice-kept.ensures.value) c.in_ok-found.ensures))
     (longer_has m r keep.rows (omega arith) (Both (constants_asks 3 ks) (block_asks h.answer h.body 3)) asked.body)
@@ -63,6 +63,5 @@ invariant_of-on c =
     let keep = c.in_ok-keep.ensures in
     let few = few_registers (function_of c.args.f.now) ks c.begin.new.self.reserved.registers c.reserve.new.asked.registers c.keep.new.registers c.requires.small
     (subst (λ zs. keep_steps zs ≤ 24) (sym c.as_slice-kept.ensures.value) c.in_ok-found.ensures)
-    (ap (λ (d : Draft). d.rows) c.in_ok-begin.ensures.begun) c.in_ok-reserve.ensures.few
-    (record { scalars = keep.few_scalars; vectors = keep.few_vectors; arrays = keep.same_arrays }) in
+    (ap (λ (d : Draft). d.rows) c.in_ok-begin.ensures.begun) c.in_ok-reserve.ensures.few keep.few in
     record { few_scalars = few.scalars; few_vectors = few.vectors; few_arrays = few.arrays }

@@ -41,8 +41,12 @@ returns-clause-few c =
     on_ok_weaker c.block.result
     (λ g.
     let both = both_given c.args.asked.now c.reserved.new.r c.block.new.r _ _ c.in_ok-reserved.ensures g in
-    record { scalars = both.few_scalars; vectors = both.few_vectors; arrays = both.same_arrays })
+    both.few)
     c.block.ensures
+
+pub returns-clause-masks_are : goal.returns-clause-masks_are
+returns-clause-masks_are c =
+    on_ok_weaker c.block.result (λ g. (both_given c.args.asked.now c.reserved.new.r c.block.new.r _ _ c.in_ok-reserved.ensures g).masks_are) c.block.ensures
 
 pub reserved-requires : goal.reserved-requires
 reserved-requires c = constants_numbers 3 c.args.kept.now (omega arith)

@@ -1,11 +1,10 @@
 -- The calls one after the other.
-use Rattle.std.proofs.Common.{◌∙◌, ◌∷◌, ◌<◌, [], None, ap, arith, is_some, length, subst, sym}
+use Rattle.std.proofs.Common.{◌∙◌, ◌∷◌, [], None, ap, arith, is_some}
 use Rattle.isp_base.specs.declared.types.Elem.TheVariants.{I64}
 use Rattle.isp_base.specs.declared.types.Rate.TheVariants.{Uniform}
 use Rattle.isp_code.specs.declared.instr.Instr.TheVariants as instr
 use Rattle.isp_typed.specs.Views.{function_of}
-use Rattle.isp_lower.specs.Drafts.{Draft, begun, with_instr, with_place, with_register, with_text}
-use Rattle.isp_lower_code.specs.Rows.{rows_at}
+use Rattle.isp_lower.specs.Drafts.{Draft, begun, draft_of, with_instr, with_place, with_register, with_text}
 use Rattle.isp_tests_lower.specs.Stages.{hi, place}
 use Rattle.isp_tests_lower.specs.Trees.{value}
 use Rattle.isp_tests_lower.proofs.Drafted.{begins_with_room, first_small, heading_fits}
@@ -19,7 +18,7 @@ fresh-requires c =
     let texted = c.in_ok-text.ensures ∙ ap (with_text hi) (c.in_ok-place.ensures ∙ ap (with_place place) c.in_ok-begin.ensures) in
     record {
       begun = ap (λ (d : Draft). is_some d.heading) texted;
-      few = subst (λ (d : Draft). length (rows_at d.rows Uniform) < 4294967295) (sym texted) (begins_with_room _ (value ∷ []) c.requires.trees.first (omega arith));
+      few = begins_with_room _ (value ∷ []) (draft_of c.add_text.new.e) c.requires.trees.first (omega arith) (ap (λ (d : Draft). d.rows) texted) (ap (λ (d : Draft). d.code) texted);
     }
 
 pub add_return-requires : goal.add_return-requires

@@ -1,10 +1,9 @@
 -- The calls one after the other.
-use Rattle.std.proofs.Common.{◌∙◌, ◌<◌, ap, ap₂, arith, is_some, length, subst, sym}
+use Rattle.std.proofs.Common.{◌∙◌, ap, ap₂, arith, is_some}
 use Rattle.isp_base.specs.declared.types.Elem.TheVariants.{I64}
 use Rattle.isp_base.specs.declared.types.Rate.TheVariants.{Uniform}
 use Rattle.isp_typed.specs.Views.{function_of}
-use Rattle.isp_lower.specs.Drafts.{Draft, begun, with_instr, with_register}
-use Rattle.isp_lower_code.specs.Rows.{rows_at}
+use Rattle.isp_lower.specs.Drafts.{Draft, begun, draft_of, with_instr, with_register}
 use Rattle.isp_tests_lower.specs.Trees.{variables}
 use Rattle.isp_tests_lower.proofs.Drafted.{begins_with_room, heading_fits, second_small}
 use Rattle.isp_tests_lower.proofs.written.write_jump.Goals as goal
@@ -15,7 +14,7 @@ begin-requires c = heading_fits _ variables c.requires.trees.second second_small
 pub add_register-requires : goal.add_register-requires
 add_register-requires c = record {
   begun = ap (λ (d : Draft). is_some d.heading) c.in_ok-begin.ensures;
-  few = subst (λ (d : Draft). length (rows_at d.rows Uniform) < 4294967295) (sym c.in_ok-begin.ensures) (begins_with_room _ variables c.requires.trees.second (omega arith));
+  few = begins_with_room _ variables (draft_of c.begin.new.e) c.requires.trees.second (omega arith) (ap (λ (d : Draft). d.rows) c.in_ok-begin.ensures) (ap (λ (d : Draft). d.code) c.in_ok-begin.ensures);
 }
 
 pub emit-requires : goal.emit-requires

@@ -1,9 +1,9 @@
-use Rattle.std.proofs.Common.{◌≤◌, ◌<◌, ℕ, map, ap, subst, arith, Vec, Global}
+use Rattle.std.proofs.Common.{◌≡◌, ◌≤◌, ◌<◌, ℕ, map, ap, subst, arith, Vec, Global}
 use Rattle.isp_typed.specs.Views.{simple_of}
 use Rattle.isp_lower_code.specs.Asks.{simple_asks}
 use Rattle.isp_lower.specs.Drafts.{draft_of}
 use Rattle.isp_registers.specs.Growth.{Grows, rows_of}
-use Rattle.isp_lower_code.specs.Room.{FewMore}
+use Rattle.isp_lower_code.specs.Room.{GrowsBy, masks_with, registers_asked}
 use Rattle.isp_registers.specs.declared.reserve.Reserve.{Reserve}
 use Rattle.isp_lower.proofs.Aparts.{all_named, apart_appends, apart_long}
 use Rattle.isp_registers.proofs.Lemmas.{all_joined}
@@ -67,5 +67,8 @@ pub returns-clause-few : goal.returns-clause-few
 returns-clause-few c =
     let asked = c.simple.new.self in
     let gives = c.in_ok-simple.ensures in
-    subst (λ (r : Reserve). FewMore (rows_of r.registers) (rows_of asked.registers) (simple_asks (simple_of c.args.x.now) c.args.site.slot.number)) c.in_ok-asked.ensures
-    (record { scalars = gives.few_scalars; vectors = gives.few_vectors; arrays = gives.same_arrays })
+    let asks = simple_asks (simple_of c.args.x.now) c.args.site.slot.number in
+    record {
+      rows = subst (λ (r : Reserve). GrowsBy (registers_asked asks) (rows_of r.registers) (rows_of asked.registers)) c.in_ok-asked.ensures gives.few;
+      masks = subst (λ (r : Reserve). asked.masks ≡ masks_with r.masks asks) c.in_ok-asked.ensures gives.masks_are;
+    }

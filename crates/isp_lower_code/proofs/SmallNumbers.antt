@@ -17,10 +17,10 @@ use Rattle.isp_code.specs.declared.register.Register.{Register}
 use Rattle.isp_lower_code.specs.Lines.{has_small_number, named_by_scalar, named_by_vector}
 use Rattle.isp_lower_code.specs.Sound.{AreSound, IsSound}
 
-below : (n m : ℕ) → n < m → m ≤ 4294967295 → nat_lt n (2 ^ 32) ≡ true
+below : (n m : ℕ) → n < m → m ≤ 4294967296 → nat_lt n (2 ^ 32) ≡ true
 below n m lt le = lt-ltb n (2 ^ 32) (omega (arith, lt, le))
 
-module _ (code : Listing) (h : Routine) (places : length code.places ≤ 4294967295) (texts : length code.texts ≤ 4294967295) (long : length h.code ≤ 4294967295) where
+module _ (code : Listing) (h : Routine) (places : length code.places ≤ 4294967296) (texts : length code.texts ≤ 4294967296) (long : length h.code ≤ 4294967296) where
   place_small : (p : ℕ) → p < length code.places → nat_lt p (2 ^ 32) ≡ true
   place_small p lt = below p (length code.places) lt places
 

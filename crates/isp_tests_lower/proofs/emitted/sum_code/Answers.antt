@@ -1,0 +1,68 @@
+-- Each call has what it asks, and the finished code does what the tree means.
+use Rattle.std.proofs.Common.{◌≡◌, ◌∙◌, ap, arith, is_some, subst, sym}
+use Rattle.std.proofs.lemmas.Result.{IfOk-weaker}
+use Rattle.isp_lower.specs.Adding.{Adds, expr_in}
+use Rattle.isp_lower.specs.Drafts.{Draft, begun, draft_of, finished, with_instr}
+use Rattle.isp_lower_code.specs.Asks.{expr_asks}
+use Rattle.isp_lower_code.specs.Own.{HasOwn}
+use Rattle.isp_lower_code.specs.Room.{HasNumbers, HasRoom}
+use Rattle.isp_registers.specs.Reserved.{Has}
+use Rattle.isp_typed.specs.Views.{function_of, program_of}
+use Rattle.isp_tests_lower.specs.Runs.{SumRuns}
+use Rattle.isp_tests_lower.specs.Trees.{sum, site, variables}
+use Rattle.isp_tests_lower.proofs.Called.{can_be_written, sum_numbers, sum_own, sum_room, sum_runs, sum_written}
+use Rattle.isp_tests_lower.proofs.Drafted.{sum_fine, sum_rated, heading_fits, second_small}
+use Rattle.isp_tests_lower.proofs.emitted.sum_code.Goals as goal
+
+pub begin-requires : goal.begin-requires
+begin-requires c = heading_fits (function_of c.args.f.now) variables c.requires.function second_small
+
+pub expr-requires : goal.expr-requires
+expr-requires c =
+    let p = program_of c.args.checked.now in
+    let f = function_of c.args.f.now in
+    let d = draft_of c.begin.new.self in
+    let first = c.in_ok-begin.ensures.begun ∙ ap (begun f) c.new-e.ensures in
+    let is = c.requires.tree in
+    record {
+      begun = ap (λ (d : Draft). is_some d.heading) first;
+      fine = sum_fine _ _ is;
+      rated = sum_rated _ _ is;
+      own = subst (λ x. HasOwn d.rows (expr_asks x 3)) (sym is) (sum_own p f c.requires.function d first c.own_is_there.ensures);
+      mask = omega (arith, ap (λ (d : Draft). d.masks) first);
+      numbers = subst (λ x. HasNumbers (expr_asks x 3)) (sym is) (sum_numbers c.asks_are_few.ensures);
+      room = subst (λ x. HasRoom d.rows (expr_asks x 3)) (sym is) (sum_room p f c.requires.function d first c.asks_are_few.ensures);
+    }
+
+pub finish-requires : goal.finish-requires
+finish-requires c =
+    let p = program_of c.args.checked.now in
+    let f = function_of c.args.f.now in
+    let e1 = c.begin.new.self in
+    let e2 = c.expr.new.self in
+    let e3 = c.fresh.new.self in
+    let e4 = c.emit.new.self in
+    let first = c.in_ok-begin.ensures.begun ∙ ap (begun f) c.new-e.ensures in
+    let is = c.requires.tree in
+    let adds : Adds e1 e2 (expr_in e2 sum site) = subst (λ x. Adds e1 e2 (expr_in e2 x site)) is c.in_ok-expr.ensures.code in
+    let has : Has e2.reserved (expr_asks sum 3) = subst (λ x. Has e2.reserved (expr_asks x 3)) is c.in_ok-expr.ensures.has in
+    let back = c.in_ok-emit.ensures.added ∙ ap (λ i. with_instr i (draft_of e3)) c.new.ensures in
+    can_be_written p f c.requires.function e1 e2 e3 e4 (expr_in e2 sum site) first adds c.in_ok-fresh.ensures.added back
+    (sum_written p f c.requires.function e1 e2 first c.code_is_written.ensures adds has) (omega arith)
+
+pub returns : goal.returns
+returns c =
+    let p = program_of c.args.checked.now in
+    let f = function_of c.args.f.now in
+    let e1 = c.begin.new.self in
+    let e2 = c.expr.new.self in
+    let e3 = c.fresh.new.self in
+    let e4 = c.emit.new.self in
+    let first = c.in_ok-begin.ensures.begun ∙ ap (begun f) c.new-e.ensures in
+    let is = c.requires.tree in
+    let adds : Adds e1 e2 (expr_in e2 sum site) = subst (λ x. Adds e1 e2 (expr_in e2 x site)) is c.in_ok-expr.ensures.code in
+    let has : Has e2.reserved (expr_asks sum 3) = subst (λ x. Has e2.reserved (expr_asks x 3)) is c.in_ok-expr.ensures.has in
+    let back = c.in_ok-emit.ensures.added ∙ ap (λ i. with_instr i (draft_of e3)) c.new.ensures in
+    let runs : SumRuns p f (finished (draft_of e4)) =
+    sum_runs p f c.requires.function e1 e2 e3 e4 first c.in_ok-fresh.ensures.added back c.registers_grow.ensures c.parts_stay.ensures.instructions c.finished_is_written.ensures c.written_runs.ensures adds has in
+    IfOk-weaker c.finish.result (λ code. code ≡ finished (draft_of e4)) (SumRuns p f) (λ code is. subst (SumRuns p f) (sym is) runs) c.finish.ensures
