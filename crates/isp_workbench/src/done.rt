@@ -3,9 +3,9 @@ ghost use Rattle.std.specs.Prelude.{◌≡◌, false, string_bytes, Some, IfOk, 
 ghost use Rattle.isp_engine.specs.Commands.{Ran, end_of_ending};
 ghost use Rattle.isp_workbench.specs.Texts.{ChecksText, GivesNone, JudgedText, RunsTexts};
 
-use crate::page::Source;
 use isp_base::Gang;
 use isp_engine::{Ending, Failure, Image, Sink, compile, front, run_to, write_text};
+use isp_messages::Source;
 use isp_verdicts::verdicts;
 use std::alloc::Global;
 

@@ -7,11 +7,11 @@ ghost use Rattle.isp_workbench.specs.Texts.{ChecksText, RunsTexts};
 
 use crate::done::{Job, check, run};
 use crate::output::show;
-use crate::page::Source;
 use crate::story::{Asked, Given, entry_story, notes, plain_fault, source_story, trap_story};
 use crate::texts::read_both;
 use isp_command_line::RunRequest;
 use isp_engine::{Failure, Sink, SourceFiles, read_file, tell_line};
+use isp_messages::Source;
 use isp_remedies::advice_on;
 use ispx_command_line::{Call, ExplainRequest};
 use std::alloc::{AllocError, Global};

@@ -3,15 +3,13 @@ ghost use Rattle.std.specs.Prelude.{find};
 ghost use Rattle.std.specs.Option.{IsSome};
 ghost use Rattle.isp_rates.specs.Exports.{is_entry};
 
-use crate::bindings::push_arguments;
-use crate::page::{Source, push_place};
 use isp_base::{Gang, Trap};
 use isp_bind::BindFault;
 use isp_engine::{Failure, RunFault, front};
 use isp_independence::Dependence;
 use isp_lex::{Fault, SourceFault};
+use isp_messages::{Source, push_advice, push_arguments, push_place, source_message, trap_message};
 use isp_rates::Checked;
-use isp_remedies::{Spot, advice_on};
 use std::alloc::{AllocError, Global};
 use std::fmt::Write;
 
@@ -46,12 +44,7 @@ pub(crate) fn source_story(
     asked: &Asked<'_, '_>,
     fault: Fault,
 ) -> Result<String, AllocError> {
-    let what = format!(in alloc; "{}", fault.rule)?;
-    let spot = Spot::new(alloc, asked.source.text, fault.span)?;
-    let mut page = String::new(alloc);
-    push_place(&mut page, asked.source, fault.span, what.as_str())?;
-    push_advice(&mut page, what.as_str(), spot.as_ref())?;
-    Ok(page)
+    source_message(alloc, asked.source, fault)?.text(alloc)
 }
 
 /// Where a run trapped, for which instance, and what to write instead.
@@ -60,12 +53,7 @@ pub(crate) fn trap_story(
     asked: &Asked<'_, '_>,
     trap: Trap,
 ) -> Result<String, AllocError> {
-    let fault = format!(in alloc; "trap {}", trap.kind)?;
-    let what = format!(in alloc; "{fault}, instance {}", trap.instance)?;
-    let mut page = String::new(alloc);
-    push_place(&mut page, asked.source, trap.place, what.as_str())?;
-    push_advice(&mut page, fault.as_str(), None)?;
-    Ok(page)
+    trap_message(alloc, asked.source, trap)?.text(alloc)
 }
 
 /// Why an entry was not run: what is exported, or which of its arguments is refused.
@@ -89,17 +77,6 @@ pub(crate) fn plain_fault(failure: &Failure<'_>) -> &'static str {
         Failure::Memory => "memory",
         _ => "",
     }
-}
-
-// The sentence and the remedy of a fault, by what stands at its place.
-fn push_advice(page: &mut String, fault: &str, spot: Option<&Spot<'_>>) -> Result<(), AllocError> {
-    let Some(advice) = advice_on(fault) else {
-        return Ok(());
-    };
-    page.push_str(advice.sentence)?;
-    page.push_str("\nFix: ")?;
-    page.push_str(advice.remedy(spot))?;
-    page.push_str("\n")
 }
 
 // The program of the source, where it is one.
