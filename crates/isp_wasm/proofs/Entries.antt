@@ -1,5 +1,5 @@
 -- The call of an exported function: what is set before its code, and what its outcomes are.
-use Rattle.std.proofs.Common.{◌≡◌, ℕ, zero, suc, ◌+◌, ◌-◌, ◌*◌, ◌%◌, ◌^◌, ◌<◌, ◌≤◌, ◌≢◌, ◌⊎◌, inl, inr, List, [], ◌∷◌, length, Option, Some, Bool, true, false, refl, sym, ap, ◌∙◌, subst, arith, lit≤}
+use Rattle.std.proofs.Common.{◌≡◌, ℕ, zero, suc, ◌+◌, ◌-◌, ◌*◌, ◌%◌, ◌^◌, ◌<◌, ◌≤◌, ◌≢◌, ◌⊎◌, inl, inr, List, [], ◌∷◌, length, Option, Some, None, Bool, true, false, refl, sym, ap, ◌∙◌, subst, arith, lit≤}
 use Rattle.std.specs.Prelude.{if◌then◌else◌, slice_index}
 use Rattle.std.proofs.lemmas.Bool.{cases_eq, cases_lt, lt-ltb, ltb-true, le-ltb}
 use Rattle.std.proofs.lemmas.Nat.{pow_pos}
@@ -20,12 +20,13 @@ use Rattle.isp_code.specs.Conf as machine
 use Rattle.isp_code.specs.Conf.{Conf}
 use Rattle.isp_code.specs.Machine.{after, outcome}
 use Rattle.isp_wasm_meaning.specs.Digits.{digit}
-use Rattle.isp_wasm_meaning.specs.Syntax.{I8x16, Code, Set, Const128}
+use Rattle.isp_wasm_meaning.specs.Syntax.{I8x16, Code, Skip, Then, Set, Const128, GetGlobal}
 use Rattle.isp_wasm_meaning.specs.Meaning.{State, Result, Fell, Returned, Trapped, run, left, called, then_to, set_local, lane, flags}
 use Rattle.isp_wasm.specs.Places as place
 use Rattle.isp_wasm.specs.Places.{Setting, Place, Counter, gang, parts}
 use Rattle.isp_wasm.specs.Rows.{cell}
 use Rattle.isp_wasm.specs.Templates.{each, mask_part, function_code}
+use Rattle.isp_wasm.specs.Stack.{start, top, uses_stack, waiting_bytes}
 use Rattle.isp_wasm.specs.Standing.{Stands, Keeps, IsSettled, report_of}
 use Rattle.isp_wasm.specs.Thin.{IsCovered, AllThin}
 use Rattle.isp_wasm.specs.Agreement.{Agrees, CallsAgree, out_of, value_bits}
@@ -116,65 +117,105 @@ module _ (w : Setting) (ready : IsSettled w) where
           elsewhere w ready (place.Mask 0 n) (place.Mask 0 j) (mask_part (everyone (gang w)) n % 2 ^ 128) (all_on n s) (λ e. ne cc)
           ∙ before (let other : j ≢ n = ne in omega arith)
 
+  -- ---- where the next array lies
+
+  opened_if : Bool → State → State
+  opened_if true s = set_local (w.local place.Top) (s.globals 17) s
+  opened_if false s = s
+
+  opened : State → State
+  opened s = opened_if (uses_stack w.routine) s
+
+  runs_opened : (fuel : ℕ) (call : ℕ → List ℕ → State → Result) (b : Bool) (s : State) → run fuel call (if b then GetGlobal (w.local place.Top) 17 else Skip) s ≡ Fell (opened_if b s)
+  unfolding opened_if
+  runs_opened fuel call true s = refl
+  runs_opened fuel call false s = refl
+
+  opened_rest : (b : Bool) (s : State) → ((opened_if b s).memory ≡ s.memory) × ((opened_if b s).size ≡ s.size) × ((opened_if b s).out ≡ s.out)
+  unfolding opened_if
+  opened_rest true s = (refl, refl, refl)
+  opened_rest false s = (refl, refl, refl)
+
+  opened_other : (b : Bool) (s : State) (p : Place) → (p ≡ place.Top → ⊥) → (opened_if b s).locals (w.local p) ≡ s.locals (w.local p)
+  unfolding opened_if
+  opened_other true s p ne = elsewhere w ready place.Top p (s.globals 17) s ne
+  opened_other false s p ne = refl
+
+  opened_top : (b : Bool) (s : State) → s.locals (w.local place.Top) ≡ 0 → (opened_if b s).locals (w.local place.Top) ≡ start (if b then Some (s.globals 17) else None)
+  unfolding opened_if
+  opened_top true s none = there w ready place.Top (s.globals 17) s
+  opened_top false s none = none
+
   -- ---- the first state
 
   module _ (xs : List Argument) (arguments : List ℕ) (s : State) (call_is : IsCalled w xs arguments s) where
+    passed : State
+    passed = record s { locals = slice_index arguments }
+
     entered : State
-    entered = record s { locals = slice_index arguments }
+    entered = opened passed
 
     begun : State
     begun = all_on (parts w I8x16) entered
 
     mask_lanes : (r j k : ℕ) → k < 16 → (r ≡ 0) ⊎ (r ≡ 0 → ⊥) → (j < parts w I8x16) ⊎ (parts w I8x16 ≤ j)
         → lane I8x16 k (begun.locals (w.local (place.Mask r j))) ≡ flags 8 (put (λ k. nobody) 0 (everyone (gang w)) r (j * 16 + k))
-    unfolding begun entered
+    unfolding begun entered opened passed
     mask_lanes r j k l (inl e) (inl lt) =
         subst (λ r. lane I8x16 k (begun.locals (w.local (place.Mask r j))) ≡ flags 8 (put (λ k. nobody) 0 (everyone (gang w)) r (j * 16 + k))) (sym e)
         (ap (lane I8x16 k) (on_set (parts w I8x16) j entered lt) ∙ row_constant (j * 16 + 16) I8x16 (λ x. x) (λ p. flags 8 (everyone (gang w) p)) (λ p q. byte_below (everyone (gang w) p)) j k l (omega arith))
     mask_lanes r j k l (inl e) (inr le) =
         subst (λ r. lane I8x16 k (begun.locals (w.local (place.Mask r j))) ≡ flags 8 (put (λ k. nobody) 0 (everyone (gang w)) r (j * 16 + k))) (sym e)
-        (ap (lane I8x16 k) (on_other (parts w I8x16) entered (place.Mask 0 j) (λ i l e. let same : j ≡ i = cc in omega arith) ∙ call_is.masks_are 0 j) ∙ digit_zero 256 k (lit≤ tt)
+        (ap (lane I8x16 k) (on_other (parts w I8x16) entered (place.Mask 0 j) (λ i l e. let same : j ≡ i = cc in omega arith) ∙ opened_other (uses_stack w.routine) passed (place.Mask 0 j) (λ e. cc) ∙ call_is.masks_are 0 j) ∙ digit_zero 256 k (lit≤ tt)
         ∙ ap (flags 8) (sym (le-ltb (j * 16 + k) (gang w) (past (cases_lt (j * 16 + k) (gang w))))))
       where
         past : (j * 16 + k < gang w) ⊎ (gang w ≤ j * 16 + k) → gang w ≤ j * 16 + k
         past (inl lt) = absurd (let some = enough w I8x16 j k lt in omega arith)
         past (inr ge) = ge
     mask_lanes r j k l (inr ne) h =
-        ap (lane I8x16 k) (on_other (parts w I8x16) entered (place.Mask r j) (λ i l e. ne cc) ∙ call_is.masks_are r j) ∙ digit_zero 256 k (lit≤ tt)
+        ap (lane I8x16 k) (on_other (parts w I8x16) entered (place.Mask r j) (λ i l e. ne cc) ∙ opened_other (uses_stack w.routine) passed (place.Mask r j) (λ e. cc) ∙ call_is.masks_are r j) ∙ digit_zero 256 k (lit≤ tt)
         ∙ ap (λ f. flags 8 (f (j * 16 + k))) (sym (put_other (λ k. nobody) 0 (everyone (gang w)) r ne))
 
     member_low : (r p : ℕ) → (r ≡ 0) ⊎ (r ≡ 0 → ⊥) → put (λ k. nobody) 0 (everyone (gang w)) r p ≡ true → p < gang w
     member_low r p (inl e) h = ltb-true p (gang w) (sym (ap (λ f. f p) (put_same (λ k. nobody) 0 (everyone (gang w)) r e)) ∙ h)
     member_low r p (inr ne) h = absurd (let impossible : false ≡ true = sym (ap (λ f. f p) (put_other (λ k. nobody) 0 (everyone (gang w)) r ne)) ∙ h in cc)
 
-    same_as_called : (p : Place) → ((j : ℕ) → p ≡ place.Mask 0 j → ⊥) → begun.locals (w.local p) ≡ slice_index arguments (w.local p)
-    unfolding begun entered
-    same_as_called p out = on_other (parts w I8x16) entered p (λ j l. out j)
+    same_as_called : (p : Place) → ((j : ℕ) → p ≡ place.Mask 0 j → ⊥) → (p ≡ place.Top → ⊥) → begun.locals (w.local p) ≡ slice_index arguments (w.local p)
+    unfolding begun entered opened passed
+    same_as_called p out ne = on_other (parts w I8x16) entered p (λ j l. out j) ∙ opened_other (uses_stack w.routine) passed p ne
+
+    at_top : start (if uses_stack w.routine then Some (s.globals 17) else None) ≡ top w
+    at_top =
+        let none = call_is.none_opened in
+        let here = ap start call_is.stack_is in
+        let alone = ap (waiting_bytes w.code) call_is.alone in omega (arith, none, here, alone)
 
     stands : Stands w 0 (first w xs) begun
-    unfolding begun entered
+    unfolding begun entered opened passed
     stands =
         record {
           home_is = call_is.home_is;
           waiting_is = sym call_is.alone;
           pc_is = refl;
-          out_is = (on_rest (parts w I8x16) entered).2 ∙ call_is.silent;
+          out_is = (on_rest (parts w I8x16) entered).2 ∙ (opened_rest (uses_stack w.routine) passed).2 ∙ call_is.silent;
           holds =
               record {
-                scalars_are = λ r. same_as_called (place.Scalar r) (λ j e. cc) ∙ call_is.scalars_are r;
-                vectors_are = λ r j k l q. ap (lane _ k) (same_as_called (place.Vector r j) (λ j e. cc) ∙ call_is.vectors_are r j) ∙ digit_zero _ k (pow_pos _) ∙ no_cell _;
+                scalars_are = λ r. same_as_called (place.Scalar r) (λ j e. cc) (λ e. cc) ∙ call_is.scalars_are r;
+                vectors_are = λ r j k l q. ap (lane _ k) (same_as_called (place.Vector r j) (λ j e. cc) (λ e. cc) ∙ call_is.vectors_are r j) ∙ digit_zero _ k (pow_pos _) ∙ no_cell _;
                 masks_are = λ r j k l. mask_lanes r j k l (cases_eq r 0) (cases_lt j (parts w I8x16));
                 fits = call_is.fits;
                 members = λ r p h. member_low r p (cases_eq r 0) h;
-                bases = λ a. same_as_called (place.Base a) (λ j e. cc) ∙ call_is.bases a;
-                counts = λ a. same_as_called (place.Count a) (λ j e. cc) ∙ call_is.counts a;
-                depth = same_as_called place.Depth (λ j e. cc) ∙ call_is.depth_is ∙ sym (ap length call_is.alone);
+                bases = λ a. same_as_called (place.Base a) (λ j e. cc) (λ e. cc) ∙ call_is.bases a;
+                counts = λ a. same_as_called (place.Count a) (λ j e. cc) (λ e. cc) ∙ call_is.counts a;
+                depth = same_as_called place.Depth (λ j e. cc) (λ e. cc) ∙ call_is.depth_is ∙ sym (ap length call_is.alone);
+                top_is = on_other (parts w I8x16) entered place.Top (λ j l e. cc) ∙ opened_top (uses_stack w.routine) passed call_is.top_zero ∙ at_top;
               };
-          keeps = subst (λ m. Keeps w (first w xs).arrays m begun.size) (sym (on_rest (parts w I8x16) entered).0) (subst (λ z. Keeps w (first w xs).arrays s.memory z) (sym (on_rest (parts w I8x16) entered).1) call_is.keeps);
+          keeps = subst (λ m. Keeps w (first w xs).arrays m begun.size) (sym ((on_rest (parts w I8x16) entered).0 ∙ (opened_rest (uses_stack w.routine) passed).0))
+              (subst (λ z. Keeps w (first w xs).arrays s.memory z) (sym ((on_rest (parts w I8x16) entered).1 ∙ (opened_rest (uses_stack w.routine) passed).1)) call_is.keeps);
         }
 
     counter_at : begun.locals (w.local Counter) ≡ 0
-    counter_at = same_as_called Counter (λ j e. cc) ∙ call_is.counter_is
+    counter_at = same_as_called Counter (λ j e. cc) (λ e. cc) ∙ call_is.counter_is
 
     -- ---- its outcomes
 
@@ -190,9 +231,10 @@ module _ (w : Setting) (ready : IsSettled w) where
           (subst (λ z. Stands w z (first w xs) begun) (sym (ap w.heads counter_at ∙ call_is.head_is)) stands)
 
       result_is : (n : ℕ) → called module_code (suc n) f arguments s ≡ left (run (suc n) (calls_of (suc n)) (function_code w) begun)
-      unfolding begun entered calls_of
+      unfolding begun entered opened passed calls_of
       result_is n =
-          ap (λ z. left (run (suc n) (called module_code n) z entered)) code_is
+          ap (λ z. left (run (suc n) (called module_code n) z passed)) code_is
+          ∙ ap (λ r. left (then_to r (run (suc n) (called module_code n) (Then (each (parts w I8x16) (λ j. Set (w.local (place.Mask 0 j)) (Const128 (mask_part (everyone (gang w)) j)))) (function_code w))))) (runs_opened (suc n) (called module_code n) (uses_stack w.routine) passed)
           ∙ ap (λ r. left (then_to r (run (suc n) (called module_code n) (function_code w)))) (runs_on (suc n) (called module_code n) (parts w I8x16) entered)
 
       sizes_are : (b e : ℕ) → e < length (row_bits (rows xs) b) → e < w.home.sizes b

@@ -37,7 +37,8 @@ use Rattle.isp_wasm.specs.Places as place
 use Rattle.isp_wasm.specs.Places.{Setting, Place, Counter, gang, parts, elem, shape, shape_of, text, bytes_of}
 use Rattle.isp_wasm.specs.Rows.{cell, widened}
 use Rattle.isp_wasm.specs.Locals.{row, taken_from, taken_places, own_places, inner_local, local_at}
-use Rattle.isp_wasm.specs.Module.{text_start, is_plain, all_plain, has_call, calls_function, is_called, inner, inner_of, inner_function, inner_functions, function_of, module_of}
+use Rattle.isp_wasm.specs.Module.{text_start, is_plain, all_plain, calls_function, is_called, inner, inner_of, inner_function, inner_functions, function_of, module_of}
+use Rattle.isp_wasm.specs.Stack.{has_call, waiting_bytes, function_bytes, bytes_if, bytes_in, top}
 use Rattle.isp_wasm.specs.Standing.{Holds, Keeps, Stands, IsSettled, bits_by, bits_of, LanesBy, LanesOf, scalar_register, vector_register, the_machine}
 use Rattle.isp_wasm.specs.Templates.{listed, plus, waiting_calls, part_under, vector_local, mask_local, passed_all, arguments_of, called_number, function_code}
 use Rattle.isp_wasm.specs.Agreement.{BringsTo, Brings, Back, CallsAgree, ComesBack}
@@ -49,7 +50,7 @@ use Rattle.isp_wasm.proofs.Given.{Gives, gives, in_row, past_row, scalar_got, ba
 use Rattle.isp_wasm.proofs.Heads.{first_head}
 use Rattle.isp_wasm.proofs.Numbers.{place_apart}
 use Rattle.isp_wasm.proofs.Passing.{At, first_at, other_at, no_number}
-use Rattle.isp_wasm.proofs.Plain.{placed, all_at, any_at, calls_some, text_low, few_heads, heads_rise, some_code, arrays_are, no_sizes, no_stores, no_size, covered, all_thin}
+use Rattle.isp_wasm.proofs.Plain.{placed, all_at, any_at, calls_some, text_low, few_heads, heads_rise, some_code, arrays_are, no_sizes, no_stores, no_size, no_bytes, covered, all_thin}
 use Rattle.isp_wasm.proofs.Rows.{enough}
 use Rattle.isp_wasm.proofs.Vectors.{chosen_over, mask_row}
 
@@ -117,7 +118,7 @@ module _ (w : Setting) (of : IsOf w) (x : Call) (pc : ℕ) (has : slice_get w.ro
     home = new_home g x.function (λ a. from 0 w.home.named (slice_get (numbers class.Array x.arguments) a)) w.home.sizes w.home.opened
 
     abbrev pub callee : Setting
-    callee = placed w.code g (inner_local (gang w) g) home (waits c x.result mask ∷ c.waiting) w.begins w.elems w.before
+    callee = placed w.code g (inner_local (gang w) g) home (waits c x.result mask ∷ c.waiting) w.begins w.elems w.before w.stack
 
     abbrev pub begun : Conf
     begun = calls.called c x g
@@ -210,25 +211,31 @@ module _ (w : Setting) (of : IsOf w) (x : Call) (pc : ℕ) (has : slice_get w.ro
     all : Gives w s.locals x.mask places given x.arguments 0 0 0
     all = gives w s.locals x.mask g.params x.arguments fine.passed own (λ p. no_number (local_at own p)) 0 0 0
 
-    in_order : (p : Place) → entered.locals (inner_local (gang w) g p) ≡ At (place.Depth ∷ (row (parts w I8x16) (place.Mask 0) ++ places)) (map (value s.locals) (arguments_of w x)) p
-    in_order p = ap (λ qs. At (place.Depth ∷ qs) (map (value s.locals) (arguments_of w x)) p) (append_assoc (row (parts w I8x16) (place.Mask 0)) (taken_from (gang w) g.params 0 0 0) own)
+    in_order : (p : Place) → entered.locals (inner_local (gang w) g p) ≡ At (place.Depth ∷ place.Top ∷ (row (parts w I8x16) (place.Mask 0) ++ places)) (map (value s.locals) (arguments_of w x)) p
+    in_order p = ap (λ qs. At (place.Depth ∷ place.Top ∷ qs) (map (value s.locals) (arguments_of w x)) p) (append_assoc (row (parts w I8x16) (place.Mask 0)) (taken_from (gang w) g.params 0 0 0) own)
 
     abbrev pub passed_values : List ℕ
     passed_values = map (value s.locals) (listed w (parts w I8x16) (mask_local w x.mask) ++ passed_all w x.mask x.arguments)
 
     depth_got : entered.locals (inner_local (gang w) g place.Depth) ≡ value s.locals (plus w (waiting_calls w) 1)
-    depth_got = in_order place.Depth ∙ first_at place.Depth (row (parts w I8x16) (place.Mask 0) ++ places) (value s.locals (plus w (waiting_calls w) 1)) passed_values
+    depth_got = in_order place.Depth ∙ first_at place.Depth (place.Top ∷ (row (parts w I8x16) (place.Mask 0) ++ places)) (value s.locals (plus w (waiting_calls w) 1)) (s.locals (w.local place.Top) ∷ passed_values)
 
-    past_depth : (p : Place) → (place.Depth ≡ p → ⊥) → entered.locals (inner_local (gang w) g p) ≡ At (row (parts w I8x16) (place.Mask 0) ++ places) passed_values p
-    past_depth p ne = in_order p ∙ other_at place.Depth p (row (parts w I8x16) (place.Mask 0) ++ places) (value s.locals (plus w (waiting_calls w) 1)) passed_values ne
+    past_depth : (p : Place) → (place.Depth ≡ p → ⊥) → entered.locals (inner_local (gang w) g p) ≡ At (place.Top ∷ (row (parts w I8x16) (place.Mask 0) ++ places)) (s.locals (w.local place.Top) ∷ passed_values) p
+    past_depth p ne = in_order p ∙ other_at place.Depth p (place.Top ∷ (row (parts w I8x16) (place.Mask 0) ++ places)) (value s.locals (plus w (waiting_calls w) 1)) (s.locals (w.local place.Top) ∷ passed_values) ne
+
+    top_got : entered.locals (inner_local (gang w) g place.Top) ≡ s.locals (w.local place.Top)
+    top_got = past_depth place.Top (λ e. cc) ∙ first_at place.Top (row (parts w I8x16) (place.Mask 0) ++ places) (s.locals (w.local place.Top)) passed_values
+
+    past_top : (p : Place) → (place.Depth ≡ p → ⊥) → (place.Top ≡ p → ⊥) → entered.locals (inner_local (gang w) g p) ≡ At (row (parts w I8x16) (place.Mask 0) ++ places) passed_values p
+    past_top p d t = past_depth p d ∙ other_at place.Top p (row (parts w I8x16) (place.Mask 0) ++ places) (s.locals (w.local place.Top)) passed_values t
 
     mask_got : (j : ℕ) → j < parts w I8x16 → entered.locals (inner_local (gang w) g (place.Mask 0 j)) ≡ s.locals (w.local (place.Mask x.mask.number j))
     mask_got j lt =
-        past_depth (place.Mask 0 j) (λ e. cc)
+        past_top (place.Mask 0 j) (λ e. cc) (λ e. cc)
         ∙ in_row w s.locals places (passed_all w x.mask x.arguments) (parts w I8x16) (place.Mask 0) (mask_local w x.mask) j (λ i k e. cc) lt
 
-    got : (p : Place) → (place.Depth ≡ p → ⊥) → ((j : ℕ) → j < parts w I8x16 → place.Mask 0 j ≡ p → ⊥) → entered.locals (inner_local (gang w) g p) ≡ At places given p
-    got p ne out = past_depth p ne ∙ past_row w s.locals places (passed_all w x.mask x.arguments) (parts w I8x16) (place.Mask 0) (mask_local w x.mask) p out
+    got : (p : Place) → (place.Depth ≡ p → ⊥) → (place.Top ≡ p → ⊥) → ((j : ℕ) → j < parts w I8x16 → place.Mask 0 j ≡ p → ⊥) → entered.locals (inner_local (gang w) g p) ≡ At places given p
+    got p d t out = past_top p d t ∙ past_row w s.locals places (passed_all w x.mask x.arguments) (parts w I8x16) (place.Mask 0) (mask_local w x.mask) p out
 
     zero_more : (n : ℕ) → n ≡ 0 + n
     zero_more n = omega arith
@@ -285,14 +292,14 @@ module _ (w : Setting) (of : IsOf w) (x : Call) (pc : ℕ) (has : slice_get w.ro
         (ap (lane I8x16 i) (mask_got j lt) ∙ st.holds.masks_are x.mask.number j i l)
     masks r j i l (inl e) (inr le) =
         subst (λ r. lane I8x16 i (entered.locals (inner_local (gang w) g (place.Mask r j))) ≡ flags 8 (put (λ k. nobody) 0 mask r (j * 16 + i))) (sym e)
-        (ap (lane I8x16 i) (got (place.Mask 0 j) (λ e. cc) (λ k low e. (let same : k ≡ j = cc in omega (arith, same, low, le))) ∙ all.others (place.Mask 0 j) tt) ∙ digit_zero 256 i (lit≤ tt)
+        (ap (lane I8x16 i) (got (place.Mask 0 j) (λ e. cc) (λ e. cc) (λ k low e. (let same : k ≡ j = cc in omega (arith, same, low, le))) ∙ all.others (place.Mask 0 j) tt) ∙ digit_zero 256 i (lit≤ tt)
         ∙ ap (flags 8) (sym (off (mask (j * 16 + i)) refl)))
       where
         off : (b : Bool) → mask (j * 16 + i) ≡ b → mask (j * 16 + i) ≡ false
         off false e = e
         off true e = absurd (let low = st.holds.members x.mask.number (j * 16 + i) e in let some = enough w I8x16 j i low in omega (arith, some, le))
     masks r j i l (inr ne) h =
-        ap (lane I8x16 i) (got (place.Mask r j) (λ e. cc) (λ k low e. ne cc) ∙ all.others (place.Mask r j) tt) ∙ digit_zero 256 i (lit≤ tt)
+        ap (lane I8x16 i) (got (place.Mask r j) (λ e. cc) (λ e. cc) (λ k low e. ne cc) ∙ all.others (place.Mask r j) tt) ∙ digit_zero 256 i (lit≤ tt)
         ∙ ap (λ f. flags 8 (f (j * 16 + i))) (sym (put_other (λ k. nobody) 0 mask r ne))
 
     members : (r p : ℕ) → (r ≡ 0) ⊎ (r ≡ 0 → ⊥) → put (λ k. nobody) 0 mask r p ≡ true → p < gang w
@@ -357,22 +364,33 @@ module _ (w : Setting) (of : IsOf w) (x : Call) (pc : ℕ) (has : slice_get w.ro
         let waiting : s.locals (w.local place.Depth) ≡ length c.waiting = st.holds.depth ∙ sym (ap length st.waiting_is) in
         ap (λ n. (n + 1 % 2 ^ 32) % 2 ^ 32) waiting ∙ mod-eq_of_lt (omega (arith, few)) ∙ (let same : length c.waiting + 1 % 2 ^ 32 ≡ suc (length c.waiting) = omega arith in same)
 
+    -- its arrays lie behind those of the caller
+    bytes_are : function_bytes w.code c.home.fn ≡ bytes_in (gang w) w.routine.locals
+    bytes_are = ap (λ (h : Home). function_bytes w.code h.fn) st.home_is ∙ ap (bytes_if (gang w)) of.settled.found
+
+    waiting_are : waiting_bytes w.code c.waiting ≡ waiting_bytes w.code w.waiting
+    waiting_are = ap (waiting_bytes w.code) st.waiting_is
+
+    above : top w ≡ top callee
+    above = let none = no_bytes w.code g x.function of.accepted fine.found plain_g (gang w) in omega (arith, none, bytes_are, waiting_are)
+
     holds : Holds callee begun.scalars begun.vectors begun.masks entered.locals
     holds =
         record {
-          scalars_are = λ r. got (place.Scalar r) (λ e. cc) (λ j lt e. cc) ∙ ap (λ n. At places given (place.Scalar n)) (zero_more r) ∙ all.scalars r ∙ scalars r (slice_get (numbers class.Scalar x.arguments) r);
-          vectors_are = λ r j i l q. ap (lane (shape callee (vector_register r)) i) (got (place.Vector r j) (λ e. cc) (λ k lt e. cc) ∙ ap (λ n. At places given (place.Vector n j)) (zero_more r) ∙ all.vectors r j)
+          scalars_are = λ r. got (place.Scalar r) (λ e. cc) (λ e. cc) (λ j lt e. cc) ∙ ap (λ n. At places given (place.Scalar n)) (zero_more r) ∙ all.scalars r ∙ scalars r (slice_get (numbers class.Scalar x.arguments) r);
+          vectors_are = λ r j i l q. ap (lane (shape callee (vector_register r)) i) (got (place.Vector r j) (λ e. cc) (λ e. cc) (λ k lt e. cc) ∙ ap (λ n. At places given (place.Vector n j)) (zero_more r) ∙ all.vectors r j)
               ∙ vectors r j i (slice_get (numbers class.Vector x.arguments) r) refl l q;
           masks_are = λ r j i l. masks r j i l (cases_eq r 0) (cases_lt j (parts w I8x16));
           fits = λ r. scalar_fits r (slice_get (numbers class.Scalar x.arguments) r) refl;
           members = λ r p h. members r p (cases_eq r 0) h;
-          bases = λ a. got (place.Base a) (λ e. cc) (λ j lt e. cc) ∙ ap (λ n. At places given (place.Base n)) (zero_more a) ∙ all.bases a ∙ bases a (which a);
-          counts = λ a. got (place.Count a) (λ e. cc) (λ j lt e. cc) ∙ ap (λ n. At places given (place.Count n)) (zero_more a) ∙ all.counts a ∙ counts a (which a);
+          bases = λ a. got (place.Base a) (λ e. cc) (λ e. cc) (λ j lt e. cc) ∙ ap (λ n. At places given (place.Base n)) (zero_more a) ∙ all.bases a ∙ bases a (which a);
+          counts = λ a. got (place.Count a) (λ e. cc) (λ e. cc) (λ j lt e. cc) ∙ ap (λ n. At places given (place.Count n)) (zero_more a) ∙ all.counts a ∙ counts a (which a);
           depth = depth_got ∙ depth_is;
+          top_is = top_got ∙ st.holds.top_is ∙ above;
         }
 
     counter_is : entered.locals (callee.local Counter) ≡ 0
-    counter_is = got Counter (λ e. cc) (λ j lt e. cc) ∙ all.others Counter tt
+    counter_is = got Counter (λ e. cc) (λ e. cc) (λ j lt e. cc) ∙ all.others Counter tt
 
     head_is : callee.heads (entered.locals (callee.local Counter)) ≡ 0
     head_is = ap callee.heads counter_is ∙ (first_head g.code (length g.code) (some_code w.code g x.function of.accepted fine.found plain_g)).1
@@ -459,8 +477,8 @@ module _ (w : Setting) (of : IsOf w) (x : Call) (pc : ℕ) (has : slice_get w.ro
     one_more f right =
         subst (λ code. Told (the_machine w) (Back w x c) (suc f) begun (left (run (suc f) (called functions f) code entered))) (sym (inner_code w.code w.routine w.home.fn pc x of.settled.found has (of.plain pc x has) g fine.found))
         (told (suc f) begun (left (run (suc f) (called functions f) (function_code callee) entered))
-        (calls_come_back callee settled (covered w.code g x.function of.accepted fine.found plain_g (inner_local (gang w) g) home (waits c x.result mask ∷ c.waiting) w.begins w.elems w.before)
-        (all_thin w.code g x.function of.accepted fine.found plain_g (inner_local (gang w) g) home (waits c x.result mask ∷ c.waiting) w.begins w.elems w.before stored)
+        (calls_come_back callee settled (covered w.code g x.function of.accepted fine.found plain_g (inner_local (gang w) g) home (waits c x.result mask ∷ c.waiting) w.begins w.elems w.before w.stack)
+        (all_thin w.code g x.function of.accepted fine.found plain_g (inner_local (gang w) g) home (waits c x.result mask ∷ c.waiting) w.begins w.elems w.before w.stack stored)
         (waits c x.result mask) c.waiting refl (called functions f) (suc f) (λ n e. subst (λ m. CallsAgree callee m (called functions f)) (let same : f ≡ n = omega (arith, e) in same) right) begun entered
         (subst (λ n. n < callee.rungs) (sym counter_is) (first_head g.code (length g.code) (some_code w.code g x.function of.accepted fine.found plain_g)).0)
         (subst (λ n. Stands callee n begun entered) (sym head_is) stands)))

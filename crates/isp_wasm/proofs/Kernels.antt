@@ -27,15 +27,16 @@ use Rattle.isp_verify.specs.Faults.{header_fits, export_fits, can_export, is_vec
 use Rattle.isp_verify.proofs.AcceptedLaws.{accepted_fine}
 use Rattle.isp_wasm_meaning.specs.Meaning.{State, called, bytes}
 use Rattle.isp_wasm_meaning.specs.Module.{Function, code_in, unused}
-use Rattle.isp_wasm.specs.Places.{Setting, bytes_of, Counter, Scalar, Vector, Mask, Base, Count, Depth}
-use Rattle.isp_wasm.specs.Entry.{entry_code, IsCalled, SameOutcomes}
+use Rattle.isp_wasm.specs.Places.{Setting, bytes_of, Counter, Scalar, Vector, Mask, Base, Count, Depth, Top}
+use Rattle.isp_wasm.specs.Entry.{stack_in, entry_code, IsCalled, SameOutcomes}
 use Rattle.isp_wasm.specs.Locals.{param_places, own_places, local_in}
-use Rattle.isp_wasm.specs.Module.{text_start, is_plain, has_call, is_covered, kernel_of, function_of, inner_functions, module_of}
+use Rattle.isp_wasm.specs.Module.{text_start, is_plain, is_covered, kernel_of, function_of, inner_functions, module_of}
 use Rattle.isp_wasm.specs.Kernel.{row_elem, passed, array_end, IsLaidOut, in_call, KernelsAgree}
+use Rattle.isp_wasm.specs.Stack.{has_call}
 use Rattle.isp_wasm.specs.Standing.{IsSettled, Keeps}
 use Rattle.isp_wasm.proofs.Entries.{some_row, entries_agree}
 use Rattle.isp_wasm.proofs.Numbers.{place_apart}
-use Rattle.isp_wasm.proofs.Plain.{covered_plain, covered_calls, none, text_low, few_heads, heads_rise, some_code, arrays_are, no_sizes, no_stores, covered, all_thin}
+use Rattle.isp_wasm.proofs.Plain.{covered_plain, covered_calls, none, text_low, few_heads, heads_rise, some_code, arrays_are, no_sizes, no_stores, no_bytes, covered, all_thin}
 use Rattle.isp_wasm.proofs.Inner.{some_low, IsOf, calls_agree}
 use Rattle.isp_wasm.proofs.Passing.{At, no_number, both_first, both_second, Passes, passes, rows_long, rows_typed, values_fit}
 use Rattle.isp_wasm.proofs.Heads.{first_head}
@@ -247,6 +248,9 @@ module _ (code : Listing) (h : Routine) (f : ℕ) (accepted : IsFine code) (foun
           bases = λ a. ap (λ n. At (param_places h ++ own_places (gang_width code.gang) h) (passed xs at) (Base n)) (sym (counted a)) ∙ places.bases a ∙ base_of a;
           counts = λ a. ap (λ n. At (param_places h ++ own_places (gang_width code.gang) h) (passed xs at) (Count n)) (sym (counted a)) ∙ places.counts a ∙ count_of a;
           depth_is = places.others Depth tt;
+          top_zero = places.others Top tt;
+          stack_is = refl;
+          none_opened = no_bytes code h f accepted found plain (gang_width code.gang);
           keeps = keeps;
           silent = laid.silent;
         }
@@ -281,8 +285,8 @@ module _ (code : Listing) (h : Routine) (f : ℕ) (accepted : IsFine code) (foun
     same_outcomes : SameOutcomes w xs (λ n. called (code_in (module_of code)) n f (passed xs at) s)
     unfolding w
     same_outcomes =
-        entries_agree w ready (covered code h f accepted found plain (local_in (gang_width code.gang) h) (first_conf code f h xs).home [] (slice_index at) (row_elem (rows xs)) s.memory)
-        (all_thin code h f accepted found plain (local_in (gang_width code.gang) h) (first_conf code f h xs).home [] (slice_index at) (row_elem (rows xs)) s.memory stored)
+        entries_agree w ready (covered code h f accepted found plain (local_in (gang_width code.gang) h) (first_conf code f h xs).home [] (slice_index at) (row_elem (rows xs)) s.memory (stack_in h s))
+        (all_thin code h f accepted found plain (local_in (gang_width code.gang) h) (first_conf code f h xs).home [] (slice_index at) (row_elem (rows xs)) s.memory (stack_in h s) stored)
         (code_in (module_of code)) f code_is (λ n. calls_agree n w of) xs (passed xs at) s call_is
 
 pub kernels_agree : KernelsAgree

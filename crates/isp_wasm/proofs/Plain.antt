@@ -23,7 +23,8 @@ use Rattle.isp_verify.specs.Accepted.{IsFine}
 use Rattle.isp_verify.specs.Faults.{stays, last}
 use Rattle.isp_wasm.specs.Places.{Setting, Place}
 use Rattle.isp_wasm.specs.Lines.{HasArrays, HasTemplate}
-use Rattle.isp_wasm.specs.Module.{goes_to, is_head, heads_of, joined, text_start, has_form, none_open, is_plain, all_plain, is_call, has_call, is_covered, numbered}
+use Rattle.isp_wasm.specs.Module.{goes_to, is_head, heads_of, joined, text_start, has_form, is_plain, all_plain, is_covered, numbered}
+use Rattle.isp_wasm.specs.Stack.{is_call, has_call, none_open, bytes_in}
 use Rattle.isp_wasm.specs.Thin.{IsHead, IsCovered, IsLast, AllThin}
 use Rattle.isp_wasm.proofs.Operands.{fine_is_thin}
 use Rattle.isp_wasm.proofs.Passing.{both_first, both_second, no_number}
@@ -113,9 +114,9 @@ module _ (w : Setting) (heads : (pc to : ℕ) (i : Instr) → slice_get w.routin
 
 module _ (code : Listing) (h : Routine) where
   -- in a call, with its locals numbered so
-  abbrev pub placed : (Place → ℕ) → Home → List Frame → (ℕ → ℕ) → (ℕ → Elem) → (ℕ → ℕ) → Setting
-  placed local home waiting begins elems before =
-      record (numbered code h) { local = local; home = home; waiting = waiting; begins = begins; elems = elems; before = before }
+  abbrev pub placed : (Place → ℕ) → Home → List Frame → (ℕ → ℕ) → (ℕ → Elem) → (ℕ → ℕ) → Option ℕ → Setting
+  placed local home waiting begins elems before stack =
+      record (numbered code h) { local = local; home = home; waiting = waiting; begins = begins; elems = elems; before = before; stack = stack }
 
 module _ (code : Listing) (h : Routine) (f : ℕ) (accepted : IsFine code) (found : slice_get code.routines f ≡ Some h) (plain : is_plain code h ≡ true) where
   pub forms : list_all has_form h.code ≡ true
@@ -169,12 +170,15 @@ module _ (code : Listing) (h : Routine) (f : ℕ) (accepted : IsFine code) (foun
   pub no_stores : length (shared_sizes h.locals) ≡ 0
   no_stores = ap (λ ls. length (shared_sizes ls)) none
 
+  pub no_bytes : (lanes : ℕ) → bytes_in lanes h.locals ≡ 0
+  no_bytes lanes = ap (bytes_in lanes) none
+
   pub no_size : (n : ℕ) → slice_index_or (shared_sizes h.locals) n 0 ≡ 0
   no_size n = ap (λ ls. slice_index_or (shared_sizes ls) n 0) none ∙ no_number n
 
-  module _ (local : Place → ℕ) (home : Home) (waiting : List Frame) (begins : ℕ → ℕ) (elems : ℕ → Elem) (before : ℕ → ℕ) where
+  module _ (local : Place → ℕ) (home : Home) (waiting : List Frame) (begins : ℕ → ℕ) (elems : ℕ → Elem) (before : ℕ → ℕ) (stack : Option ℕ) where
     w : Setting
-    w = placed code h local home waiting begins elems before
+    w = placed code h local home waiting begins elems before stack
 
     heads_end : w.heads w.rungs ≡ length h.code
     unfolding w
@@ -184,7 +188,7 @@ module _ (code : Listing) (h : Routine) (f : ℕ) (accepted : IsFine code) (foun
     unfolding w
     head_at to is lt = let found = inside h.code (length h.code) 0 (length h.code) to is (omega arith) (omega arith) in record { low = found.low; here = found.here }
 
-    pub covered : IsCovered (placed code h local home waiting begins elems before)
+    pub covered : IsCovered (placed code h local home waiting begins elems before stack)
     unfolding w
     covered =
         record {
@@ -209,7 +213,7 @@ module _ (code : Listing) (h : Routine) (f : ℕ) (accepted : IsFine code) (foun
         unowned true (suc n) = refl
         unowned false n = refl
 
-    pub all_thin : ((a : Register) → IsThere h class.Array a → elems (home.named a.number) ≡ elem_of h a) → AllThin (placed code h local home waiting begins elems before)
+    pub all_thin : ((a : Register) → IsThere h class.Array a → elems (home.named a.number) ≡ elem_of h a) → AllThin (placed code h local home waiting begins elems before stack)
     unfolding w
     all_thin stored pc i has =
         let line = accepted.lines f h found pc i has in

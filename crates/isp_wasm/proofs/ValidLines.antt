@@ -53,7 +53,7 @@ use Rattle.isp_wasm_meaning.specs.Syntax as wasm
 use Rattle.isp_wasm_meaning.specs.Syntax.{Size, Shape, I8x16, I16x8, I32x4, I64x2, Add, Sub, Mul, And, Or, Xor, Eq, Ne, LtU, LtS, Eqz, Ctz, Wrap, ExtendU, Splat, Extract, Bitmask, Of, BitsOf, CompareLanes, Bits, Replace}
 use Rattle.isp_wasm_meaning.specs.Syntax.{Expr, Const32, Const64, Const128, Local, One, Two, Select, Code, Skip, Then, Set, Load, Store, Divide, If, Br, Return, SetGlobal}
 use Rattle.isp_wasm_meaning.specs.Valid.{is_type, sized, held, has_type, of_type, global_type, changes, is_label, gives, is_valid}
-use Rattle.isp_wasm.specs.Places.{Setting, gang, parts, parts_for, elem, shape, shape_of, size_of, bytes_of, Counter, Scalar as ScalarAt, Vector as VectorAt, Mask as MaskAt, Base, Count, Fresh, Spare, Depth}
+use Rattle.isp_wasm.specs.Places.{Setting, gang, parts, parts_for, elem, shape, shape_of, size_of, bytes_of, Counter, Scalar as ScalarAt, Vector as VectorAt, Mask as MaskAt, Base, Count, Fresh, Spare, Depth, Top}
 use Rattle.isp_wasm.specs.Words.{constant, below, whole_expr, plain_expr, unary_expr, compare_expr, convert_expr}
 use Rattle.isp_wasm.specs.Rows.{as_cell, lane_at, widened, by_lane, ones, compare_row, present}
 use Rattle.isp_wasm.specs.Templates.{each, scalar_local, vector_local, mask_local, set_lanes, set_mask, is_member, lanes_as_bits, lowest_of, lane_or, lane_or_zero, picked, first_value, folded, modulo, plus, exchange_expr, of_both, scan_expr, reduce_expr, scalar_code, vector_of, vector_code, mask_under}
@@ -113,6 +113,7 @@ pub record HasTypes (w : Setting) (local : ℕ → Option ValueType) : Type 0 wh
   pub spares : (t : Size) → local (w.local (Spare t 0)) ≡ Some (sized t)
   pub seen : local (w.local (Spare wasm.I32 1)) ≡ Some valued.I32
   pub depth : local (w.local Depth) ≡ Some valued.I32
+  pub top_is : local (w.local Top) ≡ Some valued.I32
 
 module _ (w : Setting) (local : ℕ → Option ValueType) (functions : List Function) (result : Option ValueType) (typed : HasTypes w local) where
   abbrev pub T : Expr → ValueType → Type 0
@@ -649,7 +650,8 @@ module _ (w : Setting) (local : ℕ → Option ValueType) (functions : List Func
   pub global_at : (j : ℕ) → j < 16 → (changes (suc j) ≡ true) × (global_type (suc j) ≡ Some V128)
   global_at j l = (
     ap not (ne_eqb (suc j) 0 (λ e. omega (arith, e))),
-    cond-false (nat_eq (suc j) 0) (Some valued.I32) (if nat_lt (suc j) 17 then Some V128 else None) (ne_eqb (suc j) 0 (λ e. omega (arith, e))) ∙ cond-true (nat_lt (suc j) 17) (Some V128) None (lt-ltb (suc j) 17 (omega (arith, l))),
+    cond-false (nat_eq (suc j) 0) (Some valued.I32) (if nat_lt (suc j) 17 then Some V128 else (if nat_eq (suc j) 17 then Some valued.I32 else None)) (ne_eqb (suc j) 0 (λ e. omega (arith, e)))
+        ∙ cond-true (nat_lt (suc j) 17) (Some V128) (if nat_eq (suc j) 17 then Some valued.I32 else None) (lt-ltb (suc j) 17 (omega (arith, l))),
   )
 
   pub few_results : (s : Shape) (j : ℕ) → j < parts w s → j < 16

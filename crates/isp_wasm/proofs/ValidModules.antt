@@ -28,13 +28,14 @@ use Rattle.isp_wasm_meaning.specs.Ladder.{counting, ladder, dispatched}
 use Rattle.isp_wasm_meaning.specs.Module.{ValueType, V128, Function, unused}
 use Rattle.isp_wasm_meaning.specs.Module as valued
 use Rattle.isp_wasm_meaning.specs.Syntax as wasm
-use Rattle.isp_wasm_meaning.specs.Syntax.{I8x16, I64x2, Code, Set, Block, BrTable, Local, Const128, Unreachable}
+use Rattle.isp_wasm_meaning.specs.Syntax.{I8x16, I64x2, Code, Skip, Then, Set, Block, BrTable, Local, Const128, Unreachable, GetGlobal}
 use Rattle.isp_wasm_meaning.specs.Valid.{sized, has_type, is_label, is_valid, ends_there, may_end, is_valid_function}
-use Rattle.isp_wasm.specs.Entry.{entry_code}
+use Rattle.isp_wasm.specs.Entry.{stack_code, entry_code}
 use Rattle.isp_wasm.specs.Kernel.{ModulesValid}
-use Rattle.isp_wasm.specs.Locals.{row, param_places, taken_from, taken_places, vector_places, mask_places, own_places, local_at}
-use Rattle.isp_wasm.specs.Module.{heads_of, has_form, is_plain, all_plain, is_covered, has_call, is_called, given_type, back_type, numbered, type_of, kernel_of, inner_of, function_of, inner_function, inner_functions, module_of}
-use Rattle.isp_wasm.specs.Places.{Setting, Place, Counter, Scalar, Vector, Mask, Base, Count, Fresh, Spare, Depth, gang, parts, parts_for, elem, shape_of, size_of}
+use Rattle.isp_wasm.specs.Locals.{row, param_places, taken_from, taken_places, vector_places, mask_places, array_places, own_places, local_at}
+use Rattle.isp_wasm.specs.Stack.{uses_stack, has_call}
+use Rattle.isp_wasm.specs.Module.{heads_of, has_form, is_plain, all_plain, is_covered, is_called, given_type, back_type, numbered, type_of, kernel_of, inner_of, function_of, inner_function, inner_functions, module_of}
+use Rattle.isp_wasm.specs.Places.{Setting, Place, Counter, Scalar, Vector, Mask, Base, Count, Fresh, Spare, Depth, Top, gang, parts, parts_for, elem, shape_of, size_of}
 use Rattle.isp_wasm.specs.Standing.{scalar_register}
 use Rattle.isp_wasm.specs.Templates.{each, mask_part, call_code, code_at, span, rung, function_code}
 use Rattle.isp_wasm.proofs.Inner.{inner_at}
@@ -93,12 +94,17 @@ module _ (w : Setting) (local : ℕ → Option ValueType) (functions : List Func
   code_valid : C 0 (function_code w)
   code_valid = then_valid w local functions result typed 0 (dispatched (w.local Counter) (rung w) w.rungs) Unreachable (ladder_valid w.rungs 1 (omega arith) (omega arith)) refl
 
+  stack_valid : (b : Bool) → C 0 (if b then GetGlobal (w.local Top) 17 else Skip)
+  stack_valid true = local_typed w local functions result typed (w.local Top) valued.I32 typed.top_is
+  stack_valid false = refl
+
   entry_valid : 0 < w.routine.masks → C 0 (entry_code w)
   entry_valid some =
-      then_valid w local functions result typed 0 (each (parts w I8x16) (λ j. Set (w.local (Mask 0 j)) (Const128 (mask_part (everyone (gang w)) j)))) (function_code w)
+      then_valid w local functions result typed 0 (stack_code w) (Then (each (parts w I8x16) (λ j. Set (w.local (Mask 0 j)) (Const128 (mask_part (everyone (gang w)) j)))) (function_code w)) (stack_valid (uses_stack w.routine))
+      (then_valid w local functions result typed 0 (each (parts w I8x16) (λ j. Set (w.local (Mask 0 j)) (Const128 (mask_part (everyone (gang w)) j)))) (function_code w)
       (each_valid w local functions result typed 0 (parts w I8x16) (λ j. Set (w.local (Mask 0 j)) (Const128 (mask_part (everyone (gang w)) j)))
       (λ j l. set_valid w local functions result typed 0 (w.local (Mask 0 j)) (Const128 (mask_part (everyone (gang w)) j)) V128 (typed.masks (record { class = class.Mask; number = 0 }) (refl, some) j (few_parts (gang w) j (gang_low w.code.gang) l)) refl))
-      code_valid
+      code_valid)
 
 -- ---- a function
 
@@ -124,15 +130,18 @@ module _ (code : Listing) (h : Routine) (f : ℕ) (accepted : IsFine code) (foun
   passed : ℕ
   passed = length (param_elems class.Scalar h.params)
 
+  abbrev last : List Place
+  last = Depth ∷ Top ∷ array_places (length h.locals) (length (param_elems class.Array h.params))
+
   -- behind the four first
-  own_has : (p : Place) → Has (row (parts_for lanes I64x2) Fresh ++ (row (length h.scalars) (λ r. Scalar (passed + r)) ++ (vector_places lanes (vectors_of h) 0 ++ (mask_places h.masks 0 ++ Depth ∷ [])))) p → Has places p
+  own_has : (p : Place) → Has (row (parts_for lanes I64x2) Fresh ++ (row (length h.scalars) (λ r. Scalar (passed + r)) ++ (vector_places lanes (vectors_of h) 0 ++ (mask_places h.masks 0 ++ last)))) p → Has places p
   unfolding places lanes passed
   own_has p has = has_right qs (own_places (gang_width code.gang) h) p (suc (suc (suc (suc has.0))), has.1)
 
-  registers_has : (p : Place) → Has (vector_places lanes (vectors_of h) 0 ++ (mask_places h.masks 0 ++ Depth ∷ [])) p → Has places p
+  registers_has : (p : Place) → Has (vector_places lanes (vectors_of h) 0 ++ (mask_places h.masks 0 ++ last)) p → Has places p
   registers_has p has =
-      own_has p (has_right (row (parts_for lanes I64x2) Fresh) (row (length h.scalars) (λ r. Scalar (passed + r)) ++ (vector_places lanes (vectors_of h) 0 ++ (mask_places h.masks 0 ++ Depth ∷ []))) p
-      (has_right (row (length h.scalars) (λ r. Scalar (passed + r))) (vector_places lanes (vectors_of h) 0 ++ (mask_places h.masks 0 ++ Depth ∷ [])) p has))
+      own_has p (has_right (row (parts_for lanes I64x2) Fresh) (row (length h.scalars) (λ r. Scalar (passed + r)) ++ (vector_places lanes (vectors_of h) 0 ++ (mask_places h.masks 0 ++ last))) p
+      (has_right (row (length h.scalars) (λ r. Scalar (passed + r))) (vector_places lanes (vectors_of h) 0 ++ (mask_places h.masks 0 ++ last)) p has))
 
   param_has : (p : Place) → Has qs p → Has places p
   unfolding places
@@ -145,27 +154,31 @@ module _ (code : Listing) (h : Routine) (f : ℕ) (accepted : IsFine code) (foun
       by : (r < passed) ⊎ (passed ≤ r) → Has places (Scalar r)
       by (inl low) = param_has (Scalar r) (scalars_in r low)
       by (inr le) =
-          own_has (Scalar r) (has_right (row (parts_for lanes I64x2) Fresh) (row (length h.scalars) (λ r. Scalar (passed + r)) ++ (vector_places lanes (vectors_of h) 0 ++ (mask_places h.masks 0 ++ Depth ∷ []))) (Scalar r)
-          (has_left (row (length h.scalars) (λ r. Scalar (passed + r))) (vector_places lanes (vectors_of h) 0 ++ (mask_places h.masks 0 ++ Depth ∷ [])) (Scalar r)
+          own_has (Scalar r) (has_right (row (parts_for lanes I64x2) Fresh) (row (length h.scalars) (λ r. Scalar (passed + r)) ++ (vector_places lanes (vectors_of h) 0 ++ (mask_places h.masks 0 ++ last))) (Scalar r)
+          (has_left (row (length h.scalars) (λ r. Scalar (passed + r))) (vector_places lanes (vectors_of h) 0 ++ (mask_places h.masks 0 ++ last)) (Scalar r)
           (subst (λ n. Has (row (length h.scalars) (λ r. Scalar (passed + r))) (Scalar n)) (let same : passed + (r - passed) ≡ r = omega (arith, le) in same)
           (row_has (length h.scalars) (λ r. Scalar (passed + r)) (r - passed) (let all = length-append (param_elems class.Scalar h.params) h.scalars in omega (arith, lt, le, all))))))
 
   vector_has : (r j : ℕ) → r < length (vectors_of h) → j < parts_for lanes (shape_of (slice_index_or (vectors_of h) r Truth)) → Has places (Vector r j)
   vector_has r j lt l =
-      registers_has (Vector r j) (has_left (vector_places lanes (vectors_of h) 0) (mask_places h.masks 0 ++ Depth ∷ []) (Vector r j)
+      registers_has (Vector r j) (has_left (vector_places lanes (vectors_of h) 0) (mask_places h.masks 0 ++ last) (Vector r j)
       (subst (λ n. Has (vector_places lanes (vectors_of h) 0) (Vector n j)) (let same : 0 + r ≡ r = omega arith in same) (has_vector lanes (vectors_of h) 0 r j lt l)))
 
   mask_has : (r j : ℕ) → r < h.masks → j < 2 → Has places (Mask r j)
   mask_has r j lt l =
-      registers_has (Mask r j) (has_right (vector_places lanes (vectors_of h) 0) (mask_places h.masks 0 ++ Depth ∷ []) (Mask r j) (has_left (mask_places h.masks 0) (Depth ∷ []) (Mask r j)
+      registers_has (Mask r j) (has_right (vector_places lanes (vectors_of h) 0) (mask_places h.masks 0 ++ last) (Mask r j) (has_left (mask_places h.masks 0) last (Mask r j)
       (subst (λ n. Has (mask_places h.masks 0) (Mask n j)) (let same : 0 + r ≡ r = omega arith in same) (has_mask h.masks 0 r j lt l))))
 
   fresh_has : (j : ℕ) → j < parts_for lanes I64x2 → Has places (Fresh j)
-  fresh_has j l = own_has (Fresh j) (has_left (row (parts_for lanes I64x2) Fresh) (row (length h.scalars) (λ r. Scalar (passed + r)) ++ (vector_places lanes (vectors_of h) 0 ++ (mask_places h.masks 0 ++ Depth ∷ []))) (Fresh j) (row_has (parts_for lanes I64x2) Fresh j l))
+  fresh_has j l = own_has (Fresh j) (has_left (row (parts_for lanes I64x2) Fresh) (row (length h.scalars) (λ r. Scalar (passed + r)) ++ (vector_places lanes (vectors_of h) 0 ++ (mask_places h.masks 0 ++ last))) (Fresh j) (row_has (parts_for lanes I64x2) Fresh j l))
 
   depth_has : Has places Depth
   depth_has =
-      registers_has Depth (has_right (vector_places lanes (vectors_of h) 0) (mask_places h.masks 0 ++ Depth ∷ []) Depth (has_right (mask_places h.masks 0) (Depth ∷ []) Depth (zero, refl)))
+      registers_has Depth (has_right (vector_places lanes (vectors_of h) 0) (mask_places h.masks 0 ++ last) Depth (has_right (mask_places h.masks 0) last Depth (zero, refl)))
+
+  top_has : Has places Top
+  top_has =
+      registers_has Top (has_right (vector_places lanes (vectors_of h) 0) (mask_places h.masks 0 ++ last) Top (has_right (mask_places h.masks 0) last Top (suc zero, refl)))
 
   array_has : (a : ℕ) → a < length (arrays_of h) → Has places (Base a) × Has places (Count a)
   array_has a lt =
@@ -196,6 +209,7 @@ module _ (code : Listing) (h : Routine) (f : ℕ) (accepted : IsFine code) (foun
         spares = spare_typed;
         seen = typed_at (Spare wasm.I32 1) (first_has (Spare wasm.I32 1) 2 refl);
         depth = typed_at Depth depth_has;
+        top_is = typed_at Top top_has;
       }
     where
       spare_typed : (t : wasm.Size) → locals (w.local (Spare t 0)) ≡ Some (sized t)
@@ -231,7 +245,7 @@ module _ (code : Listing) (h : Routine) (f : ℕ) (accepted : IsFine code) (foun
         call_valid w locals functions result has_types n c fine (inner_of code g)
         (record {
           place_type = type_of code g;
-          types = record { depth_is = refl; scalar_is = λ r. refl; vector_is = λ r j. refl; mask_is = λ r j. refl; base_is = λ a. refl; count_is = λ a. refl };
+          types = record { depth_is = refl; top_is = refl; scalar_is = λ r. refl; vector_is = λ r j. refl; mask_is = λ r j. refl; base_is = λ a. refl; count_is = λ a. refl };
           found = inner_at code h f pc c found has all g fine.found;
           params_are = refl;
           result_is = refl;
@@ -286,7 +300,9 @@ inner_valid code h f accepted found all =
     (inner_back code h f accepted found (all_at (is_plain code) code.routines f h all found) (taken_places (gang_width code.gang) h) scalars arrays h.returns) (λ pc k has. all)
   where
     behind : (p : Place) → Has (taken_from (gang_width code.gang) h.params 0 0 0) p → Has (taken_places (gang_width code.gang) h) p
-    behind p has = has_next Depth (row (parts_for (gang_width code.gang) I8x16) (Mask 0) ++ taken_from (gang_width code.gang) h.params 0 0 0) p (has_right (row (parts_for (gang_width code.gang) I8x16) (Mask 0)) (taken_from (gang_width code.gang) h.params 0 0 0) p has)
+    behind p has =
+        has_next Depth (Top ∷ (row (parts_for (gang_width code.gang) I8x16) (Mask 0) ++ taken_from (gang_width code.gang) h.params 0 0 0)) p
+        (has_next Top (row (parts_for (gang_width code.gang) I8x16) (Mask 0) ++ taken_from (gang_width code.gang) h.params 0 0 0) p (has_right (row (parts_for (gang_width code.gang) I8x16) (Mask 0)) (taken_from (gang_width code.gang) h.params 0 0 0) p has))
 
     scalars : (r : ℕ) → r < length (param_elems class.Scalar h.params) → Has (taken_places (gang_width code.gang) h) (Scalar r)
     scalars r lt = behind (Scalar r) (subst (λ n. Has (taken_from (gang_width code.gang) h.params 0 0 0) (Scalar n)) (from_zero r) (has_taken_scalar (gang_width code.gang) h.params 0 0 0 r lt))

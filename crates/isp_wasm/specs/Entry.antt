@@ -1,5 +1,5 @@
 -- A call of an exported function by a host, and what its outcomes are.
-use Rattle.std.specs.Prelude.{◌≡◌, ℕ, suc, ◌+◌, ◌*◌, ◌^◌, ◌<◌, ◌≤◌, List, [], length, Option, Some, false, slice_index}
+use Rattle.std.specs.Prelude.{◌≡◌, ℕ, suc, ◌+◌, ◌*◌, ◌^◌, ◌<◌, ◌≤◌, List, [], length, Option, Some, None, false, slice_index, if◌then◌else◌}
 use Rattle.isp_base.specs.Arguments.{row_bits}
 use Rattle.isp_base.specs.Outcomes as outcomes
 use Rattle.isp_base.specs.Outcomes.{Outcome}
@@ -11,20 +11,29 @@ use Rattle.isp_base.specs.declared.signature.Argument.{Argument}
 use Rattle.isp_base.specs.declared.trap.Trap.{Trap}
 use Rattle.isp_base.specs.declared.types.Value.{Value}
 use Rattle.isp_code.specs.Conf.{Conf}
+use Rattle.isp_code.specs.Listing.{Routine}
 use Rattle.isp_code.specs.Machine.{values, first_conf, outcome_after}
 use Rattle.isp_verify.specs.Faults.{gives_vector}
-use Rattle.isp_wasm_meaning.specs.Syntax.{I8x16, Code, Then, Set, Const128}
+use Rattle.isp_wasm_meaning.specs.Syntax.{I8x16, Code, Skip, Then, Set, Const128, GetGlobal}
 use Rattle.isp_wasm_meaning.specs.Meaning.{Report, State, Result, Returned, Trapped, OutOfFuel, called, loaded}
-use Rattle.isp_wasm.specs.Places.{Setting, Counter, Scalar, Vector, Mask, Base, Count, Depth, elem, gang, parts, bytes_of}
+use Rattle.isp_wasm.specs.Places.{Setting, Counter, Scalar, Vector, Mask, Base, Count, Depth, Top, elem, gang, parts, bytes_of}
 use Rattle.isp_wasm.specs.Templates.{each, mask_part, function_code}
 use Rattle.isp_wasm.specs.Standing.{Keeps, IsBeside, IsSettled, report_of, scalar_register}
+use Rattle.isp_wasm.specs.Stack.{uses_stack, bytes_in}
 use Rattle.isp_wasm.specs.Thin.{IsCovered, AllThin}
 use Rattle.isp_wasm.specs.Agreement.{CallsAgree, out_of, value_bits}
 
+-- where the arrays of a function that a host calls lie, if any may be opened
+abbrev pub stack_in : Routine → State → Option ℕ
+stack_in h s = if uses_stack h then Some (s.globals 17) else None
+
 module _ (w : Setting) where
+  abbrev pub stack_code : Code
+  stack_code = if uses_stack w.routine then GetGlobal (w.local Top) 17 else Skip
+
   -- all lanes are on, and then the function's code
   abbrev pub entry_code : Code
-  entry_code = Then (each (parts w I8x16) (λ j. Set (w.local (Mask 0 j)) (Const128 (mask_part (everyone (gang w)) j)))) (function_code w)
+  entry_code = Then stack_code (Then (each (parts w I8x16) (λ j. Set (w.local (Mask 0 j)) (Const128 (mask_part (everyone (gang w)) j)))) (function_code w))
 
   -- the machine before its first instruction
   abbrev pub first : List Argument → Conf
@@ -46,6 +55,9 @@ module _ (w : Setting) where
     pub bases : (a : ℕ) → slice_index arguments (w.local (Base a)) ≡ w.begins (w.home.named a)
     pub counts : (a : ℕ) → slice_index arguments (w.local (Count a)) ≡ w.home.sizes (w.home.named a)
     pub depth_is : slice_index arguments (w.local Depth) ≡ 0
+    pub top_zero : slice_index arguments (w.local Top) ≡ 0
+    pub stack_is : w.stack ≡ stack_in w.routine s
+    pub none_opened : bytes_in (gang w) w.routine.locals ≡ 0
     pub keeps : Keeps w (first xs).arrays s.memory s.size
     pub silent : s.out ≡ []
 

@@ -17,7 +17,7 @@ use Rattle.isp_wasm_meaning.specs.Meaning.{State, called, loaded}
 use Rattle.isp_wasm_meaning.specs.Module.{HasMemory, code_in}
 use Rattle.isp_wasm_meaning.specs.Valid.{is_valid_function}
 use Rattle.isp_wasm.specs.Places.{Setting, bytes_of}
-use Rattle.isp_wasm.specs.Entry.{SameOutcomes}
+use Rattle.isp_wasm.specs.Entry.{stack_in, SameOutcomes}
 use Rattle.isp_wasm.specs.Module.{is_covered, numbered, module_of}
 
 -- the type of the b-th array's elements
@@ -56,7 +56,7 @@ module _ (code : Listing) (xs : List Argument) (at : List ℕ) where
   -- function f in this call
   abbrev pub in_call : ℕ → Routine → State → Setting
   in_call f h s =
-      record (numbered code h) { home = (first_conf code f h xs).home; begins = slice_index at; elems = row_elem (rows xs); before = s.memory }
+      record (numbered code h) { home = (first_conf code f h xs).home; begins = slice_index at; elems = row_elem (rows xs); before = s.memory; stack = stack_in h s }
 
 -- Of accepted code: a function that is exported and covered, with arguments that it takes.
 abbrev pub KernelsAgree : Type 0

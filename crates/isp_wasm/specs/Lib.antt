@@ -2,6 +2,7 @@ pub mod Places
 pub mod Words
 pub mod Rows
 pub mod Templates
+pub mod Stack
 pub mod Standing
 pub mod Thin
 pub mod Agreement

@@ -7,7 +7,6 @@ use Rattle.isp_base.specs.declared.types.Elem.TheVariants.{Bool as Truth}
 use Rattle.isp_code.specs.Listing.{Listing, Routine}
 use Rattle.isp_code.specs.Registers.{elem_of}
 use Rattle.isp_code.specs.Entries.{result_of}
-use Rattle.isp_code.specs.declared.function.Local.{Local}
 use Rattle.isp_code.specs.declared.function.Returns.{Returns}
 use Rattle.isp_code.specs.declared.function.Returns.TheVariants.{Nothing, Scalar as GivesScalar, Vector as GivesVector}
 use Rattle.isp_code.specs.declared.instr.Instr.{Instr}
@@ -16,8 +15,9 @@ use Rattle.isp_wasm_meaning.specs.Valid.{sized}
 use Rattle.isp_wasm_meaning.specs.Module.{ValueType, I32, I64, V128, Function, Module, unused}
 use Rattle.isp_wasm.specs.Entry.{entry_code}
 use Rattle.isp_wasm.specs.Locals.{param_places, taken_places, own_places, local_in, inner_local, position}
-use Rattle.isp_wasm.specs.Places.{Setting, Place, Counter, Scalar, Base, Count, Spare, Depth, size_of}
+use Rattle.isp_wasm.specs.Places.{Setting, Place, Counter, Scalar, Base, Count, Spare, Depth, Top, size_of}
 use Rattle.isp_wasm.specs.Templates.{function_code}
+use Rattle.isp_wasm.specs.Stack.{has_call, none_open}
 use Rattle.isp_wasm.specs.Standing.{scalar_register}
 
 -- ---- rungs
@@ -57,10 +57,6 @@ abbrev pub has_form : Instr → Bool
 has_form (instr.Clear a k) = false
 has_form i = true
 
-abbrev pub none_open : List Local → Bool
-none_open [] = true
-none_open (l ∷ ls) = false
-
 -- a function; numbers of instructions and of bytes of text have 32 bits
 abbrev pub is_plain : Listing → Routine → Bool
 is_plain code h =
@@ -70,13 +66,6 @@ abbrev pub all_plain : Listing → Bool
 all_plain code = list_all (is_plain code) code.routines
 
 -- which functions are called
-abbrev pub is_call : Instr → Bool
-is_call (instr.Call c) = true
-is_call i = false
-
-abbrev pub has_call : Routine → Bool
-has_call h = list_any is_call h.code
-
 abbrev pub calls_function : ℕ → Instr → Bool
 calls_function f (instr.Call c) = nat_eq c.function f
 calls_function f i = false
@@ -118,6 +107,7 @@ module _ (code : Listing) where
           elems = λ b. Truth;
           text_at = text_start code.texts;
           before = λ a. 0;
+          stack = None;
         }
 
     -- of one that another one calls
@@ -127,6 +117,7 @@ module _ (code : Listing) where
     abbrev pub type_of : Place → ValueType
     type_of Counter = I32
     type_of Depth = I32
+    type_of Top = I32
     type_of (Scalar r) = sized (size_of (elem_of h (scalar_register r)))
     type_of (Base a) = I32
     type_of (Count a) = I64

@@ -18,8 +18,9 @@ use Rattle.isp_code.specs.declared.register.Register.{Register}
 use Rattle.isp_wasm_meaning.specs.Syntax.{I8x16}
 use Rattle.isp_wasm_meaning.specs.Meaning.{Report, State, Result, Returned, Trapped, lane, flags, count, loaded, bytes}
 use Rattle.isp_wasm_meaning.specs.Ladder.{Machine}
-use Rattle.isp_wasm.specs.Places.{Setting, Place, Scalar, Vector, Mask, Base, Count, Depth, elem, shape, gang, text, bytes_of}
+use Rattle.isp_wasm.specs.Places.{Setting, Place, Scalar, Vector, Mask, Base, Count, Depth, Top, elem, shape, gang, text, bytes_of}
 use Rattle.isp_wasm.specs.Rows.{cell}
+use Rattle.isp_wasm.specs.Stack.{top}
 
 abbrev pub scalar_register : ℕ → Register
 scalar_register r = record { class = class.Scalar; number = r }
@@ -29,7 +30,8 @@ vector_register r = record { class = class.Vector; number = r }
 
 module _ (w : Setting) where
   -- The locals: a scalar is its bits; a vector's lanes in the gang are its lanes; a mask's lanes are all ones or zeros, also
-  -- past the gang; where each array begins, and its number of elements; and how many calls wait.
+  -- past the gang; where each array begins, and its number of elements; how many calls wait; and
+  -- where the next array lies.
   pub record Holds (scalars : ℕ → ℕ) (vectors : ℕ → Lanes) (masks : ℕ → Sets.Mask) (l : ℕ → ℕ) : Type 0 where
     pub scalars_are : (r : ℕ) → l (w.local (Scalar r)) ≡ scalars r
     pub vectors_are : (r j k : ℕ) → k < count (shape w (vector_register r)) → j * count (shape w (vector_register r)) + k < gang w
@@ -41,6 +43,7 @@ module _ (w : Setting) where
     pub bases : (a : ℕ) → l (w.local (Base a)) ≡ w.begins (w.home.named a)
     pub counts : (a : ℕ) → l (w.local (Count a)) ≡ w.home.sizes (w.home.named a)
     pub depth : l (w.local Depth) ≡ length w.waiting
+    pub top_is : l (w.local Top) ≡ top w
 
   -- a byte of no array
   abbrev pub IsBeside : ℕ → Type 0

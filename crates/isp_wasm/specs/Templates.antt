@@ -37,7 +37,7 @@ use Rattle.isp_wasm_meaning.specs.Ladder.{dispatched}
 use Rattle.isp_wasm_meaning.specs.Syntax as wasm
 use Rattle.isp_wasm_meaning.specs.Syntax.{Shape, I8x16, Add, Sub, Mul, And, Or, Xor, Eq, Ne, LtU, LtS, DivU, RemU, Eqz, Ctz, Wrap, ExtendU, Splat, Extract, Bitmask, Of, BitsOf, CompareLanes, Bits, Replace, Expr, Const32, Const64, Const128, Local, One, Two, Select, Bitselect}
 use Rattle.isp_wasm_meaning.specs.Syntax.{Code, Skip, Unreachable, Then, Set, Load, Store, Divide, Fail, Write, If, Br, Return, Call as CallFunction, GetGlobal, SetGlobal, Print, SignedText, UnsignedText, TruthText, ByteText}
-use Rattle.isp_wasm.specs.Places.{Setting, gang, text, Counter, Scalar, Vector, Mask, Base, Count, Fresh, Spare, Depth, bytes_of, elem, shape, parts, size_of}
+use Rattle.isp_wasm.specs.Places.{Setting, gang, text, Counter, Scalar, Vector, Mask, Base, Count, Fresh, Spare, Depth, Top, bytes_of, elem, shape, parts, size_of}
 use Rattle.isp_wasm.specs.Words.{constant, below, whole_expr, plain_expr, unary_expr, compare_expr, convert_expr}
 use Rattle.isp_wasm.specs.Rows.{as_cell, lane_at, widened, narrowed, ones, compare_row, unary_row, by_lane, present, plain_row}
 
@@ -398,7 +398,7 @@ module _ (w : Setting) where
   passed_all k (x ∷ xs) = passed_of k x.class x ++ passed_all k xs
 
   abbrev pub arguments_of : Call → List Expr
-  arguments_of k = plus waiting_calls 1 ∷ (listed (parts w I8x16) (mask_local k.mask) ++ passed_all k.mask k.arguments)
+  arguments_of k = plus waiting_calls 1 ∷ Local (w.local Top) ∷ (listed (parts w I8x16) (mask_local k.mask) ++ passed_all k.mask k.arguments)
 
   -- functions that others call come behind as many as the code has
   abbrev pub called_number : Call → ℕ
