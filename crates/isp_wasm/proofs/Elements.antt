@@ -2,6 +2,7 @@
 use Rattle.std.proofs.Common.{◌≡◌, ◌≢◌, ℕ, ◌+◌, ◌-◌, ◌*◌, ◌%◌, ◌^◌, ◌<◌, ◌≤◌, ◌⊎◌, inl, inr, List, length, None, not, refl, sym, ap, ap₂, ◌∙◌, subst, arith, mod-eq_of_lt}
 use Rattle.std.specs.Prelude.{slice_get, nat_lt, nat_le, if◌then◌else◌}
 use Rattle.std.proofs.lemmas.Bool.{cases_eq, cases_lt, le-leb, cond-true}
+use Rattle.std.proofs.lemmas.Nat.{pow_pos}
 use Rattle.isp_base.specs.Access.{is_outside}
 use Rattle.isp_base.specs.Maps.{put, Lanes}
 use Rattle.isp_base.specs.Values.{width}
@@ -14,7 +15,7 @@ use Rattle.isp_code.specs.declared.register.Register.{Register}
 use Rattle.isp_wasm_meaning.specs.Syntax.{Expr, Load, Store}
 use Rattle.isp_wasm_meaning.specs.Meaning as wasm
 use Rattle.isp_wasm_meaning.specs.Meaning.{State, Result, Fell, Trapped, run, value, loaded, inside, flag, set_local}
-use Rattle.isp_wasm_meaning.proofs.Memory.{bytes_same, off_bytes, loaded_back, loaded_beside, bytes_stay}
+use Rattle.isp_wasm_meaning.proofs.Memory.{bytes_same, off_bytes, loaded_back, loaded_beside, bytes_stay, cleared_off, zeros_loaded, cleared_beside, cleared_stay}
 use Rattle.isp_wasm.specs.Places.{Setting, Base, elem, text, bytes_of}
 use Rattle.isp_wasm.specs.Templates.{address_at}
 use Rattle.isp_wasm.specs.Standing.{Stands, Keeps, IsSettled}
@@ -22,7 +23,7 @@ use Rattle.isp_wasm.specs.Thin.{IsArray}
 use Rattle.isp_wasm.proofs.Frames.{put_same, put_other}
 use Rattle.isp_wasm.proofs.Indices.{outside_is, in_row, plain_address}
 
-few_bytes : (t : Elem) → (0 < bytes_of t) × (bytes_of t ≤ 8)
+pub few_bytes : (t : Elem) → (0 < bytes_of t) × (bytes_of t ≤ 8)
 few_bytes Truth = (omega arith, omega arith)
 few_bytes I8 = (omega arith, omega arith)
 few_bytes U8 = (omega arith, omega arith)
@@ -182,12 +183,56 @@ module _ (w : Setting) (ready : IsSettled w) where
               small = keeps.small;
               texts = λ t. kept_text t ∙ keeps.texts t;
               text_room = keeps.text_room;
-              rest = λ a beside. off_bytes each_bytes (place_of x) v memory a (off a (beside store)) ∙ keeps.rest a beside;
+              whole = keeps.whole;
+              rest = λ a beside. off_bytes each_bytes (place_of x) v memory a (off a (beside.0 store)) ∙ keeps.rest a beside;
             }
           where
             off : (a : ℕ) → (a < w.begins store) ⊎ (w.begins store + many * each_bytes ≤ a) → (a < place_of x) ⊎ (place_of x + each_bytes ≤ a)
             off a (inl h) = inl (omega arith)
             off a (inr h) = inr (let le = in_row x many each_bytes lt in omega arith)
+
+      -- ---- after all of it is zeroed
+
+      abbrev pub zeroed : ℕ → ℕ
+      zeroed = wasm.cleared (many * each_bytes) (w.begins store) memory
+
+      zero_at : (b e : ℕ) → (b ≡ store) ⊎ (b ≡ store → ⊥) → e < w.home.sizes b → loaded (bytes_of (w.elems b)) (w.begins b + e * bytes_of (w.elems b)) zeroed ≡ put arrays store (λ e. 0) b e
+      zero_at b e (inl same) l =
+          subst (λ b. e < w.home.sizes b → loaded (bytes_of (w.elems b)) (w.begins b + e * bytes_of (w.elems b)) zeroed ≡ put arrays store (λ e. 0) b e) (sym same)
+          (λ l. zeros_loaded (many * each_bytes) (w.begins store) memory each_bytes (place_of e) (omega arith) (let le = in_row e many each_bytes l in omega arith)
+          ∙ sym (ap (λ g. g e) (put_same arrays store (λ e. 0) store refl)))
+          l
+      zero_at b e (inr ne) l =
+          cleared_beside (many * each_bytes) (w.begins store) memory (bytes_of (w.elems b)) (w.begins b + e * bytes_of (w.elems b)) (beside (ready.disjoint b store ne))
+          ∙ keeps.elements b e l ∙ sym (ap (λ g. g e) (put_other arrays store (λ e. 0) b ne))
+        where
+          beside : (w.begins b + w.home.sizes b * bytes_of (w.elems b) ≤ w.begins store) ⊎ (w.begins store + many * each_bytes ≤ w.begins b)
+              → (w.begins b + e * bytes_of (w.elems b) + bytes_of (w.elems b) ≤ w.begins store) ⊎ (w.begins store + many * each_bytes ≤ w.begins b + e * bytes_of (w.elems b))
+          beside (inl h) = inl (let le = in_row e (w.home.sizes b) (bytes_of (w.elems b)) l in omega arith)
+          beside (inr h) = inr (omega arith)
+
+      zero_fits : (b e : ℕ) → (b ≡ store) ⊎ (b ≡ store → ⊥) → e < w.home.sizes b → put arrays store (λ e. 0) b e < 2 ^ width (w.elems b)
+      zero_fits b e (inl same) l = subst (λ n. n < 2 ^ width (w.elems b)) (sym (ap (λ g. g e) (put_same arrays store (λ e. 0) b same))) (pow_pos (width (w.elems b)))
+      zero_fits b e (inr ne) l = subst (λ n. n < 2 ^ width (w.elems b)) (sym (ap (λ g. g e) (put_other arrays store (λ e. 0) b ne))) (keeps.elements_fit b e l)
+
+      pub keeps_zeroed : Keeps w (put arrays store (λ e. 0)) zeroed bytes
+      keeps_zeroed =
+          record {
+            bytes_fit = cleared_stay (many * each_bytes) (w.begins store) memory keeps.bytes_fit;
+            elements = λ b e l. zero_at b e (cases_eq b store) l;
+            elements_fit = λ b e l. zero_fits b e (cases_eq b store) l;
+            room = keeps.room;
+            small = keeps.small;
+            texts = λ t. bytes_same (length (text w t)) (w.text_at t) zeroed memory (λ j l. cleared_off (many * each_bytes) (w.begins store) memory (w.text_at t + j) (beside t j l (ready.text_apart t store))) ∙ keeps.texts t;
+            text_room = keeps.text_room;
+            whole = keeps.whole;
+            rest = λ a beside. cleared_off (many * each_bytes) (w.begins store) memory a (beside.0 store) ∙ keeps.rest a beside;
+          }
+        where
+          beside : (t j : ℕ) → j < length (text w t) → (w.text_at t + length (text w t) ≤ w.begins store) ⊎ (w.begins store + many * each_bytes ≤ w.text_at t)
+              → (w.text_at t + j < w.begins store) ⊎ (w.begins store + many * each_bytes ≤ w.text_at t + j)
+          beside t j l (inl h) = inl (omega arith)
+          beside t j l (inr h) = inr (omega arith)
 
   pub keeps_same : (a b : ℕ → Lanes) (memory : ℕ → ℕ) (bytes : ℕ) → ((r e : ℕ) → a r e ≡ b r e) → Keeps w a memory bytes → Keeps w b memory bytes
   keeps_same a b memory bytes same keeps =
@@ -199,5 +244,6 @@ module _ (w : Setting) (ready : IsSettled w) where
         small = keeps.small;
         texts = keeps.texts;
         text_room = keeps.text_room;
+        whole = keeps.whole;
         rest = keeps.rest;
       }

@@ -19,6 +19,7 @@ mod Loads
 mod LaneEnds
 mod Gathers
 mod Stores
+mod Clears
 mod Divisions
 mod Picks
 mod Across
@@ -35,6 +36,9 @@ mod Passing
 mod Given
 mod Heads
 mod TextPlaces
+mod Shares
+mod Opening
+mod Opened
 mod Plain
 mod Inner
 mod Kernels
@@ -46,3 +50,4 @@ mod ValidModules
 mod Numbered
 mod Samples
 mod CallSamples
+mod ArraySamples

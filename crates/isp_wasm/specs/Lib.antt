@@ -1,8 +1,8 @@
 pub mod Places
+pub mod Stack
 pub mod Words
 pub mod Rows
 pub mod Templates
-pub mod Stack
 pub mod Standing
 pub mod Thin
 pub mod Agreement

@@ -1,12 +1,13 @@
 -- The module that is made of code: its numbers are those of the code, and a function of it is as its code is.
-use Rattle.std.specs.Prelude.{ℕ, zero, suc, ◌+◌, ◌^◌, List, [], ◌∷◌, ◌++◌, length, map, Option, Some, None, Bool, true, false, not, ◌&&◌, ◌||◌, if◌then◌else◌, nat_eq, nat_lt, slice_index_or}
+use Rattle.std.specs.Prelude.{ℕ, zero, suc, ◌+◌, ◌^◌, List, [], ◌∷◌, ◌++◌, length, map, Option, Some, None, Bool, false, not, ◌&&◌, ◌||◌, if◌then◌else◌, nat_eq, nat_lt, slice_index_or}
 use Rattle.std.specs.List.{list_all, list_any}
 use Rattle.isp_base.specs.Types.{gang_width}
 use Rattle.isp_base.specs.declared.types.Elem.{Elem}
 use Rattle.isp_base.specs.declared.types.Elem.TheVariants.{Bool as Truth}
 use Rattle.isp_code.specs.Listing.{Listing, Routine}
-use Rattle.isp_code.specs.Registers.{elem_of}
+use Rattle.isp_code.specs.Registers.{elem_of, is_per_instance}
 use Rattle.isp_code.specs.Entries.{result_of}
+use Rattle.isp_code.specs.declared.function.Local.{Local}
 use Rattle.isp_code.specs.declared.function.Returns.{Returns}
 use Rattle.isp_code.specs.declared.function.Returns.TheVariants.{Nothing, Scalar as GivesScalar, Vector as GivesVector}
 use Rattle.isp_code.specs.declared.instr.Instr.{Instr}
@@ -16,8 +17,8 @@ use Rattle.isp_wasm_meaning.specs.Module.{ValueType, I32, I64, V128, Function, M
 use Rattle.isp_wasm.specs.Entry.{entry_code}
 use Rattle.isp_wasm.specs.Locals.{param_places, taken_places, own_places, local_in, inner_local, position}
 use Rattle.isp_wasm.specs.Places.{Setting, Place, Counter, Scalar, Base, Count, Spare, Depth, Top, size_of}
-use Rattle.isp_wasm.specs.Templates.{function_code}
-use Rattle.isp_wasm.specs.Stack.{has_call, none_open}
+use Rattle.isp_wasm.specs.Templates.{routine_code}
+use Rattle.isp_wasm.specs.Stack.{has_call, bytes_in}
 use Rattle.isp_wasm.specs.Standing.{scalar_register}
 
 -- ---- rungs
@@ -52,15 +53,15 @@ text_start (x ∷ xs) (suc t) = length x + text_start xs t
 
 -- ---- what is covered
 
--- no array that a function opens
-abbrev pub has_form : Instr → Bool
-has_form (instr.Clear a k) = false
-has_form i = true
+-- no array of which each lane has its own
+abbrev pub all_shared : List Local → Bool
+all_shared = list_all (λ l. not (is_per_instance l.sharing))
 
--- a function; numbers of instructions and of bytes of text have 32 bits
+-- a function; numbers of instructions, of bytes of text and of those of the arrays that it opens have 32 bits
 abbrev pub is_plain : Listing → Routine → Bool
 is_plain code h =
-    list_all has_form h.code && (none_open h.locals && (nat_lt (length h.code) (2 ^ 32) && nat_lt (length (joined code.texts)) (2 ^ 32)))
+    all_shared h.locals
+    && (nat_lt (suc (bytes_in (gang_width code.gang) h.locals)) (2 ^ 32) && (nat_lt (length h.code) (2 ^ 32) && nat_lt (length (joined code.texts)) (2 ^ 32)))
 
 abbrev pub all_plain : Listing → Bool
 all_plain code = list_all (is_plain code) code.routines
@@ -107,6 +108,7 @@ module _ (code : Listing) where
           elems = λ b. Truth;
           text_at = text_start code.texts;
           before = λ a. 0;
+          room = 0;
           stack = None;
         }
 
@@ -144,7 +146,7 @@ module _ (code : Listing) where
           params = map type_of (taken_places (gang_width code.gang) h);
           result = back_type h.returns;
           locals = map type_of (own_places (gang_width code.gang) h);
-          code = function_code inner;
+          code = routine_code inner;
         }
 
     abbrev pub function_of : Function

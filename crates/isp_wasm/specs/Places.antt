@@ -64,8 +64,8 @@ abbrev pub parts_for : ℕ → wasm.Shape → ℕ
 parts_for lanes s = (lanes + (count s - 1)) / count s
 
 -- A function of some code, as it runs: its arrays, the calls that wait for it, the local of each place; rungs, the first instruction of each, and
--- the rung that begins at an instruction; and where each store begins, with the type of its elements; where each text lies; the memory before; and from
--- where on arrays lie that functions open, where any may.
+-- the rung that begins at an instruction; and where each store begins, with the type of its elements; where each text lies; the memory before, and its bytes;
+-- and from where on arrays lie that functions open, where any may.
 pub record Setting : Type 0 where
   pub code : Listing
   pub routine : Routine
@@ -79,6 +79,7 @@ pub record Setting : Type 0 where
   pub elems : ℕ → Elem
   pub text_at : ℕ → ℕ
   pub before : ℕ → ℕ
+  pub room : ℕ
   pub stack : Option ℕ
 
 module _ (w : Setting) where

@@ -1,14 +1,18 @@
 -- Where the arrays lie that functions open: from an address on that the host sets, those of each call behind those of the call
 -- that waits for it.
-use Rattle.std.specs.Prelude.{ℕ, ◌+◌, ◌*◌, List, [], ◌∷◌, Option, Some, None, Bool, true, false, not, ◌||◌, slice_get, if◌then◌else◌}
+use Rattle.std.specs.Prelude.{ℕ, suc, ◌+◌, ◌-◌, ◌*◌, ◌<◌, List, [], ◌∷◌, Option, Some, None, Bool, true, false, not, ◌||◌, nat_lt, slice_get, slice_index, slice_index_or, if◌then◌else◌}
 use Rattle.std.specs.List.{list_any}
 use Rattle.isp_base.specs.Types.{gang_width}
+use Rattle.isp_base.specs.declared.types.Elem.{Elem}
+use Rattle.isp_base.specs.declared.types.Elem.TheVariants.{Bool as Truth}
+use Rattle.isp_code.specs.Calls.{if_shared}
 use Rattle.isp_code.specs.Conf.{Frame, Conf}
 use Rattle.isp_code.specs.Listing.{Listing, Routine}
 use Rattle.isp_code.specs.Registers.{is_per_instance}
 use Rattle.isp_code.specs.declared.function.Local.{Local}
 use Rattle.isp_code.specs.declared.instr.Instr.{Instr}
 use Rattle.isp_code.specs.declared.instr.Instr.TheVariants as instr
+use Rattle.isp_wasm_meaning.specs.Meaning.{cleared}
 use Rattle.isp_wasm.specs.Places.{Setting, bytes_of}
 
 -- ---- whether there are any
@@ -70,3 +74,35 @@ module _ (w : Setting) where
 
   abbrev pub top : ℕ
   top = bottom + bytes_in (gang_width w.code.gang) w.routine.locals
+
+-- a byte that no array takes that a function opens
+abbrev pub IsBelow : Option ℕ → ℕ → Type 0
+IsBelow None a = Unit {0}
+IsBelow (Some n) a = a < n
+
+-- ---- the stores that a function opens, one for each array that all lanes share
+
+-- where each begins, if the first array does there
+abbrev pub shared_starts : ℕ → ℕ → List Local → List ℕ
+shared_starts lanes t [] = []
+shared_starts lanes t (l ∷ ls) = if_shared (is_per_instance l.sharing) t (shared_starts lanes (t + local_bytes lanes l) ls)
+
+abbrev pub if_shared_elem : Bool → Elem → List Elem → List Elem
+if_shared_elem true t ts = ts
+if_shared_elem false t ts = t ∷ ts
+
+abbrev pub shared_elems : List Local → List Elem
+shared_elems [] = []
+shared_elems (l ∷ ls) = if_shared_elem (is_per_instance l.sharing) l.elem (shared_elems ls)
+
+-- so many stores as before, and then these
+abbrev pub with_starts : ℕ → (ℕ → ℕ) → List ℕ → ℕ → ℕ
+with_starts n begins starts b = if nat_lt b n then begins b else slice_index starts (b - n)
+
+abbrev pub with_elems : ℕ → (ℕ → Elem) → List Elem → ℕ → Elem
+with_elems n elems ts b = if nat_lt b n then elems b else slice_index_or ts (b - n) Truth
+
+-- the memory where they are opened from an address on: zeros there, and in one byte behind the last
+abbrev pub opened_memory : ℕ → ℕ → List Local → (ℕ → ℕ) → ℕ → ℕ
+opened_memory lanes t [] memory = memory
+opened_memory lanes t (l ∷ ls) memory = cleared (suc (bytes_in lanes (l ∷ ls))) t memory

@@ -20,7 +20,7 @@ use Rattle.isp_wasm_meaning.specs.Meaning.{Report, State, Result, Returned, Trap
 use Rattle.isp_wasm_meaning.specs.Ladder.{Machine}
 use Rattle.isp_wasm.specs.Places.{Setting, Place, Scalar, Vector, Mask, Base, Count, Depth, Top, elem, shape, gang, text, bytes_of}
 use Rattle.isp_wasm.specs.Rows.{cell}
-use Rattle.isp_wasm.specs.Stack.{top}
+use Rattle.isp_wasm.specs.Stack.{IsBelow, open_bytes, top}
 
 abbrev pub scalar_register : ℕ → Register
 scalar_register r = record { class = class.Scalar; number = r }
@@ -45,9 +45,9 @@ module _ (w : Setting) where
     pub depth : l (w.local Depth) ≡ length w.waiting
     pub top_is : l (w.local Top) ≡ top w
 
-  -- a byte of no array
+  -- a byte of no array, nor where arrays may be opened
   abbrev pub IsBeside : ℕ → Type 0
-  IsBeside a = (b : ℕ) → (a < w.begins b) ⊎ (w.begins b + w.home.sizes b * bytes_of (w.elems b) ≤ a)
+  IsBeside a = ((b : ℕ) → (a < w.begins b) ⊎ (w.begins b + w.home.sizes b * bytes_of (w.elems b) ≤ a)) × IsBelow w.stack a
 
   -- The memory of so many bytes: the elements of each store, in its own bytes, little endian; the texts; and what lies beside
   -- the arrays is as it was before.
@@ -57,6 +57,7 @@ module _ (w : Setting) where
     pub elements_fit : (b e : ℕ) → e < w.home.sizes b → arrays b e < 2 ^ width (w.elems b)
     pub room : (b : ℕ) → w.begins b + w.home.sizes b * bytes_of (w.elems b) ≤ size
     pub small : size ≤ 2 ^ 32
+    pub whole : size ≡ w.room
     pub texts : (t : ℕ) → bytes (length (text w t)) (w.text_at t) memory ≡ text w t
     pub text_room : (t : ℕ) → w.text_at t + length (text w t) ≤ size
     pub rest : (a : ℕ) → IsBeside a → memory a ≡ w.before a
@@ -130,9 +131,19 @@ module _ (w : Setting) where
     pub out_is : s.out ≡ conf.out
     pub keeps : Keeps conf.arrays s.memory s.size
 
+  -- the machine comes to where all arrays that are open leave no byte of the memory behind them
+  pub record IsFull (c : Conf) : Type 0 where
+    pub conf : Conf
+    pub steps : ℕ
+    pub goes : after w.code steps (machine.Runs c) ≡ machine.Runs conf
+    pub address : ℕ
+    pub stack_is : w.stack ≡ Some address
+    pub full : w.room ≤ address + open_bytes w.code conf
+
   abbrev pub Final : Conf → Result → Type 0
   Final c (Returned v s) = Leaves c v s
   Final c (Trapped (Some r) s) = Fails c r s
+  Final c (Trapped None s) = IsFull c
   Final c r = ⊥
 
   pub record Cut (f : ℕ) (c : Conf) (s : State) : Type 0 where
