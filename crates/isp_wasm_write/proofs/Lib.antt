@@ -1,3 +1,4 @@
+pub mod ArrayLines
 pub mod Constants
 pub mod Each
 pub mod JumpTests

@@ -1,5 +1,5 @@
 -- The bytes of parts that are constants.
-use Rattle.std.proofs.Common.{◌≡◌, ℕ, ◌<◌, ◌*◌, ◌+◌, List, get_or, refl}
+use Rattle.std.proofs.Common.{◌≡◌, ℕ, ◌<◌, List, get_or, refl}
 use Rattle.std.specs.Prelude.{slice_index}
 use Rattle.isp_base.specs.Sets.{nobody}
 use Rattle.isp_wasm_meaning.specs.Digits.{packed}

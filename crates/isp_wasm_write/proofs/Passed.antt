@@ -1,7 +1,6 @@
 -- What a caller passes, whoever it is.
 use Rattle.std.proofs.Common.{◌≡◌, ℕ, suc, ◌+◌, ◌<◌, List, [], ◌∷◌, ◌++◌, length, drop, get_or, refl, ap, sym, ◌∙◌, append_assoc, add-one, arith}
 use Rattle.std.proofs.lemmas.List.{drop_more, length-append}
-use Rattle.isp_base.specs.declared.types.Elem.{Elem}
 use Rattle.isp_code.specs.Listing.{Routine}
 use Rattle.isp_code.specs.declared.function.Param.{Param}
 use Rattle.isp_code.specs.declared.function.ParamKind.{ParamKind}

@@ -2,7 +2,7 @@
 ghost use Rattle.std.specs.Prelude.{◌≡◌, ◌<◌, ◌≤◌, ◌^◌, length, map, slice_get, slice_index_or, Some, None, IfSome, IfOk, IfErr, OnOk};
 ghost use Rattle.isp_base.specs.Types.{gang_width};
 ghost use Rattle.isp_code.specs.Listing.{routine_of};
-ghost use Rattle.isp_code.specs.Registers.{elem_of, table_of};
+ghost use Rattle.isp_code.specs.Registers.{elem_of, passed, table_of};
 ghost use Rattle.isp_wasm.specs.Locals.{name_of, paired, position, own_places};
 ghost use Rattle.isp_wasm_write.specs.Limits.{limit_fault, explains};
 ghost use Rattle.isp_wasm_write.specs.Places.{place_of};
@@ -259,6 +259,13 @@ impl<'a> Kernel<'a> {
         ensures low { result ≤ 32 }
     {
         self.code.gang().width() as u32
+    }
+
+    /// How many arrays are parameters.
+    pub(crate) fn passed(&self) -> usize
+        ensures { result ≡ passed self.now.routine }
+    {
+        self.registers.passed()
     }
 
     /// The places in the source, by number.

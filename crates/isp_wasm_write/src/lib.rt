@@ -10,6 +10,7 @@ mod lines;
 mod locals;
 mod masks;
 mod memory;
+mod opened;
 mod operand;
 mod parts;
 mod ranges;

@@ -1,5 +1,5 @@
 -- What is tested where control may jump.
-use Rattle.std.specs.Prelude.{ℕ, ◌-◌, ◌^◌}
+use Rattle.std.specs.Prelude.{◌-◌, ◌^◌}
 use Rattle.isp_code.specs.declared.instr.JumpTest.{JumpTest}
 use Rattle.isp_code.specs.declared.instr.JumpTest.TheVariants as jump
 use Rattle.isp_code.specs.declared.register.Register.{Register}

@@ -1,5 +1,5 @@
 -- The locals that no caller passes, in two parts.
-use Rattle.std.specs.Prelude.{ℕ, ◌+◌, List, [], ◌∷◌, ◌++◌, length}
+use Rattle.std.specs.Prelude.{ℕ, ◌+◌, List, ◌∷◌, ◌++◌, length}
 use Rattle.isp_code.specs.Listing.{Routine}
 use Rattle.isp_code.specs.Registers.{param_elems, vectors_of}
 use Rattle.isp_code.specs.declared.register.Class.TheVariants as class
