@@ -48,6 +48,7 @@ mod ValidLines
 mod ValidCalls
 mod ValidModules
 mod Numbered
+mod Rooms
 mod Samples
 mod CallSamples
 mod ArraySamples
