@@ -14,6 +14,7 @@ mod Masks
 mod Results
 mod Scalars
 mod LaneLoops
+mod Regions
 mod Elements
 mod Loads
 mod LaneEnds

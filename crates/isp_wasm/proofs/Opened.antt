@@ -24,7 +24,7 @@ use Rattle.isp_wasm.specs.Places.{Setting, Place, gang, text, bytes_of}
 use Rattle.isp_wasm.specs.Module.{text_start, all_shared}
 use Rattle.isp_wasm.specs.Stack.{IsBelow, none_open, start, waiting_bytes, moved_up, floor, bytes_in, shared_starts, shared_elems, with_starts, with_elems, opened_memory}
 use Rattle.isp_wasm.specs.Standing.{Keeps, IsBeside}
-use Rattle.isp_wasm.proofs.Elements.{few_bytes}
+use Rattle.isp_wasm.proofs.Regions.{few_bytes}
 use Rattle.isp_wasm.proofs.Indices.{in_row}
 use Rattle.isp_wasm.proofs.Plain.{placed, all_at, AreStored}
 use Rattle.isp_wasm.proofs.Shares.{IsAt, is_at, end_of, within, apart, part_low, one_copy, starts_long, taken_all}
