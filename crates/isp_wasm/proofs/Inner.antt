@@ -38,7 +38,7 @@ use Rattle.isp_wasm.specs.Places.{Setting, Place, Counter, gang, parts, elem, sh
 use Rattle.isp_wasm.specs.Rows.{cell, widened}
 use Rattle.isp_wasm.specs.Locals.{row, taken_from, taken_places, own_places, inner_local, local_at}
 use Rattle.isp_wasm.specs.Module.{all_shared, is_plain, all_plain, calls_function, is_called, inner, inner_of, inner_function, inner_functions, function_of, module_of}
-use Rattle.isp_wasm.specs.Stack.{start, has_call, waiting_bytes, function_bytes, bytes_if, bytes_in, top}
+use Rattle.isp_wasm.specs.Stack.{IsBelow, moved_up, start, has_call, waiting_bytes, function_bytes, bytes_if, bytes_in, top}
 use Rattle.isp_wasm.specs.Standing.{Holds, Keeps, Stands, IsFull, IsSettled, bits_by, bits_of, LanesBy, LanesOf, scalar_register, vector_register, the_machine}
 use Rattle.isp_wasm.specs.Templates.{listed, plus, waiting_calls, part_under, vector_local, mask_local, passed_all, arguments_of, called_number, function_code, begin_code, routine_code}
 use Rattle.isp_wasm.specs.Agreement.{BringsTo, Brings, Back, CallsAgree, ComesBack}
@@ -127,7 +127,7 @@ module _ (w : Setting) (of : IsOf w) (x : Call) (pc : ℕ) (has : slice_get w.ro
     at = start w.stack + waiting_bytes w.code frames
 
     abbrev pub callee : Setting
-    callee = inside w g x.function names (inner_local (gang w) g) frames at
+    callee = inside w g x.function names (inner_local (gang w) g) frames at s.memory
 
     abbrev pub begun : Conf
     begun = calls.called c x g
@@ -167,10 +167,10 @@ module _ (w : Setting) (of : IsOf w) (x : Call) (pc : ℕ) (has : slice_get w.ro
           few = few_heads w.code g x.function of.accepted fine.found plain_g;
           heads_up = heads_rise w.code g x.function of.accepted fine.found plain_g;
           text_low = text_low w.code g x.function of.accepted fine.found plain_g;
-          text_apart = text_apart w g x.function names (inner_local (gang w) g) frames at of.laid (λ e. under) small;
-          bounded = bounded w g x.function names (inner_local (gang w) g) frames at of.laid (λ e. under) small;
-          closed = past_size w g x.function names (inner_local (gang w) g) frames at;
-          disjoint = disjoint w g x.function names (inner_local (gang w) g) frames at of.laid (λ e. under) small;
+          text_apart = text_apart w g x.function names (inner_local (gang w) g) frames at s.memory of.laid (λ e. under) small refl;
+          bounded = bounded w g x.function names (inner_local (gang w) g) frames at s.memory of.laid (λ e. under) small refl;
+          closed = past_size w g x.function names (inner_local (gang w) g) frames at s.memory;
+          disjoint = disjoint w g x.function names (inner_local (gang w) g) frames at s.memory of.laid (λ e. under) small refl;
         }
 
     below_old : (arrays : ℕ → Lanes) (b e : ℕ) → b < w.home.opened → below c.home.opened arrays b e ≡ arrays b e
@@ -187,8 +187,18 @@ module _ (w : Setting) (of : IsOf w) (x : Call) (pc : ℕ) (has : slice_get w.ro
         by (inl low) = below_old arrays b e low
         by (inr le) = absurd (let nothing = of.settled.closed b le in omega (arith, lt, nothing))
 
+    -- what lies below the caller's arrays lies below those of the function
+    lower : (o : Option ℕ) (a n m : ℕ) → n ≤ m → IsBelow (moved_up o n) a → IsBelow (moved_up o m) a
+    lower None a n m le h = h
+    lower (Some y) a n m le h = omega (arith, le, h)
+
+    higher : waiting_bytes w.code w.waiting ≤ waiting_bytes w.code frames
+    higher = omega (arith, waiting_are)
+
     returned : (arrays others : ℕ → Lanes) (memory : ℕ → ℕ) (size : ℕ) → ((b e : ℕ) → e < w.home.sizes b → others b e ≡ arrays b e) → Keeps callee arrays memory size → Keeps w others memory size
-    returned = keeps_out w g x.function names (inner_local (gang w) g) frames at of.laid (λ e. under) small
+    returned arrays others memory size same k =
+        keeps_out w g x.function names (inner_local (gang w) g) frames at s.memory of.laid (λ e. under) small refl arrays others memory size same st.keeps.rest
+        (λ a h. lower w.stack a (waiting_bytes w.code w.waiting) (waiting_bytes w.code frames) higher h) k
 
     -- ---- what is passed
 
@@ -311,7 +321,7 @@ module _ (w : Setting) (of : IsOf w) (x : Call) (pc : ℕ) (has : slice_get w.ro
     passed_low a q has = subst (λ n. a < n) arrays_long (some_low array_numbers a q has)
 
     named_in : (a q : ℕ) → slice_get array_numbers a ≡ Some q → home.named a ≡ w.home.named q
-    named_in a q has = named_low w g x.function names (inner_local (gang w) g) frames at a (passed_low a q has) ∙ ap (from 0 w.home.named) has
+    named_in a q has = named_low w g x.function names (inner_local (gang w) g) frames at s.memory a (passed_low a q has) ∙ ap (from 0 w.home.named) has
 
     old_named : (a q : ℕ) → slice_get array_numbers a ≡ Some q → w.home.named q < w.home.opened
     old_named a q has = of.named_low q (passed_fits w.routine class.Array g.params x.arguments fine.passed a q has).there
@@ -331,7 +341,7 @@ module _ (w : Setting) (of : IsOf w) (x : Call) (pc : ℕ) (has : slice_get w.ro
     NotOwn a = (i : ℕ) → i < length g.locals → a ≡ length (param_elems class.Array g.params) + i → ⊥
 
     past_own : (a : ℕ) → NotOwn a → length (param_elems class.Array g.params) ≤ a → home.named a ≡ home.opened
-    past_own a out le = named_past w g x.function names (inner_local (gang w) g) frames at a (past (cases_lt a (length (param_elems class.Array g.params) + length g.locals)))
+    past_own a out le = named_past w g x.function names (inner_local (gang w) g) frames at s.memory a (past (cases_lt a (length (param_elems class.Array g.params) + length g.locals)))
       where
         past : (a < length (param_elems class.Array g.params) + length g.locals) ⊎ (length (param_elems class.Array g.params) + length g.locals ≤ a) → length (param_elems class.Array g.params) + length g.locals ≤ a
         past (inl lt) = absurd (out (a - length (param_elems class.Array g.params)) (omega (arith, lt, le)) (omega (arith, le)))
@@ -340,19 +350,19 @@ module _ (w : Setting) (of : IsOf w) (x : Call) (pc : ℕ) (has : slice_get w.ro
     bases : (a : ℕ) → NotOwn a → ((q : ℕ) × (slice_get array_numbers a ≡ Some q)) ⊎ (length (param_elems class.Array g.params) ≤ a) → from 0 (base_got w s.locals x.mask) (slice_get array_numbers a) ≡ callee.begins (home.named a)
     bases a out (inl (q, has)) =
         ap (from 0 (base_got w s.locals x.mask)) has ∙ st.holds.bases q
-        ∙ sym (ap callee.begins (named_in a q has) ∙ old_begin w g x.function names (inner_local (gang w) g) frames at (w.home.named q) (old_named a q has))
+        ∙ sym (ap callee.begins (named_in a q has) ∙ old_begin w g x.function names (inner_local (gang w) g) frames at s.memory (w.home.named q) (old_named a q has))
     bases a out (inr le) =
-        ap (from 0 (base_got w s.locals x.mask)) (no_array a le) ∙ sym (ap callee.begins (past_own a out le) ∙ past_begin w g x.function names (inner_local (gang w) g) frames at home.opened (omega arith))
+        ap (from 0 (base_got w s.locals x.mask)) (no_array a le) ∙ sym (ap callee.begins (past_own a out le) ∙ past_begin w g x.function names (inner_local (gang w) g) frames at s.memory home.opened (omega arith))
 
     counts : (a : ℕ) → NotOwn a → ((q : ℕ) × (slice_get array_numbers a ≡ Some q)) ⊎ (length (param_elems class.Array g.params) ≤ a) → from 0 (count_got w s.locals x.mask) (slice_get array_numbers a) ≡ home.sizes (home.named a)
     counts a out (inl (q, has)) =
         ap (from 0 (count_got w s.locals x.mask)) has ∙ st.holds.counts q
-        ∙ sym (ap home.sizes (named_in a q has) ∙ old_size w g x.function names (inner_local (gang w) g) frames at (w.home.named q) (old_named a q has))
+        ∙ sym (ap home.sizes (named_in a q has) ∙ old_size w g x.function names (inner_local (gang w) g) frames at s.memory (w.home.named q) (old_named a q has))
     counts a out (inr le) =
-        ap (from 0 (count_got w s.locals x.mask)) (no_array a le) ∙ sym (ap home.sizes (past_own a out le) ∙ past_size w g x.function names (inner_local (gang w) g) frames at home.opened (omega arith))
+        ap (from 0 (count_got w s.locals x.mask)) (no_array a le) ∙ sym (ap home.sizes (past_own a out le) ∙ past_size w g x.function names (inner_local (gang w) g) frames at s.memory home.opened (omega arith))
 
     are_stored_so : AreStored g home callee.elems
-    are_stored_so = are_stored w g x.function names (inner_local (gang w) g) frames at each_shared small passes
+    are_stored_so = are_stored w g x.function names (inner_local (gang w) g) frames at s.memory each_shared small passes
       where
         passes : (a : Register) → IsThere g class.Array a → a.number < length (param_elems class.Array g.params) → callee.elems (home.named a.number) ≡ elem_of g a
         passes a there lt = by (which a.number)
@@ -361,7 +371,7 @@ module _ (w : Setting) (of : IsOf w) (x : Call) (pc : ℕ) (has : slice_get w.ro
             by (inr le) = absurd (omega (arith, lt, le))
             by (inl (q, has)) =
                 let fits = passed_fits w.routine class.Array g.params x.arguments fine.passed a.number q has in
-                ap callee.elems (named_in a.number q has) ∙ old_elem w g x.function names (inner_local (gang w) g) frames at (w.home.named q) (old_named a.number q has)
+                ap callee.elems (named_in a.number q has) ∙ old_elem w g x.function names (inner_local (gang w) g) frames at s.memory (w.home.named q) (old_named a.number q has)
                 ∙ of.stored (record { class = class.Array; number = q }) (refl, fits.there) ∙ fits.elem_is
                 ∙ sym (ap (λ c. slice_index_or (types_in (table_of g) c) a.number Truth) there.0 ∙ get_or_append_left (param_elems class.Array g.params) (map local_elem g.locals) Truth a.number lt)
 
@@ -369,7 +379,7 @@ module _ (w : Setting) (of : IsOf w) (x : Call) (pc : ℕ) (has : slice_get w.ro
     all_low a lt = by (which_array a (length (param_elems class.Array g.params)) (length g.locals)) (which a)
       where
         by : ((i : ℕ) × (a ≡ length (param_elems class.Array g.params) + i) × (i < length g.locals)) ⊎ NotOwn a → ((q : ℕ) × (slice_get array_numbers a ≡ Some q)) ⊎ (length (param_elems class.Array g.params) ≤ a) → home.named a < home.opened
-        by (inl (i, e, low)) h = subst (λ n. home.named n < home.opened) (sym e) (own_low w g x.function names (inner_local (gang w) g) frames at each_shared i low)
+        by (inl (i, e, low)) h = subst (λ n. home.named n < home.opened) (sym e) (own_low w g x.function names (inner_local (gang w) g) frames at s.memory each_shared i low)
         by (inr out) (inl (q, has)) = let low = old_named a q has in let is = named_in a q has in omega (arith, low, is)
         by (inr out) (inr le) =
             absurd
@@ -388,12 +398,12 @@ module _ (w : Setting) (of : IsOf w) (x : Call) (pc : ℕ) (has : slice_get w.ro
       other p x y z = o.others p x y z
 
       base_holds : (a : ℕ) → ((i : ℕ) × (a ≡ passed g + i) × (i < length g.locals)) ⊎ NotOwn a → m (callee.local (place.Base a)) ≡ callee.begins (home.named a)
-      base_holds a (inl (i, e, lt)) = subst (λ n. m (callee.local (place.Base n)) ≡ callee.begins (home.named n)) (sym e) (o.bases i lt ∙ sym (own_base w g x.function names (inner_local (gang w) g) frames at each_shared i lt))
+      base_holds a (inl (i, e, lt)) = subst (λ n. m (callee.local (place.Base n)) ≡ callee.begins (home.named n)) (sym e) (o.bases i lt ∙ sym (own_base w g x.function names (inner_local (gang w) g) frames at s.memory each_shared i lt))
       base_holds a (inr out) =
           other (place.Base a) (λ e. cc) (λ i lt e. out i lt cc) (λ i lt e. cc) ∙ got (place.Base a) (λ e. cc) (λ e. cc) (λ j lt e. cc) ∙ ap (λ n. At places given (place.Base n)) (zero_more a) ∙ all.bases a ∙ bases a out (which a)
 
       count_holds : (a : ℕ) → ((i : ℕ) × (a ≡ passed g + i) × (i < length g.locals)) ⊎ NotOwn a → m (callee.local (place.Count a)) ≡ home.sizes (home.named a)
-      count_holds a (inl (i, e, lt)) = subst (λ n. m (callee.local (place.Count n)) ≡ home.sizes (home.named n)) (sym e) (o.counts i lt ∙ sym (own_count w g x.function names (inner_local (gang w) g) frames at each_shared i lt))
+      count_holds a (inl (i, e, lt)) = subst (λ n. m (callee.local (place.Count n)) ≡ home.sizes (home.named n)) (sym e) (o.counts i lt ∙ sym (own_count w g x.function names (inner_local (gang w) g) frames at s.memory each_shared i lt))
       count_holds a (inr out) =
           other (place.Count a) (λ e. cc) (λ i lt e. cc) (λ i lt e. out i lt cc) ∙ got (place.Count a) (λ e. cc) (λ e. cc) (λ j lt e. cc) ∙ ap (λ n. At places given (place.Count n)) (zero_more a) ∙ all.counts a ∙ counts a out (which a)
 
@@ -433,7 +443,7 @@ module _ (w : Setting) (of : IsOf w) (x : Call) (pc : ℕ) (has : slice_get w.ro
           whole = st.keeps.whole;
           stacked = λ e. under.stacked;
           holds = λ m o. holds m o;
-          keeps = λ room. keeps_in w g x.function names (inner_local (gang w) g) frames at of.laid (λ e. under) small c.arrays (below c.home.opened c.arrays) s.memory s.size room (below_old c.arrays) (below_new c.arrays) st.keeps;
+          keeps = λ room. keeps_in w g x.function names (inner_local (gang w) g) frames at s.memory of.laid (λ e. under) small refl c.arrays (below c.home.opened c.arrays) s.memory s.size room (below_old c.arrays) (below_new c.arrays) (λ a. refl) st.keeps;
         }
 
     is_of : IsOf callee
@@ -444,8 +454,8 @@ module _ (w : Setting) (of : IsOf w) (x : Call) (pc : ℕ) (has : slice_get w.ro
           laid =
               record {
                 texts_at = refl;
-                closed = past_size w g x.function names (inner_local (gang w) g) frames at;
-                past = past_begin w g x.function names (inner_local (gang w) g) frames at;
+                closed = past_size w g x.function names (inner_local (gang w) g) frames at s.memory;
+                past = past_begin w g x.function names (inner_local (gang w) g) frames at s.memory;
                 bounded = settled.bounded;
                 text_apart = settled.text_apart;
                 disjoint = settled.disjoint;
@@ -453,7 +463,7 @@ module _ (w : Setting) (of : IsOf w) (x : Call) (pc : ℕ) (has : slice_get w.ro
           stored = are_stored_so.stored_as;
           named_low = all_low;
           plain = λ p k h. of.plain pc x has;
-          under = λ p k h. under_all w g x.function names (inner_local (gang w) g) frames at of.laid (λ e. under) small under;
+          under = λ p k h. under_all w g x.function names (inner_local (gang w) g) frames at s.memory of.laid (λ e. under) small refl under;
         }
 
     -- ---- what its result says
@@ -533,8 +543,8 @@ module _ (w : Setting) (of : IsOf w) (x : Call) (pc : ℕ) (has : slice_get w.ro
         by (inl b) =
             subst (λ r. Told (the_machine w) (Back w x c) (suc f) begun (left (then_to r (run (suc f) (called functions f) (function_code callee))))) (sym (b.fell (suc f) (called functions f)))
             (told (suc f) begun (left (run (suc f) (called functions f) (function_code callee) b.state))
-            (calls_come_back callee settled (covered w.code g x.function of.accepted fine.found plain_g (inner_local (gang w) g) home frames callee.begins callee.elems w.before w.room w.stack)
-            (all_thin w.code g x.function of.accepted fine.found plain_g (inner_local (gang w) g) home frames callee.begins callee.elems w.before w.room w.stack are_stored_so)
+            (calls_come_back callee settled (covered w.code g x.function of.accepted fine.found plain_g (inner_local (gang w) g) home frames callee.begins callee.elems s.memory w.room w.stack)
+            (all_thin w.code g x.function of.accepted fine.found plain_g (inner_local (gang w) g) home frames callee.begins callee.elems s.memory w.room w.stack are_stored_so)
             (waits c x.result mask) c.waiting refl (called functions f) (suc f) (λ n e. subst (λ m. CallsAgree callee m (called functions f)) (let same : f ≡ n = omega (arith, e) in same) right) begun b.state
             (subst (λ n. n < callee.rungs) (sym (b.counter ∙ counter_is)) (first_head g.code (length g.code) (some_code w.code g x.function of.accepted fine.found plain_g)).0)
             (subst (λ n. Stands callee n begun b.state) (sym (ap callee.heads b.counter ∙ head_is)) b.stands)))

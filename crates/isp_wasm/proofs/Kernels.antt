@@ -32,7 +32,7 @@ use Rattle.isp_wasm.specs.Entry.{stack_in, entry_code, IsPassed, IsCalled, SameO
 use Rattle.isp_wasm.specs.Locals.{param_places, own_places, local_in}
 use Rattle.isp_wasm.specs.Module.{text_start, all_shared, is_plain, is_covered, kernel_of, function_of, inner_functions, module_of}
 use Rattle.isp_wasm.specs.Kernel.{row_elem, passed, array_end, IsLaidOut, HasRoom, in_call, KernelsAgree}
-use Rattle.isp_wasm.specs.Stack.{IsBelow, none_open, has_call, uses_stack, start, bytes_in, bottom, opened_memory}
+use Rattle.isp_wasm.specs.Stack.{IsBelow, moved_up, none_open, has_call, uses_stack, start, bytes_in, bottom, opened_memory}
 use Rattle.isp_wasm.specs.Standing.{IsFull, IsSettled, Keeps}
 use Rattle.isp_wasm.proofs.Entries.{some_row, entries_agree}
 use Rattle.isp_wasm.proofs.Numbers.{place_apart}
@@ -170,9 +170,12 @@ module _ (code : Listing) (h : Routine) (f : ℕ) (accepted : IsFine code) (foun
     stack_is : uses_stack h ≡ true → stack_in h s ≡ Some (s.globals 17)
     stack_is e = ap (λ b. if b then Some (s.globals 17) else None) e
 
-    below_stack : (o : Option ℕ) → o ≡ Some (s.globals 17) → (a : ℕ) → IsBelow o a → a < start o
+    from_stack : from_here ≡ start (stack_in h s) + 0
+    from_stack = omega arith
+
+    below_stack : (o : Option ℕ) → o ≡ Some (s.globals 17) → (a : ℕ) → IsBelow (moved_up o 0) a → a < start o
     below_stack None e a h = absurd cc
-    below_stack (Some n) e a h = h
+    below_stack (Some n) e a h = omega (arith, h)
 
     under_so : uses_stack h ≡ true → IsUnder outer from_here
     under_so e =
@@ -206,22 +209,22 @@ module _ (code : Listing) (h : Routine) (f : ℕ) (accepted : IsFine code) (foun
           few = few_heads code h f accepted found plain;
           heads_up = heads_rise code h f accepted found plain;
           text_low = text_low code h f accepted found plain;
-          text_apart = opened.text_apart outer h f (λ a. a) local [] from_here laid_out under few;
-          bounded = opened.bounded outer h f (λ a. a) local [] from_here laid_out under few;
-          closed = opened.past_size outer h f (λ a. a) local [] from_here;
-          disjoint = opened.disjoint outer h f (λ a. a) local [] from_here laid_out under few;
+          text_apart = opened.text_apart outer h f (λ a. a) local [] from_here s.memory laid_out under few from_stack;
+          bounded = opened.bounded outer h f (λ a. a) local [] from_here s.memory laid_out under few from_stack;
+          closed = opened.past_size outer h f (λ a. a) local [] from_here s.memory;
+          disjoint = opened.disjoint outer h f (λ a. a) local [] from_here s.memory laid_out under few from_stack;
         }
 
     named_low : (a : ℕ) → a < length (param_elems class.Array h.params) → w.home.named a < length (rows xs)
-    named_low a lt = let is = opened.named_low outer h f (λ a. a) local [] from_here a lt in let all = long in omega (arith, is, lt, all)
+    named_low a lt = let is = opened.named_low outer h f (λ a. a) local [] from_here s.memory a lt in let all = long in omega (arith, is, lt, all)
 
     stored : AreStored h w.home w.elems
-    stored = opened.are_stored outer h f (λ a. a) local [] from_here each_shared few passes
+    stored = opened.are_stored outer h f (λ a. a) local [] from_here s.memory each_shared few passes
       where
         passes : (a : Register) → IsThere h class.Array a → a.number < length (param_elems class.Array h.params) → w.elems (w.home.named a.number) ≡ elem_of h a
         passes a there lt =
-            opened.old_elem outer h f (λ a. a) local [] from_here (w.home.named a.number) (named_low a.number lt)
-            ∙ ap (row_elem (rows xs)) (opened.named_low outer h f (λ a. a) local [] from_here a.number lt) ∙ rows_typed h.params xs no_vector signature a.number
+            opened.old_elem outer h f (λ a. a) local [] from_here s.memory (w.home.named a.number) (named_low a.number lt)
+            ∙ ap (row_elem (rows xs)) (opened.named_low outer h f (λ a. a) local [] from_here s.memory a.number lt) ∙ rows_typed h.params xs no_vector signature a.number
             ∙ sym (ap (λ c. slice_index_or (types_in (table_of h) c) a.number Truth) there.0 ∙ get_or_append_left (param_elems class.Array h.params) (map local_elem h.locals) Truth a.number lt)
 
     all_low : (a : ℕ) → a < length (arrays_of h) → w.home.named a < w.home.opened
@@ -229,7 +232,7 @@ module _ (code : Listing) (h : Routine) (f : ℕ) (accepted : IsFine code) (foun
       where
         by : ((i : ℕ) × (a ≡ length (param_elems class.Array h.params) + i) × (i < length h.locals)) ⊎ ((i : ℕ) → i < length h.locals → a ≡ length (param_elems class.Array h.params) + i → ⊥)
             → (a < length (param_elems class.Array h.params)) ⊎ (length (param_elems class.Array h.params) ≤ a) → w.home.named a < w.home.opened
-        by (inl (i, e, low)) h2 = subst (λ n. w.home.named n < w.home.opened) (sym e) (opened.own_low outer h f (λ a. a) local [] from_here each_shared i low)
+        by (inl (i, e, low)) h2 = subst (λ n. w.home.named n < w.home.opened) (sym e) (opened.own_low outer h f (λ a. a) local [] from_here s.memory each_shared i low)
         by (inr out) (inl low) = let is = named_low a low in omega (arith, is)
         by (inr out) (inr le) =
             absurd
@@ -268,8 +271,8 @@ module _ (code : Listing) (h : Routine) (f : ℕ) (accepted : IsFine code) (foun
     keeps : (none_open h.locals ≡ false → bottom w + bytes_in lanes h.locals < s.size) → Keeps w (first_conf code f h xs).arrays (opened_memory lanes (bottom w) h.locals s.memory) s.size
     keeps fits =
         subst (λ t. Keeps w (first_conf code f h xs).arrays (opened_memory lanes t h.locals s.memory) s.size) from_bottom
-        (opened.keeps_in outer h f (λ a. a) local [] from_here laid_out under few (λ b e. slice_index (row_bits (rows xs) b) e) (first_conf code f h xs).arrays s.memory s.size
-        (λ e. subst (λ t. t + bytes_in lanes h.locals < s.size) (sym from_bottom) (fits e)) begun_old begun_new outer_keeps)
+        (opened.keeps_in outer h f (λ a. a) local [] from_here s.memory laid_out under few from_stack (λ b e. slice_index (row_bits (rows xs) b) e) (first_conf code f h xs).arrays s.memory s.size
+        (λ e. subst (λ t. t + bytes_in lanes h.locals < s.size) (sym from_bottom) (fits e)) begun_old begun_new (λ a. refl) outer_keeps)
 
     -- ---- arguments
 
@@ -281,7 +284,7 @@ module _ (code : Listing) (h : Routine) (f : ℕ) (accepted : IsFine code) (foun
 
     -- arrays that are not there begin at 0 and have no elements
     past_all : (a : ℕ) → IsPassed w a → length (param_elems class.Array h.params) ≤ a → w.home.named a ≡ w.home.opened
-    past_all a out le = opened.named_past outer h f (λ a. a) local [] from_here a (past (cases_lt a (length (param_elems class.Array h.params) + length h.locals)))
+    past_all a out le = opened.named_past outer h f (λ a. a) local [] from_here s.memory a (past (cases_lt a (length (param_elems class.Array h.params) + length h.locals)))
       where
         past : (a < length (param_elems class.Array h.params) + length h.locals) ⊎ (length (param_elems class.Array h.params) + length h.locals ≤ a) → length (param_elems class.Array h.params) + length h.locals ≤ a
         past (inl lt) = absurd (out (a - length (param_elems class.Array h.params)) (omega (arith, lt, le)) (omega (arith, le)))
@@ -291,18 +294,18 @@ module _ (code : Listing) (h : Routine) (f : ℕ) (accepted : IsFine code) (foun
     base_of a out = by (cases_lt a (length (param_elems class.Array h.params)))
       where
         by : (a < length (param_elems class.Array h.params)) ⊎ (length (param_elems class.Array h.params) ≤ a) → slice_index at a ≡ w.begins (w.home.named a)
-        by (inl lt) = sym (opened.old_begin outer h f (λ a. a) local [] from_here (w.home.named a) (named_low a lt) ∙ ap (slice_index at) (opened.named_low outer h f (λ a. a) local [] from_here a lt))
+        by (inl lt) = sym (opened.old_begin outer h f (λ a. a) local [] from_here s.memory (w.home.named a) (named_low a lt) ∙ ap (slice_index at) (opened.named_low outer h f (λ a. a) local [] from_here s.memory a lt))
         by (inr le) =
-            begins_past a (subst (λ n. n ≤ a) (sym (laid.each ∙ long)) le) ∙ sym (ap w.begins (past_all a out le) ∙ opened.past_begin outer h f (λ a. a) local [] from_here w.home.opened (omega arith))
+            begins_past a (subst (λ n. n ≤ a) (sym (laid.each ∙ long)) le) ∙ sym (ap w.begins (past_all a out le) ∙ opened.past_begin outer h f (λ a. a) local [] from_here s.memory w.home.opened (omega arith))
 
     count_of : (a : ℕ) → IsPassed w a → length (row_bits (rows xs) a) ≡ w.home.sizes (w.home.named a)
     count_of a out = by (cases_lt a (length (param_elems class.Array h.params)))
       where
         by : (a < length (param_elems class.Array h.params)) ⊎ (length (param_elems class.Array h.params) ≤ a) → length (row_bits (rows xs) a) ≡ w.home.sizes (w.home.named a)
         by (inl lt) =
-            sym (opened.old_size outer h f (λ a. a) local [] from_here (w.home.named a) (named_low a lt) ∙ ap (λ n. length (row_bits (rows xs) n)) (opened.named_low outer h f (λ a. a) local [] from_here a lt))
+            sym (opened.old_size outer h f (λ a. a) local [] from_here s.memory (w.home.named a) (named_low a lt) ∙ ap (λ n. length (row_bits (rows xs) n)) (opened.named_low outer h f (λ a. a) local [] from_here s.memory a lt))
         by (inr le) =
-            ap length (row_past (rows xs) a (subst (λ n. n ≤ a) (sym long) le)) ∙ sym (ap w.home.sizes (past_all a out le) ∙ opened.past_size outer h f (λ a. a) local [] from_here w.home.opened (omega arith))
+            ap length (row_past (rows xs) a (subst (λ n. n ≤ a) (sym long) le)) ∙ sym (ap w.home.sizes (past_all a out le) ∙ opened.past_size outer h f (λ a. a) local [] from_here s.memory w.home.opened (omega arith))
 
     call_is : IsCalled w xs (passed xs at) s
     call_is =
@@ -319,8 +322,8 @@ module _ (code : Listing) (h : Routine) (f : ℕ) (accepted : IsFine code) (foun
           masks_are = λ r j. places.others (Mask r j) tt;
           bases = λ a out. ap (λ n. At (param_places h ++ own_places (gang_width code.gang) h) (passed xs at) (Base n)) (sym (counted a)) ∙ places.bases a ∙ base_of a out;
           counts = λ a out. ap (λ n. At (param_places h ++ own_places (gang_width code.gang) h) (passed xs at) (Count n)) (sym (counted a)) ∙ places.counts a ∙ count_of a out;
-          own_bases = λ i lt. opened.own_base outer h f (λ a. a) local [] from_here each_shared i lt ∙ ap (λ t. t + bytes_in lanes (take i h.locals)) from_bottom;
-          own_counts = λ i lt. opened.own_count outer h f (λ a. a) local [] from_here each_shared i lt;
+          own_bases = λ i lt. opened.own_base outer h f (λ a. a) local [] from_here s.memory each_shared i lt ∙ ap (λ t. t + bytes_in lanes (take i h.locals)) from_bottom;
+          own_counts = λ i lt. opened.own_count outer h f (λ a. a) local [] from_here s.memory each_shared i lt;
           depth_is = places.others Depth tt;
           top_zero = places.others Top tt;
           stack_is = refl;
@@ -352,8 +355,8 @@ module _ (code : Listing) (h : Routine) (f : ℕ) (accepted : IsFine code) (foun
           laid =
               record {
                 texts_at = refl;
-                closed = opened.past_size outer h f (λ a. a) local [] from_here;
-                past = opened.past_begin outer h f (λ a. a) local [] from_here;
+                closed = opened.past_size outer h f (λ a. a) local [] from_here s.memory;
+                past = opened.past_begin outer h f (λ a. a) local [] from_here s.memory;
                 bounded = ready.bounded;
                 text_apart = ready.text_apart;
                 disjoint = ready.disjoint;
@@ -361,7 +364,7 @@ module _ (code : Listing) (h : Routine) (f : ℕ) (accepted : IsFine code) (foun
           stored = stored.stored_as;
           named_low = all_low;
           plain = covered_calls code h covers;
-          under = λ pc k has. subst (λ t. IsUnder w (t + bytes_in lanes h.locals)) from_bottom (opened.under_all outer h f (λ a. a) local [] from_here laid_out under few (under_so (calls_use pc k has)));
+          under = λ pc k has. subst (λ t. IsUnder w (t + bytes_in lanes h.locals)) from_bottom (opened.under_all outer h f (λ a. a) local [] from_here s.memory laid_out under few from_stack (under_so (calls_use pc k has)));
         }
 
     -- the run does not come to where there is no room

@@ -14,6 +14,7 @@ mod Masks
 mod Results
 mod Scalars
 mod LaneLoops
+mod Regions
 mod Elements
 mod Loads
 mod LaneEnds
@@ -48,6 +49,7 @@ mod ValidLines
 mod ValidCalls
 mod ValidModules
 mod Numbered
+mod Rooms
 mod Samples
 mod CallSamples
 mod ArraySamples

@@ -1,5 +1,5 @@
 -- The stores of a function that begins: those of before, and then its own, behind the address where the stack is.
-use Rattle.std.proofs.Common.{◌≡◌, ℕ, zero, suc, ◌+◌, ◌-◌, ◌*◌, ◌^◌, ◌<◌, ◌≤◌, ◌⊎◌, inl, inr, List, [], ◌∷◌, ◌++◌, length, take, map, Some, true, false, not, refl, sym, ap, ap₂, ◌∙◌, subst, arith}
+use Rattle.std.proofs.Common.{◌≡◌, ℕ, zero, suc, ◌+◌, ◌-◌, ◌*◌, ◌^◌, ◌<◌, ◌≤◌, ◌⊎◌, inl, inr, List, [], ◌∷◌, ◌++◌, length, take, map, Option, Some, None, true, false, not, refl, sym, ap, ap₂, ◌∙◌, subst, arith}
 use Rattle.std.specs.Prelude.{slice_get, slice_index, slice_index_or, nat_lt, option_map}
 use Rattle.std.proofs.lemmas.Bool.{cases_lt, lt-ltb, le-ltb, cond-true, cond-false, not-true, cases_order, leb-true}
 use Rattle.std.proofs.lemmas.Option.{slice_get-map, get_or_from_slice_get}
@@ -22,9 +22,9 @@ use Rattle.isp_wasm_meaning.specs.Meaning.{loaded, bytes}
 use Rattle.isp_wasm_meaning.proofs.Memory.{bytes_same, cleared_off, zeros_loaded, cleared_beside, cleared_stay}
 use Rattle.isp_wasm.specs.Places.{Setting, Place, gang, text, bytes_of}
 use Rattle.isp_wasm.specs.Module.{text_start, all_shared}
-use Rattle.isp_wasm.specs.Stack.{IsBelow, none_open, bytes_in, shared_starts, shared_elems, with_starts, with_elems, opened_memory}
-use Rattle.isp_wasm.specs.Standing.{Keeps}
-use Rattle.isp_wasm.proofs.Elements.{few_bytes}
+use Rattle.isp_wasm.specs.Stack.{IsBelow, none_open, start, waiting_bytes, moved_up, floor, bytes_in, shared_starts, shared_elems, with_starts, with_elems, opened_memory}
+use Rattle.isp_wasm.specs.Standing.{Keeps, IsBeside}
+use Rattle.isp_wasm.proofs.Regions.{few_bytes}
 use Rattle.isp_wasm.proofs.Indices.{in_row}
 use Rattle.isp_wasm.proofs.Plain.{placed, all_at, AreStored}
 use Rattle.isp_wasm.proofs.Shares.{IsAt, is_at, end_of, within, apart, part_low, one_copy, starts_long, taken_all}
@@ -77,14 +77,14 @@ pub record AreLaid (u : Setting) : Type 0 where
 pub record IsUnder (u : Setting) (t : ℕ) : Type 0 where
   pub arrays : (b : ℕ) → u.begins b + u.home.sizes b * bytes_of (u.elems b) ≤ t
   pub texts : (i : ℕ) → text_start u.code.texts i + length (text u i) ≤ t
-  pub above : (a : ℕ) → IsBelow u.stack a → a < t
+  pub above : (a : ℕ) → IsBelow (floor u) a → a < t
   pub stacked : (a : ℕ) × (u.stack ≡ Some a)
 
-module _ (u : Setting) (g : Routine) (f : ℕ) (names : ℕ → ℕ) (local : Place → ℕ) (waiting : List Frame) (t : ℕ) where
+module _ (u : Setting) (g : Routine) (f : ℕ) (names : ℕ → ℕ) (local : Place → ℕ) (waiting : List Frame) (t : ℕ) (before : ℕ → ℕ) where
   abbrev pub inside : Setting
   inside =
       placed u.code g local (new_home g f names u.home.sizes u.home.opened) waiting (with_starts u.home.opened u.begins (shared_starts (gang u) t g.locals))
-      (with_elems u.home.opened u.elems (shared_elems g.locals)) u.before u.room u.stack
+      (with_elems u.home.opened u.elems (shared_elems g.locals)) before u.room u.stack
 
   abbrev pub old : ℕ
   old = u.home.opened
@@ -164,7 +164,7 @@ module _ (u : Setting) (g : Routine) (f : ℕ) (names : ℕ → ℕ) (local : Pl
       by (inr le) (inl lt) = inr (inl (b - old, (let same : b ≡ old + (b - old) = omega (arith, le) in same), (let low : b - old < more = omega (arith, le, lt) in low)))
       by (inr le) (inr ge) = inr (inr ge)
 
-  module _ (laid : AreLaid u) (under : none_open g.locals ≡ false → IsUnder u t) (small : suc all < 2 ^ 32) where
+  module _ (laid : AreLaid u) (under : none_open g.locals ≡ false → IsUnder u t) (small : suc all < 2 ^ 32) (from_stack : t ≡ start u.stack + waiting_bytes u.code waiting) where
     under_new : (k : ℕ) → k < more → IsUnder u t
     under_new k lt = under (some_open g.locals k lt)
 
@@ -223,13 +223,21 @@ module _ (u : Setting) (g : Routine) (f : ℕ) (names : ℕ → ℕ) (local : Pl
             let low = new_low k p in subst (λ b. inside.home.sizes b ≤ 2 ^ 32) (sym e) (let le : size ≤ 2 ^ 32 = omega (arith, one, high, low, small) in le)
         by (inr (inr p)) = subst (λ n. n ≤ 2 ^ 32) (sym (past_size b p)) (omega arith)
 
+    -- what lies below its arrays
+    below_start : (o : Option ℕ) (a n : ℕ) → (x : ℕ) → o ≡ Some x → IsBelow (moved_up o n) a → a < start o + n
+    below_start None a n x e h = absurd cc
+    below_start (Some y) a n x e h = h
+
+    low_byte : IsUnder u t → (a : ℕ) → IsBelow (floor inside) a → a < t
+    low_byte h a below = let lt = below_start u.stack a (waiting_bytes u.code waiting) (h.stacked).0 (h.stacked).1 below in omega (arith, lt, from_stack)
+
     -- all lies below where the next array does
     pub under_all : IsUnder u t → IsUnder inside (t + all)
     under_all h =
         record {
           arrays = λ b. by b (which b);
           texts = λ i. (let le = h.texts i in omega (arith, le));
-          above = λ a below. (let lt = h.above a below in omega (arith, lt));
+          above = λ a below. (let lt = low_byte h a below in omega (arith, lt));
           stacked = h.stacked;
         }
       where
@@ -241,8 +249,8 @@ module _ (u : Setting) (g : Routine) (f : ℕ) (names : ℕ → ℕ) (local : Pl
     -- ---- the memory, as the function begins
 
     pub keeps_in : (arrays others : ℕ → Lanes) (memory : ℕ → ℕ) (size : ℕ) → (none_open g.locals ≡ false → t + all < size) → ((b e : ℕ) → b < old → others b e ≡ arrays b e) → ((b e : ℕ) → old ≤ b → others b e ≡ 0)
-        → Keeps u arrays memory size → Keeps inside others (opened_memory (gang u) t g.locals memory) size
-    keeps_in arrays others memory size fits same none k =
+        → ((a : ℕ) → before a ≡ memory a) → Keeps u arrays memory size → Keeps inside others (opened_memory (gang u) t g.locals memory) size
+    keeps_in arrays others memory size fits same none first k =
         record {
           bytes_fit = memory_fits (gang u) t g.locals memory k.bytes_fit;
           elements = λ b e lt. elements b e lt (which b);
@@ -253,17 +261,11 @@ module _ (u : Setting) (g : Routine) (f : ℕ) (names : ℕ → ℕ) (local : Pl
           texts = λ i. bytes_same (length (text u i)) (text_start u.code.texts i) now memory (λ j l. memory_off (gang u) t g.locals memory (text_start u.code.texts i + j) (λ e. (let le = (under e).texts i in omega (arith, le, l))))
               ∙ subst (λ f. bytes (length (text u i)) (f i) memory ≡ text u i) laid.texts_at (k.texts i);
           text_room = λ i. subst (λ f. f i + length (text u i) ≤ size) laid.texts_at (k.text_room i);
-          rest = λ a beside. memory_off (gang u) t g.locals memory a (λ e. (under e).above a beside.1) ∙ k.rest a (λ b. outer a b (beside.0 b) (cases_lt b old), beside.1);
+          rest = λ a beside. memory_off (gang u) t g.locals memory a (λ e. low_byte (under e) a beside.1) ∙ sym (first a);
         }
       where
         now : ℕ → ℕ
         now = opened_memory (gang u) t g.locals memory
-
-        outer : (a b : ℕ) → (a < inside.begins b) ⊎ (last_of b ≤ a) → (b < old) ⊎ (old ≤ b) → (a < u.begins b) ⊎ (u.begins b + u.home.sizes b * bytes_of (u.elems b) ≤ a)
-        outer a b h (inl lt) = subst (λ n. (a < n) ⊎ (u.begins b + u.home.sizes b * bytes_of (u.elems b) ≤ a)) (old_begin b lt) (subst (λ n. (a < inside.begins b) ⊎ (n ≤ a)) (old_last b lt) h)
-        outer a b h (inr le) =
-            inr (let start = laid.past b le in let none = laid.closed b le in let n = bytes_of (u.elems b) in
-            let end : u.begins b + u.home.sizes b * n ≡ 0 + 0 * n = ap₂ (λ x y. x + y * n) start none in omega (arith, end))
 
         elements : (b e : ℕ) → e < inside.home.sizes b → Which b → loaded (bytes_of (inside.elems b)) (inside.begins b + e * bytes_of (inside.elems b)) now ≡ others b e
         elements b e lt (inl p) =
@@ -290,8 +292,9 @@ module _ (u : Setting) (g : Routine) (f : ℕ) (names : ℕ → ℕ) (local : Pl
         room b (inr (inr p)) = let is = past_last b p in omega (arith, is)
 
     -- and of arrays that are the same where there were such before, as it ends
-    pub keeps_out : (arrays others : ℕ → Lanes) (memory : ℕ → ℕ) (size : ℕ) → ((b e : ℕ) → e < u.home.sizes b → others b e ≡ arrays b e) → Keeps inside arrays memory size → Keeps u others memory size
-    keeps_out arrays others memory size same k =
+    pub keeps_out : (arrays others : ℕ → Lanes) (memory : ℕ → ℕ) (size : ℕ) → ((b e : ℕ) → e < u.home.sizes b → others b e ≡ arrays b e) → ((a : ℕ) → IsBeside u a → before a ≡ u.before a) → ((a : ℕ) → IsBelow (floor u) a → IsBelow (floor inside) a)
+        → Keeps inside arrays memory size → Keeps u others memory size
+    keeps_out arrays others memory size same first lower k =
         record {
           bytes_fit = k.bytes_fit;
           elements = λ b e lt. elements b e lt (cases_lt b old);
@@ -301,7 +304,7 @@ module _ (u : Setting) (g : Routine) (f : ℕ) (names : ℕ → ℕ) (local : Pl
           whole = k.whole;
           texts = λ i. subst (λ f. bytes (length (text u i)) (f i) memory ≡ text u i) (sym laid.texts_at) (k.texts i);
           text_room = λ i. subst (λ f. f i + length (text u i) ≤ size) (sym laid.texts_at) (k.text_room i);
-          rest = λ a beside. k.rest a (λ b. inner a b (beside.0 b) beside.1 (which b), beside.1);
+          rest = λ a beside. k.rest a (λ b. inner a b (beside.0 b) beside.1 (which b), lower a beside.1) ∙ first a beside;
         }
       where
         elements : (b e : ℕ) → e < u.home.sizes b → (b < old) ⊎ (old ≤ b) → loaded (bytes_of (u.elems b)) (u.begins b + e * bytes_of (u.elems b)) memory ≡ others b e
@@ -319,7 +322,7 @@ module _ (u : Setting) (g : Routine) (f : ℕ) (names : ℕ → ℕ) (local : Pl
             let n = bytes_of (u.elems b) in
             let end : u.begins b + u.home.sizes b * n ≡ 0 + 0 * n = ap₂ (λ x y. x + y * n) (laid.past b p) (laid.closed b p) in omega (arith, end)
 
-        inner : (a b : ℕ) → (a < u.begins b) ⊎ (u.begins b + u.home.sizes b * bytes_of (u.elems b) ≤ a) → IsBelow u.stack a → Which b → (a < inside.begins b) ⊎ (last_of b ≤ a)
+        inner : (a b : ℕ) → (a < u.begins b) ⊎ (u.begins b + u.home.sizes b * bytes_of (u.elems b) ≤ a) → IsBelow (floor u) a → Which b → (a < inside.begins b) ⊎ (last_of b ≤ a)
         inner a b h below (inl p) = subst (λ n. (a < n) ⊎ (last_of b ≤ a)) (sym (old_begin b p)) (subst (λ n. (a < u.begins b) ⊎ (n ≤ a)) (sym (old_last b p)) h)
         inner a b h below (inr (inl (j, d, p))) = inl (subst (λ b. a < inside.begins b) (sym d) (let low = (under_new j p).above a below in let start = new_low j p in omega (arith, low, start)))
         inner a b h below (inr (inr p)) = inr (let is = past_last b p in omega (arith, is))

@@ -16,7 +16,7 @@ use Rattle.isp_wasm.specs.Places.{Setting, Place, Counter, Base, Count, Top, gan
 use Rattle.isp_wasm.specs.Stack.{none_open, copies, local_bytes, bytes_in, bytes_if, function_bytes, waiting_bytes, open_bytes, start, bottom, opened_memory}
 use Rattle.isp_wasm.specs.Standing.{Holds, Keeps, Stands, IsFull, IsSettled}
 use Rattle.isp_wasm.specs.Templates.{arrays_code, begin_code}
-use Rattle.isp_wasm.proofs.Elements.{few_bytes}
+use Rattle.isp_wasm.proofs.Regions.{few_bytes}
 use Rattle.isp_wasm.proofs.Frames.{there, elsewhere}
 
 -- ---- bytes of an array

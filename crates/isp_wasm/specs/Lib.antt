@@ -12,5 +12,6 @@ pub mod Numbering
 pub mod Module
 pub mod Kernel
 pub mod Lines
+pub mod Room
 pub mod Brighten
 pub mod Sample

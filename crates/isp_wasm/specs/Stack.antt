@@ -67,15 +67,23 @@ abbrev pub start : Option ℕ → ℕ
 start None = 0
 start (Some a) = a
 
+-- so much further up
+abbrev pub moved_up : Option ℕ → ℕ → Option ℕ
+moved_up None n = None
+moved_up (Some a) n = Some (a + n)
+
 module _ (w : Setting) where
-  -- where a function's arrays begin, and where they end
+  -- where a function's arrays begin, and where they end; and from where on they may lie, if any may be opened
   abbrev pub bottom : ℕ
   bottom = start w.stack + waiting_bytes w.code w.waiting
 
   abbrev pub top : ℕ
   top = bottom + bytes_in (gang_width w.code.gang) w.routine.locals
 
--- a byte that no array takes that a function opens
+  abbrev pub floor : Option ℕ
+  floor = moved_up w.stack (waiting_bytes w.code w.waiting)
+
+-- a byte that no array takes that a function opens, or one that it calls
 abbrev pub IsBelow : Option ℕ → ℕ → Type 0
 IsBelow None a = Unit {0}
 IsBelow (Some n) a = a < n

@@ -20,7 +20,7 @@ use Rattle.isp_wasm_meaning.specs.Meaning.{Report, State, Result, Returned, Trap
 use Rattle.isp_wasm_meaning.specs.Ladder.{Machine}
 use Rattle.isp_wasm.specs.Places.{Setting, Place, Scalar, Vector, Mask, Base, Count, Depth, Top, elem, shape, gang, text, bytes_of}
 use Rattle.isp_wasm.specs.Rows.{cell}
-use Rattle.isp_wasm.specs.Stack.{IsBelow, open_bytes, top}
+use Rattle.isp_wasm.specs.Stack.{IsBelow, open_bytes, top, floor}
 
 abbrev pub scalar_register : ℕ → Register
 scalar_register r = record { class = class.Scalar; number = r }
@@ -45,12 +45,12 @@ module _ (w : Setting) where
     pub depth : l (w.local Depth) ≡ length w.waiting
     pub top_is : l (w.local Top) ≡ top w
 
-  -- a byte of no array, nor where arrays may be opened
+  -- a byte of no array, nor where the function's arrays may lie
   abbrev pub IsBeside : ℕ → Type 0
-  IsBeside a = ((b : ℕ) → (a < w.begins b) ⊎ (w.begins b + w.home.sizes b * bytes_of (w.elems b) ≤ a)) × IsBelow w.stack a
+  IsBeside a = ((b : ℕ) → (a < w.begins b) ⊎ (w.begins b + w.home.sizes b * bytes_of (w.elems b) ≤ a)) × IsBelow (floor w) a
 
   -- The memory of so many bytes: the elements of each store, in its own bytes, little endian; the texts; and what lies beside
-  -- the arrays is as it was before.
+  -- the arrays is as it was before the function began.
   pub record Keeps (arrays : ℕ → Lanes) (memory : ℕ → ℕ) (size : ℕ) : Type 0 where
     pub bytes_fit : (a : ℕ) → memory a < 256
     pub elements : (b e : ℕ) → e < w.home.sizes b → loaded (bytes_of (w.elems b)) (w.begins b + e * bytes_of (w.elems b)) memory ≡ arrays b e
