@@ -123,6 +123,7 @@ def code_rows():
         yield f"print_{name}", f"Print {said} (Local {local})", f"(call {number} (local.get {local}))", ""
     yield "get_global", "GetGlobal 4 1", "(local.set 4 (global.get 1))", ""
     yield "set_global", "SetGlobal 1 (Local 5)", "(global.set 1 (local.get 5))", ""
+    yield "clear", "Clear (Local 0) (Const32 300)", "(memory.fill (local.get 0) (i32.const 0) (i32.const 300))", ""
     yield ("fail", "Fail 2 70 4294967295 (Local 1)", "(call 1 (i32.const 2) (i32.const 70) (i32.const -1) (local.get 1)) (unreachable)", "")
 
 
@@ -207,8 +208,8 @@ MODULE = ("whole_module", """(module (type (func (param i32 i32))) (type (func (
   (import "isp" "write" (func (type 0))) (import "isp" "trap" (func (type 1))) (import "isp" "print_signed" (func (type 2)))
   (import "isp" "print_unsigned" (func (type 3))) (import "isp" "print_bool" (func (type 4))) (import "isp" "print_byte" (func (type 5)))
   (func (type 6) (local i32 i32 v128 v128 i64 i32) (call 0 (local.get 1) (i32.const 6)) (return (local.get 0)) (unreachable))
-  (func (type 7) (unreachable)) (func (type 8) (return) (unreachable)) (memory 1) (global i32 (i32.const 6)) RESULTS
-  (export "isp.memory" (memory 0)) (export "isp.base" (global 0)) (export "first" (func 6)) (export "last" (func 8))
+  (func (type 7) (unreachable)) (func (type 8) (return) (unreachable)) (memory 1) (global i32 (i32.const 6)) RESULTS (global (mut i32) (i32.const 6))
+  (export "isp.memory" (memory 0)) (export "isp.base" (global 0)) (export "isp.stack" (global 17)) (export "first" (func 6)) (export "last" (func 8))
   (data (i32.const 0) "hello\\0a"))""".replace("RESULTS", "(global (mut v128) (v128.const i64x2 0 0)) " * 16),
           """record {
     functions =
@@ -238,7 +239,7 @@ def theorems():
              "use Rattle.isp_wasm_meaning.specs.Syntax.{Of, BitsOf, ShiftOf, Compare, Lanes, CompareLanes, Bits, Replace, Shuffle}",
              "use Rattle.isp_wasm_meaning.specs.Syntax.{Const32, Const64, Const128, Local, One, Two, Select, Bitselect}",
              "use Rattle.isp_wasm_meaning.specs.Syntax.{Skip, Then, Set, Load, Store, Divide, If, Block, Loop, Br, BrTable, Return, Unreachable, Call, Write, Fail}",
-             "use Rattle.isp_wasm_meaning.specs.Syntax.{SignedText, UnsignedText, TruthText, ByteText, Print, GetGlobal, SetGlobal}",
+             "use Rattle.isp_wasm_meaning.specs.Syntax.{SignedText, UnsignedText, TruthText, ByteText, Print, GetGlobal, SetGlobal, Clear}",
              "use Rattle.isp_wasm_binary.specs.Numbers.{groups, u32, signed_groups, i32, i64, low_bytes, v128}",
              "use Rattle.isp_wasm_binary.specs.Instructions.{code_bytes}",
              "use Rattle.isp_wasm_binary.specs.Modules.{FunctionKind, MemoryKind, GlobalKind, sections_bytes}",

@@ -5,7 +5,7 @@ named as the constructors of specs/Syntax.antt.
 """
 import itertools
 
-NAMES = "Skip Unreachable Then Set Load Store Divide If Block Loop Br BrTable Return Call GetGlobal SetGlobal".split()
+NAMES = "Skip Unreachable Then Set Load Store Divide If Block Loop Br BrTable Return Call GetGlobal SetGlobal Clear".split()
 GIVEN, CHOICE, NEXT, SPARE = ("Local", 0), ("Local", 1), ("Local", 2), 3
 
 
@@ -79,6 +79,8 @@ def plain():
          [(65532, 0), (65533, 0), (2**32 - 1, 0)]),
         ("offset_past_the_end", [(None, row(point(1), ("Load", 1, SPARE, GIVEN, 2**32 - 1), point(2)))], [(0, 0), (1, 0), (2**32 - 1, 0)]),
         ("store_at_the_end", [(None, row(point(1), ("Store", 8, GIVEN, 8, ("Const64", 5)), point(2)))], [(65520, 0), (65521, 0), (2**32 - 8, 0)]),
+        ("clear", [(None, row(*(point(mark) for mark in (1, 2, 3, 4)), ("Clear", GIVEN, CHOICE), point(5)))],
+         [(0, 0), (0, 1), (1, 2), (3, 65533), (3, 65534), (65535, 1), (65535, 2), (65536, 0), (65537, 0), (1, 2**32 - 1), (2**32 - 1, 0), (2**32 - 1, 1)]),
         ("call_result", [("i32", row(point(1), ("Call", 1, (CHOICE, add(GIVEN, number(1))), SPARE), point(2), ("Return", ("Local", SPARE)), ("Unreachable",))),
                          ("i32", row(("Set", 3, ("Sub", GIVEN, CHOICE)), ("Return", ("Local", 3)), ("Unreachable",)))], few),
         ("call_has_its_locals", [("i32", row(("Set", SPARE, number(4)), ("Call", 1, (GIVEN, CHOICE), None), ("Return", ("Local", SPARE)), ("Unreachable",))),
@@ -134,6 +136,8 @@ def code_text(code, first):
         return f"(local.set {parts[0]} (global.get {parts[1]}))"
     if word == "SetGlobal":
         return f"(global.set {parts[0]} {expr_text(parts[1])})"
+    if word == "Clear":
+        return f"(memory.fill {expr_text(parts[0])} (i32.const 0) {expr_text(parts[1])})"
     if word == "Br":
         return f"(br {parts[0]})"
     if word == "BrTable":
@@ -222,7 +226,7 @@ use Rattle.std.proofs.Common.{◌≡◌, ℕ, List, [], ◌∷◌, Some, None, r
 use Rattle.std.specs.Prelude.{map, slice_index_or}
 use Rattle.isp_wasm_meaning.specs.Digits.{digit, packed}
 use Rattle.isp_wasm_meaning.specs.Syntax.{I32, Add, Sub, Mul, DivU, Eqz, Of, Const32, Const64, Local, One, Two}
-use Rattle.isp_wasm_meaning.specs.Syntax.{Code, Skip, Unreachable, Then, Set, Load, Store, Divide, If, Block, Loop, Br, BrTable, Return, Call, GetGlobal, SetGlobal}
+use Rattle.isp_wasm_meaning.specs.Syntax.{Code, Skip, Unreachable, Then, Set, Load, Store, Divide, If, Block, Loop, Br, BrTable, Return, Call, GetGlobal, SetGlobal, Clear}
 use Rattle.isp_wasm_meaning.specs.Meaning.{State, Result, Returned, Trapped, called, bytes}
 
 -- a byte at the address that local 2 has, which is the next one then

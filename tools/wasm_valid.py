@@ -53,6 +53,7 @@ def codes():
     rows = [(f"code_{name}", control.code_term(code), control.code_text(code, 0), sorts) for name, code, sorts in found]
     pairs = [("", pair) for pair in itertools.product(TYPES, repeat=2)]
     rows.append(("code_write", "Write (Local 0) (Local 1)", "(call 0 (local.get 0) (local.get 1))", pairs))
+    rows.append(("code_clear", "Clear (Local 0) (Local 1)", "(memory.fill (local.get 0) (i32.const 0) (local.get 1))", pairs))
     every = [("", tried) for tried in itertools.product(TYPES, repeat=3)]
     rows.append(("code_call", "Call 0 (Local 0 ∷ Local 1 ∷ []) (Some 2)", "(local.set 2 (call 6 (local.get 0) (local.get 1)))", every))
     rows.append(("code_call_few", "Call 0 (Local 0 ∷ []) (Some 0)", "(local.set 0 (call 6 (local.get 0)))", one))
@@ -62,7 +63,7 @@ def codes():
     rows.append(("code_call_no_one", "Call 2 [] None", "(call 9)", one))
     for name, said, number in (("signed", "SignedText", 2), ("unsigned", "UnsignedText", 3), ("bool", "TruthText", 4), ("byte", "ByteText", 5)):
         rows.append((f"code_print_{name}", f"Print {said} (Local 0)", f"(call {number} (local.get 0))", one))
-    for place in (0, 1, 16, 17):
+    for place in (0, 1, 16, 17, 18):
         rows.append((f"code_get_global_{place}", f"GetGlobal 0 {place}", f"(local.set 0 (global.get {place}))", one))
         rows.append((f"code_set_global_{place}", f"SetGlobal {place} (Local 0)", f"(global.set {place} (local.get 0))", one))
     rows.append(("code_fail", "Fail 1 2 3 (Local 0)", "(call 1 (i32.const 1) (i32.const 2) (i32.const 3) (local.get 0)) (unreachable)", one))
@@ -75,7 +76,7 @@ def module(text, result, types):
     prints = " ".join(f'(import "isp" "{name}" (func (param {kind})))'
                       for name, kind in (("print_signed", "i64"), ("print_unsigned", "i64"), ("print_bool", "i32"), ("print_byte", "i32")))
     return (f'(module (import "isp" "write" (func (param i32 i32))) (import "isp" "trap" (func (param i32 i32 i32 i32))) {prints} (memory 1) '
-            f"(global i32 (i32.const 0)) {'(global (mut v128) (v128.const i64x2 0 0)) ' * 16}"
+            f"(global i32 (i32.const 0)) {'(global (mut v128) (v128.const i64x2 0 0)) ' * 16}(global (mut i32) (i32.const 0)) "
             f"(func (param i32 i64) (result i64) (local.get 1)) (func (param v128)) (func {params} {gives} {text}))")
 
 

@@ -19,7 +19,7 @@ use Rattle.isp_wasm_meaning.specs.Meaning.{Report, State, Result, Fell, Branched
 use Rattle.isp_wasm_meaning.specs.Ladder.{Whole, Told}
 use Rattle.isp_wasm.specs.Places.{Setting, Counter}
 use Rattle.isp_wasm.specs.Templates.{function_code}
-use Rattle.isp_wasm.specs.Standing.{bits_by, bits_of, Keeps, Ends, Fails, Cut, the_machine, report_of}
+use Rattle.isp_wasm.specs.Standing.{bits_by, bits_of, Keeps, Ends, Fails, Cut, IsFull, the_machine, report_of}
 use Rattle.isp_wasm.specs.Agreement.{Returns, Reports, Agrees, FunctionsAgree, CallsAgree, ComesBack, CallsComeBack, out_of, value_bits}
 use Rattle.isp_wasm.proofs.Chains.{function_runs}
 
@@ -101,17 +101,17 @@ module _ (w : Setting) (top : w.waiting ≡ []) (scalar : gives_vector w.routine
   answer_bits c None is = refl
   answer_bits c (Some x) is = answer_by w.routine.returns c x scalar is
 
-  judged : (f : ℕ) (c : Conf) (r : Result) → Whole (the_machine w) (w.local Counter) w.rungs f f c r → Judged w f c (left r)
-  judged f c (Fell s) h = absurd (let low = h.stands.low in omega arith)
-  judged f c (Branched d s) h = absurd h
-  judged f c (Returned v s) h = (
+  judged : (f : ℕ) (c : Conf) → (IsFull w c → ⊥) → (r : Result) → Whole (the_machine w) (w.local Counter) w.rungs f f c r → Judged w f c (left r)
+  judged f c roomy (Fell s) h = absurd (let low = h.stands.low in omega arith)
+  judged f c roomy (Branched d s) h = absurd h
+  judged f c roomy (Returned v s) h = (
     calls.answer w.routine h.conf h.register,
     h.value_is ∙ answer_bits h.conf h.register h.given,
     record { conf = h.conf; steps = h.steps; ends = h.leaves ∙ ap (λ ws. arrive w.code (calls.left w.routine h.conf h.register ws) h.conf) top; out_is = h.out_is; keeps = h.keeps },
   )
-  judged f c (Trapped None s) h = absurd h
-  judged f c (Trapped (Some q) s) h = h
-  judged f c (OutOfFuel s) h = h
+  judged f c roomy (Trapped None s) h = absurd (roomy h)
+  judged f c roomy (Trapped (Some q) s) h = h
+  judged f c roomy (OutOfFuel s) h = h
 
   ends_there : (m : ℕ) (c : Conf) (x : Option Value) (d : Conf) (r : Result) → Judged w (suc m) c r → after w.code m (machine.Runs c) ≡ machine.Ended x d → Returns w c x d r
   ends_there m c x d (Returned v s) h e =
@@ -176,9 +176,9 @@ module _ (w : Setting) (top : w.waiting ≡ []) (scalar : gives_vector w.routine
       }
 
 pub functions_agree : FunctionsAgree
-functions_agree w ready covered thin top scalar call right c s low st =
+functions_agree w ready covered thin top scalar call right c s low st roomy =
     agree w top scalar c (λ f. left (run f (call f) (function_code w) s))
-    (λ f. judged w top scalar f c (run f (call f) (function_code w) s) (function_runs w ready covered thin f (call f) (λ g e. subst (λ n. CallsAgree w g (call n)) (sym e) (right g)) c s low st))
+    (λ f. judged w top scalar f c roomy (run f (call f) (function_code w) s) (function_runs w ready covered thin f (call f) (λ g e. subst (λ n. CallsAgree w g (call n)) (sym e) (right g)) c s low st))
 
 told : (w : Setting) (fr : Frame) (rest : List Frame) → w.waiting ≡ fr ∷ rest → (f : ℕ) (c : Conf) (r : Result) → Whole (the_machine w) (w.local Counter) w.rungs f f c r → Told (the_machine w) (ComesBack w fr rest) f c (left r)
 told w fr rest e f c (Fell s) h = absurd (let low = h.stands.low in omega arith)
@@ -196,7 +196,7 @@ told w fr rest e f c (Returned v s) h =
       out_is = h.out_is;
       keeps = h.keeps;
     }
-told w fr rest e f c (Trapped None s) h = absurd h
+told w fr rest e f c (Trapped None s) h = h
 told w fr rest e f c (Trapped (Some q) s) h = h
 told w fr rest e f c (OutOfFuel s) h = h
 

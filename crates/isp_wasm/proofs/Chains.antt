@@ -28,6 +28,7 @@ use Rattle.isp_wasm.proofs.Vectors.{copies, converts, unaries, binaries, compare
 use Rattle.isp_wasm.proofs.Masks.{masks_fall}
 use Rattle.isp_wasm.proofs.Divisions.{divides_scalar, divides_lanes}
 use Rattle.isp_wasm.proofs.Gathers.{gathers, runs, packed_loads, loads}
+use Rattle.isp_wasm.proofs.Clears.{clears}
 use Rattle.isp_wasm.proofs.Stores.{ends_so, scatters, stores_in_row, packed_stores, stores}
 use Rattle.isp_wasm.proofs.Across.{scans, exchanges, shuffles, shuffles_two, inserts, extracts}
 use Rattle.isp_wasm.proofs.Reductions.{reduces}
@@ -125,7 +126,7 @@ module _ (w : Setting) (ready : IsSettled w) (covered : IsCovered w) (thin : All
     template (instr.Call x) has h = calls_fall w ready last w.rungs k call right pc c s st x has h
     template (instr.Return None) has h = returns w ready fuel w.rungs k call pc c s st has h
     template (instr.Return (Some x)) has h = over (Stands w (pc + 1)) (suc k) c (run fuel call (return_code w x.class x) s) (answers w ready fuel w.rungs k call pc c s st x has h)
-    template i has h = absurd h
+    template (instr.Clear a m) has h = clears w ready fuel w.rungs k call pc c s st a m h has
 
   template_at : (k : ℕ) → k < w.rungs → (pc : ℕ) → pc < w.heads w.rungs → (c : Conf) (s : State) (o : Option Instr) → Stands w pc c s → slice_get w.routine.code pc ≡ o
       → Good k (pc + 1) c (run fuel call (code_at w (w.rungs - suc k) o) s)

@@ -1,12 +1,11 @@
--- Elements of arrays in memory: where they are, what a load reads, and what a store keeps.
-use Rattle.std.proofs.Common.{◌≡◌, ◌≢◌, ℕ, ◌+◌, ◌-◌, ◌*◌, ◌%◌, ◌^◌, ◌<◌, ◌≤◌, ◌⊎◌, inl, inr, List, length, None, not, refl, sym, ap, ap₂, ◌∙◌, subst, arith, mod-eq_of_lt}
-use Rattle.std.specs.Prelude.{slice_get, nat_lt, nat_le, if◌then◌else◌}
-use Rattle.std.proofs.lemmas.Bool.{cases_eq, cases_lt, le-leb, cond-true}
+-- Elements of the store that an array register names: where they are, what a load reads, and what a store keeps.
+use Rattle.std.proofs.Common.{◌≡◌, ℕ, ◌+◌, ◌-◌, ◌*◌, ◌%◌, ◌^◌, ◌<◌, ◌≤◌, List, not, sym, ap, ap₂, ◌∙◌, subst, arith}
+use Rattle.std.specs.Prelude.{slice_get, nat_lt, if◌then◌else◌}
 use Rattle.isp_base.specs.Access.{is_outside}
 use Rattle.isp_base.specs.Maps.{put, Lanes}
 use Rattle.isp_base.specs.Values.{width}
 use Rattle.isp_base.specs.declared.types.Elem.{Elem}
-use Rattle.isp_base.specs.declared.types.Elem.TheVariants.{Bool as Truth, I8, U8, I16, U16, I32, U32, I64, U64}
+use Rattle.isp_base.specs.declared.types.Elem.TheVariants.{I64}
 use Rattle.isp_code.specs.Conf.{Conf}
 use Rattle.isp_code.specs.Lines.{size, outside, item, local_size}
 use Rattle.isp_code.specs.Registers.{passed}
@@ -14,36 +13,12 @@ use Rattle.isp_code.specs.declared.register.Register.{Register}
 use Rattle.isp_wasm_meaning.specs.Syntax.{Expr, Load, Store}
 use Rattle.isp_wasm_meaning.specs.Meaning as wasm
 use Rattle.isp_wasm_meaning.specs.Meaning.{State, Result, Fell, Trapped, run, value, loaded, inside, flag, set_local}
-use Rattle.isp_wasm_meaning.proofs.Memory.{bytes_same, off_bytes, loaded_back, loaded_beside, bytes_stay}
-use Rattle.isp_wasm.specs.Places.{Setting, Base, elem, text, bytes_of}
+use Rattle.isp_wasm.specs.Places.{Setting, Base, elem, bytes_of}
 use Rattle.isp_wasm.specs.Templates.{address_at}
 use Rattle.isp_wasm.specs.Standing.{Stands, Keeps, IsSettled}
 use Rattle.isp_wasm.specs.Thin.{IsArray}
-use Rattle.isp_wasm.proofs.Frames.{put_same, put_other}
-use Rattle.isp_wasm.proofs.Indices.{outside_is, in_row, plain_address}
-
-few_bytes : (t : Elem) → (0 < bytes_of t) × (bytes_of t ≤ 8)
-few_bytes Truth = (omega arith, omega arith)
-few_bytes I8 = (omega arith, omega arith)
-few_bytes U8 = (omega arith, omega arith)
-few_bytes I16 = (omega arith, omega arith)
-few_bytes U16 = (omega arith, omega arith)
-few_bytes I32 = (omega arith, omega arith)
-few_bytes U32 = (omega arith, omega arith)
-few_bytes I64 = (omega arith, omega arith)
-few_bytes U64 = (omega arith, omega arith)
-
--- a value has no more bits than its bytes
-fits_bytes : (t : Elem) (v : ℕ) → v < 2 ^ width t → v < 256 ^ bytes_of t
-fits_bytes Truth v h = omega arith
-fits_bytes I8 v h = h
-fits_bytes U8 v h = h
-fits_bytes I16 v h = h
-fits_bytes U16 v h = h
-fits_bytes I32 v h = h
-fits_bytes U32 v h = h
-fits_bytes I64 v h = h
-fits_bytes U64 v h = h
+use Rattle.isp_wasm.proofs.Regions.{few_bytes, ends_in, load_in, store_in, element_fits_in, keeps_stored_in, keeps_zeroed_in}
+use Rattle.isp_wasm.proofs.Indices.{outside_is, plain_address}
 
 module _ (w : Setting) (ready : IsSettled w) where
   -- ---- a store of the machine
@@ -81,7 +56,7 @@ module _ (w : Setting) (ready : IsSettled w) where
 
     module _ (arrays : ℕ → Lanes) (memory : ℕ → ℕ) (bytes : ℕ) (keeps : Keeps w arrays memory bytes) where
       ends_inside : (x : ℕ) → x < many → place_of x + each_bytes ≤ bytes
-      ends_inside x lt = let le = in_row x many each_bytes lt in let room = keeps.room store in omega arith
+      ends_inside = ends_in w ready store t el.stored_as arrays memory bytes keeps
 
       module _ (l : ℕ → ℕ) (e : Expr) (x : ℕ) (base : l (w.local (Base a.number)) ≡ w.begins store) (index : value l e ≡ x) where
         address_is : x < many → value l (address_at w a e) + 0 ≡ place_of x
@@ -102,22 +77,17 @@ module _ (w : Setting) (ready : IsSettled w) where
 
           pub load_is : (d : ℕ) → x < many → run fuel call (Load (bytes_of (elem w a)) d (address_at w a e) 0) at_state ≡ Fell (set_local d (arrays store x) at_state)
           load_is d lt =
-              ap (λ m. inside m (value l (address_at w a e) + 0) at_state (Fell (set_local d (loaded m (value l (address_at w a e) + 0) memory) at_state))) bytes_are
-              ∙ ap (λ z. inside each_bytes z at_state (Fell (set_local d (loaded each_bytes z memory) at_state))) (address_is lt)
-              ∙ cond-true (nat_le (place_of x + each_bytes) bytes) (Fell (set_local d (loaded each_bytes (place_of x) memory) at_state)) (Trapped None at_state) (le-leb (place_of x + each_bytes) bytes (ends_inside x lt))
-              ∙ ap (λ v. Fell (set_local d v at_state)) (keeps.elements store x lt)
+              ap (λ m. run fuel call (Load m d (address_at w a e) 0) at_state) bytes_are
+              ∙ load_in w ready store t el.stored_as arrays memory bytes keeps l (address_at w a e) x (address_is lt) fuel call out globals d lt
 
           pub store_is : (y : Expr) (v : ℕ) → value l y ≡ v → x < many
               → run fuel call (Store (bytes_of (elem w a)) (address_at w a e) 0 y) at_state ≡ Fell (record at_state { memory = wasm.stored each_bytes (place_of x) v memory })
           store_is y v is lt =
-              ap (λ m. inside m (value l (address_at w a e) + 0) at_state (Fell (record at_state { memory = wasm.stored m (value l (address_at w a e) + 0) (value l y) memory }))) bytes_are
-              ∙ ap (λ z. inside each_bytes z at_state (Fell (record at_state { memory = wasm.stored each_bytes z (value l y) memory }))) (address_is lt)
-              ∙ cond-true (nat_le (place_of x + each_bytes) bytes) (Fell (record at_state { memory = wasm.stored each_bytes (place_of x) (value l y) memory })) (Trapped None at_state)
-              (le-leb (place_of x + each_bytes) bytes (ends_inside x lt))
-              ∙ ap (λ v. Fell (record at_state { memory = wasm.stored each_bytes (place_of x) v memory })) is
+              ap (λ m. run fuel call (Store m (address_at w a e) 0 y) at_state) bytes_are
+              ∙ store_in w ready store t el.stored_as arrays memory bytes keeps l (address_at w a e) x (address_is lt) fuel call out globals y v is lt
 
       pub element_fits : (x : ℕ) → x < many → arrays store x < 2 ^ width t
-      element_fits x lt = subst (λ u. arrays store x < 2 ^ width u) el.stored_as (keeps.elements_fit store x lt)
+      element_fits = element_fits_in w ready store t el.stored_as arrays memory bytes keeps
 
       -- ---- after a store
 
@@ -125,69 +95,16 @@ module _ (w : Setting) (ready : IsSettled w) where
         abbrev pub new_memory : ℕ → ℕ
         new_memory = wasm.stored each_bytes (place_of x) v memory
 
-        abbrev pub new_arrays : ℕ → Lanes
-        new_arrays = put arrays store (put (arrays store) x v)
+        pub keeps_stored : Keeps w (put arrays store (put (arrays store) x v)) new_memory bytes
+        keeps_stored = keeps_stored_in w ready store t el.stored_as arrays memory bytes keeps x v lt fit
 
-        new_at : (b e : ℕ) → (b ≡ store) ⊎ (b ≡ store → ⊥) → (e ≡ x) ⊎ (e ≡ x → ⊥) → e < w.home.sizes b
-            → loaded (bytes_of (w.elems b)) (w.begins b + e * bytes_of (w.elems b)) new_memory ≡ new_arrays b e
-        new_at b e (inl same) (inl f) l =
-            subst (λ b. loaded (bytes_of (w.elems b)) (w.begins b + e * bytes_of (w.elems b)) new_memory ≡ new_arrays b e) (sym same)
-            (ap (λ x. loaded each_bytes (place_of x) new_memory) f ∙ loaded_back each_bytes (place_of x) v memory
-            ∙ mod-eq_of_lt (fits_bytes (w.elems store) v (subst (λ u. v < 2 ^ width u) (sym el.stored_as) fit))
-            ∙ sym (ap (λ g. g e) (put_same arrays store (put (arrays store) x v) store refl) ∙ put_same (arrays store) x v e f))
-        new_at b e (inl same) (inr ne) l =
-            subst (λ b. e < w.home.sizes b → loaded (bytes_of (w.elems b)) (w.begins b + e * bytes_of (w.elems b)) new_memory ≡ new_arrays b e) (sym same)
-            (λ l. loaded_beside each_bytes (place_of x) v memory each_bytes (place_of e) (beside (cases_lt e x)) ∙ keeps.elements store e l
-            ∙ sym (ap (λ g. g e) (put_same arrays store (put (arrays store) x v) store refl) ∙ put_other (arrays store) x v e ne))
-            l
-          where
-            later : x ≤ e → x < e
-            later h = let other : e ≢ x = ne in omega arith
+      -- ---- after all of it is zeroed
 
-            beside : (e < x) ⊎ (x ≤ e) → (place_of e + each_bytes ≤ place_of x) ⊎ (place_of x + each_bytes ≤ place_of e)
-            beside (inl h) = inl (let le = in_row e x each_bytes h in omega arith)
-            beside (inr h) = inr (let le = in_row x e each_bytes (later h) in omega arith)
-        new_at b e (inr ne) f l =
-            loaded_beside each_bytes (place_of x) v memory (bytes_of (w.elems b)) (w.begins b + e * bytes_of (w.elems b)) (beside (ready.disjoint b store ne))
-            ∙ keeps.elements b e l ∙ sym (ap (λ g. g e) (put_other arrays store (put (arrays store) x v) b ne))
-          where
-            beside : (w.begins b + w.home.sizes b * bytes_of (w.elems b) ≤ w.begins store) ⊎ (w.begins store + many * each_bytes ≤ w.begins b)
-                → (w.begins b + e * bytes_of (w.elems b) + bytes_of (w.elems b) ≤ place_of x) ⊎ (place_of x + each_bytes ≤ w.begins b + e * bytes_of (w.elems b))
-            beside (inl h) = inl (let le = in_row e (w.home.sizes b) (bytes_of (w.elems b)) l in omega arith)
-            beside (inr h) = inr (let le = in_row x many each_bytes lt in omega arith)
+      abbrev pub zeroed : ℕ → ℕ
+      zeroed = wasm.cleared (many * each_bytes) (w.begins store) memory
 
-        fits_at : (b e : ℕ) → (b ≡ store) ⊎ (b ≡ store → ⊥) → (e ≡ x) ⊎ (e ≡ x → ⊥) → e < w.home.sizes b → new_arrays b e < 2 ^ width (w.elems b)
-        fits_at b e (inl same) (inl f) l =
-            subst (λ n. n < 2 ^ width (w.elems b)) (sym (ap (λ g. g e) (put_same arrays store (put (arrays store) x v) b same) ∙ put_same (arrays store) x v e f))
-            (subst (λ u. v < 2 ^ width u) (sym (ap w.elems same ∙ el.stored_as)) fit)
-        fits_at b e (inl same) (inr ne) l =
-            subst (λ n. n < 2 ^ width (w.elems b)) (sym (ap (λ g. g e) (put_same arrays store (put (arrays store) x v) b same) ∙ put_other (arrays store) x v e ne ∙ ap (λ b. arrays b e) (sym same))) (keeps.elements_fit b e l)
-        fits_at b e (inr ne) f l = subst (λ n. n < 2 ^ width (w.elems b)) (sym (ap (λ g. g e) (put_other arrays store (put (arrays store) x v) b ne))) (keeps.elements_fit b e l)
-
-        kept_text : (t : ℕ) → wasm.bytes (length (text w t)) (w.text_at t) new_memory ≡ wasm.bytes (length (text w t)) (w.text_at t) memory
-        kept_text t = bytes_same (length (text w t)) (w.text_at t) new_memory memory (λ j l. off_bytes each_bytes (place_of x) v memory (w.text_at t + j) (beside j l (ready.text_apart t store)))
-          where
-            beside : (j : ℕ) → j < length (text w t) → (w.text_at t + length (text w t) ≤ w.begins store) ⊎ (w.begins store + many * each_bytes ≤ w.text_at t)
-                → (w.text_at t + j < place_of x) ⊎ (place_of x + each_bytes ≤ w.text_at t + j)
-            beside j l (inl h) = inl (omega arith)
-            beside j l (inr h) = inr (let le = in_row x many each_bytes lt in omega arith)
-
-        pub keeps_stored : Keeps w new_arrays new_memory bytes
-        keeps_stored =
-            record {
-              bytes_fit = bytes_stay each_bytes (place_of x) v memory keeps.bytes_fit;
-              elements = λ b e l. new_at b e (cases_eq b store) (cases_eq e x) l;
-              elements_fit = λ b e l. fits_at b e (cases_eq b store) (cases_eq e x) l;
-              room = keeps.room;
-              small = keeps.small;
-              texts = λ t. kept_text t ∙ keeps.texts t;
-              text_room = keeps.text_room;
-              rest = λ a beside. off_bytes each_bytes (place_of x) v memory a (off a (beside store)) ∙ keeps.rest a beside;
-            }
-          where
-            off : (a : ℕ) → (a < w.begins store) ⊎ (w.begins store + many * each_bytes ≤ a) → (a < place_of x) ⊎ (place_of x + each_bytes ≤ a)
-            off a (inl h) = inl (omega arith)
-            off a (inr h) = inr (let le = in_row x many each_bytes lt in omega arith)
+      pub keeps_zeroed : Keeps w (put arrays store (λ e. 0)) zeroed bytes
+      keeps_zeroed = keeps_zeroed_in w ready store t el.stored_as arrays memory bytes keeps
 
   pub keeps_same : (a b : ℕ → Lanes) (memory : ℕ → ℕ) (bytes : ℕ) → ((r e : ℕ) → a r e ≡ b r e) → Keeps w a memory bytes → Keeps w b memory bytes
   keeps_same a b memory bytes same keeps =
@@ -199,5 +116,6 @@ module _ (w : Setting) (ready : IsSettled w) where
         small = keeps.small;
         texts = keeps.texts;
         text_room = keeps.text_room;
+        whole = keeps.whole;
         rest = keeps.rest;
       }

@@ -1,5 +1,5 @@
 -- The call of an exported function: what is set before its code, and what its outcomes are.
-use Rattle.std.proofs.Common.{◌≡◌, ℕ, zero, suc, ◌+◌, ◌-◌, ◌*◌, ◌%◌, ◌^◌, ◌<◌, ◌≤◌, ◌≢◌, ◌⊎◌, inl, inr, List, [], ◌∷◌, length, Option, Some, Bool, true, false, refl, sym, ap, ◌∙◌, subst, arith, lit≤}
+use Rattle.std.proofs.Common.{◌≡◌, ℕ, zero, suc, ◌+◌, ◌-◌, ◌*◌, ◌%◌, ◌^◌, ◌<◌, ◌≤◌, ◌≢◌, ◌⊎◌, inl, inr, List, [], ◌∷◌, length, Option, Some, None, Bool, true, false, not, ◌||◌, refl, sym, ap, ◌∙◌, subst, arith, lit≤}
 use Rattle.std.specs.Prelude.{if◌then◌else◌, slice_index}
 use Rattle.std.proofs.lemmas.Bool.{cases_eq, cases_lt, lt-ltb, ltb-true, le-ltb}
 use Rattle.std.proofs.lemmas.Nat.{pow_pos}
@@ -18,21 +18,24 @@ use Rattle.isp_base.specs.declared.types.Value.{Value}
 use Rattle.isp_code.specs.Calls.{shared_sizes}
 use Rattle.isp_code.specs.Conf as machine
 use Rattle.isp_code.specs.Conf.{Conf}
+use Rattle.isp_code.specs.Registers.{passed}
 use Rattle.isp_code.specs.Machine.{after, outcome}
 use Rattle.isp_wasm_meaning.specs.Digits.{digit}
-use Rattle.isp_wasm_meaning.specs.Syntax.{I8x16, Code, Set, Const128}
+use Rattle.isp_wasm_meaning.specs.Syntax.{I8x16, Code, Skip, Then, Set, Const128, GetGlobal}
 use Rattle.isp_wasm_meaning.specs.Meaning.{State, Result, Fell, Returned, Trapped, run, left, called, then_to, set_local, lane, flags}
 use Rattle.isp_wasm.specs.Places as place
 use Rattle.isp_wasm.specs.Places.{Setting, Place, Counter, gang, parts}
 use Rattle.isp_wasm.specs.Rows.{cell}
-use Rattle.isp_wasm.specs.Templates.{each, mask_part, function_code}
-use Rattle.isp_wasm.specs.Standing.{Stands, Keeps, IsSettled, report_of}
+use Rattle.isp_wasm.specs.Templates.{each, mask_part, function_code, begin_code, routine_code}
+use Rattle.isp_wasm.specs.Stack.{none_open, has_call, uses_stack, start, bytes_in, waiting_bytes, bottom, opened_memory}
+use Rattle.isp_wasm.specs.Standing.{Holds, Stands, Keeps, IsFull, IsSettled, report_of}
 use Rattle.isp_wasm.specs.Thin.{IsCovered, AllThin}
 use Rattle.isp_wasm.specs.Agreement.{Agrees, CallsAgree, out_of, value_bits}
-use Rattle.isp_wasm.specs.Entry.{entry_code, first, IsCalled, Shows, ReturnsSo, TrapsSo, SameOutcomes, EntriesAgree}
+use Rattle.isp_wasm.specs.Entry.{entry_code, first, IsPassed, IsCalled, Shows, ReturnsSo, TrapsSo, SameOutcomes, EntriesAgree}
 use Rattle.isp_wasm.proofs.Frames.{put_same, put_other, there, elsewhere}
 use Rattle.isp_wasm.proofs.Rows.{enough, row_constant}
 use Rattle.isp_wasm.proofs.Agreement.{functions_agree}
+use Rattle.isp_wasm.proofs.Opening.{which_array, IsOpen, IsEntered, Starts, starts}
 
 pub digit_zero : (b k : ℕ) → 0 < b → digit b k 0 ≡ 0
 unfolding digit
@@ -116,84 +119,177 @@ module _ (w : Setting) (ready : IsSettled w) where
           elsewhere w ready (place.Mask 0 n) (place.Mask 0 j) (mask_part (everyone (gang w)) n % 2 ^ 128) (all_on n s) (λ e. ne cc)
           ∙ before (let other : j ≢ n = ne in omega arith)
 
+  -- ---- where the next array lies
+
+  opened_if : Bool → State → State
+  opened_if true s = set_local (w.local place.Top) (s.globals 17) s
+  opened_if false s = s
+
+  opened : State → State
+  opened s = opened_if (uses_stack w.routine) s
+
+  runs_opened : (fuel : ℕ) (call : ℕ → List ℕ → State → Result) (b : Bool) (s : State) → run fuel call (if b then GetGlobal (w.local place.Top) 17 else Skip) s ≡ Fell (opened_if b s)
+  unfolding opened_if
+  runs_opened fuel call true s = refl
+  runs_opened fuel call false s = refl
+
+  opened_rest : (b : Bool) (s : State) → ((opened_if b s).memory ≡ s.memory) × ((opened_if b s).size ≡ s.size) × ((opened_if b s).out ≡ s.out)
+  unfolding opened_if
+  opened_rest true s = (refl, refl, refl)
+  opened_rest false s = (refl, refl, refl)
+
+  opened_other : (b : Bool) (s : State) (p : Place) → (p ≡ place.Top → ⊥) → (opened_if b s).locals (w.local p) ≡ s.locals (w.local p)
+  unfolding opened_if
+  opened_other true s p ne = elsewhere w ready place.Top p (s.globals 17) s ne
+  opened_other false s p ne = refl
+
+  opened_top : (b : Bool) (s : State) → s.locals (w.local place.Top) ≡ 0 → (opened_if b s).locals (w.local place.Top) ≡ start (if b then Some (s.globals 17) else None)
+  unfolding opened_if
+  opened_top true s none = there w ready place.Top (s.globals 17) s
+  opened_top false s none = none
+
   -- ---- the first state
 
   module _ (xs : List Argument) (arguments : List ℕ) (s : State) (call_is : IsCalled w xs arguments s) where
+    called_at : State
+    called_at = record s { locals = slice_index arguments }
+
     entered : State
-    entered = record s { locals = slice_index arguments }
+    entered = opened called_at
 
     begun : State
     begun = all_on (parts w I8x16) entered
 
     mask_lanes : (r j k : ℕ) → k < 16 → (r ≡ 0) ⊎ (r ≡ 0 → ⊥) → (j < parts w I8x16) ⊎ (parts w I8x16 ≤ j)
         → lane I8x16 k (begun.locals (w.local (place.Mask r j))) ≡ flags 8 (put (λ k. nobody) 0 (everyone (gang w)) r (j * 16 + k))
-    unfolding begun entered
+    unfolding begun entered opened called_at
     mask_lanes r j k l (inl e) (inl lt) =
         subst (λ r. lane I8x16 k (begun.locals (w.local (place.Mask r j))) ≡ flags 8 (put (λ k. nobody) 0 (everyone (gang w)) r (j * 16 + k))) (sym e)
         (ap (lane I8x16 k) (on_set (parts w I8x16) j entered lt) ∙ row_constant (j * 16 + 16) I8x16 (λ x. x) (λ p. flags 8 (everyone (gang w) p)) (λ p q. byte_below (everyone (gang w) p)) j k l (omega arith))
     mask_lanes r j k l (inl e) (inr le) =
         subst (λ r. lane I8x16 k (begun.locals (w.local (place.Mask r j))) ≡ flags 8 (put (λ k. nobody) 0 (everyone (gang w)) r (j * 16 + k))) (sym e)
-        (ap (lane I8x16 k) (on_other (parts w I8x16) entered (place.Mask 0 j) (λ i l e. let same : j ≡ i = cc in omega arith) ∙ call_is.masks_are 0 j) ∙ digit_zero 256 k (lit≤ tt)
+        (ap (lane I8x16 k) (on_other (parts w I8x16) entered (place.Mask 0 j) (λ i l e. let same : j ≡ i = cc in omega arith) ∙ opened_other (uses_stack w.routine) called_at (place.Mask 0 j) (λ e. cc) ∙ call_is.masks_are 0 j) ∙ digit_zero 256 k (lit≤ tt)
         ∙ ap (flags 8) (sym (le-ltb (j * 16 + k) (gang w) (past (cases_lt (j * 16 + k) (gang w))))))
       where
         past : (j * 16 + k < gang w) ⊎ (gang w ≤ j * 16 + k) → gang w ≤ j * 16 + k
         past (inl lt) = absurd (let some = enough w I8x16 j k lt in omega arith)
         past (inr ge) = ge
     mask_lanes r j k l (inr ne) h =
-        ap (lane I8x16 k) (on_other (parts w I8x16) entered (place.Mask r j) (λ i l e. ne cc) ∙ call_is.masks_are r j) ∙ digit_zero 256 k (lit≤ tt)
+        ap (lane I8x16 k) (on_other (parts w I8x16) entered (place.Mask r j) (λ i l e. ne cc) ∙ opened_other (uses_stack w.routine) called_at (place.Mask r j) (λ e. cc) ∙ call_is.masks_are r j) ∙ digit_zero 256 k (lit≤ tt)
         ∙ ap (λ f. flags 8 (f (j * 16 + k))) (sym (put_other (λ k. nobody) 0 (everyone (gang w)) r ne))
 
     member_low : (r p : ℕ) → (r ≡ 0) ⊎ (r ≡ 0 → ⊥) → put (λ k. nobody) 0 (everyone (gang w)) r p ≡ true → p < gang w
     member_low r p (inl e) h = ltb-true p (gang w) (sym (ap (λ f. f p) (put_same (λ k. nobody) 0 (everyone (gang w)) r e)) ∙ h)
     member_low r p (inr ne) h = absurd (let impossible : false ≡ true = sym (ap (λ f. f p) (put_other (λ k. nobody) 0 (everyone (gang w)) r ne)) ∙ h in cc)
 
-    same_as_called : (p : Place) → ((j : ℕ) → p ≡ place.Mask 0 j → ⊥) → begun.locals (w.local p) ≡ slice_index arguments (w.local p)
-    unfolding begun entered
-    same_as_called p out = on_other (parts w I8x16) entered p (λ j l. out j)
+    same_as_called : (p : Place) → ((j : ℕ) → p ≡ place.Mask 0 j → ⊥) → (p ≡ place.Top → ⊥) → begun.locals (w.local p) ≡ slice_index arguments (w.local p)
+    unfolding begun entered opened called_at
+    same_as_called p out ne = on_other (parts w I8x16) entered p (λ j l. out j) ∙ opened_other (uses_stack w.routine) called_at p ne
 
-    stands : Stands w 0 (first w xs) begun
-    unfolding begun entered
-    stands =
+    at_bottom : start (if uses_stack w.routine then Some (s.globals 17) else None) ≡ bottom w
+    at_bottom =
+        let here = ap start call_is.stack_is in
+        let alone = ap (waiting_bytes w.code) call_is.alone in omega (arith, here, alone)
+
+    has_stack : (a b : Bool) → b ≡ false → (n : ℕ) × ((if a || not b then Some (s.globals 17) else None) ≡ Some n)
+    has_stack true b e = (s.globals 17, refl)
+    has_stack false false e = (s.globals 17, refl)
+    has_stack false true e = absurd cc
+
+    stacked : none_open w.routine.locals ≡ false → (n : ℕ) × (w.stack ≡ Some n)
+    stacked e = let has = has_stack (has_call w.routine) (none_open w.routine.locals) e in (has.0, call_is.stack_is ∙ has.1)
+
+    module _ (m : ℕ → ℕ) (o : IsOpen w w.routine.locals (passed w.routine) (bottom w) begun.locals m) where
+      other : (p : Place) → (p ≡ place.Top → ⊥) → ((i : ℕ) → i < length w.routine.locals → p ≡ place.Base (passed w.routine + i) → ⊥) → ((i : ℕ) → i < length w.routine.locals → p ≡ place.Count (passed w.routine + i) → ⊥)
+          → m (w.local p) ≡ begun.locals (w.local p)
+      other p x y z = o.others p x y z
+
+      base_holds : (a : ℕ) → ((i : ℕ) × (a ≡ passed w.routine + i) × (i < length w.routine.locals)) ⊎ IsPassed w a → m (w.local (place.Base a)) ≡ w.begins (w.home.named a)
+      base_holds a (inl (i, e, lt)) = subst (λ n. m (w.local (place.Base n)) ≡ w.begins (w.home.named n)) (sym e) (o.bases i lt ∙ sym (call_is.own_bases i lt))
+      base_holds a (inr out) = other (place.Base a) (λ e. cc) (λ i lt e. out i lt cc) (λ i lt e. cc) ∙ same_as_called (place.Base a) (λ j e. cc) (λ e. cc) ∙ call_is.bases a out
+
+      count_holds : (a : ℕ) → ((i : ℕ) × (a ≡ passed w.routine + i) × (i < length w.routine.locals)) ⊎ IsPassed w a → m (w.local (place.Count a)) ≡ w.home.sizes (w.home.named a)
+      count_holds a (inl (i, e, lt)) = subst (λ n. m (w.local (place.Count n)) ≡ w.home.sizes (w.home.named n)) (sym e) (o.counts i lt ∙ sym (call_is.own_counts i lt))
+      count_holds a (inr out) = other (place.Count a) (λ e. cc) (λ i lt e. cc) (λ i lt e. out i lt cc) ∙ same_as_called (place.Count a) (λ j e. cc) (λ e. cc) ∙ call_is.counts a out
+
+      holds : Holds w (first w xs).scalars (first w xs).vectors (first w xs).masks m
+      unfolding begun
+      holds =
+          record {
+            scalars_are = λ r. other (place.Scalar r) (λ e. cc) (λ i lt e. cc) (λ i lt e. cc) ∙ same_as_called (place.Scalar r) (λ j e. cc) (λ e. cc) ∙ call_is.scalars_are r;
+            vectors_are = λ r j k l q. ap (lane _ k) (other (place.Vector r j) (λ e. cc) (λ i lt e. cc) (λ i lt e. cc) ∙ same_as_called (place.Vector r j) (λ j e. cc) (λ e. cc) ∙ call_is.vectors_are r j) ∙ digit_zero _ k (pow_pos _) ∙ no_cell _;
+            masks_are = λ r j k l. ap (lane I8x16 k) (other (place.Mask r j) (λ e. cc) (λ i lt e. cc) (λ i lt e. cc)) ∙ mask_lanes r j k l (cases_eq r 0) (cases_lt j (parts w I8x16));
+            fits = call_is.fits;
+            members = λ r p h. member_low r p (cases_eq r 0) h;
+            bases = λ a. base_holds a (which_array a (passed w.routine) (length w.routine.locals));
+            counts = λ a. count_holds a (which_array a (passed w.routine) (length w.routine.locals));
+            depth = other place.Depth (λ e. cc) (λ i lt e. cc) (λ i lt e. cc) ∙ same_as_called place.Depth (λ j e. cc) (λ e. cc) ∙ call_is.depth_is ∙ sym (ap length call_is.alone);
+            top_is = o.top_is;
+          }
+
+    memory_is : begun.memory ≡ s.memory
+    unfolding begun entered opened called_at
+    memory_is = (on_rest (parts w I8x16) entered).0 ∙ (opened_rest (uses_stack w.routine) called_at).0
+
+    size_is : begun.size ≡ s.size
+    unfolding begun entered opened called_at
+    size_is = (on_rest (parts w I8x16) entered).1 ∙ (opened_rest (uses_stack w.routine) called_at).1
+
+    is_entered : IsEntered w ready (first w xs) begun
+    unfolding begun entered opened called_at
+    is_entered =
         record {
           home_is = call_is.home_is;
           waiting_is = sym call_is.alone;
           pc_is = refl;
-          out_is = (on_rest (parts w I8x16) entered).2 ∙ call_is.silent;
-          holds =
-              record {
-                scalars_are = λ r. same_as_called (place.Scalar r) (λ j e. cc) ∙ call_is.scalars_are r;
-                vectors_are = λ r j k l q. ap (lane _ k) (same_as_called (place.Vector r j) (λ j e. cc) ∙ call_is.vectors_are r j) ∙ digit_zero _ k (pow_pos _) ∙ no_cell _;
-                masks_are = λ r j k l. mask_lanes r j k l (cases_eq r 0) (cases_lt j (parts w I8x16));
-                fits = call_is.fits;
-                members = λ r p h. member_low r p (cases_eq r 0) h;
-                bases = λ a. same_as_called (place.Base a) (λ j e. cc) ∙ call_is.bases a;
-                counts = λ a. same_as_called (place.Count a) (λ j e. cc) ∙ call_is.counts a;
-                depth = same_as_called place.Depth (λ j e. cc) ∙ call_is.depth_is ∙ sym (ap length call_is.alone);
-              };
-          keeps = subst (λ m. Keeps w (first w xs).arrays m begun.size) (sym (on_rest (parts w I8x16) entered).0) (subst (λ z. Keeps w (first w xs).arrays s.memory z) (sym (on_rest (parts w I8x16) entered).1) call_is.keeps);
+          out_is = (on_rest (parts w I8x16) entered).2 ∙ (opened_rest (uses_stack w.routine) called_at).2 ∙ call_is.silent;
+          top_is = on_other (parts w I8x16) entered place.Top (λ j l e. cc) ∙ opened_top (uses_stack w.routine) called_at call_is.top_zero ∙ at_bottom;
+          few = call_is.few;
+          small = subst (λ n. n ≤ 2 ^ 32) (sym size_is) call_is.small;
+          whole = size_is ∙ call_is.whole;
+          stacked = stacked;
+          holds = λ m o. holds m o;
+          keeps = λ room. subst (λ m. Keeps w (first w xs).arrays (opened_memory (gang w) (bottom w) w.routine.locals m) begun.size) (sym memory_is)
+              (subst (λ z. Keeps w (first w xs).arrays (opened_memory (gang w) (bottom w) w.routine.locals s.memory) z) (sym size_is) (call_is.keeps (λ e. subst (λ n. bottom w + bytes_in (gang w) w.routine.locals < n) size_is (room e))));
         }
 
     counter_at : begun.locals (w.local Counter) ≡ 0
-    counter_at = same_as_called Counter (λ j e. cc) ∙ call_is.counter_is
+    counter_at = same_as_called Counter (λ j e. cc) (λ e. cc) ∙ call_is.counter_is
 
     -- ---- its outcomes
 
-    module _ (covered : IsCovered w) (thin : AllThin w) (module_code : ℕ → Code) (f : ℕ) (code_is : module_code f ≡ entry_code w) (right : (n : ℕ) → CallsAgree w n (called module_code n)) where
+    module _ (covered : IsCovered w) (thin : AllThin w) (module_code : ℕ → Code) (f : ℕ) (code_is : module_code f ≡ entry_code w) (right : (n : ℕ) → CallsAgree w n (called module_code n)) (roomy : IsFull w (first w xs) → ⊥) where
       calls_of : ℕ → ℕ → List ℕ → State → Result
       calls_of zero = called module_code zero
       calls_of (suc n) = called module_code n
 
-      agrees : Agrees w (first w xs) (λ n. left (run n (calls_of n) (function_code w) begun))
+      -- there is room for its arrays
+      begins_so : Starts w ready (first w xs) begun
+      begins_so = by (starts w ready (first w xs) begun is_entered)
+        where
+          by : Starts w ready (first w xs) begun ⊎ (((fuel : ℕ) (call : ℕ → List ℕ → State → Result) → run fuel call (begin_code w w.routine.locals) begun ≡ Trapped None begun) × IsFull w (first w xs)) → Starts w ready (first w xs) begun
+          by (inl b) = b
+          by (inr none) = absurd (roomy none.1)
+
+      abbrev there_state : State
+      there_state = begins_so.state
+
+      counter_there : there_state.locals (w.local Counter) ≡ 0
+      counter_there = begins_so.counter ∙ counter_at
+
+      agrees : Agrees w (first w xs) (λ n. left (run n (calls_of n) (function_code w) there_state))
       unfolding calls_of
       agrees =
-          functions_agree w ready covered thin call_is.alone call_is.no_vector calls_of right (first w xs) begun (subst (λ z. z < w.rungs) (sym counter_at) call_is.some)
-          (subst (λ z. Stands w z (first w xs) begun) (sym (ap w.heads counter_at ∙ call_is.head_is)) stands)
+          functions_agree w ready covered thin call_is.alone call_is.no_vector calls_of right (first w xs) there_state (subst (λ z. z < w.rungs) (sym counter_there) call_is.some)
+          (subst (λ z. Stands w z (first w xs) there_state) (sym (ap w.heads counter_there ∙ call_is.head_is)) begins_so.stands) roomy
 
-      result_is : (n : ℕ) → called module_code (suc n) f arguments s ≡ left (run (suc n) (calls_of (suc n)) (function_code w) begun)
-      unfolding begun entered calls_of
+      result_is : (n : ℕ) → called module_code (suc n) f arguments s ≡ left (run (suc n) (calls_of (suc n)) (function_code w) there_state)
+      unfolding begun entered opened called_at calls_of
       result_is n =
-          ap (λ z. left (run (suc n) (called module_code n) z entered)) code_is
-          ∙ ap (λ r. left (then_to r (run (suc n) (called module_code n) (function_code w)))) (runs_on (suc n) (called module_code n) (parts w I8x16) entered)
+          ap (λ z. left (run (suc n) (called module_code n) z called_at)) code_is
+          ∙ ap (λ r. left (then_to r (run (suc n) (called module_code n) (Then (each (parts w I8x16) (λ j. Set (w.local (place.Mask 0 j)) (Const128 (mask_part (everyone (gang w)) j)))) (routine_code w))))) (runs_opened (suc n) (called module_code n) (uses_stack w.routine) called_at)
+          ∙ ap (λ r. left (then_to r (run (suc n) (called module_code n) (routine_code w)))) (runs_on (suc n) (called module_code n) (parts w I8x16) entered)
+          ∙ ap (λ r. left (then_to r (run (suc n) (called module_code n) (function_code w)))) (begins_so.fell (suc n) (called module_code n))
 
       sizes_are : (b e : ℕ) → e < length (row_bits (rows xs) b) → e < w.home.sizes b
       sizes_are b e h =
@@ -233,7 +329,7 @@ module _ (w : Setting) (ready : IsSettled w) where
           let none : outcomes.GoesOn [] ≡ outcomes.GoesOn out = ap (outcome (rows xs)) e ∙ is in
           let same : [] ≡ out = cc in subst (λ o. IsPrefix o s.out) same (s.out, refl)
       written_at (suc m) out (machine.Runs d) e is =
-          let same : d.out ≡ out = cc in subst (λ r. IsPrefix out (out_of r)) (sym (result_is m)) (subst (λ o. IsPrefix o (out_of (left (run (suc m) (calls_of (suc m)) (function_code w) begun)))) same (agrees.so_far (suc m) d e))
+          let same : d.out ≡ out = cc in subst (λ r. IsPrefix out (out_of r)) (sym (result_is m)) (subst (λ o. IsPrefix o (out_of (left (run (suc m) (calls_of (suc m)) (function_code w) there_state)))) same (agrees.so_far (suc m) d e))
       written_at (suc m) out (machine.Trapped t d) e is = absurd cc
       written_at (suc m) out (machine.Ended x d) e is = absurd cc
 
@@ -251,4 +347,4 @@ module _ (w : Setting) (ready : IsSettled w) where
           }
 
 pub entries_agree : EntriesAgree
-entries_agree w ready covered thin module_code f code_is right xs arguments s call_is = same_outcomes w ready xs arguments s call_is covered thin module_code f code_is right
+entries_agree w ready covered thin module_code f code_is right xs arguments s call_is roomy = same_outcomes w ready xs arguments s call_is covered thin module_code f code_is right roomy

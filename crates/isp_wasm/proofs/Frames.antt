@@ -7,7 +7,7 @@ use Rattle.isp_base.specs.Sets as Sets
 use Rattle.isp_base.specs.Values.{width}
 use Rattle.isp_wasm_meaning.specs.Syntax.{I8x16}
 use Rattle.isp_wasm_meaning.specs.Meaning.{State, set_local, lane, count, flags}
-use Rattle.isp_wasm.specs.Places.{Setting, Place, Scalar, Vector, Mask, Base, Count, Depth, IsKept, shape, elem, gang}
+use Rattle.isp_wasm.specs.Places.{Setting, Place, Scalar, Vector, Mask, Base, Count, Depth, Top, IsKept, shape, elem, gang}
 use Rattle.isp_wasm.specs.Rows.{cell}
 use Rattle.isp_wasm.specs.Standing.{Holds, IsSettled, scalar_register, vector_register}
 
@@ -40,6 +40,7 @@ module _ (w : Setting) where
         bases = λ b. a (Base b) tt ∙ h.bases b;
         counts = λ b. a (Count b) tt ∙ h.counts b;
         depth = a Depth tt ∙ h.depth;
+        top_is = a Top tt ∙ h.top_is;
       }
 
   pub holds_scalar : (sc : ℕ → ℕ) (ve : ℕ → Lanes) (ma : ℕ → Sets.Mask) (l m : ℕ → ℕ) (d v : ℕ) → Holds w sc ve ma l → v < 2 ^ width (elem w (scalar_register d)) → m (w.local (Scalar d)) ≡ v
@@ -54,6 +55,7 @@ module _ (w : Setting) where
         bases = λ b. a (Base b) tt (λ e. cc) ∙ h.bases b;
         counts = λ b. a (Count b) tt (λ e. cc) ∙ h.counts b;
         depth = a Depth tt (λ e. cc) ∙ h.depth;
+        top_is = a Top tt (λ e. cc) ∙ h.top_is;
       }
     where
       by : (r : ℕ) → (r ≡ d) ⊎ (r ≡ d → ⊥) → m (w.local (Scalar r)) ≡ put sc d v r
@@ -82,6 +84,7 @@ module _ (w : Setting) where
         bases = λ b. a (Base b) tt (λ e. let f = e.1 in cc) ∙ h.bases b;
         counts = λ b. a (Count b) tt (λ e. let f = e.1 in cc) ∙ h.counts b;
         depth = a Depth tt (λ e. let f = e.1 in cc) ∙ h.depth;
+        top_is = a Top tt (λ e. let f = e.1 in cc) ∙ h.top_is;
       }
     where
       by : (r j k : ℕ) → k < count (shape w (vector_register r)) → j * count (shape w (vector_register r)) + k < gang w → (r ≡ d) ⊎ (r ≡ d → ⊥)
@@ -111,6 +114,7 @@ module _ (w : Setting) where
         bases = λ b. a (Base b) tt (λ e. let f = e.1 in cc) ∙ h.bases b;
         counts = λ b. a (Count b) tt (λ e. let f = e.1 in cc) ∙ h.counts b;
         depth = a Depth tt (λ e. let f = e.1 in cc) ∙ h.depth;
+        top_is = a Top tt (λ e. let f = e.1 in cc) ∙ h.top_is;
       }
     where
       by : (r j k : ℕ) → k < 16 → (r ≡ d) ⊎ (r ≡ d → ⊥) → lane I8x16 k (m (w.local (Mask r j))) ≡ flags 8 (put ma d x r (j * 16 + k))

@@ -16,7 +16,7 @@ use Rattle.isp_code.specs.declared.register.Class.TheVariants as class
 use Rattle.isp_code.specs.declared.register.Register.{Register}
 use Rattle.isp_wasm_meaning.specs.Syntax.{Expr}
 use Rattle.isp_wasm_meaning.specs.Meaning.{value}
-use Rattle.isp_wasm.specs.Places.{Setting, Place, Counter, Scalar, Vector, Mask, Base, Count, Fresh, Spare, Depth, gang, parts, elem, shape}
+use Rattle.isp_wasm.specs.Places.{Setting, Place, Counter, Scalar, Vector, Mask, Base, Count, Fresh, Spare, Depth, Top, gang, parts, elem, shape}
 use Rattle.isp_wasm.specs.Locals.{row, taking, taken_from}
 use Rattle.isp_wasm.specs.Standing.{vector_register}
 use Rattle.isp_wasm.specs.Templates.{listed, part_under, passed_of, passed_all}
@@ -107,6 +107,7 @@ module _ (w : Setting) (l : ℕ → ℕ) (k : Register) where
         rest (Fresh j) is = other_at (Scalar r) (Fresh j) qs (l (w.local (Scalar n))) (map (value l) es) (λ e. cc) ∙ h.others (Fresh j) tt
         rest (Spare t j) is = other_at (Scalar r) (Spare t j) qs (l (w.local (Scalar n))) (map (value l) es) (λ e. cc) ∙ h.others (Spare t j) tt
         rest Depth is = other_at (Scalar r) Depth qs (l (w.local (Scalar n))) (map (value l) es) (λ e. cc) ∙ h.others Depth tt
+        rest Top is = other_at (Scalar r) Top qs (l (w.local (Scalar n))) (map (value l) es) (λ e. cc) ∙ h.others Top tt
 
     -- ---- an array
 
@@ -148,6 +149,7 @@ module _ (w : Setting) (l : ℕ → ℕ) (k : Register) where
         rest (Fresh j) is = past_both (Fresh j) (λ e. cc) (λ e. cc) ∙ h.others (Fresh j) tt
         rest (Spare t j) is = past_both (Spare t j) (λ e. cc) (λ e. cc) ∙ h.others (Spare t j) tt
         rest Depth is = past_both Depth (λ e. cc) (λ e. cc) ∙ h.others Depth tt
+        rest Top is = past_both Top (λ e. cc) (λ e. cc) ∙ h.others Top tt
 
     -- ---- a vector
 
@@ -194,6 +196,7 @@ module _ (w : Setting) (l : ℕ → ℕ) (k : Register) where
         rest (Fresh i) is = past_parts (Fresh i) (λ j lt e. cc) ∙ h.others (Fresh i) tt
         rest (Spare t i) is = past_parts (Spare t i) (λ j lt e. cc) ∙ h.others (Spare t i) tt
         rest Depth is = past_parts Depth (λ j lt e. cc) ∙ h.others Depth tt
+        rest Top is = past_parts Top (λ j lt e. cc) ∙ h.others Top tt
 
   -- ---- all of them
 

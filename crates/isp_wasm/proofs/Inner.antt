@@ -1,9 +1,9 @@
 -- The functions that others call do what the machine's calls of them do, with any fuel.
-use Rattle.std.proofs.Common.{◌≡◌, ℕ, zero, suc, ◌+◌, ◌-◌, ◌*◌, ◌%◌, ◌^◌, ◌<◌, ◌≤◌, ◌⊎◌, inl, inr, List, [], ◌∷◌, ◌++◌, length, map, take, Option, Some, None, Bool, true, false, ◌&&◌, refl, sym, ap, ◌∙◌, subst, append_assoc, eq-eqb, arith, mod-eq_of_lt, lit≤}
+use Rattle.std.proofs.Common.{◌≡◌, ℕ, zero, suc, ◌+◌, ◌-◌, ◌*◌, ◌%◌, ◌^◌, ◌<◌, ◌≤◌, ◌⊎◌, inl, inr, List, [], ◌∷◌, ◌++◌, length, map, Option, Some, None, Bool, true, false, ◌&&◌, refl, sym, ap, ◌∙◌, subst, append_assoc, eq-eqb, arith, mod-eq_of_lt, lit≤}
 use Rattle.std.specs.Prelude.{slice_get, slice_index, slice_index_or, nat_lt, if◌then◌else◌}
 use Rattle.std.specs.List.{list_any}
 use Rattle.std.proofs.lemmas.Bool.{cases_lt, cases_eq, lt-ltb, le-ltb, cond-true, cond-false}
-use Rattle.std.proofs.lemmas.List.{length-map, get_or_append_left}
+use Rattle.std.proofs.lemmas.List.{length-append, length-map, get_or_append_left}
 use Rattle.std.proofs.lemmas.Nat.{pow_pos}
 use Rattle.std.proofs.lemmas.Option.{slice_get_past, slice_get-get_or, get_or_from_slice_get}
 use Rattle.std.proofs.Math.ListN.{get_or}
@@ -17,10 +17,10 @@ use Rattle.isp_base.specs.declared.types.Elem.{Elem}
 use Rattle.isp_base.specs.declared.types.Elem.TheVariants.{Bool as Truth}
 use Rattle.isp_code.specs.Calls as calls
 use Rattle.isp_code.specs.Calls.{from, numbers, new_home, shared_sizes, waits, depth}
-use Rattle.isp_code.specs.Conf.{Home, Conf}
+use Rattle.isp_code.specs.Conf.{Home, Frame, Conf}
 use Rattle.isp_code.specs.Fine.{CallFine, IsGiven, IsThere}
 use Rattle.isp_code.specs.Listing.{Listing, Routine}
-use Rattle.isp_code.specs.Registers.{param_elems, elem_of, types_in, table_of}
+use Rattle.isp_code.specs.Registers.{passed, param_elems, arrays_of, local_elem, elem_of, types_in, table_of}
 use Rattle.isp_code.specs.declared.function.Returns.{Returns}
 use Rattle.isp_code.specs.declared.function.Returns.TheVariants.{Nothing, Scalar as GivesScalar, Vector as GivesVector}
 use Rattle.isp_code.specs.declared.instr.Call.{Call}
@@ -30,16 +30,17 @@ use Rattle.isp_code.specs.declared.register.Class.TheVariants as class
 use Rattle.isp_code.specs.declared.register.Register.{Register}
 use Rattle.isp_verify.specs.Accepted.{IsFine}
 use Rattle.isp_wasm_meaning.specs.Syntax.{I8x16, Code, Const128}
-use Rattle.isp_wasm_meaning.specs.Meaning.{State, Result, Fell, Branched, Returned, Trapped, OutOfFuel, called, run, left, value, lane, flags, count, bytes}
+use Rattle.isp_wasm_meaning.specs.Meaning.{State, Result, Fell, Branched, Returned, Trapped, OutOfFuel, called, run, left, then_to, value, lane, flags, count}
 use Rattle.isp_wasm_meaning.specs.Module.{Function, code_in, unused}
 use Rattle.isp_wasm_meaning.specs.Ladder.{Told}
 use Rattle.isp_wasm.specs.Places as place
 use Rattle.isp_wasm.specs.Places.{Setting, Place, Counter, gang, parts, elem, shape, shape_of, text, bytes_of}
 use Rattle.isp_wasm.specs.Rows.{cell, widened}
 use Rattle.isp_wasm.specs.Locals.{row, taken_from, taken_places, own_places, inner_local, local_at}
-use Rattle.isp_wasm.specs.Module.{text_start, is_plain, all_plain, has_call, calls_function, is_called, inner, inner_of, inner_function, inner_functions, function_of, module_of}
-use Rattle.isp_wasm.specs.Standing.{Holds, Keeps, Stands, IsSettled, bits_by, bits_of, LanesBy, LanesOf, scalar_register, vector_register, the_machine}
-use Rattle.isp_wasm.specs.Templates.{listed, plus, waiting_calls, part_under, vector_local, mask_local, passed_all, arguments_of, called_number, function_code}
+use Rattle.isp_wasm.specs.Module.{all_shared, is_plain, all_plain, calls_function, is_called, inner, inner_of, inner_function, inner_functions, function_of, module_of}
+use Rattle.isp_wasm.specs.Stack.{IsBelow, moved_up, start, has_call, waiting_bytes, function_bytes, bytes_if, bytes_in, top}
+use Rattle.isp_wasm.specs.Standing.{Holds, Keeps, Stands, IsFull, IsSettled, bits_by, bits_of, LanesBy, LanesOf, scalar_register, vector_register, the_machine}
+use Rattle.isp_wasm.specs.Templates.{listed, plus, waiting_calls, part_under, vector_local, mask_local, passed_all, arguments_of, called_number, function_code, begin_code, routine_code}
 use Rattle.isp_wasm.specs.Agreement.{BringsTo, Brings, Back, CallsAgree, ComesBack}
 use Rattle.isp_wasm.proofs.Agreement.{calls_come_back}
 use Rattle.isp_wasm.proofs.Cells.{select_cells, zero_cells}
@@ -49,7 +50,9 @@ use Rattle.isp_wasm.proofs.Given.{Gives, gives, in_row, past_row, scalar_got, ba
 use Rattle.isp_wasm.proofs.Heads.{first_head}
 use Rattle.isp_wasm.proofs.Numbers.{place_apart}
 use Rattle.isp_wasm.proofs.Passing.{At, first_at, other_at, no_number}
-use Rattle.isp_wasm.proofs.Plain.{placed, all_at, any_at, calls_some, text_low, few_heads, heads_rise, some_code, arrays_are, no_sizes, no_stores, no_size, covered, all_thin}
+use Rattle.isp_wasm.proofs.Opened.{AreLaid, IsUnder, inside, past_list, old_size, old_begin, old_elem, past_size, past_begin, disjoint, text_apart, bounded, under_all, keeps_in, keeps_out, named_low, named_past, own_base, own_count, own_low, are_stored}
+use Rattle.isp_wasm.proofs.Opening.{which_array, IsOpen, IsEntered, Starts, starts}
+use Rattle.isp_wasm.proofs.Plain.{AreStored, all_at, any_at, calls_some, text_low, few_heads, heads_rise, some_code, shared, bytes_low, covered, all_thin}
 use Rattle.isp_wasm.proofs.Rows.{enough}
 use Rattle.isp_wasm.proofs.Vectors.{chosen_over, mask_row}
 
@@ -57,10 +60,11 @@ use Rattle.isp_wasm.proofs.Vectors.{chosen_over, mask_row}
 pub record IsOf (w : Setting) : Type 0 where
   pub accepted : IsFine w.code
   pub settled : IsSettled w
-  pub texts_at : w.text_at ≡ text_start w.code.texts
-  pub begins_past : (b : ℕ) → w.home.opened ≤ b → w.begins b ≡ 0
+  pub laid : AreLaid w
   pub stored : (a : Register) → IsThere w.routine class.Array a → w.elems (w.home.named a.number) ≡ elem w a
+  pub named_low : (a : ℕ) → a < length (arrays_of w.routine) → w.home.named a < w.home.opened
   pub plain : (pc : ℕ) (k : Call) → slice_get w.routine.code pc ≡ Some (instr.Call k) → all_plain w.code ≡ true
+  pub under : (pc : ℕ) (k : Call) → slice_get w.routine.code pc ≡ Some (instr.Call k) → IsUnder w (top w)
 
 -- ---- its number
 
@@ -68,10 +72,6 @@ inner_get : (code : Listing) (hs : List Routine) (i f : ℕ) (h : Routine) → s
 inner_get code [] i f h has = absurd cc
 inner_get code (g ∷ hs) i zero h has = let same : g ≡ h = cc in ap (λ z. Some (inner_function code z i)) same ∙ ap (λ n. Some (inner_function code h n)) (let n : i ≡ i + 0 = omega arith in n)
 inner_get code (g ∷ hs) i (suc f) h has = inner_get code hs (suc i) f h has ∙ ap (λ n. Some (inner_function code h n)) (let n : suc i + f ≡ i + suc f = omega arith in n)
-
-pub past_list : {A : Type 0} (xs ys : List A) (k : ℕ) → slice_get (xs ++ ys) (length xs + k) ≡ slice_get ys k
-past_list [] ys k = ap (slice_get ys) (let n : 0 + k ≡ k = omega arith in n)
-past_list (x ∷ xs) ys k = ap (slice_get (x ∷ (xs ++ ys))) (let n : length (x ∷ xs) + k ≡ suc (length xs + k) = omega arith in n) ∙ past_list xs ys k
 
 module _ (code : Listing) (h : Routine) (fn pc : ℕ) (k : Call) (found : slice_get code.routines fn ≡ Some h) (has : slice_get h.code pc ≡ Some (instr.Call k)) (plain : all_plain code ≡ true) (g : Routine) (callee : slice_get code.routines k.function ≡ Some g) where
   calls_any : list_any has_call code.routines ≡ true
@@ -90,7 +90,7 @@ module _ (code : Listing) (h : Routine) (fn pc : ℕ) (k : Call) (found : slice_
       ∙ past_list (map (function_of code) code.routines) (inner_functions code 0 code.routines) k.function ∙ inner_get code code.routines 0 k.function g callee
       ∙ ap (λ n. Some (inner_function code g n)) (let n : 0 + k.function ≡ k.function = omega arith in n) ∙ ap Some function_is
 
-  inner_code : code_in (module_of code) (length code.routines + k.function) ≡ function_code (inner code g)
+  inner_code : code_in (module_of code) (length code.routines + k.function) ≡ routine_code (inner code g)
   inner_code = ap (λ (z : Function). z.code) (get_or_from_slice_get (module_of code).functions (length code.routines + k.function) (inner_of code g) unused inner_at)
 
 -- ---- registers that are passed
@@ -113,11 +113,21 @@ module _ (w : Setting) (of : IsOf w) (x : Call) (pc : ℕ) (has : slice_get w.ro
     abbrev pub mask : Sets.Mask
     mask = c.masks x.mask.number
 
+    abbrev pub names : ℕ → ℕ
+    names a = from 0 w.home.named (slice_get (numbers class.Array x.arguments) a)
+
     abbrev pub home : Home
-    home = new_home g x.function (λ a. from 0 w.home.named (slice_get (numbers class.Array x.arguments) a)) w.home.sizes w.home.opened
+    home = new_home g x.function names w.home.sizes w.home.opened
+
+    abbrev pub frames : List Frame
+    frames = waits c x.result mask ∷ c.waiting
+
+    -- where its arrays begin
+    abbrev pub at : ℕ
+    at = start w.stack + waiting_bytes w.code frames
 
     abbrev pub callee : Setting
-    callee = placed w.code g (inner_local (gang w) g) home (waits c x.result mask ∷ c.waiting) w.begins w.elems w.before
+    callee = inside w g x.function names (inner_local (gang w) g) frames at s.memory
 
     abbrev pub begun : Conf
     begun = calls.called c x g
@@ -130,20 +140,24 @@ module _ (w : Setting) (of : IsOf w) (x : Call) (pc : ℕ) (has : slice_get w.ro
 
     -- ---- arrays
 
-    same_size : (b : ℕ) → home.sizes b ≡ w.home.sizes b
-    same_size b = by (cases_lt b w.home.opened)
-      where
-        by : (b < w.home.opened) ⊎ (w.home.opened ≤ b) → home.sizes b ≡ w.home.sizes b
-        by (inl lt) = cond-true (nat_lt b w.home.opened) (w.home.sizes b) (slice_index (shared_sizes g.locals) (b - w.home.opened)) (lt-ltb b w.home.opened lt)
-        by (inr le) =
-            cond-false (nat_lt b w.home.opened) (w.home.sizes b) (slice_index (shared_sizes g.locals) (b - w.home.opened)) (le-ltb b w.home.opened le)
-            ∙ no_size w.code g x.function of.accepted fine.found plain_g (b - w.home.opened) ∙ sym (of.settled.closed b le)
+    -- its arrays lie behind those of the caller
+    bytes_are : function_bytes w.code c.home.fn ≡ bytes_in (gang w) w.routine.locals
+    bytes_are = ap (λ (h : Home). function_bytes w.code h.fn) st.home_is ∙ ap (bytes_if (gang w)) of.settled.found
 
-    same_end : (b : ℕ) → w.begins b + home.sizes b * bytes_of (w.elems b) ≡ w.begins b + w.home.sizes b * bytes_of (w.elems b)
-    same_end b = ap (λ n. w.begins b + n * bytes_of (w.elems b)) (same_size b)
+    waiting_are : waiting_bytes w.code c.waiting ≡ waiting_bytes w.code w.waiting
+    waiting_are = ap (waiting_bytes w.code) st.waiting_is
 
-    same_opened : home.opened ≡ w.home.opened
-    same_opened = let nothing = no_stores w.code g x.function of.accepted fine.found plain_g in omega (arith, nothing)
+    above : top w ≡ at
+    above = omega (arith, bytes_are, waiting_are)
+
+    under : IsUnder w at
+    under = subst (IsUnder w) above (of.under pc x has)
+
+    small : suc (bytes_in (gang w) g.locals) < 2 ^ 32
+    small = bytes_low w.code g x.function of.accepted fine.found plain_g
+
+    each_shared : all_shared g.locals ≡ true
+    each_shared = shared w.code g x.function of.accepted fine.found plain_g
 
     settled : IsSettled callee
     settled =
@@ -153,48 +167,38 @@ module _ (w : Setting) (of : IsOf w) (x : Call) (pc : ℕ) (has : slice_get w.ro
           few = few_heads w.code g x.function of.accepted fine.found plain_g;
           heads_up = heads_rise w.code g x.function of.accepted fine.found plain_g;
           text_low = text_low w.code g x.function of.accepted fine.found plain_g;
-          text_apart = λ t b. subst (λ n. (text_start w.code.texts t + length (text w t) ≤ w.begins b) ⊎ (n ≤ text_start w.code.texts t)) (sym (same_end b))
-              (subst (λ f. (f t + length (text w t) ≤ w.begins b) ⊎ (w.begins b + w.home.sizes b * bytes_of (w.elems b) ≤ f t)) of.texts_at (of.settled.text_apart t b));
-          bounded = λ b. subst (λ n. n ≤ 2 ^ 32) (sym (same_size b)) (of.settled.bounded b);
-          closed = λ b le. same_size b ∙ of.settled.closed b (subst (λ n. n ≤ b) same_opened le);
-          disjoint = λ a b ne. subst (λ n. (n ≤ w.begins b) ⊎ (w.begins b + home.sizes b * bytes_of (w.elems b) ≤ w.begins a)) (sym (same_end a))
-              (subst (λ n. (w.begins a + w.home.sizes a * bytes_of (w.elems a) ≤ w.begins b) ⊎ (n ≤ w.begins a)) (sym (same_end b)) (of.settled.disjoint a b ne));
+          text_apart = text_apart w g x.function names (inner_local (gang w) g) frames at s.memory of.laid (λ e. under) small refl;
+          bounded = bounded w g x.function names (inner_local (gang w) g) frames at s.memory of.laid (λ e. under) small refl;
+          closed = past_size w g x.function names (inner_local (gang w) g) frames at s.memory;
+          disjoint = disjoint w g x.function names (inner_local (gang w) g) frames at s.memory of.laid (λ e. under) small refl;
         }
+
+    below_old : (arrays : ℕ → Lanes) (b e : ℕ) → b < w.home.opened → below c.home.opened arrays b e ≡ arrays b e
+    below_old arrays b e low = ap (λ (f : Lanes). f e) (cond-true (nat_lt b c.home.opened) (arrays b) (λ e. 0) (ap (λ (h : Home). nat_lt b h.opened) st.home_is ∙ lt-ltb b w.home.opened low))
+
+    below_new : (arrays : ℕ → Lanes) (b e : ℕ) → w.home.opened ≤ b → below c.home.opened arrays b e ≡ 0
+    below_new arrays b e le = ap (λ (f : Lanes). f e) (cond-false (nat_lt b c.home.opened) (arrays b) (λ e. 0) (ap (λ (h : Home). nat_lt b h.opened) st.home_is ∙ le-ltb b w.home.opened le))
 
     -- the arrays that the caller has are in both
     kept : (arrays : ℕ → Lanes) (b e : ℕ) → e < w.home.sizes b → below c.home.opened arrays b e ≡ arrays b e
     kept arrays b e lt = by (cases_lt b w.home.opened)
       where
         by : (b < w.home.opened) ⊎ (w.home.opened ≤ b) → below c.home.opened arrays b e ≡ arrays b e
-        by (inl low) = ap (λ (f : Lanes). f e) (cond-true (nat_lt b c.home.opened) (arrays b) (λ e. 0) (ap (λ (h : Home). nat_lt b h.opened) st.home_is ∙ lt-ltb b w.home.opened low))
+        by (inl low) = below_old arrays b e low
         by (inr le) = absurd (let nothing = of.settled.closed b le in omega (arith, lt, nothing))
 
-    keeps_in : (arrays : ℕ → Lanes) (memory : ℕ → ℕ) (size : ℕ) → Keeps w arrays memory size → Keeps callee (below c.home.opened arrays) memory size
-    keeps_in arrays memory size k =
-        record {
-          bytes_fit = k.bytes_fit;
-          elements = λ b e lt. (let low : e < w.home.sizes b = subst (λ n. e < n) (same_size b) lt in k.elements b e low ∙ sym (kept arrays b e low));
-          elements_fit = λ b e lt. (let low : e < w.home.sizes b = subst (λ n. e < n) (same_size b) lt in subst (λ n. n < 2 ^ width (w.elems b)) (sym (kept arrays b e low)) (k.elements_fit b e low));
-          room = λ b. subst (λ n. n ≤ size) (sym (same_end b)) (k.room b);
-          small = k.small;
-          texts = λ t. subst (λ f. bytes (length (text w t)) (f t) memory ≡ text w t) of.texts_at (k.texts t);
-          text_room = λ t. subst (λ f. f t + length (text w t) ≤ size) of.texts_at (k.text_room t);
-          rest = λ a beside. k.rest a (λ b. subst (λ n. (a < w.begins b) ⊎ (n ≤ a)) (same_end b) (beside b));
-        }
+    -- what lies below the caller's arrays lies below those of the function
+    lower : (o : Option ℕ) (a n m : ℕ) → n ≤ m → IsBelow (moved_up o n) a → IsBelow (moved_up o m) a
+    lower None a n m le h = h
+    lower (Some y) a n m le h = omega (arith, le, h)
 
-    -- of arrays that are the same where the caller has them
-    keeps_out : (arrays others : ℕ → Lanes) (memory : ℕ → ℕ) (size : ℕ) → ((b e : ℕ) → e < w.home.sizes b → others b e ≡ arrays b e) → Keeps callee arrays memory size → Keeps w others memory size
-    keeps_out arrays others memory size same k =
-        record {
-          bytes_fit = k.bytes_fit;
-          elements = λ b e lt. k.elements b e (subst (λ n. e < n) (sym (same_size b)) lt) ∙ sym (same b e lt);
-          elements_fit = λ b e lt. subst (λ n. n < 2 ^ width (w.elems b)) (sym (same b e lt)) (k.elements_fit b e (subst (λ n. e < n) (sym (same_size b)) lt));
-          room = λ b. subst (λ n. n ≤ size) (same_end b) (k.room b);
-          small = k.small;
-          texts = λ t. subst (λ f. bytes (length (text w t)) (f t) memory ≡ text w t) (sym of.texts_at) (k.texts t);
-          text_room = λ t. subst (λ f. f t + length (text w t) ≤ size) (sym of.texts_at) (k.text_room t);
-          rest = λ a beside. k.rest a (λ b. subst (λ n. (a < w.begins b) ⊎ (n ≤ a)) (sym (same_end b)) (beside b));
-        }
+    higher : waiting_bytes w.code w.waiting ≤ waiting_bytes w.code frames
+    higher = omega (arith, waiting_are)
+
+    returned : (arrays others : ℕ → Lanes) (memory : ℕ → ℕ) (size : ℕ) → ((b e : ℕ) → e < w.home.sizes b → others b e ≡ arrays b e) → Keeps callee arrays memory size → Keeps w others memory size
+    returned arrays others memory size same k =
+        keeps_out w g x.function names (inner_local (gang w) g) frames at s.memory of.laid (λ e. under) small refl arrays others memory size same st.keeps.rest
+        (λ a h. lower w.stack a (waiting_bytes w.code w.waiting) (waiting_bytes w.code frames) higher h) k
 
     -- ---- what is passed
 
@@ -210,25 +214,31 @@ module _ (w : Setting) (of : IsOf w) (x : Call) (pc : ℕ) (has : slice_get w.ro
     all : Gives w s.locals x.mask places given x.arguments 0 0 0
     all = gives w s.locals x.mask g.params x.arguments fine.passed own (λ p. no_number (local_at own p)) 0 0 0
 
-    in_order : (p : Place) → entered.locals (inner_local (gang w) g p) ≡ At (place.Depth ∷ (row (parts w I8x16) (place.Mask 0) ++ places)) (map (value s.locals) (arguments_of w x)) p
-    in_order p = ap (λ qs. At (place.Depth ∷ qs) (map (value s.locals) (arguments_of w x)) p) (append_assoc (row (parts w I8x16) (place.Mask 0)) (taken_from (gang w) g.params 0 0 0) own)
+    in_order : (p : Place) → entered.locals (inner_local (gang w) g p) ≡ At (place.Depth ∷ place.Top ∷ (row (parts w I8x16) (place.Mask 0) ++ places)) (map (value s.locals) (arguments_of w x)) p
+    in_order p = ap (λ qs. At (place.Depth ∷ place.Top ∷ qs) (map (value s.locals) (arguments_of w x)) p) (append_assoc (row (parts w I8x16) (place.Mask 0)) (taken_from (gang w) g.params 0 0 0) own)
 
     abbrev pub passed_values : List ℕ
     passed_values = map (value s.locals) (listed w (parts w I8x16) (mask_local w x.mask) ++ passed_all w x.mask x.arguments)
 
     depth_got : entered.locals (inner_local (gang w) g place.Depth) ≡ value s.locals (plus w (waiting_calls w) 1)
-    depth_got = in_order place.Depth ∙ first_at place.Depth (row (parts w I8x16) (place.Mask 0) ++ places) (value s.locals (plus w (waiting_calls w) 1)) passed_values
+    depth_got = in_order place.Depth ∙ first_at place.Depth (place.Top ∷ (row (parts w I8x16) (place.Mask 0) ++ places)) (value s.locals (plus w (waiting_calls w) 1)) (s.locals (w.local place.Top) ∷ passed_values)
 
-    past_depth : (p : Place) → (place.Depth ≡ p → ⊥) → entered.locals (inner_local (gang w) g p) ≡ At (row (parts w I8x16) (place.Mask 0) ++ places) passed_values p
-    past_depth p ne = in_order p ∙ other_at place.Depth p (row (parts w I8x16) (place.Mask 0) ++ places) (value s.locals (plus w (waiting_calls w) 1)) passed_values ne
+    past_depth : (p : Place) → (place.Depth ≡ p → ⊥) → entered.locals (inner_local (gang w) g p) ≡ At (place.Top ∷ (row (parts w I8x16) (place.Mask 0) ++ places)) (s.locals (w.local place.Top) ∷ passed_values) p
+    past_depth p ne = in_order p ∙ other_at place.Depth p (place.Top ∷ (row (parts w I8x16) (place.Mask 0) ++ places)) (value s.locals (plus w (waiting_calls w) 1)) (s.locals (w.local place.Top) ∷ passed_values) ne
+
+    top_got : entered.locals (inner_local (gang w) g place.Top) ≡ s.locals (w.local place.Top)
+    top_got = past_depth place.Top (λ e. cc) ∙ first_at place.Top (row (parts w I8x16) (place.Mask 0) ++ places) (s.locals (w.local place.Top)) passed_values
+
+    past_top : (p : Place) → (place.Depth ≡ p → ⊥) → (place.Top ≡ p → ⊥) → entered.locals (inner_local (gang w) g p) ≡ At (row (parts w I8x16) (place.Mask 0) ++ places) passed_values p
+    past_top p d t = past_depth p d ∙ other_at place.Top p (row (parts w I8x16) (place.Mask 0) ++ places) (s.locals (w.local place.Top)) passed_values t
 
     mask_got : (j : ℕ) → j < parts w I8x16 → entered.locals (inner_local (gang w) g (place.Mask 0 j)) ≡ s.locals (w.local (place.Mask x.mask.number j))
     mask_got j lt =
-        past_depth (place.Mask 0 j) (λ e. cc)
+        past_top (place.Mask 0 j) (λ e. cc) (λ e. cc)
         ∙ in_row w s.locals places (passed_all w x.mask x.arguments) (parts w I8x16) (place.Mask 0) (mask_local w x.mask) j (λ i k e. cc) lt
 
-    got : (p : Place) → (place.Depth ≡ p → ⊥) → ((j : ℕ) → j < parts w I8x16 → place.Mask 0 j ≡ p → ⊥) → entered.locals (inner_local (gang w) g p) ≡ At places given p
-    got p ne out = past_depth p ne ∙ past_row w s.locals places (passed_all w x.mask x.arguments) (parts w I8x16) (place.Mask 0) (mask_local w x.mask) p out
+    got : (p : Place) → (place.Depth ≡ p → ⊥) → (place.Top ≡ p → ⊥) → ((j : ℕ) → j < parts w I8x16 → place.Mask 0 j ≡ p → ⊥) → entered.locals (inner_local (gang w) g p) ≡ At places given p
+    got p d t out = past_top p d t ∙ past_row w s.locals places (passed_all w x.mask x.arguments) (parts w I8x16) (place.Mask 0) (mask_local w x.mask) p out
 
     zero_more : (n : ℕ) → n ≡ 0 + n
     zero_more n = omega arith
@@ -285,14 +295,14 @@ module _ (w : Setting) (of : IsOf w) (x : Call) (pc : ℕ) (has : slice_get w.ro
         (ap (lane I8x16 i) (mask_got j lt) ∙ st.holds.masks_are x.mask.number j i l)
     masks r j i l (inl e) (inr le) =
         subst (λ r. lane I8x16 i (entered.locals (inner_local (gang w) g (place.Mask r j))) ≡ flags 8 (put (λ k. nobody) 0 mask r (j * 16 + i))) (sym e)
-        (ap (lane I8x16 i) (got (place.Mask 0 j) (λ e. cc) (λ k low e. (let same : k ≡ j = cc in omega (arith, same, low, le))) ∙ all.others (place.Mask 0 j) tt) ∙ digit_zero 256 i (lit≤ tt)
+        (ap (lane I8x16 i) (got (place.Mask 0 j) (λ e. cc) (λ e. cc) (λ k low e. (let same : k ≡ j = cc in omega (arith, same, low, le))) ∙ all.others (place.Mask 0 j) tt) ∙ digit_zero 256 i (lit≤ tt)
         ∙ ap (flags 8) (sym (off (mask (j * 16 + i)) refl)))
       where
         off : (b : Bool) → mask (j * 16 + i) ≡ b → mask (j * 16 + i) ≡ false
         off false e = e
         off true e = absurd (let low = st.holds.members x.mask.number (j * 16 + i) e in let some = enough w I8x16 j i low in omega (arith, some, le))
     masks r j i l (inr ne) h =
-        ap (lane I8x16 i) (got (place.Mask r j) (λ e. cc) (λ k low e. ne cc) ∙ all.others (place.Mask r j) tt) ∙ digit_zero 256 i (lit≤ tt)
+        ap (lane I8x16 i) (got (place.Mask r j) (λ e. cc) (λ e. cc) (λ k low e. ne cc) ∙ all.others (place.Mask r j) tt) ∙ digit_zero 256 i (lit≤ tt)
         ∙ ap (λ f. flags 8 (f (j * 16 + i))) (sym (put_other (λ k. nobody) 0 mask r ne))
 
     members : (r p : ℕ) → (r ≡ 0) ⊎ (r ≡ 0 → ⊥) → put (λ k. nobody) 0 mask r p ≡ true → p < gang w
@@ -307,17 +317,14 @@ module _ (w : Setting) (of : IsOf w) (x : Call) (pc : ℕ) (has : slice_get w.ro
     arrays_long : length array_numbers ≡ length (param_elems class.Array g.params)
     arrays_long = passed_long w.routine class.Array g.params x.arguments fine.passed
 
-    named_in : (a q : ℕ) → slice_get array_numbers a ≡ Some q → home.named a ≡ w.home.named q
-    named_in a q has =
-        cond-true (nat_lt a (length (param_elems class.Array g.params))) (from 0 w.home.named (slice_get array_numbers a)) (w.home.opened + length (shared_sizes (take (a - length (param_elems class.Array g.params)) g.locals)))
-        (lt-ltb a (length (param_elems class.Array g.params)) (subst (λ n. a < n) arrays_long (some_low array_numbers a q has)))
-        ∙ ap (from 0 w.home.named) has
+    passed_low : (a q : ℕ) → slice_get array_numbers a ≡ Some q → a < length (param_elems class.Array g.params)
+    passed_low a q has = subst (λ n. a < n) arrays_long (some_low array_numbers a q has)
 
-    named_past : (a : ℕ) → length (param_elems class.Array g.params) ≤ a → home.named a ≡ w.home.opened
-    named_past a le =
-        cond-false (nat_lt a (length (param_elems class.Array g.params))) (from 0 w.home.named (slice_get array_numbers a)) (w.home.opened + length (shared_sizes (take (a - length (param_elems class.Array g.params)) g.locals)))
-        (le-ltb a (length (param_elems class.Array g.params)) le)
-        ∙ (let nothing = no_sizes w.code g x.function of.accepted fine.found plain_g (a - length (param_elems class.Array g.params)) in let same : w.home.opened + length (shared_sizes (take (a - length (param_elems class.Array g.params)) g.locals)) ≡ w.home.opened = omega (arith, nothing) in same)
+    named_in : (a q : ℕ) → slice_get array_numbers a ≡ Some q → home.named a ≡ w.home.named q
+    named_in a q has = named_low w g x.function names (inner_local (gang w) g) frames at s.memory a (passed_low a q has) ∙ ap (from 0 w.home.named) has
+
+    old_named : (a q : ℕ) → slice_get array_numbers a ≡ Some q → w.home.named q < w.home.opened
+    old_named a q has = of.named_low q (passed_fits w.routine class.Array g.params x.arguments fine.passed a q has).there
 
     which : (a : ℕ) → ((q : ℕ) × (slice_get array_numbers a ≡ Some q)) ⊎ (length (param_elems class.Array g.params) ≤ a)
     which a = by (cases_lt a (length array_numbers))
@@ -329,26 +336,55 @@ module _ (w : Setting) (of : IsOf w) (x : Call) (pc : ℕ) (has : slice_get w.ro
     no_array : (a : ℕ) → length (param_elems class.Array g.params) ≤ a → slice_get array_numbers a ≡ None
     no_array a le = slice_get_past array_numbers a (subst (λ n. n ≤ a) (sym arrays_long) le)
 
-    bases : (a : ℕ) → ((q : ℕ) × (slice_get array_numbers a ≡ Some q)) ⊎ (length (param_elems class.Array g.params) ≤ a) → from 0 (base_got w s.locals x.mask) (slice_get array_numbers a) ≡ w.begins (home.named a)
-    bases a (inl (q, has)) = ap (from 0 (base_got w s.locals x.mask)) has ∙ st.holds.bases q ∙ sym (ap w.begins (named_in a q has))
-    bases a (inr le) = ap (from 0 (base_got w s.locals x.mask)) (no_array a le) ∙ sym (ap w.begins (named_past a le) ∙ of.begins_past w.home.opened (omega arith))
+    -- an array that it does not open
+    abbrev NotOwn : ℕ → Type 0
+    NotOwn a = (i : ℕ) → i < length g.locals → a ≡ length (param_elems class.Array g.params) + i → ⊥
 
-    counts : (a : ℕ) → ((q : ℕ) × (slice_get array_numbers a ≡ Some q)) ⊎ (length (param_elems class.Array g.params) ≤ a) → from 0 (count_got w s.locals x.mask) (slice_get array_numbers a) ≡ home.sizes (home.named a)
-    counts a (inl (q, has)) = ap (from 0 (count_got w s.locals x.mask)) has ∙ st.holds.counts q ∙ sym (ap home.sizes (named_in a q has) ∙ same_size (w.home.named q))
-    counts a (inr le) = ap (from 0 (count_got w s.locals x.mask)) (no_array a le) ∙ sym (ap home.sizes (named_past a le) ∙ same_size w.home.opened ∙ of.settled.closed w.home.opened (omega arith))
-
-    stored : (a : Register) → IsThere g class.Array a → w.elems (home.named a.number) ≡ elem_of g a
-    stored a there = by (which a.number)
+    past_own : (a : ℕ) → NotOwn a → length (param_elems class.Array g.params) ≤ a → home.named a ≡ home.opened
+    past_own a out le = named_past w g x.function names (inner_local (gang w) g) frames at s.memory a (past (cases_lt a (length (param_elems class.Array g.params) + length g.locals)))
       where
-        low : a.number < length (param_elems class.Array g.params)
-        low = subst (λ ts. a.number < length ts) (arrays_are w.code g x.function of.accepted fine.found plain_g) there.1
+        past : (a < length (param_elems class.Array g.params) + length g.locals) ⊎ (length (param_elems class.Array g.params) + length g.locals ≤ a) → length (param_elems class.Array g.params) + length g.locals ≤ a
+        past (inl lt) = absurd (out (a - length (param_elems class.Array g.params)) (omega (arith, lt, le)) (omega (arith, le)))
+        past (inr ge) = ge
 
-        by : ((q : ℕ) × (slice_get array_numbers a.number ≡ Some q)) ⊎ (length (param_elems class.Array g.params) ≤ a.number) → w.elems (home.named a.number) ≡ elem_of g a
-        by (inr le) = absurd (omega (arith, low, le))
-        by (inl (q, has)) =
-            let fits = passed_fits w.routine class.Array g.params x.arguments fine.passed a.number q has in
-            ap w.elems (named_in a.number q has) ∙ of.stored (record { class = class.Array; number = q }) (refl, fits.there) ∙ fits.elem_is
-            ∙ sym (ap (λ c. slice_index_or (types_in (table_of g) c) a.number Truth) there.0 ∙ ap (λ ts. slice_index_or ts a.number Truth) (arrays_are w.code g x.function of.accepted fine.found plain_g))
+    bases : (a : ℕ) → NotOwn a → ((q : ℕ) × (slice_get array_numbers a ≡ Some q)) ⊎ (length (param_elems class.Array g.params) ≤ a) → from 0 (base_got w s.locals x.mask) (slice_get array_numbers a) ≡ callee.begins (home.named a)
+    bases a out (inl (q, has)) =
+        ap (from 0 (base_got w s.locals x.mask)) has ∙ st.holds.bases q
+        ∙ sym (ap callee.begins (named_in a q has) ∙ old_begin w g x.function names (inner_local (gang w) g) frames at s.memory (w.home.named q) (old_named a q has))
+    bases a out (inr le) =
+        ap (from 0 (base_got w s.locals x.mask)) (no_array a le) ∙ sym (ap callee.begins (past_own a out le) ∙ past_begin w g x.function names (inner_local (gang w) g) frames at s.memory home.opened (omega arith))
+
+    counts : (a : ℕ) → NotOwn a → ((q : ℕ) × (slice_get array_numbers a ≡ Some q)) ⊎ (length (param_elems class.Array g.params) ≤ a) → from 0 (count_got w s.locals x.mask) (slice_get array_numbers a) ≡ home.sizes (home.named a)
+    counts a out (inl (q, has)) =
+        ap (from 0 (count_got w s.locals x.mask)) has ∙ st.holds.counts q
+        ∙ sym (ap home.sizes (named_in a q has) ∙ old_size w g x.function names (inner_local (gang w) g) frames at s.memory (w.home.named q) (old_named a q has))
+    counts a out (inr le) =
+        ap (from 0 (count_got w s.locals x.mask)) (no_array a le) ∙ sym (ap home.sizes (past_own a out le) ∙ past_size w g x.function names (inner_local (gang w) g) frames at s.memory home.opened (omega arith))
+
+    are_stored_so : AreStored g home callee.elems
+    are_stored_so = are_stored w g x.function names (inner_local (gang w) g) frames at s.memory each_shared small passes
+      where
+        passes : (a : Register) → IsThere g class.Array a → a.number < length (param_elems class.Array g.params) → callee.elems (home.named a.number) ≡ elem_of g a
+        passes a there lt = by (which a.number)
+          where
+            by : ((q : ℕ) × (slice_get array_numbers a.number ≡ Some q)) ⊎ (length (param_elems class.Array g.params) ≤ a.number) → callee.elems (home.named a.number) ≡ elem_of g a
+            by (inr le) = absurd (omega (arith, lt, le))
+            by (inl (q, has)) =
+                let fits = passed_fits w.routine class.Array g.params x.arguments fine.passed a.number q has in
+                ap callee.elems (named_in a.number q has) ∙ old_elem w g x.function names (inner_local (gang w) g) frames at s.memory (w.home.named q) (old_named a.number q has)
+                ∙ of.stored (record { class = class.Array; number = q }) (refl, fits.there) ∙ fits.elem_is
+                ∙ sym (ap (λ c. slice_index_or (types_in (table_of g) c) a.number Truth) there.0 ∙ get_or_append_left (param_elems class.Array g.params) (map local_elem g.locals) Truth a.number lt)
+
+    all_low : (a : ℕ) → a < length (arrays_of g) → home.named a < home.opened
+    all_low a lt = by (which_array a (length (param_elems class.Array g.params)) (length g.locals)) (which a)
+      where
+        by : ((i : ℕ) × (a ≡ length (param_elems class.Array g.params) + i) × (i < length g.locals)) ⊎ NotOwn a → ((q : ℕ) × (slice_get array_numbers a ≡ Some q)) ⊎ (length (param_elems class.Array g.params) ≤ a) → home.named a < home.opened
+        by (inl (i, e, low)) h = subst (λ n. home.named n < home.opened) (sym e) (own_low w g x.function names (inner_local (gang w) g) frames at s.memory each_shared i low)
+        by (inr out) (inl (q, has)) = let low = old_named a q has in let is = named_in a q has in omega (arith, low, is)
+        by (inr out) (inr le) =
+            absurd
+            (let long = length-append (param_elems class.Array g.params) (map local_elem g.locals) in let mapped = length-map g.locals local_elem in
+            out (a - length (param_elems class.Array g.params)) (omega (arith, lt, le, long, mapped)) (omega (arith, le)))
 
     -- ---- before the first instruction
 
@@ -357,38 +393,77 @@ module _ (w : Setting) (of : IsOf w) (x : Call) (pc : ℕ) (has : slice_get w.ro
         let waiting : s.locals (w.local place.Depth) ≡ length c.waiting = st.holds.depth ∙ sym (ap length st.waiting_is) in
         ap (λ n. (n + 1 % 2 ^ 32) % 2 ^ 32) waiting ∙ mod-eq_of_lt (omega (arith, few)) ∙ (let same : length c.waiting + 1 % 2 ^ 32 ≡ suc (length c.waiting) = omega arith in same)
 
-    holds : Holds callee begun.scalars begun.vectors begun.masks entered.locals
-    holds =
-        record {
-          scalars_are = λ r. got (place.Scalar r) (λ e. cc) (λ j lt e. cc) ∙ ap (λ n. At places given (place.Scalar n)) (zero_more r) ∙ all.scalars r ∙ scalars r (slice_get (numbers class.Scalar x.arguments) r);
-          vectors_are = λ r j i l q. ap (lane (shape callee (vector_register r)) i) (got (place.Vector r j) (λ e. cc) (λ k lt e. cc) ∙ ap (λ n. At places given (place.Vector n j)) (zero_more r) ∙ all.vectors r j)
-              ∙ vectors r j i (slice_get (numbers class.Vector x.arguments) r) refl l q;
-          masks_are = λ r j i l. masks r j i l (cases_eq r 0) (cases_lt j (parts w I8x16));
-          fits = λ r. scalar_fits r (slice_get (numbers class.Scalar x.arguments) r) refl;
-          members = λ r p h. members r p (cases_eq r 0) h;
-          bases = λ a. got (place.Base a) (λ e. cc) (λ j lt e. cc) ∙ ap (λ n. At places given (place.Base n)) (zero_more a) ∙ all.bases a ∙ bases a (which a);
-          counts = λ a. got (place.Count a) (λ e. cc) (λ j lt e. cc) ∙ ap (λ n. At places given (place.Count n)) (zero_more a) ∙ all.counts a ∙ counts a (which a);
-          depth = depth_got ∙ depth_is;
-        }
+    module _ (m : ℕ → ℕ) (o : IsOpen callee g.locals (passed g) at entered.locals m) where
+      other : (p : Place) → (p ≡ place.Top → ⊥) → ((i : ℕ) → i < length g.locals → p ≡ place.Base (passed g + i) → ⊥) → ((i : ℕ) → i < length g.locals → p ≡ place.Count (passed g + i) → ⊥) → m (callee.local p) ≡ entered.locals (inner_local (gang w) g p)
+      other p x y z = o.others p x y z
+
+      base_holds : (a : ℕ) → ((i : ℕ) × (a ≡ passed g + i) × (i < length g.locals)) ⊎ NotOwn a → m (callee.local (place.Base a)) ≡ callee.begins (home.named a)
+      base_holds a (inl (i, e, lt)) = subst (λ n. m (callee.local (place.Base n)) ≡ callee.begins (home.named n)) (sym e) (o.bases i lt ∙ sym (own_base w g x.function names (inner_local (gang w) g) frames at s.memory each_shared i lt))
+      base_holds a (inr out) =
+          other (place.Base a) (λ e. cc) (λ i lt e. out i lt cc) (λ i lt e. cc) ∙ got (place.Base a) (λ e. cc) (λ e. cc) (λ j lt e. cc) ∙ ap (λ n. At places given (place.Base n)) (zero_more a) ∙ all.bases a ∙ bases a out (which a)
+
+      count_holds : (a : ℕ) → ((i : ℕ) × (a ≡ passed g + i) × (i < length g.locals)) ⊎ NotOwn a → m (callee.local (place.Count a)) ≡ home.sizes (home.named a)
+      count_holds a (inl (i, e, lt)) = subst (λ n. m (callee.local (place.Count n)) ≡ home.sizes (home.named n)) (sym e) (o.counts i lt ∙ sym (own_count w g x.function names (inner_local (gang w) g) frames at s.memory each_shared i lt))
+      count_holds a (inr out) =
+          other (place.Count a) (λ e. cc) (λ i lt e. cc) (λ i lt e. out i lt cc) ∙ got (place.Count a) (λ e. cc) (λ e. cc) (λ j lt e. cc) ∙ ap (λ n. At places given (place.Count n)) (zero_more a) ∙ all.counts a ∙ counts a out (which a)
+
+      holds : Holds callee begun.scalars begun.vectors begun.masks m
+      holds =
+          record {
+            scalars_are = λ r. other (place.Scalar r) (λ e. cc) (λ i lt e. cc) (λ i lt e. cc) ∙ got (place.Scalar r) (λ e. cc) (λ e. cc) (λ j lt e. cc) ∙ ap (λ n. At places given (place.Scalar n)) (zero_more r) ∙ all.scalars r
+                ∙ scalars r (slice_get (numbers class.Scalar x.arguments) r);
+            vectors_are = λ r j i l q. ap (lane (shape callee (vector_register r)) i)
+                (other (place.Vector r j) (λ e. cc) (λ i lt e. cc) (λ i lt e. cc) ∙ got (place.Vector r j) (λ e. cc) (λ e. cc) (λ k lt e. cc) ∙ ap (λ n. At places given (place.Vector n j)) (zero_more r) ∙ all.vectors r j)
+                ∙ vectors r j i (slice_get (numbers class.Vector x.arguments) r) refl l q;
+            masks_are = λ r j i l. ap (lane I8x16 i) (other (place.Mask r j) (λ e. cc) (λ i lt e. cc) (λ i lt e. cc)) ∙ masks r j i l (cases_eq r 0) (cases_lt j (parts w I8x16));
+            fits = λ r. scalar_fits r (slice_get (numbers class.Scalar x.arguments) r) refl;
+            members = λ r p h. members r p (cases_eq r 0) h;
+            bases = λ a. base_holds a (which_array a (passed g) (length g.locals));
+            counts = λ a. count_holds a (which_array a (passed g) (length g.locals));
+            depth = other place.Depth (λ e. cc) (λ i lt e. cc) (λ i lt e. cc) ∙ depth_got ∙ depth_is;
+            top_is = o.top_is;
+          }
 
     counter_is : entered.locals (callee.local Counter) ≡ 0
-    counter_is = got Counter (λ e. cc) (λ j lt e. cc) ∙ all.others Counter tt
+    counter_is = got Counter (λ e. cc) (λ e. cc) (λ j lt e. cc) ∙ all.others Counter tt
 
     head_is : callee.heads (entered.locals (callee.local Counter)) ≡ 0
     head_is = ap callee.heads counter_is ∙ (first_head g.code (length g.code) (some_code w.code g x.function of.accepted fine.found plain_g)).1
 
-    stands : Stands callee 0 begun entered
-    stands = record { home_is = home_is; waiting_is = refl; pc_is = refl; out_is = st.out_is; holds = holds; keeps = keeps_in c.arrays s.memory s.size st.keeps }
+    is_entered : IsEntered callee settled begun entered
+    is_entered =
+        record {
+          home_is = home_is;
+          waiting_is = refl;
+          pc_is = refl;
+          out_is = st.out_is;
+          top_is = top_got ∙ st.holds.top_is ∙ above;
+          few = small;
+          small = st.keeps.small;
+          whole = st.keeps.whole;
+          stacked = λ e. under.stacked;
+          holds = λ m o. holds m o;
+          keeps = λ room. keeps_in w g x.function names (inner_local (gang w) g) frames at s.memory of.laid (λ e. under) small refl c.arrays (below c.home.opened c.arrays) s.memory s.size room (below_old c.arrays) (below_new c.arrays) (λ a. refl) st.keeps;
+        }
 
     is_of : IsOf callee
     is_of =
         record {
           accepted = of.accepted;
           settled = settled;
-          texts_at = refl;
-          begins_past = λ b le. of.begins_past b (omega (arith, le));
-          stored = stored;
+          laid =
+              record {
+                texts_at = refl;
+                closed = past_size w g x.function names (inner_local (gang w) g) frames at s.memory;
+                past = past_begin w g x.function names (inner_local (gang w) g) frames at s.memory;
+                bounded = settled.bounded;
+                text_apart = settled.text_apart;
+                disjoint = settled.disjoint;
+              };
+          stored = are_stored_so.stored_as;
+          named_low = all_low;
           plain = λ p k h. of.plain pc x has;
+          under = λ p k h. under_all w g x.function names (inner_local (gang w) g) frames at s.memory of.laid (λ e. under) small refl under;
         }
 
     -- ---- what its result says
@@ -444,11 +519,11 @@ module _ (w : Setting) (of : IsOf w) (x : Call) (pc : ℕ) (has : slice_get w.ro
           goes = h.goes;
           brings = brings h.conf v t h.fits g.returns x.result h.register fine.result h.given h.value_is h.lanes_are;
           out_is = h.out_is;
-          keeps = keeps_out h.conf.arrays (below c.home.opened h.conf.arrays) t.memory t.size (kept h.conf.arrays) h.keeps;
+          keeps = returned h.conf.arrays (below c.home.opened h.conf.arrays) t.memory t.size (kept h.conf.arrays) h.keeps;
         }
-    told f d (Trapped None t) h = h
+    told f d (Trapped None t) h = record { conf = h.conf; steps = h.steps; goes = h.goes; address = h.address; stack_is = h.stack_is; full = h.full }
     told f d (Trapped (Some q) t) h =
-        record { conf = h.conf; steps = h.steps; trap = h.trap; fails = h.fails; report_is = h.report_is; out_is = h.out_is; keeps = keeps_out h.conf.arrays h.conf.arrays t.memory t.size (λ b e lt. refl) h.keeps }
+        record { conf = h.conf; steps = h.steps; trap = h.trap; fails = h.fails; report_is = h.report_is; out_is = h.out_is; keeps = returned h.conf.arrays h.conf.arrays t.memory t.size (λ b e lt. refl) h.keeps }
     told f d (OutOfFuel t) h = record { conf = h.conf; steps = h.steps; goes = h.goes; far = h.far; out_is = h.out_is }
 
     abbrev pub functions : ℕ → Code
@@ -458,12 +533,23 @@ module _ (w : Setting) (of : IsOf w) (x : Call) (pc : ℕ) (has : slice_get w.ro
     pub one_more : (f : ℕ) → CallsAgree callee f (called functions f) → Told (the_machine w) (Back w x c) (suc f) begun (called functions (suc f) (called_number w x) (map (value s.locals) (arguments_of w x)) s)
     one_more f right =
         subst (λ code. Told (the_machine w) (Back w x c) (suc f) begun (left (run (suc f) (called functions f) code entered))) (sym (inner_code w.code w.routine w.home.fn pc x of.settled.found has (of.plain pc x has) g fine.found))
-        (told (suc f) begun (left (run (suc f) (called functions f) (function_code callee) entered))
-        (calls_come_back callee settled (covered w.code g x.function of.accepted fine.found plain_g (inner_local (gang w) g) home (waits c x.result mask ∷ c.waiting) w.begins w.elems w.before)
-        (all_thin w.code g x.function of.accepted fine.found plain_g (inner_local (gang w) g) home (waits c x.result mask ∷ c.waiting) w.begins w.elems w.before stored)
-        (waits c x.result mask) c.waiting refl (called functions f) (suc f) (λ n e. subst (λ m. CallsAgree callee m (called functions f)) (let same : f ≡ n = omega (arith, e) in same) right) begun entered
-        (subst (λ n. n < callee.rungs) (sym counter_is) (first_head g.code (length g.code) (some_code w.code g x.function of.accepted fine.found plain_g)).0)
-        (subst (λ n. Stands callee n begun entered) (sym head_is) stands)))
+        (by (starts callee settled begun entered is_entered))
+      where
+        runs : State → Result
+        runs u = run (suc f) (called functions f) (function_code callee) u
+
+        by : Starts callee settled begun entered ⊎ (((fuel : ℕ) (call : ℕ → List ℕ → State → Result) → run fuel call (begin_code callee g.locals) entered ≡ Trapped None entered) × IsFull callee begun)
+            → Told (the_machine w) (Back w x c) (suc f) begun (left (run (suc f) (called functions f) (routine_code callee) entered))
+        by (inl b) =
+            subst (λ r. Told (the_machine w) (Back w x c) (suc f) begun (left (then_to r (run (suc f) (called functions f) (function_code callee))))) (sym (b.fell (suc f) (called functions f)))
+            (told (suc f) begun (left (run (suc f) (called functions f) (function_code callee) b.state))
+            (calls_come_back callee settled (covered w.code g x.function of.accepted fine.found plain_g (inner_local (gang w) g) home frames callee.begins callee.elems s.memory w.room w.stack)
+            (all_thin w.code g x.function of.accepted fine.found plain_g (inner_local (gang w) g) home frames callee.begins callee.elems s.memory w.room w.stack are_stored_so)
+            (waits c x.result mask) c.waiting refl (called functions f) (suc f) (λ n e. subst (λ m. CallsAgree callee m (called functions f)) (let same : f ≡ n = omega (arith, e) in same) right) begun b.state
+            (subst (λ n. n < callee.rungs) (sym (b.counter ∙ counter_is)) (first_head g.code (length g.code) (some_code w.code g x.function of.accepted fine.found plain_g)).0)
+            (subst (λ n. Stands callee n begun b.state) (sym (ap callee.heads b.counter ∙ head_is)) b.stands)))
+        by (inr (fell, full)) =
+            subst (λ r. Told (the_machine w) (Back w x c) (suc f) begun (left (then_to r (run (suc f) (called functions f) (function_code callee))))) (sym (fell (suc f) (called functions f))) (told (suc f) begun (Trapped None entered) full)
 
 -- all functions that others call
 pub calls_agree : (f : ℕ) (w : Setting) → IsOf w → CallsAgree w f (called (code_in (module_of w.code)) f)

@@ -1,25 +1,25 @@
 -- Accepted code meets what the law of entries asks, where its form is covered.
-use Rattle.std.proofs.Common.{◌≡◌, ℕ, zero, suc, ◌+◌, ◌-◌, ◌*◌, ◌^◌, ◌<◌, ◌≤◌, ◌⊎◌, inl, inr, List, [], ◌∷◌, ◌++◌, length, take, map, Some, true, false, not, ◌&&◌, refl, sym, ap, ◌∙◌, subst, arith, lit≤}
+use Rattle.std.proofs.Common.{◌≡◌, ℕ, zero, suc, ◌+◌, ◌-◌, ◌*◌, ◌^◌, ◌<◌, ◌≤◌, ◌⊎◌, inl, inr, List, [], ◌∷◌, ◌++◌, length, take, map, Option, Some, None, Bool, true, false, not, ◌&&◌, ◌||◌, refl, sym, ap, ◌∙◌, subst, arith, lit≤}
 use Rattle.std.specs.Prelude.{slice_get, slice_index, slice_index_or, nat_lt, ◌==◌, option_map, if◌then◌else◌}
 use Rattle.std.specs.List.{list_any}
 use Rattle.std.proofs.lemmas.Bool.{cases_lt, lt-ltb, le-ltb, cond-true, cond-false, not-true}
 use Rattle.std.proofs.lemmas.Option.{slice_get-map, get_or_from_slice_get}
-use Rattle.std.proofs.lemmas.List.{get_or_past, get_or_append_left, length-map}
+use Rattle.std.proofs.lemmas.List.{get_or_past, get_or_append_left, length-append, length-map}
 use Rattle.std.proofs.lemmas.Nat.{mul-le}
 use Rattle.isp_base.specs.Arguments.{rows, row_bits}
 use Rattle.isp_base.specs.Binding.{has_signature}
 use Rattle.isp_base.specs.Rows.{Row}
 use Rattle.isp_base.specs.Types.{gang_width}
-use Rattle.isp_base.specs.Values.{width}
 use Rattle.isp_base.specs.declared.signature.Argument.{Argument}
 use Rattle.isp_base.specs.declared.types.Elem.{Elem}
 use Rattle.isp_base.specs.declared.types.Elem.TheVariants.{Bool as Truth, I8, U8, I16, U16, I32, U32, I64, U64}
-use Rattle.isp_code.specs.Calls.{shared_sizes}
 use Rattle.isp_code.specs.Entries.{parameters_of}
 use Rattle.isp_code.specs.Fine.{IsThere}
 use Rattle.isp_code.specs.Listing.{Listing, Routine}
 use Rattle.isp_code.specs.Machine.{first_conf}
-use Rattle.isp_code.specs.Registers.{param_elems, elem_of, types_in, table_of}
+use Rattle.isp_code.specs.Registers.{param_elems, arrays_of, local_elem, elem_of, types_in, table_of}
+use Rattle.isp_code.specs.declared.instr.Call.{Call}
+use Rattle.isp_code.specs.declared.instr.Instr.TheVariants as instr
 use Rattle.isp_code.specs.declared.register.Class.TheVariants as class
 use Rattle.isp_code.specs.declared.register.Register.{Register}
 use Rattle.isp_verify.specs.Accepted.{IsFine}
@@ -27,17 +27,21 @@ use Rattle.isp_verify.specs.Faults.{header_fits, export_fits, can_export, is_vec
 use Rattle.isp_verify.proofs.AcceptedLaws.{accepted_fine}
 use Rattle.isp_wasm_meaning.specs.Meaning.{State, called, bytes}
 use Rattle.isp_wasm_meaning.specs.Module.{Function, code_in, unused}
-use Rattle.isp_wasm.specs.Places.{Setting, bytes_of, Counter, Scalar, Vector, Mask, Base, Count, Depth}
-use Rattle.isp_wasm.specs.Entry.{entry_code, IsCalled, SameOutcomes}
+use Rattle.isp_wasm.specs.Places.{Setting, Place, bytes_of, Counter, Scalar, Vector, Mask, Base, Count, Depth, Top}
+use Rattle.isp_wasm.specs.Entry.{stack_in, entry_code, IsPassed, IsCalled, SameOutcomes}
 use Rattle.isp_wasm.specs.Locals.{param_places, own_places, local_in}
-use Rattle.isp_wasm.specs.Module.{text_start, is_plain, has_call, is_covered, kernel_of, function_of, inner_functions, module_of}
-use Rattle.isp_wasm.specs.Kernel.{row_elem, passed, array_end, IsLaidOut, in_call, KernelsAgree}
-use Rattle.isp_wasm.specs.Standing.{IsSettled, Keeps}
+use Rattle.isp_wasm.specs.Module.{text_start, all_shared, is_plain, is_covered, kernel_of, function_of, inner_functions, module_of}
+use Rattle.isp_wasm.specs.Kernel.{row_elem, passed, array_end, IsLaidOut, HasRoom, in_call, KernelsAgree}
+use Rattle.isp_wasm.specs.Stack.{IsBelow, moved_up, none_open, has_call, uses_stack, start, bytes_in, bottom, opened_memory}
+use Rattle.isp_wasm.specs.Standing.{IsFull, IsSettled, Keeps}
 use Rattle.isp_wasm.proofs.Entries.{some_row, entries_agree}
 use Rattle.isp_wasm.proofs.Numbers.{place_apart}
-use Rattle.isp_wasm.proofs.Plain.{covered_plain, covered_calls, none, text_low, few_heads, heads_rise, some_code, arrays_are, no_sizes, no_stores, covered, all_thin}
+use Rattle.isp_wasm.proofs.Plain.{placed, AreStored, covered_plain, covered_calls, calls_some, text_low, few_heads, heads_rise, some_code, shared, bytes_low, covered, all_thin}
+use Rattle.isp_wasm.proofs.Opened as opened
+use Rattle.isp_wasm.proofs.Opened.{AreLaid, IsUnder}
+use Rattle.isp_wasm.proofs.Opening.{which_array}
 use Rattle.isp_wasm.proofs.Inner.{some_low, IsOf, calls_agree}
-use Rattle.isp_wasm.proofs.Passing.{At, no_number, both_first, both_second, Passes, passes, rows_long, rows_typed, values_fit}
+use Rattle.isp_wasm.proofs.Passing.{At, both_first, both_second, Passes, passes, rows_long, rows_typed, values_fit}
 use Rattle.isp_wasm.proofs.Heads.{first_head}
 use Rattle.isp_wasm.proofs.TextPlaces.{text_there, text_ends}
 
@@ -84,44 +88,37 @@ module _ (code : Listing) (h : Routine) (f : ℕ) (accepted : IsFine code) (foun
   pub gives_none : gives_vector h.returns ≡ false
   gives_none = not-true (gives_vector h.returns) (both_second (not (list_any is_vector h.params)) (not (gives_vector h.returns)) can)
 
-  module _ (xs : List Argument) (signature : has_signature (parameters_of h) xs ≡ true) (at : List ℕ) (s : State) (laid : IsLaidOut code xs at s) where
-    w : Setting
+  module _ (xs : List Argument) (signature : has_signature (parameters_of h) xs ≡ true) (at : List ℕ) (s : State) (laid : IsLaidOut code xs at s) (room : uses_stack h ≡ true → HasRoom code xs at f h s) where
+    abbrev lanes : ℕ
+    lanes = gang_width code.gang
+
+    abbrev local : Place → ℕ
+    local = local_in lanes h
+
+    -- what there is before it opens its arrays, and from where on those lie
+    abbrev outer : Setting
+    outer =
+        placed code h local (record { fn = f; named = λ a. a; sizes = λ b. length (row_bits (rows xs) b); opened = length (rows xs) }) [] (slice_index at) (row_elem (rows xs)) s.memory s.size (stack_in h s)
+
+    abbrev from_here : ℕ
+    from_here = start (stack_in h s)
+
+    abbrev w : Setting
     w = in_call code xs at f h s
 
     long : length (rows xs) ≡ length (param_elems class.Array h.params)
     long = rows_long h.params xs no_vector signature
 
-    no_locals : h.locals ≡ []
-    no_locals = none code h f accepted found plain
+    few : suc (bytes_in lanes h.locals) < 2 ^ 32
+    few = bytes_low code h f accepted found plain
+
+    each_shared : all_shared h.locals ≡ true
+    each_shared = shared code h f accepted found plain
 
     -- ---- arrays
 
-    named_is : (a : ℕ) → a < length (param_elems class.Array h.params) → w.home.named a ≡ a
-    unfolding w
-    named_is a lt = cond-true (nat_lt a (length (param_elems class.Array h.params))) a (length (rows xs) + length (shared_sizes (take (a - length (param_elems class.Array h.params)) h.locals))) (lt-ltb a (length (param_elems class.Array h.params)) lt)
-
-    named_past : (a : ℕ) → length (param_elems class.Array h.params) ≤ a → w.home.named a ≡ length (rows xs)
-    unfolding w
-    named_past a le =
-        cond-false (nat_lt a (length (param_elems class.Array h.params))) a (length (rows xs) + length (shared_sizes (take (a - length (param_elems class.Array h.params)) h.locals))) (le-ltb a (length (param_elems class.Array h.params)) le)
-        ∙ (let nothing = no_sizes code h f accepted found plain (a - length (param_elems class.Array h.params)) in let same : length (rows xs) + length (shared_sizes (take (a - length (param_elems class.Array h.params)) h.locals)) ≡ length (rows xs) = omega (arith, nothing) in same)
-
-    sizes_are : (b : ℕ) → w.home.sizes b ≡ length (row_bits (rows xs) b)
-    unfolding w
-    sizes_are b = by (cases_lt b (length (rows xs)))
-      where
-        by : (b < length (rows xs)) ⊎ (length (rows xs) ≤ b) → (if nat_lt b (length (rows xs)) then length (row_bits (rows xs) b) else slice_index (shared_sizes h.locals) (b - length (rows xs))) ≡ length (row_bits (rows xs) b)
-        by (inl lt) = cond-true (nat_lt b (length (rows xs))) (length (row_bits (rows xs) b)) (slice_index (shared_sizes h.locals) (b - length (rows xs))) (lt-ltb b (length (rows xs)) lt)
-        by (inr le) =
-            cond-false (nat_lt b (length (rows xs))) (length (row_bits (rows xs) b)) (slice_index (shared_sizes h.locals) (b - length (rows xs))) (le-ltb b (length (rows xs)) le)
-            ∙ ap (λ ls. slice_index (shared_sizes ls) (b - length (rows xs))) no_locals ∙ no_number (b - length (rows xs)) ∙ sym (ap length (row_past (rows xs) b le))
-
     begins_past : (b : ℕ) → length at ≤ b → slice_index at b ≡ 0
     begins_past b le = get_or_past at b 0 le
-
-    end_is : (b : ℕ) → w.begins b + w.home.sizes b * bytes_of (w.elems b) ≡ array_end code xs at b
-    unfolding w
-    end_is b = ap (λ n. slice_index at b + n * bytes_of (row_elem (rows xs) b)) (sizes_are b)
 
     end_past : (b : ℕ) → length at ≤ b → array_end code xs at b ≡ 0
     end_past b le =
@@ -135,13 +132,12 @@ module _ (code : Listing) (h : Routine) (f : ℕ) (accepted : IsFine code) (foun
         by (inl lt) = laid.room b lt
         by (inr le) = subst (λ n. n ≤ s.size) (sym (end_past b le)) (omega arith)
 
-    few_elements : (b : ℕ) → w.home.sizes b ≤ 2 ^ 32
-    unfolding w
+    few_elements : (b : ℕ) → length (row_bits (rows xs) b) ≤ 2 ^ 32
     few_elements b =
         let n = length (row_bits (rows xs) b) in
         let k = bytes_of (row_elem (rows xs) b) in
         let more : n * 1 ≤ n * k = mul-le n 1 n k (omega arith) (bytes_some (row_elem (rows xs) b)) in
-        let low = ends_low b in subst (λ n. n ≤ 2 ^ 32) (sym (sizes_are b)) (omega (arith, more, low, laid.small))
+        let low = ends_low b in omega (arith, more, low, laid.small)
 
     apart : (a b : ℕ) → (a ≡ b → ⊥) → (array_end code xs at a ≤ slice_index at b) ⊎ (array_end code xs at b ≤ slice_index at a)
     apart a b ne = by (cases_lt a (length at)) (cases_lt b (length at))
@@ -158,8 +154,54 @@ module _ (code : Listing) (h : Routine) (f : ℕ) (accepted : IsFine code) (foun
         by (inl p) = inl (let ends = text_ends code.texts t in let behind = laid.behind b p in omega (arith, ends, behind))
         by (inr p) = inr (subst (λ n. n ≤ text_start code.texts t) (sym (end_past b p)) (omega arith))
 
+    laid_out : AreLaid outer
+    laid_out =
+        record {
+          texts_at = refl;
+          closed = λ b le. ap length (row_past (rows xs) b le);
+          past = λ b le. begins_past b (let each : length at ≡ length (rows xs) = laid.each in omega (arith, le, each));
+          bounded = few_elements;
+          text_apart = text_apart;
+          disjoint = apart;
+        }
+
+    -- ---- where it may open arrays
+
+    stack_is : uses_stack h ≡ true → stack_in h s ≡ Some (s.globals 17)
+    stack_is e = ap (λ b. if b then Some (s.globals 17) else None) e
+
+    from_stack : from_here ≡ start (stack_in h s) + 0
+    from_stack = omega arith
+
+    below_stack : (o : Option ℕ) → o ≡ Some (s.globals 17) → (a : ℕ) → IsBelow (moved_up o 0) a → a < start o
+    below_stack None e a h = absurd cc
+    below_stack (Some n) e a h = omega (arith, h)
+
+    under_so : uses_stack h ≡ true → IsUnder outer from_here
+    under_so e =
+        record {
+          arrays = λ b. by b (cases_lt b (length at));
+          texts = λ i. (let ends = text_ends code.texts i in let le = (room e).texts in let is = here in omega (arith, ends, le, is));
+          above = below_stack (stack_in h s) (stack_is e);
+          stacked = (s.globals 17, stack_is e);
+        }
+      where
+        here : from_here ≡ s.globals 17
+        here = ap start (stack_is e)
+
+        by : (b : ℕ) → (b < length at) ⊎ (length at ≤ b) → array_end code xs at b ≤ from_here
+        by b (inl lt) = let le = (room e).arrays b lt in let is = here in omega (arith, le, is)
+        by b (inr le) = let none = end_past b le in omega (arith, none)
+
+    opens_some : (a b : Bool) → b ≡ false → (a || not b) ≡ true
+    opens_some true b e = refl
+    opens_some false false e = refl
+    opens_some false true e = absurd cc
+
+    under : none_open h.locals ≡ false → IsUnder outer from_here
+    under e = under_so (opens_some (has_call h) (none_open h.locals) e)
+
     ready : IsSettled w
-    unfolding w
     ready =
         record {
           found = found;
@@ -167,39 +209,70 @@ module _ (code : Listing) (h : Routine) (f : ℕ) (accepted : IsFine code) (foun
           few = few_heads code h f accepted found plain;
           heads_up = heads_rise code h f accepted found plain;
           text_low = text_low code h f accepted found plain;
-          text_apart = λ t b. subst (λ n. (text_start code.texts t + length (slice_index_or code.texts t []) ≤ slice_index at b) ⊎ (n ≤ text_start code.texts t)) (sym (end_is b)) (text_apart t b);
-          bounded = few_elements;
-          closed = λ b le. (let all : length (rows xs) ≤ b = omega (arith, le) in sizes_are b ∙ ap length (row_past (rows xs) b all));
-          disjoint = λ a b ne. subst (λ n. (n ≤ slice_index at b) ⊎ (w.begins b + w.home.sizes b * bytes_of (w.elems b) ≤ slice_index at a)) (sym (end_is a))
-              (subst (λ n. (array_end code xs at a ≤ slice_index at b) ⊎ (n ≤ slice_index at a)) (sym (end_is b)) (apart a b ne));
+          text_apart = opened.text_apart outer h f (λ a. a) local [] from_here s.memory laid_out under few from_stack;
+          bounded = opened.bounded outer h f (λ a. a) local [] from_here s.memory laid_out under few from_stack;
+          closed = opened.past_size outer h f (λ a. a) local [] from_here s.memory;
+          disjoint = opened.disjoint outer h f (λ a. a) local [] from_here s.memory laid_out under few from_stack;
         }
 
-    stored : (a : Register) → IsThere h class.Array a → row_elem (rows xs) (w.home.named a.number) ≡ elem_of h a
-    unfolding w
-    stored a there =
-        ap (row_elem (rows xs)) (named_is a.number (subst (λ ts. a.number < length ts) (arrays_are code h f accepted found plain) there.1)) ∙ rows_typed h.params xs no_vector signature a.number
-        ∙ sym (ap (λ c. slice_index_or (types_in (table_of h) c) a.number Truth) there.0 ∙ ap (λ ts. slice_index_or ts a.number Truth) (arrays_are code h f accepted found plain))
+    named_low : (a : ℕ) → a < length (param_elems class.Array h.params) → w.home.named a < length (rows xs)
+    named_low a lt = let is = opened.named_low outer h f (λ a. a) local [] from_here s.memory a lt in let all = long in omega (arith, is, lt, all)
+
+    stored : AreStored h w.home w.elems
+    stored = opened.are_stored outer h f (λ a. a) local [] from_here s.memory each_shared few passes
+      where
+        passes : (a : Register) → IsThere h class.Array a → a.number < length (param_elems class.Array h.params) → w.elems (w.home.named a.number) ≡ elem_of h a
+        passes a there lt =
+            opened.old_elem outer h f (λ a. a) local [] from_here s.memory (w.home.named a.number) (named_low a.number lt)
+            ∙ ap (row_elem (rows xs)) (opened.named_low outer h f (λ a. a) local [] from_here s.memory a.number lt) ∙ rows_typed h.params xs no_vector signature a.number
+            ∙ sym (ap (λ c. slice_index_or (types_in (table_of h) c) a.number Truth) there.0 ∙ get_or_append_left (param_elems class.Array h.params) (map local_elem h.locals) Truth a.number lt)
+
+    all_low : (a : ℕ) → a < length (arrays_of h) → w.home.named a < w.home.opened
+    all_low a lt = by (which_array a (length (param_elems class.Array h.params)) (length h.locals)) (cases_lt a (length (param_elems class.Array h.params)))
+      where
+        by : ((i : ℕ) × (a ≡ length (param_elems class.Array h.params) + i) × (i < length h.locals)) ⊎ ((i : ℕ) → i < length h.locals → a ≡ length (param_elems class.Array h.params) + i → ⊥)
+            → (a < length (param_elems class.Array h.params)) ⊎ (length (param_elems class.Array h.params) ≤ a) → w.home.named a < w.home.opened
+        by (inl (i, e, low)) h2 = subst (λ n. w.home.named n < w.home.opened) (sym e) (opened.own_low outer h f (λ a. a) local [] from_here s.memory each_shared i low)
+        by (inr out) (inl low) = let is = named_low a low in omega (arith, is)
+        by (inr out) (inr le) =
+            absurd
+            (let both = length-append (param_elems class.Array h.params) (map local_elem h.locals) in let mapped = length-map h.locals local_elem in
+            out (a - length (param_elems class.Array h.params)) (omega (arith, lt, le, both, mapped)) (omega (arith, le)))
 
     -- ---- memory
 
     element_at : (b e : ℕ) → e < length (row_bits (rows xs) b) → (first_conf code f h xs).arrays b e ≡ slice_index (row_bits (rows xs) b) e
     element_at b e lt = ap (λ (g : ℕ → ℕ). g e) (cond-true (nat_lt b (length (rows xs))) (λ e. slice_index (row_bits (rows xs) b) e) (λ e. 0) (lt-ltb b (length (rows xs)) (some_row (rows xs) b e lt)))
 
-    keeps : Keeps w (first_conf code f h xs).arrays s.memory s.size
-    unfolding w
-    keeps =
+    begun_old : (b e : ℕ) → b < length (rows xs) → (first_conf code f h xs).arrays b e ≡ slice_index (row_bits (rows xs) b) e
+    begun_old b e lt = ap (λ (g : ℕ → ℕ). g e) (cond-true (nat_lt b (length (rows xs))) (λ e. slice_index (row_bits (rows xs) b) e) (λ e. 0) (lt-ltb b (length (rows xs)) lt))
+
+    begun_new : (b e : ℕ) → length (rows xs) ≤ b → (first_conf code f h xs).arrays b e ≡ 0
+    begun_new b e le = ap (λ (g : ℕ → ℕ). g e) (cond-false (nat_lt b (length (rows xs))) (λ e. slice_index (row_bits (rows xs) b) e) (λ e. 0) (le-ltb b (length (rows xs)) le))
+
+    outer_keeps : Keeps outer (λ b e. slice_index (row_bits (rows xs) b) e) s.memory s.size
+    outer_keeps =
         record {
           bytes_fit = laid.bytes_fit;
-          elements = λ b e lt. (let low : e < length (row_bits (rows xs) b) = subst (λ n. e < n) (sizes_are b) lt in laid.elements b e low ∙ sym (element_at b e low));
-          elements_fit = λ b e lt. (let low : e < length (row_bits (rows xs) b) = subst (λ n. e < n) (sizes_are b) lt in
-              subst (λ n. n < 2 ^ width (row_elem (rows xs) b)) (sym (element_at b e low)) (laid.elements_fit b e low));
-          room = λ b. subst (λ n. n ≤ s.size) (sym (end_is b)) (ends_low b);
+          elements = laid.elements;
+          elements_fit = laid.elements_fit;
+          room = ends_low;
           small = laid.small;
+          whole = refl;
           texts = λ t. ap (λ a. bytes (length (slice_index_or code.texts t [])) a s.memory) (let same : text_start code.texts t ≡ 0 + text_start code.texts t = omega arith in same)
               ∙ text_there s.memory code.texts 0 t laid.begins.same;
           text_room = λ t. (let ends = text_ends code.texts t in let room = laid.begins.room in omega (arith, ends, room));
           rest = λ a beside. refl;
         }
+
+    from_bottom : from_here ≡ bottom w
+    from_bottom = omega arith
+
+    keeps : (none_open h.locals ≡ false → bottom w + bytes_in lanes h.locals < s.size) → Keeps w (first_conf code f h xs).arrays (opened_memory lanes (bottom w) h.locals s.memory) s.size
+    keeps fits =
+        subst (λ t. Keeps w (first_conf code f h xs).arrays (opened_memory lanes t h.locals s.memory) s.size) from_bottom
+        (opened.keeps_in outer h f (λ a. a) local [] from_here s.memory laid_out under few from_stack (λ b e. slice_index (row_bits (rows xs) b) e) (first_conf code f h xs).arrays s.memory s.size
+        (λ e. subst (λ t. t + bytes_in lanes h.locals < s.size) (sym from_bottom) (fits e)) begun_old begun_new (λ a. refl) outer_keeps)
 
     -- ---- arguments
 
@@ -210,28 +283,31 @@ module _ (code : Listing) (h : Routine) (f : ℕ) (accepted : IsFine code) (foun
     counted n = omega arith
 
     -- arrays that are not there begin at 0 and have no elements
-    base_of : (a : ℕ) → slice_index at a ≡ w.begins (w.home.named a)
-    unfolding w
-    base_of a = by (cases_lt a (length (param_elems class.Array h.params)))
+    past_all : (a : ℕ) → IsPassed w a → length (param_elems class.Array h.params) ≤ a → w.home.named a ≡ w.home.opened
+    past_all a out le = opened.named_past outer h f (λ a. a) local [] from_here s.memory a (past (cases_lt a (length (param_elems class.Array h.params) + length h.locals)))
       where
-        by : (a < length (param_elems class.Array h.params)) ⊎ (length (param_elems class.Array h.params) ≤ a) → slice_index at a ≡ slice_index at (w.home.named a)
-        by (inl lt) = sym (ap (slice_index at) (named_is a lt))
-        by (inr le) =
-            begins_past a (subst (λ n. n ≤ a) (sym (laid.each ∙ long)) le)
-            ∙ sym (ap (slice_index at) (named_past a le) ∙ begins_past (length (rows xs)) (let each : length at ≡ length (rows xs) = laid.each in omega (arith, each)))
+        past : (a < length (param_elems class.Array h.params) + length h.locals) ⊎ (length (param_elems class.Array h.params) + length h.locals ≤ a) → length (param_elems class.Array h.params) + length h.locals ≤ a
+        past (inl lt) = absurd (out (a - length (param_elems class.Array h.params)) (omega (arith, lt, le)) (omega (arith, le)))
+        past (inr ge) = ge
 
-    count_of : (a : ℕ) → length (row_bits (rows xs) a) ≡ w.home.sizes (w.home.named a)
-    unfolding w
-    count_of a = by (cases_lt a (length (param_elems class.Array h.params)))
+    base_of : (a : ℕ) → IsPassed w a → slice_index at a ≡ w.begins (w.home.named a)
+    base_of a out = by (cases_lt a (length (param_elems class.Array h.params)))
+      where
+        by : (a < length (param_elems class.Array h.params)) ⊎ (length (param_elems class.Array h.params) ≤ a) → slice_index at a ≡ w.begins (w.home.named a)
+        by (inl lt) = sym (opened.old_begin outer h f (λ a. a) local [] from_here s.memory (w.home.named a) (named_low a lt) ∙ ap (slice_index at) (opened.named_low outer h f (λ a. a) local [] from_here s.memory a lt))
+        by (inr le) =
+            begins_past a (subst (λ n. n ≤ a) (sym (laid.each ∙ long)) le) ∙ sym (ap w.begins (past_all a out le) ∙ opened.past_begin outer h f (λ a. a) local [] from_here s.memory w.home.opened (omega arith))
+
+    count_of : (a : ℕ) → IsPassed w a → length (row_bits (rows xs) a) ≡ w.home.sizes (w.home.named a)
+    count_of a out = by (cases_lt a (length (param_elems class.Array h.params)))
       where
         by : (a < length (param_elems class.Array h.params)) ⊎ (length (param_elems class.Array h.params) ≤ a) → length (row_bits (rows xs) a) ≡ w.home.sizes (w.home.named a)
-        by (inl lt) = sym (ap w.home.sizes (named_is a lt) ∙ sizes_are a)
+        by (inl lt) =
+            sym (opened.old_size outer h f (λ a. a) local [] from_here s.memory (w.home.named a) (named_low a lt) ∙ ap (λ n. length (row_bits (rows xs) n)) (opened.named_low outer h f (λ a. a) local [] from_here s.memory a lt))
         by (inr le) =
-            ap length (row_past (rows xs) a (subst (λ n. n ≤ a) (sym long) le))
-            ∙ sym (ap w.home.sizes (named_past a le) ∙ sizes_are (length (rows xs)) ∙ ap length (row_past (rows xs) (length (rows xs)) (omega arith)))
+            ap length (row_past (rows xs) a (subst (λ n. n ≤ a) (sym long) le)) ∙ sym (ap w.home.sizes (past_all a out le) ∙ opened.past_size outer h f (λ a. a) local [] from_here s.memory w.home.opened (omega arith))
 
     call_is : IsCalled w xs (passed xs at) s
-    unfolding w
     call_is =
         record {
           home_is = refl;
@@ -244,9 +320,16 @@ module _ (code : Listing) (h : Routine) (f : ℕ) (accepted : IsFine code) (foun
           fits = values_fit h.params h.scalars xs no_vector signature;
           vectors_are = λ r j. places.others (Vector r j) tt;
           masks_are = λ r j. places.others (Mask r j) tt;
-          bases = λ a. ap (λ n. At (param_places h ++ own_places (gang_width code.gang) h) (passed xs at) (Base n)) (sym (counted a)) ∙ places.bases a ∙ base_of a;
-          counts = λ a. ap (λ n. At (param_places h ++ own_places (gang_width code.gang) h) (passed xs at) (Count n)) (sym (counted a)) ∙ places.counts a ∙ count_of a;
+          bases = λ a out. ap (λ n. At (param_places h ++ own_places (gang_width code.gang) h) (passed xs at) (Base n)) (sym (counted a)) ∙ places.bases a ∙ base_of a out;
+          counts = λ a out. ap (λ n. At (param_places h ++ own_places (gang_width code.gang) h) (passed xs at) (Count n)) (sym (counted a)) ∙ places.counts a ∙ count_of a out;
+          own_bases = λ i lt. opened.own_base outer h f (λ a. a) local [] from_here s.memory each_shared i lt ∙ ap (λ t. t + bytes_in lanes (take i h.locals)) from_bottom;
+          own_counts = λ i lt. opened.own_count outer h f (λ a. a) local [] from_here s.memory each_shared i lt;
           depth_is = places.others Depth tt;
+          top_zero = places.others Top tt;
+          stack_is = refl;
+          few = few;
+          whole = refl;
+          small = laid.small;
           keeps = keeps;
           silent = laid.silent;
         }
@@ -254,7 +337,6 @@ module _ (code : Listing) (h : Routine) (f : ℕ) (accepted : IsFine code) (foun
     -- ---- the module
 
     code_is : code_in (module_of code) f ≡ entry_code w
-    unfolding w
     code_is =
         ap (λ (g : Function). g.code)
         (get_or_append_left (map (function_of code) code.routines) (if list_any has_call code.routines then inner_functions code 0 code.routines else []) unused f
@@ -262,30 +344,43 @@ module _ (code : Listing) (h : Routine) (f : ℕ) (accepted : IsFine code) (foun
         ∙ get_or_from_slice_get (map (function_of code) code.routines) f (function_of code h) unused (slice_get-map (function_of code) code.routines f ∙ ap (option_map (function_of code)) found)
         ∙ ap (λ b. if b && is_covered code h then kernel_of code h else unused) exported ∙ ap (λ b. if b then kernel_of code h else unused) covers)
 
-    opens : w.home.opened ≡ length (rows xs)
-    unfolding w
-    opens = let nothing = no_stores code h f accepted found plain in omega (arith, nothing)
+    calls_use : (pc : ℕ) (k : Call) → slice_get h.code pc ≡ Some (instr.Call k) → uses_stack h ≡ true
+    calls_use pc k has = ap (λ b. b || not (none_open h.locals)) (calls_some h pc k has)
 
     of : IsOf w
-    unfolding w
     of =
         record {
           accepted = accepted;
           settled = ready;
-          texts_at = refl;
-          begins_past = λ b le. (let each : length at ≡ length (rows xs) = laid.each in let all = opens in begins_past b (omega (arith, le, each, all)));
-          stored = stored;
+          laid =
+              record {
+                texts_at = refl;
+                closed = opened.past_size outer h f (λ a. a) local [] from_here s.memory;
+                past = opened.past_begin outer h f (λ a. a) local [] from_here s.memory;
+                bounded = ready.bounded;
+                text_apart = ready.text_apart;
+                disjoint = ready.disjoint;
+              };
+          stored = stored.stored_as;
+          named_low = all_low;
           plain = covered_calls code h covers;
+          under = λ pc k has. subst (λ t. IsUnder w (t + bytes_in lanes h.locals)) from_bottom (opened.under_all outer h f (λ a. a) local [] from_here s.memory laid_out under few from_stack (under_so (calls_use pc k has)));
         }
 
+    -- the run does not come to where there is no room
+    some_stack : (b : Bool) → uses_stack h ≡ b → IsFull w (first_conf code f h xs) → ⊥
+    some_stack false e full = let none : None ≡ Some full.address = sym (ap (λ b. if b then Some (s.globals 17) else None) e) ∙ full.stack_is in cc
+    some_stack true e full =
+        let same : Some (s.globals 17) ≡ Some full.address = sym (stack_is e) ∙ full.stack_is in
+        let here : s.globals 17 ≡ full.address = cc in
+        let lt = (room e).room full.steps full.conf full.goes in let no_room = full.full in omega (arith, lt, no_room, here)
+
     same_outcomes : SameOutcomes w xs (λ n. called (code_in (module_of code)) n f (passed xs at) s)
-    unfolding w
     same_outcomes =
-        entries_agree w ready (covered code h f accepted found plain (local_in (gang_width code.gang) h) (first_conf code f h xs).home [] (slice_index at) (row_elem (rows xs)) s.memory)
-        (all_thin code h f accepted found plain (local_in (gang_width code.gang) h) (first_conf code f h xs).home [] (slice_index at) (row_elem (rows xs)) s.memory stored)
-        (code_in (module_of code)) f code_is (λ n. calls_agree n w of) xs (passed xs at) s call_is
+        entries_agree w ready (covered code h f accepted found plain local (first_conf code f h xs).home [] w.begins w.elems s.memory s.size (stack_in h s))
+        (all_thin code h f accepted found plain local (first_conf code f h xs).home [] w.begins w.elems s.memory s.size (stack_in h s) stored)
+        (code_in (module_of code)) f code_is (λ n. calls_agree n w of) xs (passed xs at) s call_is (some_stack (uses_stack h) refl)
 
 pub kernels_agree : KernelsAgree
-unfolding w
-kernels_agree code accepted name xs f h entry covers at s laid =
-    same_outcomes code h f (accepted_fine code accepted) entry.export.found entry.export.exported covers xs entry.fits at s laid
+kernels_agree code accepted name xs f h entry covers at s laid room =
+    same_outcomes code h f (accepted_fine code accepted) entry.export.found entry.export.exported covers xs entry.fits at s laid room

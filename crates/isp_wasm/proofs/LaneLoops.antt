@@ -69,6 +69,7 @@ holds_same w sc ve vf ma l same h =
       bases = h.bases;
       counts = h.counts;
       depth = h.depth;
+      top_is = h.top_is;
     }
 
 -- ---- whatever is done for each lane

@@ -14,11 +14,13 @@ mod Masks
 mod Results
 mod Scalars
 mod LaneLoops
+mod Regions
 mod Elements
 mod Loads
 mod LaneEnds
 mod Gathers
 mod Stores
+mod Clears
 mod Divisions
 mod Picks
 mod Across
@@ -35,6 +37,9 @@ mod Passing
 mod Given
 mod Heads
 mod TextPlaces
+mod Shares
+mod Opening
+mod Opened
 mod Plain
 mod Inner
 mod Kernels
@@ -44,5 +49,7 @@ mod ValidLines
 mod ValidCalls
 mod ValidModules
 mod Numbered
+mod Rooms
 mod Samples
 mod CallSamples
+mod ArraySamples

@@ -11,7 +11,7 @@ use Rattle.isp_code.specs.declared.function.ParamKind.TheVariants as kind
 use Rattle.isp_code.specs.declared.register.Class.TheVariants as class
 use Rattle.isp_wasm_meaning.specs.Module.{ValueType}
 use Rattle.isp_wasm.specs.Places.{Place, Scalar, Vector, Mask, Base, Count, shape_of, parts_for}
-use Rattle.isp_wasm.specs.Locals.{row, passing, params_from, taking, taken_from, vector_places, mask_places, name_of, position, local_at}
+use Rattle.isp_wasm.specs.Locals.{row, passing, params_from, taking, taken_from, vector_places, mask_places, array_places, name_of, position, local_at}
 use Rattle.isp_wasm.proofs.Numbers.{here, further, name_apart}
 
 -- a place stands in a list
@@ -105,6 +105,16 @@ has_mask (suc n) r zero (suc (suc j)) h l = absurd (omega (arith, l))
 has_mask (suc n) r (suc i) j h l =
     has_next (Mask r 0) (Mask r 1 ∷ mask_places n (suc r)) (Mask (r + suc i) j) (has_next (Mask r 1) (mask_places n (suc r)) (Mask (r + suc i) j)
     (subst (λ n'. Has (mask_places n (suc r)) (Mask n' j)) (let same : suc r + i ≡ r + suc i = omega arith in same) (has_mask n (suc r) i j (omega (arith, h)) l)))
+
+pub has_own : (n a i : ℕ) → i < n → Has (array_places n a) (Base (a + i)) × Has (array_places n a) (Count (a + i))
+has_own zero a i h = absurd (omega (arith, h))
+has_own (suc n) a zero h = let same : a ≡ a + 0 = omega arith in ((zero, ap (λ k. Some (Base k)) same), (suc zero, ap (λ k. Some (Count k)) same))
+has_own (suc n) a (suc i) h =
+    let more = has_own n (suc a) i (omega (arith, h)) in
+    let same : suc a + i ≡ a + suc i = omega arith in (
+      has_next (Base a) (Count a ∷ array_places n (suc a)) (Base (a + suc i)) (has_next (Count a) (array_places n (suc a)) (Base (a + suc i)) (subst (λ k. Has (array_places n (suc a)) (Base k)) same more.0)),
+      has_next (Base a) (Count a ∷ array_places n (suc a)) (Count (a + suc i)) (has_next (Count a) (array_places n (suc a)) (Count (a + suc i)) (subst (λ k. Has (array_places n (suc a)) (Count k)) same more.1)),
+    )
 
 -- ---- of a function that another one calls
 

@@ -11,8 +11,8 @@ use Rattle.isp_code.specs.declared.function.ParamKind.{ParamKind}
 use Rattle.isp_code.specs.declared.function.ParamKind.TheVariants as kind
 use Rattle.isp_code.specs.declared.register.Class.TheVariants as class
 use Rattle.isp_wasm_meaning.specs.Syntax as wasm
-use Rattle.isp_wasm.specs.Places.{Place, Counter, Scalar, Vector, Mask, Base, Count, Fresh, Spare, Depth, shape_of, parts_for}
-use Rattle.isp_wasm.specs.Locals.{row, passing, params_from, param_places, vector_places, mask_places, own_places, name_of, position, local_in}
+use Rattle.isp_wasm.specs.Places.{Place, Counter, Scalar, Vector, Mask, Base, Count, Fresh, Spare, Depth, Top, shape_of, parts_for}
+use Rattle.isp_wasm.specs.Locals.{row, passing, params_from, param_places, vector_places, mask_places, array_places, own_places, name_of, position, local_in}
 use Rattle.isp_wasm.specs.Numbering.{next_scalar, next_array, scalar_number, array_number, parts_before, own_from, scalars_from, vectors_from, masks_from, LocalsAreNumbered}
 use Rattle.isp_wasm.proofs.Numbers.{here, further, name_apart}
 
@@ -133,6 +133,7 @@ one_lacks kind.Array t ts more r a (Mask q j) all own = (λ e. cc, (λ e. cc, al
 one_lacks kind.Array t ts more r a (Fresh j) all own = (λ e. cc, (λ e. cc, all r (suc a) tt))
 one_lacks kind.Array t ts more r a (Spare s j) all own = (λ e. cc, (λ e. cc, all r (suc a) tt))
 one_lacks kind.Array t ts more r a Depth all own = (λ e. cc, (λ e. cc, all r (suc a) tt))
+one_lacks kind.Array t ts more r a Top all own = (λ e. cc, (λ e. cc, all r (suc a) tt))
 one_lacks kind.Scalar t ts more r a (Scalar q) all own = (λ e. (let same : r ≡ q = cc in omega (arith, own, same)), all (suc r) a (omega (arith, own)))
 one_lacks kind.Scalar t ts more r a (Base q) all own = absurd own
 one_lacks kind.Scalar t ts more r a (Count q) all own = absurd own
@@ -142,6 +143,7 @@ one_lacks kind.Scalar t ts more r a (Mask q j) all own = (λ e. cc, all (suc r) 
 one_lacks kind.Scalar t ts more r a (Fresh j) all own = (λ e. cc, all (suc r) a tt)
 one_lacks kind.Scalar t ts more r a (Spare s j) all own = (λ e. cc, all (suc r) a tt)
 one_lacks kind.Scalar t ts more r a Depth all own = (λ e. cc, all (suc r) a tt)
+one_lacks kind.Scalar t ts more r a Top all own = (λ e. cc, all (suc r) a tt)
 
 params_lack : (ps : List Param) (r a : ℕ) (p : Place) → IsOwn (r + length (param_elems class.Scalar ps)) a p → Lacks (params_from ps r a) p
 params_lack [] r a p own = tt
@@ -209,15 +211,21 @@ module _ (lanes : ℕ) (h : Routine) where
   vector_row : List Place
   vector_row = vector_places lanes (vectors_of h) 0
 
+  arrays_row : List Place
+  arrays_row = array_places (length h.locals) (length (param_elems class.Array h.params))
+
+  own_last : List Place
+  own_last = Depth ∷ Top ∷ arrays_row
+
   mask_row : List Place
-  mask_row = mask_places h.masks 0 ++ Depth ∷ []
+  mask_row = mask_places h.masks 0 ++ own_last
 
   past_params : (p : Place) → IsOwn (0 + length (param_elems class.Scalar h.params)) 0 p → local_in lanes h p ≡ own_from lanes h + Where (own_places lanes h) p
   past_params p own = behind (param_places h) (own_places lanes h) p (params_lack h.params 0 0 p own)
 
   past_four : (p : Place) → IsOwn (0 + length (param_elems class.Scalar h.params)) 0 p → (Counter ≡ p → ⊥) → ((t : wasm.Size) (j : ℕ) → Spare t j ≡ p → ⊥)
       → local_in lanes h p ≡ own_from lanes h + 4 + Where (fresh_row ++ (scalar_row ++ (vector_row ++ mask_row))) p
-  unfolding fresh_row scalar_row vector_row mask_row
+  unfolding fresh_row scalar_row vector_row mask_row own_last arrays_row
   past_four p own c s =
       past_params p own
       ∙ (let four = behind (Counter ∷ Spare wasm.I32 0 ∷ Spare wasm.I32 1 ∷ Spare wasm.I64 0 ∷ []) (fresh_row ++ (scalar_row ++ (vector_row ++ mask_row))) p (c, (s wasm.I32 0, (s wasm.I32 1, (s wasm.I64 0, tt)))) in omega (arith, four))
@@ -269,18 +277,30 @@ module _ (lanes : ℕ) (h : Routine) where
       let fresh = past_fresh p (λ j e. cc) in
       let scalars = past_scalars p (λ r e. cc) in
       let vectors = past_vectors p (λ r j e. cc) in
-      let at : Where mask_row p ≡ 2 * r + j = ap (λ n. Where mask_row (Mask n j)) (let same : r ≡ 0 + r = omega arith in same) ∙ mask_is h.masks 0 r j (Depth ∷ []) l m in omega (arith, four, fresh, scalars, vectors, at)
+      let at : Where mask_row p ≡ 2 * r + j = ap (λ n. Where mask_row (Mask n j)) (let same : r ≡ 0 + r = omega arith in same) ∙ mask_is h.masks 0 r j own_last l m in omega (arith, four, fresh, scalars, vectors, at)
 
   depth_at : local_in lanes h Depth ≡ masks_from lanes h + 2 * h.masks
-  unfolding mask_row
+  unfolding mask_row own_last arrays_row
   depth_at =
       let four = past_four Depth tt (λ e. cc) (λ t i e. cc) in
       let fresh = past_fresh Depth (λ j e. cc) in
       let scalars = past_scalars Depth (λ r e. cc) in
       let vectors = past_vectors Depth (λ r j e. cc) in
-      let at = behind (mask_places h.masks 0) (Depth ∷ []) Depth (masks_lack h.masks 0 Depth (λ q j e. cc)) in
+      let at = behind (mask_places h.masks 0) own_last Depth (masks_lack h.masks 0 Depth (λ q j e. cc)) in
       let long = masks_long h.masks 0 in
-      let last = first_is Depth [] in omega (arith, four, fresh, scalars, vectors, at, long, last)
+      let last = first_is Depth (Top ∷ arrays_row) in omega (arith, four, fresh, scalars, vectors, at, long, last)
+
+  top_at : local_in lanes h Top ≡ masks_from lanes h + 2 * h.masks + 1
+  unfolding mask_row own_last arrays_row
+  top_at =
+      let four = past_four Top tt (λ e. cc) (λ t i e. cc) in
+      let fresh = past_fresh Top (λ j e. cc) in
+      let scalars = past_scalars Top (λ r e. cc) in
+      let vectors = past_vectors Top (λ r j e. cc) in
+      let at = behind (mask_places h.masks 0) own_last Top (masks_lack h.masks 0 Top (λ q j e. cc)) in
+      let long = masks_long h.masks 0 in
+      let next = next_is Depth Top (Top ∷ arrays_row) (λ e. cc) in
+      let last = first_is Top arrays_row in omega (arith, four, fresh, scalars, vectors, at, long, next, last)
 
   param_at : (r : ℕ) → r < length (param_elems class.Scalar h.params) → local_in lanes h (Scalar r) ≡ scalar_number h.params r
   param_at r l = ap (λ n. local_in lanes h (Scalar n)) (let same : r ≡ 0 + r = omega arith in same) ∙ scalar_is h.params 0 0 r (own_places lanes h) l
@@ -299,25 +319,26 @@ locals_are_numbered lanes h =
       counter = (let at = past_params lanes h Counter tt in let is = first_is Counter (own_rest lanes h) in omega (arith, at, is));
       spare = (let at = past_params lanes h (Spare wasm.I32 0) tt in
           let a = next_is Counter (Spare wasm.I32 0) (own_rest lanes h) (λ e. cc) in
-          let b = first_is (Spare wasm.I32 0) (Spare wasm.I32 1 ∷ Spare wasm.I64 0 ∷ own_last lanes h) in omega (arith, at, a, b));
+          let b = first_is (Spare wasm.I32 0) (Spare wasm.I32 1 ∷ Spare wasm.I64 0 ∷ own_behind lanes h) in omega (arith, at, a, b));
       seen = (let at = past_params lanes h (Spare wasm.I32 1) tt in
           let a = next_is Counter (Spare wasm.I32 1) (own_rest lanes h) (λ e. cc) in
-          let b = next_is (Spare wasm.I32 0) (Spare wasm.I32 1) (Spare wasm.I32 1 ∷ Spare wasm.I64 0 ∷ own_last lanes h) spares_apart in
-          let c = first_is (Spare wasm.I32 1) (Spare wasm.I64 0 ∷ own_last lanes h) in omega (arith, at, a, b, c));
+          let b = next_is (Spare wasm.I32 0) (Spare wasm.I32 1) (Spare wasm.I32 1 ∷ Spare wasm.I64 0 ∷ own_behind lanes h) spares_apart in
+          let c = first_is (Spare wasm.I32 1) (Spare wasm.I64 0 ∷ own_behind lanes h) in omega (arith, at, a, b, c));
       long_spare = (let at = past_params lanes h (Spare wasm.I64 0) tt in
           let a = next_is Counter (Spare wasm.I64 0) (own_rest lanes h) (λ e. cc) in
-          let b = next_is (Spare wasm.I32 0) (Spare wasm.I64 0) (Spare wasm.I32 1 ∷ Spare wasm.I64 0 ∷ own_last lanes h) (λ e. cc) in
-          let c = next_is (Spare wasm.I32 1) (Spare wasm.I64 0) (Spare wasm.I64 0 ∷ own_last lanes h) (λ e. cc) in
-          let d = first_is (Spare wasm.I64 0) (own_last lanes h) in omega (arith, at, a, b, c, d));
+          let b = next_is (Spare wasm.I32 0) (Spare wasm.I64 0) (Spare wasm.I32 1 ∷ Spare wasm.I64 0 ∷ own_behind lanes h) (λ e. cc) in
+          let c = next_is (Spare wasm.I32 1) (Spare wasm.I64 0) (Spare wasm.I64 0 ∷ own_behind lanes h) (λ e. cc) in
+          let d = first_is (Spare wasm.I64 0) (own_behind lanes h) in omega (arith, at, a, b, c, d));
       fresh = fresh_at lanes h;
       scalars = scalar_at lanes h;
       vectors = vector_at lanes h;
       masks = mask_at lanes h;
       depth = depth_at lanes h;
+      top = top_at lanes h;
     }
   where
-    own_last : (lanes : ℕ) (h : Routine) → List Place
-    own_last lanes h = fresh_row lanes h ++ (scalar_row lanes h ++ (vector_row lanes h ++ mask_row lanes h))
+    own_behind : (lanes : ℕ) (h : Routine) → List Place
+    own_behind lanes h = fresh_row lanes h ++ (scalar_row lanes h ++ (vector_row lanes h ++ mask_row lanes h))
 
     own_rest : (lanes : ℕ) (h : Routine) → List Place
-    own_rest lanes h = Spare wasm.I32 0 ∷ Spare wasm.I32 1 ∷ Spare wasm.I64 0 ∷ own_last lanes h
+    own_rest lanes h = Spare wasm.I32 0 ∷ Spare wasm.I32 1 ∷ Spare wasm.I64 0 ∷ own_behind lanes h

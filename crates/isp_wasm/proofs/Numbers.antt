@@ -5,7 +5,7 @@ use Rattle.std.proofs.lemmas.Bool.{ne_eqb, cond-true, cond-false, cases_eq, case
 use Rattle.std.proofs.lemmas.Nat.{mul-le}
 use Rattle.std.proofs.Math.Nat.{mul-suc, suc-mul}
 use Rattle.isp_wasm_meaning.specs.Syntax as wasm
-use Rattle.isp_wasm.specs.Places.{Place, Counter, Scalar, Vector, Mask, Base, Count, Fresh, Spare, Depth}
+use Rattle.isp_wasm.specs.Places.{Place, Counter, Scalar, Vector, Mask, Base, Count, Fresh, Spare, Depth, Top}
 use Rattle.isp_wasm.specs.Locals.{paired, name_of, position, local_at}
 
 square_up : (x y : ℕ) → x < y → x * x + x + x + 1 ≤ y * y
@@ -120,6 +120,27 @@ name_apart Depth (Fresh j) e = absurd (omega (arith, e))
 name_apart Depth (Spare wasm.I32 j) e = absurd (omega (arith, e))
 name_apart Depth (Spare wasm.I64 j) e = absurd (omega (arith, e))
 name_apart Depth Depth e = refl
+name_apart Counter Top e = absurd (omega (arith, e))
+name_apart (Scalar r) Top e = absurd (omega (arith, e))
+name_apart (Vector r j) Top e = absurd (omega (arith, e))
+name_apart (Mask r j) Top e = absurd (omega (arith, e))
+name_apart (Base r) Top e = absurd (omega (arith, e))
+name_apart (Count r) Top e = absurd (omega (arith, e))
+name_apart (Fresh j) Top e = absurd (omega (arith, e))
+name_apart (Spare wasm.I32 j) Top e = absurd (omega (arith, e))
+name_apart (Spare wasm.I64 j) Top e = absurd (omega (arith, e))
+name_apart Depth Top e = absurd (omega (arith, e))
+name_apart Top Counter e = absurd (omega (arith, e))
+name_apart Top (Scalar r) e = absurd (omega (arith, e))
+name_apart Top (Vector r j) e = absurd (omega (arith, e))
+name_apart Top (Mask r j) e = absurd (omega (arith, e))
+name_apart Top (Base r) e = absurd (omega (arith, e))
+name_apart Top (Count r) e = absurd (omega (arith, e))
+name_apart Top (Fresh j) e = absurd (omega (arith, e))
+name_apart Top (Spare wasm.I32 j) e = absurd (omega (arith, e))
+name_apart Top (Spare wasm.I64 j) e = absurd (omega (arith, e))
+name_apart Top Depth e = absurd (omega (arith, e))
+name_apart Top Top e = refl
 
 -- ---- positions
 

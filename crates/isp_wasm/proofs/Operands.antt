@@ -144,7 +144,7 @@ module _ (w : Setting) (has : HasArrays w) where
   thin (instr.Say n) t f = tt
   thin (instr.Fail x q) t f = tt
   thin (instr.Return x) t f = f.0
-  thin (instr.Clear a k) t f = absurd t
+  thin (instr.Clear a k) t f = record { array = array_as a (elem w a) (f.0).0 refl; size_is = has.size_is a (f.0).0 (f.0).1; few = has.few a (f.0).0 (f.0).1 }
   thin (instr.PrintScalar x) t f = any_scalar x (f.0).0
   thin (instr.PrintVector x k) t f = any_vector x (f.0).0
   thin (instr.Call c) t f = t

@@ -20,7 +20,7 @@ use Rattle.isp_code.specs.declared.function.ParamKind.{ParamKind}
 use Rattle.isp_code.specs.declared.function.ParamKind.TheVariants as kind
 use Rattle.isp_code.specs.declared.register.Class.TheVariants as class
 use Rattle.isp_verify.specs.Faults.{is_vector}
-use Rattle.isp_wasm.specs.Places.{Place, Counter, Scalar, Vector, Mask, Base, Count, Fresh, Spare, Depth}
+use Rattle.isp_wasm.specs.Places.{Place, Counter, Scalar, Vector, Mask, Base, Count, Fresh, Spare, Depth, Top}
 use Rattle.isp_wasm.specs.Locals.{name_of, position, params_from, passing}
 use Rattle.isp_wasm.specs.Kernel.{passed, row_elem}
 use Rattle.isp_wasm.proofs.Numbers.{here, further, name_apart}
@@ -89,6 +89,7 @@ module _ (qs : List Place) (xs : List Argument) (at : List ℕ) (r a : ℕ) wher
     value_others (Fresh j) other = other_at (Scalar r) (Fresh j) qs z (passed xs at) (λ e. cc) ∙ h.others (Fresh j) tt
     value_others (Spare t j) other = other_at (Scalar r) (Spare t j) qs z (passed xs at) (λ e. cc) ∙ h.others (Spare t j) tt
     value_others Depth other = other_at (Scalar r) Depth qs z (passed xs at) (λ e. cc) ∙ h.others Depth tt
+    value_others Top other = other_at (Scalar r) Top qs z (passed xs at) (λ e. cc) ∙ h.others Top tt
 
   -- ---- an array
 
@@ -132,6 +133,7 @@ module _ (qs : List Place) (xs : List Argument) (at : List ℕ) (r a : ℕ) wher
     array_others (Fresh j) other = past_both (Fresh j) (λ e. cc) (λ e. cc) ∙ h.others (Fresh j) tt
     array_others (Spare t j) other = past_both (Spare t j) (λ e. cc) (λ e. cc) ∙ h.others (Spare t j) tt
     array_others Depth other = past_both Depth (λ e. cc) (λ e. cc) ∙ h.others Depth tt
+    array_others Top other = past_both Top (λ e. cc) (λ e. cc) ∙ h.others Top tt
 
 -- ---- all of them
 

@@ -1,18 +1,18 @@
 -- What accepted code says of a function whose form is covered, whoever calls it.
-use Rattle.std.proofs.Common.{◌≡◌, ℕ, zero, suc, ◌+◌, ◌-◌, ◌^◌, ◌<◌, ◌≤◌, ◌⊎◌, inl, inr, List, [], ◌∷◌, ◌++◌, length, map, take, Option, Some, None, Bool, true, false, not, ◌&&◌, ◌||◌, refl, sym, ap, ◌∙◌, subst, eq-eqb, append-nil, arith}
+use Rattle.std.proofs.Common.{◌≡◌, ℕ, zero, suc, ◌+◌, ◌-◌, ◌*◌, ◌^◌, ◌<◌, ◌≤◌, ◌⊎◌, inl, inr, List, [], ◌∷◌, length, Option, Some, None, Bool, true, false, not, ◌&&◌, ◌||◌, refl, sym, ap, ◌∙◌, subst, eq-eqb, arith}
 use Rattle.std.specs.Prelude.{slice_get, slice_index_or, nat_lt, nat_le}
 use Rattle.std.specs.List.{list_all, list_any}
-use Rattle.std.proofs.lemmas.Bool.{cases_lt, ltb-true}
+use Rattle.std.proofs.lemmas.Bool.{cases_lt, ltb-true, not-true}
 use Rattle.std.proofs.lemmas.Option.{slice_get_past, slice_get-get_or}
 use Rattle.std.proofs.lemmas.List.{get_or_past}
 use Rattle.std.proofs.Math.ListN.{get_or}
 use Rattle.isp_base.specs.declared.types.Elem.{Elem}
-use Rattle.isp_code.specs.Calls.{shared_sizes}
 use Rattle.isp_code.specs.Conf.{Home, Frame}
 use Rattle.isp_code.specs.Fine.{AllFine, CallsFine, IsThere}
 use Rattle.isp_code.specs.Listing.{Listing, Routine}
 use Rattle.isp_code.specs.Operands.{operands}
-use Rattle.isp_code.specs.Registers.{is_own, param_elems, arrays_of, local_elem, elem_of}
+use Rattle.isp_code.specs.Lines.{local_size}
+use Rattle.isp_code.specs.Registers.{is_own, is_per_instance, is_per_lane, is_local, param_elems, elem_of}
 use Rattle.isp_code.specs.declared.function.Local.{Local}
 use Rattle.isp_code.specs.declared.instr.Call.{Call}
 use Rattle.isp_code.specs.declared.instr.Instr.{Instr}
@@ -21,18 +21,16 @@ use Rattle.isp_code.specs.declared.register.Class.TheVariants as class
 use Rattle.isp_code.specs.declared.register.Register.{Register}
 use Rattle.isp_verify.specs.Accepted.{IsFine}
 use Rattle.isp_verify.specs.Faults.{stays, last}
-use Rattle.isp_wasm.specs.Places.{Setting, Place}
+use Rattle.isp_base.specs.Types.{gang_width}
+use Rattle.isp_wasm.specs.Places.{Setting, Place, bytes_of}
 use Rattle.isp_wasm.specs.Lines.{HasArrays, HasTemplate}
-use Rattle.isp_wasm.specs.Module.{goes_to, is_head, heads_of, joined, text_start, has_form, none_open, is_plain, all_plain, is_call, has_call, is_covered, numbered}
+use Rattle.isp_wasm.specs.Module.{goes_to, is_head, heads_of, joined, text_start, all_shared, is_plain, all_plain, is_covered, numbered}
+use Rattle.isp_wasm.specs.Stack.{is_call, has_call, bytes_in}
 use Rattle.isp_wasm.specs.Thin.{IsHead, IsCovered, IsLast, AllThin}
 use Rattle.isp_wasm.proofs.Operands.{fine_is_thin}
-use Rattle.isp_wasm.proofs.Passing.{both_first, both_second, no_number}
+use Rattle.isp_wasm.proofs.Passing.{both_first, both_second}
 use Rattle.isp_wasm.proofs.Heads.{few, up, inside, target_is}
 use Rattle.isp_wasm.proofs.TextPlaces.{text_ends}
-
-pub no_locals : (ls : List Local) → none_open ls ≡ true → ls ≡ []
-no_locals [] e = refl
-no_locals (l ∷ ls) e = absurd cc
 
 -- ---- lists
 
@@ -89,46 +87,53 @@ last_is (Some (instr.Fail x q)) e w = absurd cc
 last_is (Some (instr.Call c)) e w = absurd cc
 
 module _ (w : Setting) (heads : (pc to : ℕ) (i : Instr) → slice_get w.routine.code pc ≡ Some i → goes_to to i ≡ true → to < length w.routine.code → IsHead w to) where
-  template : (pc : ℕ) (i : Instr) → slice_get w.routine.code pc ≡ Some i → has_form i ≡ true → AllFine w.code w.routine (operands i) → CallsFine w.code w.routine i → HasTemplate w i
-  template pc (instr.Clear a k) has e fine calls = absurd cc
-  template pc (instr.PrintScalar x) has e fine calls = tt
-  template pc (instr.PrintVector x k) has e fine calls = tt
-  template pc (instr.Jump to) has e fine calls = heads pc to (instr.Jump to) has (eq-eqb to to refl) fine.0
-  template pc (instr.JumpIf t x to) has e fine calls = heads pc to (instr.JumpIf t x to) has (eq-eqb to to refl) (fine.1).0
-  template pc (instr.Scalar d i) has e fine calls = tt
-  template pc (instr.Vector d i) has e fine calls = tt
-  template pc (instr.Mask d i) has e fine calls = tt
-  template pc (instr.Divide o d x y k q) has e fine calls = tt
-  template pc (instr.Store a i y k q) has e fine calls = tt
-  template pc (instr.Scatter a i y k q) has e fine calls = tt
-  template pc (instr.StoreRun a i y k q) has e fine calls = tt
-  template pc (instr.PackedStore d a i y k q) has e fine calls = tt
-  template pc (instr.PackedLoad d a i y k q) has e fine calls = tt
-  template pc (instr.Say t) has e fine calls = tt
-  template pc (instr.Fail x q) has e fine calls = tt
-  template pc (instr.Call k) has e fine calls = calls
-  template pc (instr.Return x) has e fine calls = tt
+  template : (pc : ℕ) (i : Instr) → slice_get w.routine.code pc ≡ Some i → AllFine w.code w.routine (operands i) → CallsFine w.code w.routine i → HasTemplate w i
+  template pc (instr.Clear a k) has fine calls = tt
+  template pc (instr.PrintScalar x) has fine calls = tt
+  template pc (instr.PrintVector x k) has fine calls = tt
+  template pc (instr.Jump to) has fine calls = heads pc to (instr.Jump to) has (eq-eqb to to refl) fine.0
+  template pc (instr.JumpIf t x to) has fine calls = heads pc to (instr.JumpIf t x to) has (eq-eqb to to refl) (fine.1).0
+  template pc (instr.Scalar d i) has fine calls = tt
+  template pc (instr.Vector d i) has fine calls = tt
+  template pc (instr.Mask d i) has fine calls = tt
+  template pc (instr.Divide o d x y k q) has fine calls = tt
+  template pc (instr.Store a i y k q) has fine calls = tt
+  template pc (instr.Scatter a i y k q) has fine calls = tt
+  template pc (instr.StoreRun a i y k q) has fine calls = tt
+  template pc (instr.PackedStore d a i y k q) has fine calls = tt
+  template pc (instr.PackedLoad d a i y k q) has fine calls = tt
+  template pc (instr.Say t) has fine calls = tt
+  template pc (instr.Fail x q) has fine calls = tt
+  template pc (instr.Call k) has fine calls = calls
+  template pc (instr.Return x) has fine calls = tt
 
 -- ---- a function
 
 module _ (code : Listing) (h : Routine) where
   -- in a call, with its locals numbered so
-  abbrev pub placed : (Place → ℕ) → Home → List Frame → (ℕ → ℕ) → (ℕ → Elem) → (ℕ → ℕ) → Setting
-  placed local home waiting begins elems before =
-      record (numbered code h) { local = local; home = home; waiting = waiting; begins = begins; elems = elems; before = before }
+  abbrev pub placed : (Place → ℕ) → Home → List Frame → (ℕ → ℕ) → (ℕ → Elem) → (ℕ → ℕ) → ℕ → Option ℕ → Setting
+  placed local home waiting begins elems before room stack =
+      record (numbered code h) { local = local; home = home; waiting = waiting; begins = begins; elems = elems; before = before; room = room; stack = stack }
+
+-- each array lies in memory as it is declared, and those that the function opens have the elements that are said
+pub record AreStored (h : Routine) (home : Home) (elems : ℕ → Elem) : Type 0 where
+  pub stored_as : (a : Register) → IsThere h class.Array a → elems (home.named a.number) ≡ elem_of h a
+  pub size_is : (a : Register) → IsThere h class.Array a → is_local h a ≡ true → home.sizes (home.named a.number) ≡ local_size (slice_get h.locals (a.number - length (param_elems class.Array h.params)))
+  pub few : (a : Register) → IsThere h class.Array a → is_local h a ≡ true → local_size (slice_get h.locals (a.number - length (param_elems class.Array h.params))) * bytes_of (elem_of h a) < 2 ^ 32
 
 module _ (code : Listing) (h : Routine) (f : ℕ) (accepted : IsFine code) (found : slice_get code.routines f ≡ Some h) (plain : is_plain code h ≡ true) where
-  pub forms : list_all has_form h.code ≡ true
-  forms = both_first (list_all has_form h.code) (none_open h.locals && (nat_lt (length h.code) (2 ^ 32) && nat_lt (length (joined code.texts)) (2 ^ 32))) plain
+  -- each array that it opens is one that all lanes share
+  pub shared : all_shared h.locals ≡ true
+  shared = both_first (all_shared h.locals) (nat_lt (suc (bytes_in (gang_width code.gang) h.locals)) (2 ^ 32) && (nat_lt (length h.code) (2 ^ 32) && nat_lt (length (joined code.texts)) (2 ^ 32))) plain
 
-  rooms : (none_open h.locals && (nat_lt (length h.code) (2 ^ 32) && nat_lt (length (joined code.texts)) (2 ^ 32))) ≡ true
-  rooms = both_second (list_all has_form h.code) (none_open h.locals && (nat_lt (length h.code) (2 ^ 32) && nat_lt (length (joined code.texts)) (2 ^ 32))) plain
+  rooms : nat_lt (suc (bytes_in (gang_width code.gang) h.locals)) (2 ^ 32) && (nat_lt (length h.code) (2 ^ 32) && nat_lt (length (joined code.texts)) (2 ^ 32)) ≡ true
+  rooms = both_second (all_shared h.locals) (nat_lt (suc (bytes_in (gang_width code.gang) h.locals)) (2 ^ 32) && (nat_lt (length h.code) (2 ^ 32) && nat_lt (length (joined code.texts)) (2 ^ 32))) plain
 
-  pub none : h.locals ≡ []
-  none = no_locals h.locals (both_first (none_open h.locals) (nat_lt (length h.code) (2 ^ 32) && nat_lt (length (joined code.texts)) (2 ^ 32)) rooms)
+  pub bytes_low : suc (bytes_in (gang_width code.gang) h.locals) < 2 ^ 32
+  bytes_low = ltb-true (suc (bytes_in (gang_width code.gang) h.locals)) (2 ^ 32) (both_first (nat_lt (suc (bytes_in (gang_width code.gang) h.locals)) (2 ^ 32)) (nat_lt (length h.code) (2 ^ 32) && nat_lt (length (joined code.texts)) (2 ^ 32)) rooms)
 
   sizes_fit : (nat_lt (length h.code) (2 ^ 32) && nat_lt (length (joined code.texts)) (2 ^ 32)) ≡ true
-  sizes_fit = both_second (none_open h.locals) (nat_lt (length h.code) (2 ^ 32) && nat_lt (length (joined code.texts)) (2 ^ 32)) rooms
+  sizes_fit = both_second (nat_lt (suc (bytes_in (gang_width code.gang) h.locals)) (2 ^ 32)) (nat_lt (length h.code) (2 ^ 32) && nat_lt (length (joined code.texts)) (2 ^ 32)) rooms
 
   pub code_low : length h.code < 2 ^ 32
   code_low = ltb-true (length h.code) (2 ^ 32) (both_first (nat_lt (length h.code) (2 ^ 32)) (nat_lt (length (joined code.texts)) (2 ^ 32)) sizes_fit)
@@ -155,26 +160,23 @@ module _ (code : Listing) (h : Routine) (f : ℕ) (accepted : IsFine code) (foun
       by (inl lt) = lt
       by (inr le) = absurd (let gone : slice_get h.code (last h) ≡ None = slice_get_past h.code (last h) (omega (arith, le)) in let impossible : false ≡ true = ap stays (sym gone) ∙ stays_last in cc)
 
-  -- its arrays are parameters, which all lanes share
-  pub arrays_are : arrays_of h ≡ param_elems class.Array h.params
-  arrays_are = ap (λ ls. param_elems class.Array h.params ++ map local_elem ls) none ∙ append-nil (param_elems class.Array h.params)
-
-  pub no_sizes : (n : ℕ) → length (shared_sizes (take n h.locals)) ≡ 0
-  no_sizes n = ap (λ ls. length (shared_sizes (take n ls))) none ∙ nothing n
+  shared_at : (n : ℕ) → is_own (slice_get h.locals n) ≡ false
+  shared_at n = by (slice_get h.locals n) refl
     where
-      nothing : (n : ℕ) → length (shared_sizes (take n [])) ≡ 0
-      nothing zero = refl
-      nothing (suc n) = refl
+      by : (o : Option Local) → slice_get h.locals n ≡ o → is_own o ≡ false
+      by None e = refl
+      by (Some l) e = not-true (is_per_instance l.sharing) (all_at (λ l. not (is_per_instance l.sharing)) h.locals n l shared e)
 
-  pub no_stores : length (shared_sizes h.locals) ≡ 0
-  no_stores = ap (λ ls. length (shared_sizes ls)) none
+  pub none_own : (a : Register) → is_per_lane h a ≡ false
+  none_own a = unowned (nat_le (length (param_elems class.Array h.params)) a.number) (is_own (slice_get h.locals (a.number - length (param_elems class.Array h.params)))) (shared_at (a.number - length (param_elems class.Array h.params)))
+    where
+      unowned : (b o : Bool) → o ≡ false → (b && o) ≡ false
+      unowned true o e = e
+      unowned false o e = refl
 
-  pub no_size : (n : ℕ) → slice_index_or (shared_sizes h.locals) n 0 ≡ 0
-  no_size n = ap (λ ls. slice_index_or (shared_sizes ls) n 0) none ∙ no_number n
-
-  module _ (local : Place → ℕ) (home : Home) (waiting : List Frame) (begins : ℕ → ℕ) (elems : ℕ → Elem) (before : ℕ → ℕ) where
+  module _ (local : Place → ℕ) (home : Home) (waiting : List Frame) (begins : ℕ → ℕ) (elems : ℕ → Elem) (before : ℕ → ℕ) (room : ℕ) (stack : Option ℕ) where
     w : Setting
-    w = placed code h local home waiting begins elems before
+    w = placed code h local home waiting begins elems before room stack
 
     heads_end : w.heads w.rungs ≡ length h.code
     unfolding w
@@ -184,7 +186,7 @@ module _ (code : Listing) (h : Routine) (f : ℕ) (accepted : IsFine code) (foun
     unfolding w
     head_at to is lt = let found = inside h.code (length h.code) 0 (length h.code) to is (omega arith) (omega arith) in record { low = found.low; here = found.here }
 
-    pub covered : IsCovered (placed code h local home waiting begins elems before)
+    pub covered : IsCovered (placed code h local home waiting begins elems before room stack)
     unfolding w
     covered =
         record {
@@ -195,24 +197,14 @@ module _ (code : Listing) (h : Routine) (f : ℕ) (accepted : IsFine code) (foun
         absurd_past : (pc : ℕ) → pc < length h.code → slice_get h.code pc ≡ None → ⊥
         absurd_past pc lt none = let some = slice_get-get_or h.code pc (instr.Jump 0) lt in let impossible : None ≡ Some (get_or h.code pc (instr.Jump 0)) = sym none ∙ some in cc
 
-    arrays : ((a : Register) → IsThere h class.Array a → elems (home.named a.number) ≡ elem_of h a) → HasArrays w
+    arrays : AreStored h home elems → HasArrays w
     unfolding w
-    arrays stored =
-        record {
-          shared = λ a. ap (λ ls. nat_le (length (param_elems class.Array h.params)) a.number && is_own (slice_get ls (a.number - length (param_elems class.Array h.params)))) none
-              ∙ unowned (nat_le (length (param_elems class.Array h.params)) a.number) (a.number - length (param_elems class.Array h.params));
-          stored_as = stored;
-        }
-      where
-        unowned : (b : Bool) (n : ℕ) → (b && is_own (slice_get [] n)) ≡ false
-        unowned true zero = refl
-        unowned true (suc n) = refl
-        unowned false n = refl
+    arrays stored = record { shared = none_own; stored_as = stored.stored_as; size_is = stored.size_is; few = stored.few }
 
-    pub all_thin : ((a : Register) → IsThere h class.Array a → elems (home.named a.number) ≡ elem_of h a) → AllThin (placed code h local home waiting begins elems before)
+    pub all_thin : AreStored h home elems → AllThin (placed code h local home waiting begins elems before room stack)
     unfolding w
     all_thin stored pc i has =
         let line = accepted.lines f h found pc i has in
         fine_is_thin w (arrays stored) i
-        (template w (λ pc to i has goes lt. head_at to (target_is h.code to pc i has goes) lt) pc i has (all_at has_form h.code pc i forms has) line.0 line.1)
+        (template w (λ pc to i has goes lt. head_at to (target_is h.code to pc i has goes) lt) pc i has line.0 line.1)
         line.0

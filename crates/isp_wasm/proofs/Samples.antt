@@ -15,6 +15,7 @@ use Rattle.isp_wasm.specs.Entry.{SameOutcomes}
 use Rattle.isp_wasm.specs.Kernel.{row_elem, array_end, IsLaidOut, in_call, passed}
 use Rattle.isp_wasm.specs.Places.{bytes_of}
 use Rattle.isp_wasm.specs.Module.{is_covered, module_of}
+use Rattle.isp_wasm.specs.Stack.{uses_stack}
 use Rattle.isp_wasm.specs.Sample.{pixels, sample_arguments, sample_addresses, sample_state}
 use Rattle.isp_wasm.proofs.Kernels.{kernels_agree}
 
@@ -84,9 +85,13 @@ laid =
     fit zero e h = byte_at e h
     fit (suc b) e h = absurd (no_element b e h)
 
+-- it opens no array and calls nothing
+opens_none : uses_stack routine ≡ true → ⊥
+opens_none e = cc
+
 -- so it is said of this kernel
 pub brighten_agrees : SameOutcomes (in_call brighten sample_arguments sample_addresses 0 routine sample_state) sample_arguments (λ n. called (code_in (module_of brighten)) n 0 (passed sample_arguments sample_addresses) sample_state)
-brighten_agrees = kernels_agree brighten accepted (codes "brighten") sample_arguments 0 routine entry covers sample_addresses sample_state laid
+brighten_agrees = kernels_agree brighten accepted (codes "brighten") sample_arguments 0 routine entry covers sample_addresses sample_state laid (λ e. absurd (opens_none e))
 
 -- the first bytes of the memory where a function has returned
 abbrev pub memory_of : Result → List ℕ

@@ -230,6 +230,7 @@ module _ (w : Setting) (ready : IsSettled w) (fuel n k : ℕ) (call : ℕ → Li
             bases = λ a. elsewhere w ready Counter (place.Base a) v s (λ e. cc) ∙ st.holds.bases a;
             counts = λ a. elsewhere w ready Counter (place.Count a) v s (λ e. cc) ∙ st.holds.counts a;
             depth = elsewhere w ready Counter place.Depth v s (λ e. cc) ∙ st.holds.depth;
+            top_is = elsewhere w ready Counter place.Top v s (λ e. cc) ∙ st.holds.top_is;
           }
 
   -- a jump by a test

@@ -22,7 +22,7 @@ module _ (w : Setting) where
       record { conf = f.conf; steps = f.steps + a; register = f.register; given = f.given; fits = f.fits; leaves = further a f.steps x y g ∙ f.leaves; value_is = f.value_is; lanes_are = f.lanes_are; out_is = f.out_is; keeps = f.keeps }
   ended_before a x y (Trapped (Some t) s) g f =
       record { conf = f.conf; steps = f.steps + a; trap = f.trap; fails = further a f.steps x y g ∙ f.fails; report_is = f.report_is; out_is = f.out_is; keeps = f.keeps }
-  ended_before a x y (Trapped None s) g f = f
+  ended_before a x y (Trapped None s) g f = record { conf = f.conf; steps = f.steps + a; goes = further a f.steps x y g ∙ f.goes; address = f.address; stack_is = f.stack_is; full = f.full }
   ended_before a x y (Fell s) g f = f
   ended_before a x y (Branched k s) g f = f
   ended_before a x y (OutOfFuel s) g f = f

@@ -23,7 +23,7 @@ use Rattle.isp_wasm_meaning.specs.Syntax.{I8x16, LtU, Expr, Const32, Const128, L
 use Rattle.isp_wasm_meaning.specs.Valid.{is_type, sized, has_type, have_types, of_type, gets, call_fits, is_valid}
 use Rattle.isp_wasm.specs.Locals.{row, taking, taken_from, taken_places}
 use Rattle.isp_wasm.specs.Module.{back_type}
-use Rattle.isp_wasm.specs.Places.{Setting, Place, gang, parts, elem, shape, size_of, Scalar as ScalarAt, Vector as VectorAt, Mask as MaskAt, Base, Count, Fresh, Depth}
+use Rattle.isp_wasm.specs.Places.{Setting, Place, gang, parts, elem, shape, size_of, Scalar as ScalarAt, Vector as VectorAt, Mask as MaskAt, Base, Count, Fresh, Depth, Top}
 use Rattle.isp_wasm.specs.Rows.{widened}
 use Rattle.isp_wasm.specs.Templates.{fault, lowest_of, scalar_local, vector_local, mask_local, plus, waiting_calls, listed, part_under, passed_of, passed_all, arguments_of, called_number, scalar_result, result_local, select_lanes, vector_result, take_result, each, call_code}
 use Rattle.isp_wasm.proofs.Typed.{both, same, two, bitselect, source, widened_typed}
@@ -63,6 +63,7 @@ module _ (w : Setting) (local : ℕ → Option ValueType) (functions : List Func
   -- the type that a place of the function that is called has
   pub record IsTyped (f : Place → ValueType) (h : Routine) : Type 0 where
     pub depth_is : f Depth ≡ valued.I32
+    pub top_is : f Top ≡ valued.I32
     pub scalar_is : (r : ℕ) → f (ScalarAt r) ≡ sized (size_of (slice_index_or (scalars_of h) r Truth))
     pub vector_is : (r j : ℕ) → f (VectorAt r j) ≡ V128
     pub mask_is : (r j : ℕ) → f (MaskAt r j) ≡ V128
@@ -113,12 +114,14 @@ module _ (w : Setting) (local : ℕ → Option ValueType) (functions : List Func
 
     arguments_typed : (xs : List Register) (c : Call) → c.mask ≡ k → c.arguments ≡ xs → ArePassed w.routine h.params xs → T_all (arguments_of w c) (map f (taken_places (gang w) h))
     arguments_typed xs c m at are =
-        typed_more (plus w (waiting_calls w) 1) (f Depth) (listed w (parts w I8x16) (mask_local w c.mask) ++ passed_all w c.mask c.arguments) (map f (row (parts w I8x16) (MaskAt 0) ++ taken_from (gang w) h.params 0 0 0))
+        typed_more (plus w (waiting_calls w) 1) (f Depth) (Local (w.local Top) ∷ (listed w (parts w I8x16) (mask_local w c.mask) ++ passed_all w c.mask c.arguments)) (f Top ∷ map f (row (parts w I8x16) (MaskAt 0) ++ taken_from (gang w) h.params 0 0 0))
         (subst (T (plus w (waiting_calls w) 1)) (sym types.depth_is) (plus_typed w local functions result typed (waiting_calls w) 1 (local_typed w local functions result typed (w.local Depth) valued.I32 typed.depth)))
+        (typed_more (Local (w.local Top)) (f Top) (listed w (parts w I8x16) (mask_local w c.mask) ++ passed_all w c.mask c.arguments) (map f (row (parts w I8x16) (MaskAt 0) ++ taken_from (gang w) h.params 0 0 0))
+        (subst (T (Local (w.local Top))) (sym types.top_is) (local_typed w local functions result typed (w.local Top) valued.I32 typed.top_is))
         (subst (λ m. T_all (listed w (parts w I8x16) (mask_local w m) ++ passed_all w m c.arguments) (map f (row (parts w I8x16) (MaskAt 0) ++ taken_from (gang w) h.params 0 0 0))) (sym m)
         (subst (λ ys. T_all (listed w (parts w I8x16) (mask_local w k) ++ passed_all w k ys) (map f (row (parts w I8x16) (MaskAt 0) ++ taken_from (gang w) h.params 0 0 0))) (sym at)
         (typed_row (parts w I8x16) (MaskAt 0) (mask_local w k) (passed_all w k xs) (taken_from (gang w) h.params 0 0 0) f (λ j l. subst (T (mask_local w k j)) (sym (types.mask_is 0 j)) (mask_part_typed w local functions result typed k ks j l))
-        (passed_typed h.params xs are h.scalars 0 0 0 (λ i. ap (λ j. slice_index_or (scalars_of h) j Truth) (let at : 0 + i ≡ i = omega arith in at))))))
+        (passed_typed h.params xs are h.scalars 0 0 0 (λ i. ap (λ j. slice_index_or (scalars_of h) j Truth) (let at : 0 + i ≡ i = omega arith in at)))))))
 
   -- what is called is there, takes what is passed, and gives what is wanted
   pub record IsCallee (c : Call) (h : Routine) (g : Function) : Type 0 where

@@ -33,7 +33,6 @@ use Rattle.isp_code.specs.declared.instr.ScalarInstr.{ScalarInstr}
 use Rattle.isp_code.specs.declared.instr.ScalarInstr.TheVariants as scalar
 use Rattle.isp_code.specs.declared.operand.Operand.{Operand}
 use Rattle.isp_wasm.specs.Thin.{IsUnary, IsReduction}
-use Rattle.isp_wasm.specs.Module.{has_form}
 use Rattle.isp_wasm.proofs.Operands.{integer}
 use Rattle.isp_code.specs.declared.instr.Division.{Division}
 use Rattle.isp_code.specs.declared.instr.Division.TheVariants as division
@@ -53,7 +52,7 @@ use Rattle.isp_wasm_meaning.specs.Syntax as wasm
 use Rattle.isp_wasm_meaning.specs.Syntax.{Size, Shape, I8x16, I16x8, I32x4, I64x2, Add, Sub, Mul, And, Or, Xor, Eq, Ne, LtU, LtS, Eqz, Ctz, Wrap, ExtendU, Splat, Extract, Bitmask, Of, BitsOf, CompareLanes, Bits, Replace}
 use Rattle.isp_wasm_meaning.specs.Syntax.{Expr, Const32, Const64, Const128, Local, One, Two, Select, Code, Skip, Then, Set, Load, Store, Divide, If, Br, Return, SetGlobal}
 use Rattle.isp_wasm_meaning.specs.Valid.{is_type, sized, held, has_type, of_type, global_type, changes, is_label, gives, is_valid}
-use Rattle.isp_wasm.specs.Places.{Setting, gang, parts, parts_for, elem, shape, shape_of, size_of, bytes_of, Counter, Scalar as ScalarAt, Vector as VectorAt, Mask as MaskAt, Base, Count, Fresh, Spare, Depth}
+use Rattle.isp_wasm.specs.Places.{Setting, gang, parts, parts_for, elem, shape, shape_of, size_of, bytes_of, Counter, Scalar as ScalarAt, Vector as VectorAt, Mask as MaskAt, Base, Count, Fresh, Spare, Depth, Top}
 use Rattle.isp_wasm.specs.Words.{constant, below, whole_expr, plain_expr, unary_expr, compare_expr, convert_expr}
 use Rattle.isp_wasm.specs.Rows.{as_cell, lane_at, widened, by_lane, ones, compare_row, present}
 use Rattle.isp_wasm.specs.Templates.{each, scalar_local, vector_local, mask_local, set_lanes, set_mask, is_member, lanes_as_bits, lowest_of, lane_or, lane_or_zero, picked, first_value, folded, modulo, plus, exchange_expr, of_both, scan_expr, reduce_expr, scalar_code, vector_of, vector_code, mask_under}
@@ -113,6 +112,7 @@ pub record HasTypes (w : Setting) (local : ℕ → Option ValueType) : Type 0 wh
   pub spares : (t : Size) → local (w.local (Spare t 0)) ≡ Some (sized t)
   pub seen : local (w.local (Spare wasm.I32 1)) ≡ Some valued.I32
   pub depth : local (w.local Depth) ≡ Some valued.I32
+  pub top_is : local (w.local Top) ≡ Some valued.I32
 
 module _ (w : Setting) (local : ℕ → Option ValueType) (functions : List Function) (result : Option ValueType) (typed : HasTypes w local) where
   abbrev pub T : Expr → ValueType → Type 0
@@ -649,7 +649,8 @@ module _ (w : Setting) (local : ℕ → Option ValueType) (functions : List Func
   pub global_at : (j : ℕ) → j < 16 → (changes (suc j) ≡ true) × (global_type (suc j) ≡ Some V128)
   global_at j l = (
     ap not (ne_eqb (suc j) 0 (λ e. omega (arith, e))),
-    cond-false (nat_eq (suc j) 0) (Some valued.I32) (if nat_lt (suc j) 17 then Some V128 else None) (ne_eqb (suc j) 0 (λ e. omega (arith, e))) ∙ cond-true (nat_lt (suc j) 17) (Some V128) None (lt-ltb (suc j) 17 (omega (arith, l))),
+    cond-false (nat_eq (suc j) 0) (Some valued.I32) (if nat_lt (suc j) 17 then Some V128 else (if nat_eq (suc j) 17 then Some valued.I32 else None)) (ne_eqb (suc j) 0 (λ e. omega (arith, e)))
+        ∙ cond-true (nat_lt (suc j) 17) (Some V128) (if nat_eq (suc j) 17 then Some valued.I32 else None) (lt-ltb (suc j) 17 (omega (arith, l))),
   )
 
   pub few_results : (s : Shape) (j : ℕ) → j < parts w s → j < 16
@@ -686,42 +687,43 @@ module _ (w : Setting) (local : ℕ → Option ValueType) (functions : List Func
   mask_of_call c (Some x) f = mask_last c.arguments c.mask ((f.1).1).1
 
   -- behind so many labels, of which the last is the loop's
-  pub line_valid : Gives w.routine.returns → (n k : ℕ) → k < n → (i : Instr) → ((c : Call) → i ≡ instr.Call c → CallFine w.code w.routine c → IsM c.mask → C n (call_code w c)) → has_form i ≡ true → Fine (operands i) → CallsFine w.code w.routine i → C n (code_of w k i)
-  line_valid g n k h (instr.Scalar d i) called form f fits = scalars_valid n d i f
-  line_valid g n k h (instr.Vector d i) called form f fits = vectors_valid n d i f
-  line_valid g n k h (instr.Mask d i) called form f fits = masks_valid n d i f
-  line_valid g n k h (instr.Divide o d x y m q) called form f fits = quotients_valid n d.class o d x y m q refl f
-  line_valid g n k h (instr.Store a i y m q) called form f fits =
+  pub line_valid : Gives w.routine.returns → (n k : ℕ) → k < n → (i : Instr) → ((c : Call) → i ≡ instr.Call c → CallFine w.code w.routine c → IsM c.mask → C n (call_code w c)) → Fine (operands i) → CallsFine w.code w.routine i → C n (code_of w k i)
+  line_valid g n k h (instr.Scalar d i) called f fits = scalars_valid n d i f
+  line_valid g n k h (instr.Vector d i) called f fits = vectors_valid n d i f
+  line_valid g n k h (instr.Mask d i) called f fits = masks_valid n d i f
+  line_valid g n k h (instr.Divide o d x y m q) called f fits = quotients_valid n d.class o d x y m q refl f
+  line_valid g n k h (instr.Store a i y m q) called f fits =
       then_valid n (checked w a i m q) (Store (bytes_of (elem w a)) (address_at w a (scalar_local w i)) 0 (scalar_local w y)) (checked_valid n a i m q (f.0).0 ((f.1).0).0 ((f.1).0).1 (((f.1).1).1).0)
       (store_valid n (elem w a) (address_at w a (scalar_local w i)) (scalar_local w y) (address_typed a (f.0).0 (scalar_local w i) (scalar_typed i ((f.1).0).0 I64 ((f.1).0).1)) (scalar_typed y (((f.1).1).0).0 (elem w a) (((f.1).1).0).1))
-  line_valid g n k h (instr.Scatter a i y m q) called form f fits =
+  line_valid g n k h (instr.Scatter a i y m q) called f fits =
       let ks = (((f.1).1).1).0 in
       then_valid n (lane_checks w a (own_index w i) m q) (lane_stores w a (own_index w i) y m) (checks_valid n a (own_index w i) m q (f.0).0 ks (own_typed i ((f.1).0).0 ((f.1).0).1))
       (stores_valid n a (own_index w i) y m (f.0).0 (((f.1).1).0).0 (((f.1).1).0).1 ks (own_typed i ((f.1).0).0 ((f.1).0).1))
-  line_valid g n k h (instr.StoreRun a i y m q) called form f fits =
+  line_valid g n k h (instr.StoreRun a i y m q) called f fits =
       let ks = (((f.1).1).1).0 in
       then_valid n (lane_checks w a (run_index w i) m q) (lane_stores w a (run_index w i) y m) (checks_valid n a (run_index w i) m q (f.0).0 ks (run_typed i ((f.1).0).0 ((f.1).0).1))
       (stores_valid n a (run_index w i) y m (f.0).0 (((f.1).1).0).0 (((f.1).1).0).1 ks (run_typed i ((f.1).0).0 ((f.1).0).1))
-  line_valid g n k h (instr.PackedStore d a i y m q) called form f fits =
+  line_valid g n k h (instr.PackedStore d a i y m q) called f fits =
       let ks = ((((f.1).1).1).1).0 in
       let index = packed_typed i m (((f.1).1).0).0 (((f.1).1).0).1 ks in
       then_valid n (lane_checks w a (packed_index w i m) m q) (Then (lane_stores w a (packed_index w i m) y m) (set_count w d m)) (checks_valid n a (packed_index w i m) m q ((f.1).0).0 ks index)
       (then_valid n (lane_stores w a (packed_index w i m) y m) (set_count w d m) (stores_valid n a (packed_index w i m) y m ((f.1).0).0 ((((f.1).1).1).0).0 ((((f.1).1).1).0).1 ks index) (count_valid n d m (f.0).0 (f.0).1 ks))
-  line_valid g n k h (instr.PackedLoad d a i y m q) called form f fits =
+  line_valid g n k h (instr.PackedLoad d a i y m q) called f fits =
       let ks = ((((f.1).1).1).1).0 in
       then_valid n (lane_loads w y a (packed_index w i m) m q) (set_count w d m)
       (loads_valid n y a (packed_index w i m) m q ((((f.1).1).1).0).0 ((f.1).0).0 (sym ((((f.1).1).1).0).1) ks (packed_typed i m (((f.1).1).0).0 (((f.1).1).0).1 ks)) (count_valid n d m (f.0).0 (f.0).1 ks)
-  line_valid g n k h (instr.Jump to) called form f fits = jump_valid n k to h
-  line_valid g n k h (instr.JumpIf jump.False x to) called form f fits = jump_if n k to (One (Eqz wasm.I32) (scalar_local w x)) h (one local (Eqz wasm.I32) (scalar_local w x) refl (scalar_typed x (f.0).0 Truth (f.0).1))
-  line_valid g n k h (instr.JumpIf jump.True x to) called form f fits = jump_if n k to (scalar_local w x) h (scalar_typed x (f.0).0 Truth (f.0).1)
-  line_valid g n k h (instr.JumpIf jump.Off x to) called form f fits = jump_if n k to (One (Eqz wasm.I32) (lanes_as_bits w x)) h (one local (Eqz wasm.I32) (lanes_as_bits w x) refl (bits_typed x f.0))
-  line_valid g n k h (instr.JumpIf jump.On x to) called form f fits = jump_if n k to (lanes_as_bits w x) h (bits_typed x f.0)
-  line_valid g n k h (instr.JumpIf jump.All x to) called form f fits =
+  line_valid g n k h (instr.Jump to) called f fits = jump_valid n k to h
+  line_valid g n k h (instr.JumpIf jump.False x to) called f fits = jump_if n k to (One (Eqz wasm.I32) (scalar_local w x)) h (one local (Eqz wasm.I32) (scalar_local w x) refl (scalar_typed x (f.0).0 Truth (f.0).1))
+  line_valid g n k h (instr.JumpIf jump.True x to) called f fits = jump_if n k to (scalar_local w x) h (scalar_typed x (f.0).0 Truth (f.0).1)
+  line_valid g n k h (instr.JumpIf jump.Off x to) called f fits = jump_if n k to (One (Eqz wasm.I32) (lanes_as_bits w x)) h (one local (Eqz wasm.I32) (lanes_as_bits w x) refl (bits_typed x f.0))
+  line_valid g n k h (instr.JumpIf jump.On x to) called f fits = jump_if n k to (lanes_as_bits w x) h (bits_typed x f.0)
+  line_valid g n k h (instr.JumpIf jump.All x to) called f fits =
       jump_if n k to (Two (wasm.Compare wasm.I32 Eq) (lanes_as_bits w x) (Const32 (2 ^ gang w - 1))) h (two local (wasm.Compare wasm.I32 Eq) (lanes_as_bits w x) (Const32 (2 ^ gang w - 1)) refl (bits_typed x f.0) refl)
-  line_valid g n k h (instr.Say t) called form f fits = refl
-  line_valid g n k h (instr.Fail x q) called form f fits = if_valid n (lanes_as_bits w x) (fault w 2 q (lowest_of w x)) Skip (bits_typed x f.0) (lowest_typed x f.0) refl
-  line_valid g n k h (instr.Return x) called form f fits = gives_valid w.routine.returns x g f.0 n
-  line_valid g n k h (instr.Clear a m) called form f fits = absurd cc
-  line_valid g n k h (instr.PrintScalar x) called form f fits = print_valid n (elem w x) (scalar_local w x) (scalar_typed x (f.0).0 (elem w x) refl)
-  line_valid g n k h (instr.PrintVector x m) called form f fits = list_valid n x m (f.0).0 (f.1).0
-  line_valid g n k h (instr.Call c) called form f fits = called c refl fits (mask_of_call c c.result f)
+  line_valid g n k h (instr.Say t) called f fits = refl
+  line_valid g n k h (instr.Fail x q) called f fits = if_valid n (lanes_as_bits w x) (fault w 2 q (lowest_of w x)) Skip (bits_typed x f.0) (lowest_typed x f.0) refl
+  line_valid g n k h (instr.Return x) called f fits = gives_valid w.routine.returns x g f.0 n
+  line_valid g n k h (instr.Clear a m) called f fits =
+      both (has_type local (Local (w.local (Base a.number))) valued.I32) true (local_typed (w.local (Base a.number)) valued.I32 (typed.bases a (f.0).0)) refl
+  line_valid g n k h (instr.PrintScalar x) called f fits = print_valid n (elem w x) (scalar_local w x) (scalar_typed x (f.0).0 (elem w x) refl)
+  line_valid g n k h (instr.PrintVector x m) called f fits = list_valid n x m (f.0).0 (f.1).0
+  line_valid g n k h (instr.Call c) called f fits = called c refl fits (mask_of_call c c.result f)

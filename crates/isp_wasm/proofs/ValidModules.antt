@@ -4,7 +4,7 @@ use Rattle.std.specs.Prelude.{slice_get, slice_index_or, ◌==◌, if◌then◌e
 use Rattle.std.specs.List.{list_all, list_any}
 use Rattle.std.proofs.lemmas.Bool.{cases_lt}
 use Rattle.std.proofs.lemmas.Option.{slice_get-get_or}
-use Rattle.std.proofs.lemmas.List.{get_or_past, length-append}
+use Rattle.std.proofs.lemmas.List.{get_or_past, length-append, length-map}
 use Rattle.std.proofs.Math.ListN.{get_or}
 use Rattle.isp_base.specs.Sets.{everyone}
 use Rattle.isp_base.specs.Types.{gang_width}
@@ -13,7 +13,8 @@ use Rattle.isp_code.specs.Entries.{result_of}
 use Rattle.isp_code.specs.Fine.{AllFine, CallFine, CallsFine, IsThere}
 use Rattle.isp_code.specs.Listing.{Listing, Routine}
 use Rattle.isp_code.specs.Operands.{operands}
-use Rattle.isp_code.specs.Registers.{param_elems, scalars_of, vectors_of, arrays_of, types_in, table_of}
+use Rattle.isp_code.specs.Registers.{passed as array_params, param_elems, local_elem, scalars_of, vectors_of, arrays_of, types_in, table_of}
+use Rattle.isp_code.specs.declared.function.Local.{Local as Opened}
 use Rattle.isp_code.specs.declared.function.Returns.{Returns}
 use Rattle.isp_code.specs.declared.function.Returns.TheVariants.{Nothing, Scalar as GivesScalar, Vector as GivesVector}
 use Rattle.isp_code.specs.declared.instr.Call.{Call}
@@ -28,21 +29,22 @@ use Rattle.isp_wasm_meaning.specs.Ladder.{counting, ladder, dispatched}
 use Rattle.isp_wasm_meaning.specs.Module.{ValueType, V128, Function, unused}
 use Rattle.isp_wasm_meaning.specs.Module as valued
 use Rattle.isp_wasm_meaning.specs.Syntax as wasm
-use Rattle.isp_wasm_meaning.specs.Syntax.{I8x16, I64x2, Code, Set, Block, BrTable, Local, Const128, Unreachable}
+use Rattle.isp_wasm_meaning.specs.Syntax.{I8x16, I64x2, Add, Of, Code, Skip, Then, Set, Block, BrTable, Local, Two, Const32, Const64, Const128, Unreachable, GetGlobal, Clear}
 use Rattle.isp_wasm_meaning.specs.Valid.{sized, has_type, is_label, is_valid, ends_there, may_end, is_valid_function}
-use Rattle.isp_wasm.specs.Entry.{entry_code}
+use Rattle.isp_wasm.specs.Entry.{stack_code, entry_code}
 use Rattle.isp_wasm.specs.Kernel.{ModulesValid}
-use Rattle.isp_wasm.specs.Locals.{row, param_places, taken_from, taken_places, vector_places, mask_places, own_places, local_at}
-use Rattle.isp_wasm.specs.Module.{heads_of, has_form, is_plain, all_plain, is_covered, has_call, is_called, given_type, back_type, numbered, type_of, kernel_of, inner_of, function_of, inner_function, inner_functions, module_of}
-use Rattle.isp_wasm.specs.Places.{Setting, Place, Counter, Scalar, Vector, Mask, Base, Count, Fresh, Spare, Depth, gang, parts, parts_for, elem, shape_of, size_of}
+use Rattle.isp_wasm.specs.Locals.{row, param_places, taken_from, taken_places, vector_places, mask_places, array_places, own_places, local_at}
+use Rattle.isp_wasm.specs.Stack.{uses_stack, has_call, local_bytes, bytes_in}
+use Rattle.isp_wasm.specs.Module.{heads_of, is_plain, all_plain, is_covered, is_called, given_type, back_type, numbered, type_of, kernel_of, inner_of, function_of, inner_function, inner_functions, module_of}
+use Rattle.isp_wasm.specs.Places.{Setting, Place, Counter, Scalar, Vector, Mask, Base, Count, Fresh, Spare, Depth, Top, gang, parts, parts_for, elem, shape_of, size_of}
 use Rattle.isp_wasm.specs.Standing.{scalar_register}
-use Rattle.isp_wasm.specs.Templates.{each, mask_part, call_code, code_at, span, rung, function_code}
+use Rattle.isp_wasm.specs.Templates.{each, mask_part, call_code, code_at, span, rung, function_code, arrays_code, begin_code, routine_code}
 use Rattle.isp_wasm.proofs.Inner.{inner_at}
 use Rattle.isp_wasm.proofs.Kernels.{gives_none}
-use Rattle.isp_wasm.proofs.Plain.{covered_plain, covered_calls, forms, heads_rise, arrays_are, all_at}
-use Rattle.isp_wasm.proofs.LocalTypes.{Has, has_next, has_left, has_right, local_type, row_has, has_scalar, has_array, has_vector, has_mask, has_taken_scalar, has_taken_array}
+use Rattle.isp_wasm.proofs.Plain.{covered_plain, covered_calls, heads_rise, all_at}
+use Rattle.isp_wasm.proofs.LocalTypes.{Has, has_next, has_left, has_right, local_type, row_has, has_scalar, has_array, has_own, has_vector, has_mask, has_taken_scalar, has_taken_array}
 use Rattle.isp_wasm.proofs.Passing.{both_first, both_second}
-use Rattle.isp_wasm.proofs.Typed.{both}
+use Rattle.isp_wasm.proofs.Typed.{both, two}
 use Rattle.isp_wasm.proofs.ValidLines.{HasTypes, Gives, gang_low, few_parts, then_valid, each_valid, set_valid, local_typed, label, line_valid}
 use Rattle.isp_wasm.proofs.ValidCalls.{call_valid}
 
@@ -57,7 +59,7 @@ ended (Some t) c e = e
 -- ---- control
 
 module _ (w : Setting) (local : ℕ → Option ValueType) (functions : List Function) (result : Option ValueType) (typed : HasTypes w local) (back : Gives w local functions result typed w.routine.returns)
-    (forms : list_all has_form w.routine.code ≡ true) (fine : (pc : ℕ) (i : Instr) → slice_get w.routine.code pc ≡ Some i → AllFine w.code w.routine (operands i) × CallsFine w.code w.routine i)
+    (fine : (pc : ℕ) (i : Instr) → slice_get w.routine.code pc ≡ Some i → AllFine w.code w.routine (operands i) × CallsFine w.code w.routine i)
     (calls : (pc n : ℕ) (c : Call) → slice_get w.routine.code pc ≡ Some (instr.Call c) → CallFine w.code w.routine c → IsThere w.routine class.Mask c.mask → is_valid local functions result n (call_code w c) ≡ true)
     (up : (k : ℕ) → k < w.rungs → w.heads k < w.heads (suc k)) (end : w.heads w.rungs ≡ length w.routine.code) where
   abbrev pub C : ℕ → Code → Type 0
@@ -66,7 +68,7 @@ module _ (w : Setting) (local : ℕ → Option ValueType) (functions : List Func
   at_valid : (n k pc : ℕ) → k < n → (o : Option Instr) → slice_get w.routine.code pc ≡ o → pc < length w.routine.code → C n (code_at w k o)
   at_valid n k pc h None e low = absurd (let some = slice_get-get_or w.routine.code pc (instr.Jump 0) low in let impossible : None ≡ Some (get_or w.routine.code pc (instr.Jump 0)) = sym e ∙ some in cc)
   at_valid n k pc h (Some i) e low =
-      line_valid w local functions result typed back n k h i (λ c same. calls pc n c (e ∙ ap Some same)) (all_at has_form w.routine.code pc i forms e) (fine pc i e).0 (fine pc i e).1
+      line_valid w local functions result typed back n k h i (λ c same. calls pc n c (e ∙ ap Some same)) (fine pc i e).0 (fine pc i e).1
 
   span_valid : (n k pc m : ℕ) → k < n → pc + m ≤ length w.routine.code → C n (span w k pc m)
   span_valid n k pc zero h le = refl
@@ -93,12 +95,60 @@ module _ (w : Setting) (local : ℕ → Option ValueType) (functions : List Func
   code_valid : C 0 (function_code w)
   code_valid = then_valid w local functions result typed 0 (dispatched (w.local Counter) (rung w) w.rungs) Unreachable (ladder_valid w.rungs 1 (omega arith) (omega arith)) refl
 
+  stack_valid : (b : Bool) → C 0 (if b then GetGlobal (w.local Top) 17 else Skip)
+  stack_valid true = local_typed w local functions result typed (w.local Top) valued.I32 typed.top_is
+  stack_valid false = refl
+
+  -- the arrays that it opens have their locals
+  arrays_valid : (ls : List Opened) (a : ℕ) → ((i : ℕ) → i < length ls → (local (w.local (Base (a + i))) ≡ Some valued.I32) × (local (w.local (Count (a + i))) ≡ Some valued.I64)) → C 0 (arrays_code w ls a)
+  arrays_valid [] a h = refl
+  arrays_valid (l ∷ ls) a h =
+      then_valid w local functions result typed 0 (Set (w.local (Base a)) (Local (w.local Top))) (Then (Set (w.local (Count a)) (Const64 l.size)) (Then step (arrays_code w ls (suc a))))
+      (set_valid w local functions result typed 0 (w.local (Base a)) (Local (w.local Top)) valued.I32 (first (λ n. local (w.local (Base n)) ≡ Some valued.I32) (h 0 (omega arith)).0) top_typed)
+      (then_valid w local functions result typed 0 (Set (w.local (Count a)) (Const64 l.size)) (Then step (arrays_code w ls (suc a)))
+      (set_valid w local functions result typed 0 (w.local (Count a)) (Const64 l.size) valued.I64 (first (λ n. local (w.local (Count n)) ≡ Some valued.I64) (h 0 (omega arith)).1) refl)
+      (then_valid w local functions result typed 0 step (arrays_code w ls (suc a))
+      (set_valid w local functions result typed 0 (w.local Top) (Two (Of wasm.I32 Add) (Local (w.local Top)) (Const32 (local_bytes (gang w) l))) valued.I32 typed.top_is
+      (two local (Of wasm.I32 Add) (Local (w.local Top)) (Const32 (local_bytes (gang w) l)) refl top_typed refl))
+      (arrays_valid ls (suc a) (λ i lt. (more i (λ n. local (w.local (Base n)) ≡ Some valued.I32) (h (suc i) (omega (arith, lt))).0, more i (λ n. local (w.local (Count n)) ≡ Some valued.I64) (h (suc i) (omega (arith, lt))).1)))))
+    where
+      step : Code
+      step = Set (w.local Top) (Two (Of wasm.I32 Add) (Local (w.local Top)) (Const32 (local_bytes (gang w) l)))
+
+      top_typed : has_type local (Local (w.local Top)) valued.I32 ≡ true
+      top_typed = local_typed w local functions result typed (w.local Top) valued.I32 typed.top_is
+
+      first : (P : ℕ → Type 0) → P (a + 0) → P a
+      first P h = subst P (let same : a + 0 ≡ a = omega arith in same) h
+
+      more : (i : ℕ) (P : ℕ → Type 0) → P (a + suc i) → P (suc a + i)
+      more i P h = subst P (let same : a + suc i ≡ suc a + i = omega arith in same) h
+
+  own_there : (i : ℕ) → i < length w.routine.locals → IsThere w.routine class.Array (record { class = class.Array; number = array_params w.routine + i })
+  own_there i lt = (
+    refl,
+    (let both = length-append (param_elems class.Array w.routine.params) (map local_elem w.routine.locals) in let mapped = length-map w.routine.locals local_elem in
+        let low : array_params w.routine + i < length (arrays_of w.routine) = omega (arith, lt, both, mapped) in low),
+  )
+
+  begin_valid : (ls : List Opened) → ls ≡ w.routine.locals → C 0 (begin_code w ls)
+  begin_valid [] e = refl
+  begin_valid (l ∷ ls) e =
+      then_valid w local functions result typed 0 (Clear (Local (w.local Top)) (Const32 (suc (bytes_in (gang w) (l ∷ ls))))) (arrays_code w (l ∷ ls) (array_params w.routine))
+      (both (has_type local (Local (w.local Top)) valued.I32) true (local_typed w local functions result typed (w.local Top) valued.I32 typed.top_is) refl)
+      (arrays_valid (l ∷ ls) (array_params w.routine) (λ i lt. (let low : i < length w.routine.locals = subst (λ z. i < length z) e lt in
+      (typed.bases (record { class = class.Array; number = array_params w.routine + i }) (own_there i low), typed.counts (record { class = class.Array; number = array_params w.routine + i }) (own_there i low)))))
+
+  routine_valid : C 0 (routine_code w)
+  routine_valid = then_valid w local functions result typed 0 (begin_code w w.routine.locals) (function_code w) (begin_valid w.routine.locals refl) code_valid
+
   entry_valid : 0 < w.routine.masks → C 0 (entry_code w)
   entry_valid some =
-      then_valid w local functions result typed 0 (each (parts w I8x16) (λ j. Set (w.local (Mask 0 j)) (Const128 (mask_part (everyone (gang w)) j)))) (function_code w)
+      then_valid w local functions result typed 0 (stack_code w) (Then (each (parts w I8x16) (λ j. Set (w.local (Mask 0 j)) (Const128 (mask_part (everyone (gang w)) j)))) (routine_code w)) (stack_valid (uses_stack w.routine))
+      (then_valid w local functions result typed 0 (each (parts w I8x16) (λ j. Set (w.local (Mask 0 j)) (Const128 (mask_part (everyone (gang w)) j)))) (routine_code w)
       (each_valid w local functions result typed 0 (parts w I8x16) (λ j. Set (w.local (Mask 0 j)) (Const128 (mask_part (everyone (gang w)) j)))
       (λ j l. set_valid w local functions result typed 0 (w.local (Mask 0 j)) (Const128 (mask_part (everyone (gang w)) j)) V128 (typed.masks (record { class = class.Mask; number = 0 }) (refl, some) j (few_parts (gang w) j (gang_low w.code.gang) l)) refl))
-      code_valid
+      routine_valid)
 
 -- ---- a function
 
@@ -124,15 +174,18 @@ module _ (code : Listing) (h : Routine) (f : ℕ) (accepted : IsFine code) (foun
   passed : ℕ
   passed = length (param_elems class.Scalar h.params)
 
+  abbrev last : List Place
+  last = Depth ∷ Top ∷ array_places (length h.locals) (length (param_elems class.Array h.params))
+
   -- behind the four first
-  own_has : (p : Place) → Has (row (parts_for lanes I64x2) Fresh ++ (row (length h.scalars) (λ r. Scalar (passed + r)) ++ (vector_places lanes (vectors_of h) 0 ++ (mask_places h.masks 0 ++ Depth ∷ [])))) p → Has places p
+  own_has : (p : Place) → Has (row (parts_for lanes I64x2) Fresh ++ (row (length h.scalars) (λ r. Scalar (passed + r)) ++ (vector_places lanes (vectors_of h) 0 ++ (mask_places h.masks 0 ++ last)))) p → Has places p
   unfolding places lanes passed
   own_has p has = has_right qs (own_places (gang_width code.gang) h) p (suc (suc (suc (suc has.0))), has.1)
 
-  registers_has : (p : Place) → Has (vector_places lanes (vectors_of h) 0 ++ (mask_places h.masks 0 ++ Depth ∷ [])) p → Has places p
+  registers_has : (p : Place) → Has (vector_places lanes (vectors_of h) 0 ++ (mask_places h.masks 0 ++ last)) p → Has places p
   registers_has p has =
-      own_has p (has_right (row (parts_for lanes I64x2) Fresh) (row (length h.scalars) (λ r. Scalar (passed + r)) ++ (vector_places lanes (vectors_of h) 0 ++ (mask_places h.masks 0 ++ Depth ∷ []))) p
-      (has_right (row (length h.scalars) (λ r. Scalar (passed + r))) (vector_places lanes (vectors_of h) 0 ++ (mask_places h.masks 0 ++ Depth ∷ [])) p has))
+      own_has p (has_right (row (parts_for lanes I64x2) Fresh) (row (length h.scalars) (λ r. Scalar (passed + r)) ++ (vector_places lanes (vectors_of h) 0 ++ (mask_places h.masks 0 ++ last))) p
+      (has_right (row (length h.scalars) (λ r. Scalar (passed + r))) (vector_places lanes (vectors_of h) 0 ++ (mask_places h.masks 0 ++ last)) p has))
 
   param_has : (p : Place) → Has qs p → Has places p
   unfolding places
@@ -145,31 +198,49 @@ module _ (code : Listing) (h : Routine) (f : ℕ) (accepted : IsFine code) (foun
       by : (r < passed) ⊎ (passed ≤ r) → Has places (Scalar r)
       by (inl low) = param_has (Scalar r) (scalars_in r low)
       by (inr le) =
-          own_has (Scalar r) (has_right (row (parts_for lanes I64x2) Fresh) (row (length h.scalars) (λ r. Scalar (passed + r)) ++ (vector_places lanes (vectors_of h) 0 ++ (mask_places h.masks 0 ++ Depth ∷ []))) (Scalar r)
-          (has_left (row (length h.scalars) (λ r. Scalar (passed + r))) (vector_places lanes (vectors_of h) 0 ++ (mask_places h.masks 0 ++ Depth ∷ [])) (Scalar r)
+          own_has (Scalar r) (has_right (row (parts_for lanes I64x2) Fresh) (row (length h.scalars) (λ r. Scalar (passed + r)) ++ (vector_places lanes (vectors_of h) 0 ++ (mask_places h.masks 0 ++ last))) (Scalar r)
+          (has_left (row (length h.scalars) (λ r. Scalar (passed + r))) (vector_places lanes (vectors_of h) 0 ++ (mask_places h.masks 0 ++ last)) (Scalar r)
           (subst (λ n. Has (row (length h.scalars) (λ r. Scalar (passed + r))) (Scalar n)) (let same : passed + (r - passed) ≡ r = omega (arith, le) in same)
           (row_has (length h.scalars) (λ r. Scalar (passed + r)) (r - passed) (let all = length-append (param_elems class.Scalar h.params) h.scalars in omega (arith, lt, le, all))))))
 
   vector_has : (r j : ℕ) → r < length (vectors_of h) → j < parts_for lanes (shape_of (slice_index_or (vectors_of h) r Truth)) → Has places (Vector r j)
   vector_has r j lt l =
-      registers_has (Vector r j) (has_left (vector_places lanes (vectors_of h) 0) (mask_places h.masks 0 ++ Depth ∷ []) (Vector r j)
+      registers_has (Vector r j) (has_left (vector_places lanes (vectors_of h) 0) (mask_places h.masks 0 ++ last) (Vector r j)
       (subst (λ n. Has (vector_places lanes (vectors_of h) 0) (Vector n j)) (let same : 0 + r ≡ r = omega arith in same) (has_vector lanes (vectors_of h) 0 r j lt l)))
 
   mask_has : (r j : ℕ) → r < h.masks → j < 2 → Has places (Mask r j)
   mask_has r j lt l =
-      registers_has (Mask r j) (has_right (vector_places lanes (vectors_of h) 0) (mask_places h.masks 0 ++ Depth ∷ []) (Mask r j) (has_left (mask_places h.masks 0) (Depth ∷ []) (Mask r j)
+      registers_has (Mask r j) (has_right (vector_places lanes (vectors_of h) 0) (mask_places h.masks 0 ++ last) (Mask r j) (has_left (mask_places h.masks 0) last (Mask r j)
       (subst (λ n. Has (mask_places h.masks 0) (Mask n j)) (let same : 0 + r ≡ r = omega arith in same) (has_mask h.masks 0 r j lt l))))
 
   fresh_has : (j : ℕ) → j < parts_for lanes I64x2 → Has places (Fresh j)
-  fresh_has j l = own_has (Fresh j) (has_left (row (parts_for lanes I64x2) Fresh) (row (length h.scalars) (λ r. Scalar (passed + r)) ++ (vector_places lanes (vectors_of h) 0 ++ (mask_places h.masks 0 ++ Depth ∷ []))) (Fresh j) (row_has (parts_for lanes I64x2) Fresh j l))
+  fresh_has j l = own_has (Fresh j) (has_left (row (parts_for lanes I64x2) Fresh) (row (length h.scalars) (λ r. Scalar (passed + r)) ++ (vector_places lanes (vectors_of h) 0 ++ (mask_places h.masks 0 ++ last))) (Fresh j) (row_has (parts_for lanes I64x2) Fresh j l))
 
   depth_has : Has places Depth
   depth_has =
-      registers_has Depth (has_right (vector_places lanes (vectors_of h) 0) (mask_places h.masks 0 ++ Depth ∷ []) Depth (has_right (mask_places h.masks 0) (Depth ∷ []) Depth (zero, refl)))
+      registers_has Depth (has_right (vector_places lanes (vectors_of h) 0) (mask_places h.masks 0 ++ last) Depth (has_right (mask_places h.masks 0) last Depth (zero, refl)))
+
+  top_has : Has places Top
+  top_has =
+      registers_has Top (has_right (vector_places lanes (vectors_of h) 0) (mask_places h.masks 0 ++ last) Top (has_right (mask_places h.masks 0) last Top (suc zero, refl)))
 
   array_has : (a : ℕ) → a < length (arrays_of h) → Has places (Base a) × Has places (Count a)
-  array_has a lt =
-      let has = arrays_in a (subst (λ ts. a < length ts) (arrays_are code h f accepted found plain) lt) in (param_has (Base a) has.0, param_has (Count a) has.1)
+  array_has a lt = by (cases_lt a (length (param_elems class.Array h.params)))
+    where
+      own_array : (p : Place) → Has (array_places (length h.locals) (length (param_elems class.Array h.params))) p → Has places p
+      own_array p has =
+          registers_has p (has_right (vector_places lanes (vectors_of h) 0) (mask_places h.masks 0 ++ last) p (has_right (mask_places h.masks 0) last p
+          (has_next Depth (Top ∷ array_places (length h.locals) (length (param_elems class.Array h.params))) p (has_next Top (array_places (length h.locals) (length (param_elems class.Array h.params))) p has))))
+
+      by : (a < length (param_elems class.Array h.params)) ⊎ (length (param_elems class.Array h.params) ≤ a) → Has places (Base a) × Has places (Count a)
+      by (inl low) = let has = arrays_in a low in (param_has (Base a) has.0, param_has (Count a) has.1)
+      by (inr le) =
+          let n = length (param_elems class.Array h.params) in
+          let both = length-append (param_elems class.Array h.params) (map local_elem h.locals) in
+          let mapped = length-map h.locals local_elem in
+          let has = has_own (length h.locals) n (a - n) (omega (arith, lt, le, both, mapped)) in
+          let same : n + (a - n) ≡ a = omega (arith, le) in
+          (subst (λ k. Has places (Base k)) same (own_array (Base (n + (a - n))) has.0), subst (λ k. Has places (Count k)) same (own_array (Count (n + (a - n))) has.1))
 
   first_has : (p : Place) (k : ℕ) → slice_get (own_places (gang_width code.gang) h) k ≡ Some p → Has places p
   unfolding places
@@ -196,6 +267,7 @@ module _ (code : Listing) (h : Routine) (f : ℕ) (accepted : IsFine code) (foun
         spares = spare_typed;
         seen = typed_at (Spare wasm.I32 1) (first_has (Spare wasm.I32 1) 2 refl);
         depth = typed_at Depth depth_has;
+        top_is = typed_at Top top_has;
       }
     where
       spare_typed : (t : wasm.Size) → locals (w.local (Spare t 0)) ≡ Some (sized t)
@@ -231,7 +303,7 @@ module _ (code : Listing) (h : Routine) (f : ℕ) (accepted : IsFine code) (foun
         call_valid w locals functions result has_types n c fine (inner_of code g)
         (record {
           place_type = type_of code g;
-          types = record { depth_is = refl; scalar_is = λ r. refl; vector_is = λ r j. refl; mask_is = λ r j. refl; base_is = λ a. refl; count_is = λ a. refl };
+          types = record { depth_is = refl; top_is = refl; scalar_is = λ r. refl; vector_is = λ r j. refl; mask_is = λ r j. refl; base_is = λ a. refl; count_is = λ a. refl };
           found = inner_at code h f pc c found has all g fine.found;
           params_are = refl;
           result_is = refl;
@@ -244,21 +316,21 @@ module _ (code : Listing) (h : Routine) (f : ℕ) (accepted : IsFine code) (foun
     heads_end : w.heads w.rungs ≡ length h.code
     heads_end = get_or_past (heads_of h.code) (length (heads_of h.code)) (length h.code) (omega arith)
 
-    body_valid : is_valid locals functions result 0 (function_code w) ≡ true
+    body_valid : is_valid locals functions result 0 (routine_code w) ≡ true
     body_valid =
-        code_valid w locals functions result has_types back (forms code h f accepted found plain) lines calls (heads_rise code h f accepted found plain) heads_end
+        routine_valid w locals functions result has_types back lines calls (heads_rise code h f accepted found plain) heads_end
 
     whole_valid : is_valid locals functions result 0 (entry_code w) ≡ true
     whole_valid =
-        entry_valid w locals functions result has_types back (forms code h f accepted found plain) lines calls (heads_rise code h f accepted found plain) heads_end masked
+        entry_valid w locals functions result has_types back lines calls (heads_rise code h f accepted found plain) heads_end masked
 
     -- a function of this code
     abbrev function_with : Option (List ℕ) → Code → Function
     function_with name c = record { export = name; params = map (type_of code h) qs; result = result; locals = map (type_of code h) (own_places (gang_width code.gang) h); code = c }
 
-    inner_ends : is_valid_function (module_of code).functions (function_with None (function_code w)) ≡ true
+    inner_ends : is_valid_function (module_of code).functions (function_with None (routine_code w)) ≡ true
     unfolding locals functions
-    inner_ends = both (is_valid locals functions result 0 (function_code w)) (may_end result (function_code w)) body_valid (ended result (function_code w) refl)
+    inner_ends = both (is_valid locals functions result 0 (routine_code w)) (may_end result (routine_code w)) body_valid (ended result (routine_code w) refl)
 
     kernel_ends : is_valid_function (module_of code).functions (function_with (Some h.name) (entry_code w)) ≡ true
     unfolding locals functions
@@ -286,7 +358,9 @@ inner_valid code h f accepted found all =
     (inner_back code h f accepted found (all_at (is_plain code) code.routines f h all found) (taken_places (gang_width code.gang) h) scalars arrays h.returns) (λ pc k has. all)
   where
     behind : (p : Place) → Has (taken_from (gang_width code.gang) h.params 0 0 0) p → Has (taken_places (gang_width code.gang) h) p
-    behind p has = has_next Depth (row (parts_for (gang_width code.gang) I8x16) (Mask 0) ++ taken_from (gang_width code.gang) h.params 0 0 0) p (has_right (row (parts_for (gang_width code.gang) I8x16) (Mask 0)) (taken_from (gang_width code.gang) h.params 0 0 0) p has)
+    behind p has =
+        has_next Depth (Top ∷ (row (parts_for (gang_width code.gang) I8x16) (Mask 0) ++ taken_from (gang_width code.gang) h.params 0 0 0)) p
+        (has_next Top (row (parts_for (gang_width code.gang) I8x16) (Mask 0) ++ taken_from (gang_width code.gang) h.params 0 0 0) p (has_right (row (parts_for (gang_width code.gang) I8x16) (Mask 0)) (taken_from (gang_width code.gang) h.params 0 0 0) p has))
 
     scalars : (r : ℕ) → r < length (param_elems class.Scalar h.params) → Has (taken_places (gang_width code.gang) h) (Scalar r)
     scalars r lt = behind (Scalar r) (subst (λ n. Has (taken_from (gang_width code.gang) h.params 0 0 0) (Scalar n)) (from_zero r) (has_taken_scalar (gang_width code.gang) h.params 0 0 0 r lt))

@@ -22,7 +22,7 @@ use Rattle.isp_code.specs.Machine.{after}
 use Rattle.isp_wasm_meaning.specs.Meaning.{Report, State, Result, Fell, Branched, Returned, Trapped, OutOfFuel, run, left, value}
 use Rattle.isp_wasm.specs.Places.{Setting, Counter, elem}
 use Rattle.isp_wasm.specs.Templates.{called_number, arguments_of, function_code}
-use Rattle.isp_wasm.specs.Standing.{Stands, Keeps, Ends, Fails, Cut, IsSettled, bits_of, AreLanes, LanesOf, report_of, scalar_register, the_machine}
+use Rattle.isp_wasm.specs.Standing.{Stands, Keeps, Ends, Fails, Cut, IsFull, IsSettled, bits_of, AreLanes, LanesOf, report_of, scalar_register, the_machine}
 use Rattle.isp_wasm.specs.Thin.{IsCovered, AllThin}
 
 abbrev pub out_of : Result → List ℕ
@@ -91,12 +91,12 @@ module _ (w : Setting) where
       (k : Call) (pc : ℕ) (c : Conf) (s : State) → slice_get w.routine.code pc ≡ Some (instr.Call k) → (fine : CallFine w.code w.routine k) → Stands w pc c s
       → calls.depth c < most_calls → Told (the_machine w) (Back k c) f (calls.called c k fine.callee) (call (called_number w k) (map (value s.locals) (arguments_of w k)) s)
 
--- no call waits for the function, and it gives no vector back
+-- no call waits for the function, and it gives no vector back; all arrays that are opened have room
 abbrev pub FunctionsAgree : Type 0
 FunctionsAgree =
     (w : Setting) → IsSettled w → IsCovered w → AllThin w → w.waiting ≡ [] → gives_vector w.routine.returns ≡ false → (call : ℕ → ℕ → List ℕ → State → Result)
     → ((f : ℕ) → CallsAgree w f (call (suc f))) → (c : Conf) (s : State) → s.locals (w.local Counter) < w.rungs
-    → Stands w (w.heads (s.locals (w.local Counter))) c s → Agrees w c (λ f. left (run f (call f) (function_code w) s))
+    → Stands w (w.heads (s.locals (w.local Counter))) c s → (IsFull w c → ⊥) → Agrees w c (λ f. left (run f (call f) (function_code w) s))
 
 -- a call that waits goes on
 pub record ComesBack (w : Setting) (fr : Frame) (rest : List Frame) (c : Conf) (v : Option ℕ) (s : State) : Type 0 where

@@ -1,5 +1,5 @@
 -- A call of an exported function by a host, and what its outcomes are.
-use Rattle.std.specs.Prelude.{◌≡◌, ℕ, suc, ◌+◌, ◌*◌, ◌^◌, ◌<◌, ◌≤◌, List, [], length, Option, Some, false, slice_index}
+use Rattle.std.specs.Prelude.{◌≡◌, ◌≢◌, ℕ, suc, ◌+◌, ◌*◌, ◌^◌, ◌<◌, ◌≤◌, List, [], length, take, Option, Some, None, false, slice_get, slice_index, if◌then◌else◌}
 use Rattle.isp_base.specs.Arguments.{row_bits}
 use Rattle.isp_base.specs.Outcomes as outcomes
 use Rattle.isp_base.specs.Outcomes.{Outcome}
@@ -11,27 +11,42 @@ use Rattle.isp_base.specs.declared.signature.Argument.{Argument}
 use Rattle.isp_base.specs.declared.trap.Trap.{Trap}
 use Rattle.isp_base.specs.declared.types.Value.{Value}
 use Rattle.isp_code.specs.Conf.{Conf}
+use Rattle.isp_code.specs.Listing.{Routine}
+use Rattle.isp_code.specs.Lines.{local_size}
+use Rattle.isp_code.specs.Registers.{passed}
 use Rattle.isp_code.specs.Machine.{values, first_conf, outcome_after}
 use Rattle.isp_verify.specs.Faults.{gives_vector}
-use Rattle.isp_wasm_meaning.specs.Syntax.{I8x16, Code, Then, Set, Const128}
+use Rattle.isp_wasm_meaning.specs.Syntax.{I8x16, Code, Skip, Then, Set, Const128, GetGlobal}
 use Rattle.isp_wasm_meaning.specs.Meaning.{Report, State, Result, Returned, Trapped, OutOfFuel, called, loaded}
-use Rattle.isp_wasm.specs.Places.{Setting, Counter, Scalar, Vector, Mask, Base, Count, Depth, elem, gang, parts, bytes_of}
-use Rattle.isp_wasm.specs.Templates.{each, mask_part, function_code}
-use Rattle.isp_wasm.specs.Standing.{Keeps, IsBeside, IsSettled, report_of, scalar_register}
+use Rattle.isp_wasm.specs.Places.{Setting, Counter, Scalar, Vector, Mask, Base, Count, Depth, Top, elem, gang, parts, bytes_of}
+use Rattle.isp_wasm.specs.Templates.{each, mask_part, routine_code}
+use Rattle.isp_wasm.specs.Standing.{Keeps, IsBeside, IsFull, IsSettled, report_of, scalar_register}
+use Rattle.isp_wasm.specs.Stack.{none_open, uses_stack, bytes_in, bottom, opened_memory}
 use Rattle.isp_wasm.specs.Thin.{IsCovered, AllThin}
 use Rattle.isp_wasm.specs.Agreement.{CallsAgree, out_of, value_bits}
 
+-- where the arrays of a function that a host calls lie, if any may be opened
+abbrev pub stack_in : Routine → State → Option ℕ
+stack_in h s = if uses_stack h then Some (s.globals 17) else None
+
 module _ (w : Setting) where
-  -- all lanes are on, and then the function's code
+  abbrev pub stack_code : Code
+  stack_code = if uses_stack w.routine then GetGlobal (w.local Top) 17 else Skip
+
+  -- all lanes are on, and then the function's arrays and its code
   abbrev pub entry_code : Code
-  entry_code = Then (each (parts w I8x16) (λ j. Set (w.local (Mask 0 j)) (Const128 (mask_part (everyone (gang w)) j)))) (function_code w)
+  entry_code = Then stack_code (Then (each (parts w I8x16) (λ j. Set (w.local (Mask 0 j)) (Const128 (mask_part (everyone (gang w)) j)))) (routine_code w))
 
   -- the machine before its first instruction
   abbrev pub first : List Argument → Conf
   first xs = first_conf w.code w.home.fn w.routine xs
 
+  -- an array that the function does not open
+  abbrev pub IsPassed : ℕ → Type 0
+  IsPassed a = (i : ℕ) → i < length w.routine.locals → a ≢ passed w.routine + i
+
   -- A host calls it: the arguments of WebAssembly are its first locals, and all others are 0. An array is an address and a
-  -- count, and its elements are in memory.
+  -- count, and its elements are in memory. Those that it opens lie one behind the other, where the stack begins.
   pub record IsCalled (xs : List Argument) (arguments : List ℕ) (s : State) : Type 0 where
     pub home_is : (first xs).home ≡ w.home
     pub alone : w.waiting ≡ []
@@ -43,10 +58,18 @@ module _ (w : Setting) where
     pub fits : (r : ℕ) → slice_index (values xs) r < 2 ^ width (elem w (scalar_register r))
     pub vectors_are : (r j : ℕ) → slice_index arguments (w.local (Vector r j)) ≡ 0
     pub masks_are : (r j : ℕ) → slice_index arguments (w.local (Mask r j)) ≡ 0
-    pub bases : (a : ℕ) → slice_index arguments (w.local (Base a)) ≡ w.begins (w.home.named a)
-    pub counts : (a : ℕ) → slice_index arguments (w.local (Count a)) ≡ w.home.sizes (w.home.named a)
+    pub bases : (a : ℕ) → IsPassed a → slice_index arguments (w.local (Base a)) ≡ w.begins (w.home.named a)
+    pub counts : (a : ℕ) → IsPassed a → slice_index arguments (w.local (Count a)) ≡ w.home.sizes (w.home.named a)
+    pub own_bases : (i : ℕ) → i < length w.routine.locals → w.begins (w.home.named (passed w.routine + i)) ≡ bottom w + bytes_in (gang w) (take i w.routine.locals)
+    pub own_counts : (i : ℕ) → i < length w.routine.locals → w.home.sizes (w.home.named (passed w.routine + i)) ≡ local_size (slice_get w.routine.locals i)
     pub depth_is : slice_index arguments (w.local Depth) ≡ 0
-    pub keeps : Keeps w (first xs).arrays s.memory s.size
+    pub top_zero : slice_index arguments (w.local Top) ≡ 0
+    pub stack_is : w.stack ≡ stack_in w.routine s
+    pub few : suc (bytes_in (gang w) w.routine.locals) < 2 ^ 32
+    pub whole : s.size ≡ w.room
+    pub small : s.size ≤ 2 ^ 32
+    pub keeps : (none_open w.routine.locals ≡ false → bottom w + bytes_in (gang w) w.routine.locals < s.size)
+        → Keeps w (first xs).arrays (opened_memory (gang w) (bottom w) w.routine.locals s.memory) s.size
     pub silent : s.out ≡ []
 
   -- the memory has the elements of these arrays, and beside the arrays what it had
@@ -82,9 +105,10 @@ module _ (w : Setting) where
     -- where the machine goes on, its output so far is the beginning of the call's
     pub so_far : (m : ℕ) (out : List ℕ) → outcome_after w.code w.home.fn w.routine xs m ≡ outcomes.GoesOn out → IsPrefix out (out_of (result m))
 
--- a module in which some function is this one, called by a host, and those that it calls do what the machine's calls do
+-- a module in which some function is this one, called by a host, and those that it calls do what the machine's calls do; all
+-- arrays that are opened have room
 abbrev pub EntriesAgree : Type 0
 EntriesAgree =
     (w : Setting) → IsSettled w → IsCovered w → AllThin w → (module_code : ℕ → Code) (f : ℕ) → module_code f ≡ entry_code w
     → ((n : ℕ) → CallsAgree w n (called module_code n)) → (xs : List Argument) (arguments : List ℕ) (s : State) → IsCalled w xs arguments s
-    → SameOutcomes w xs (λ n. called module_code n f arguments s)
+    → (IsFull w (first w xs) → ⊥) → SameOutcomes w xs (λ n. called module_code n f arguments s)

@@ -4,6 +4,7 @@ use Rattle.std.specs.Prelude.{◌≡◌, ◌≢◌, ◌⊎◌, ℕ, zero, suc, �
 use Rattle.std.specs.List.{list_all}
 use Rattle.isp_base.specs.Arguments.{rows, row_bits}
 use Rattle.isp_base.specs.Rows.{Row}
+use Rattle.isp_base.specs.Types.{gang_width}
 use Rattle.isp_base.specs.Values.{width}
 use Rattle.isp_base.specs.declared.signature.Argument.{Argument}
 use Rattle.isp_base.specs.declared.signature.Argument.TheVariants.{Value as AValue, Array as AnArray}
@@ -11,13 +12,16 @@ use Rattle.isp_base.specs.declared.types.Elem.{Elem}
 use Rattle.isp_base.specs.declared.types.Elem.TheVariants.{Bool as Truth}
 use Rattle.isp_code.specs.Entries.{IsEntry}
 use Rattle.isp_code.specs.Listing.{Listing, Routine}
-use Rattle.isp_code.specs.Machine.{first_conf}
+use Rattle.isp_code.specs.Conf as machine
+use Rattle.isp_code.specs.Conf.{Conf}
+use Rattle.isp_code.specs.Machine.{after, first_conf}
 use Rattle.isp_verify.specs.Faults.{code_fault}
 use Rattle.isp_wasm_meaning.specs.Meaning.{State, called, loaded}
 use Rattle.isp_wasm_meaning.specs.Module.{HasMemory, code_in}
 use Rattle.isp_wasm_meaning.specs.Valid.{is_valid_function}
 use Rattle.isp_wasm.specs.Places.{Setting, bytes_of}
-use Rattle.isp_wasm.specs.Entry.{SameOutcomes}
+use Rattle.isp_wasm.specs.Entry.{stack_in, SameOutcomes}
+use Rattle.isp_wasm.specs.Stack.{uses_stack, open_bytes, start, shared_starts, shared_elems, with_starts, with_elems}
 use Rattle.isp_wasm.specs.Module.{is_covered, numbered, module_of}
 
 -- the type of the b-th array's elements
@@ -56,13 +60,28 @@ module _ (code : Listing) (xs : List Argument) (at : List ℕ) where
   -- function f in this call
   abbrev pub in_call : ℕ → Routine → State → Setting
   in_call f h s =
-      record (numbered code h) { home = (first_conf code f h xs).home; begins = slice_index at; elems = row_elem (rows xs); before = s.memory }
+      record (numbered code h) {
+        home = (first_conf code f h xs).home;
+        begins = with_starts (length (rows xs)) (slice_index at) (shared_starts (gang_width code.gang) (start (stack_in h s)) h.locals);
+        elems = with_elems (length (rows xs)) (row_elem (rows xs)) (shared_elems h.locals);
+        before = s.memory;
+        room = s.size;
+        stack = stack_in h s;
+      }
 
--- Of accepted code: a function that is exported and covered, with arguments that it takes.
+  -- Arrays that functions open lie from the address on that the host has set, behind the texts and the arrays that it passes;
+  -- and wherever the run comes to, all that are open leave a byte of the memory behind them.
+  pub record HasRoom (f : ℕ) (h : Routine) (s : State) : Type 0 where
+    pub texts : length (module_of code).memory ≤ s.globals 17
+    pub arrays : (b : ℕ) → b < length at → array_end b ≤ s.globals 17
+    pub room : (m : ℕ) (c : Conf) → after code m (machine.Runs (first_conf code f h xs)) ≡ machine.Runs c → s.globals 17 + open_bytes code c < s.size
+
+-- Of accepted code: a function that is exported and covered, with arguments that it takes; and where it may open arrays, or
+-- one that it calls, with room for them.
 abbrev pub KernelsAgree : Type 0
 KernelsAgree =
     (code : Listing) → code_fault code ≡ None → (name : List ℕ) (xs : List Argument) (f : ℕ) (h : Routine) → IsEntry code name xs f h → is_covered code h ≡ true
-    → (at : List ℕ) (s : State) → IsLaidOut code xs at s
+    → (at : List ℕ) (s : State) → IsLaidOut code xs at s → (uses_stack h ≡ true → HasRoom code xs at f h s)
     → SameOutcomes (in_call code xs at f h s) xs (λ n. called (code_in (module_of code)) n f (passed xs at) s)
 
 -- An engine takes the functions of the module of accepted code, by the types of their operators and locals.

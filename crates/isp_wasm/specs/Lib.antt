@@ -1,4 +1,5 @@
 pub mod Places
+pub mod Stack
 pub mod Words
 pub mod Rows
 pub mod Templates
@@ -11,5 +12,6 @@ pub mod Numbering
 pub mod Module
 pub mod Kernel
 pub mod Lines
+pub mod Room
 pub mod Brighten
 pub mod Sample

@@ -8,7 +8,7 @@ use Rattle.isp_code.specs.declared.function.ParamKind.{ParamKind}
 use Rattle.isp_code.specs.declared.function.ParamKind.TheVariants as kind
 use Rattle.isp_code.specs.declared.register.Class.TheVariants as class
 use Rattle.isp_wasm_meaning.specs.Syntax as wasm
-use Rattle.isp_wasm.specs.Places.{Place, Counter, Scalar, Vector, Mask, Base, Count, Fresh, Spare, Depth, shape_of, parts_for}
+use Rattle.isp_wasm.specs.Places.{Place, Counter, Scalar, Vector, Mask, Base, Count, Fresh, Spare, Depth, Top, shape_of, parts_for}
 
 -- ---- places in order
 
@@ -41,13 +41,18 @@ abbrev pub mask_places : ℕ → ℕ → List Place
 mask_places zero r = []
 mask_places (suc n) r = Mask r 0 ∷ Mask r 1 ∷ mask_places n (suc r)
 
+-- the arrays that it opens
+abbrev pub array_places : ℕ → ℕ → List Place
+array_places zero a = []
+array_places (suc n) a = Base a ∷ Count a ∷ array_places n (suc a)
+
 abbrev pub own_places : ℕ → Routine → List Place
 own_places lanes h =
     let passed = length (param_elems class.Scalar h.params) in
     Counter ∷ Spare wasm.I32 0 ∷ Spare wasm.I32 1 ∷ Spare wasm.I64 0 ∷ row (parts_for lanes wasm.I64x2) Fresh
-    ++ (row (length h.scalars) (λ r. Scalar (passed + r)) ++ (vector_places lanes (vectors_of h) 0 ++ (mask_places h.masks 0 ++ Depth ∷ [])))
+    ++ (row (length h.scalars) (λ r. Scalar (passed + r)) ++ (vector_places lanes (vectors_of h) 0 ++ (mask_places h.masks 0 ++ Depth ∷ Top ∷ array_places (length h.locals) (length (param_elems class.Array h.params)))))
 
--- What a function is given that another one calls: how many calls wait, the mask of the call, and its parameters, a vector by
+-- What a function is given that another one calls: how many calls wait, where the next array lies, the mask of the call, and its parameters, a vector by
 -- its parts. So many scalars, vectors and arrays come before.
 abbrev pub taking : ℕ → ParamKind → Elem → (ℕ → ℕ → ℕ → List Place) → (scalars vectors arrays : ℕ) → List Place
 taking lanes kind.Scalar t more r v a = Scalar r ∷ more (suc r) v a
@@ -59,7 +64,7 @@ taken_from lanes [] r v a = []
 taken_from lanes (p ∷ ps) r v a = taking lanes p.kind p.elem (taken_from lanes ps) r v a
 
 abbrev pub taken_places : ℕ → Routine → List Place
-taken_places lanes h = Depth ∷ (row (parts_for lanes wasm.I8x16) (Mask 0) ++ taken_from lanes h.params 0 0 0)
+taken_places lanes h = Depth ∷ Top ∷ (row (parts_for lanes wasm.I8x16) (Mask 0) ++ taken_from lanes h.params 0 0 0)
 
 -- ---- their numbers
 
@@ -79,6 +84,7 @@ name_of (Fresh j) = 9 * j + 6
 name_of (Spare wasm.I32 j) = 9 * j + 7
 name_of (Spare wasm.I64 j) = 9 * j + 8
 name_of Depth = 9
+name_of Top = 18
 
 -- where a number stands first in a list; one that does not stand there is counted on past its end
 abbrev pub position : List ℕ → ℕ → ℕ

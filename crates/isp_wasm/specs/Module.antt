@@ -1,11 +1,11 @@
 -- The module that is made of code: its numbers are those of the code, and a function of it is as its code is.
-use Rattle.std.specs.Prelude.{ℕ, zero, suc, ◌+◌, ◌^◌, List, [], ◌∷◌, ◌++◌, length, map, Option, Some, None, Bool, true, false, not, ◌&&◌, ◌||◌, if◌then◌else◌, nat_eq, nat_lt, slice_index_or}
+use Rattle.std.specs.Prelude.{ℕ, zero, suc, ◌+◌, ◌^◌, List, [], ◌∷◌, ◌++◌, length, map, Option, Some, None, Bool, false, not, ◌&&◌, ◌||◌, if◌then◌else◌, nat_eq, nat_lt, slice_index_or}
 use Rattle.std.specs.List.{list_all, list_any}
 use Rattle.isp_base.specs.Types.{gang_width}
 use Rattle.isp_base.specs.declared.types.Elem.{Elem}
 use Rattle.isp_base.specs.declared.types.Elem.TheVariants.{Bool as Truth}
 use Rattle.isp_code.specs.Listing.{Listing, Routine}
-use Rattle.isp_code.specs.Registers.{elem_of}
+use Rattle.isp_code.specs.Registers.{elem_of, is_per_instance}
 use Rattle.isp_code.specs.Entries.{result_of}
 use Rattle.isp_code.specs.declared.function.Local.{Local}
 use Rattle.isp_code.specs.declared.function.Returns.{Returns}
@@ -16,8 +16,9 @@ use Rattle.isp_wasm_meaning.specs.Valid.{sized}
 use Rattle.isp_wasm_meaning.specs.Module.{ValueType, I32, I64, V128, Function, Module, unused}
 use Rattle.isp_wasm.specs.Entry.{entry_code}
 use Rattle.isp_wasm.specs.Locals.{param_places, taken_places, own_places, local_in, inner_local, position}
-use Rattle.isp_wasm.specs.Places.{Setting, Place, Counter, Scalar, Base, Count, Spare, Depth, size_of}
-use Rattle.isp_wasm.specs.Templates.{function_code}
+use Rattle.isp_wasm.specs.Places.{Setting, Place, Counter, Scalar, Base, Count, Spare, Depth, Top, size_of}
+use Rattle.isp_wasm.specs.Templates.{routine_code}
+use Rattle.isp_wasm.specs.Stack.{has_call, bytes_in}
 use Rattle.isp_wasm.specs.Standing.{scalar_register}
 
 -- ---- rungs
@@ -52,31 +53,20 @@ text_start (x ∷ xs) (suc t) = length x + text_start xs t
 
 -- ---- what is covered
 
--- no array that a function opens
-abbrev pub has_form : Instr → Bool
-has_form (instr.Clear a k) = false
-has_form i = true
+-- no array of which each lane has its own
+abbrev pub all_shared : List Local → Bool
+all_shared = list_all (λ l. not (is_per_instance l.sharing))
 
-abbrev pub none_open : List Local → Bool
-none_open [] = true
-none_open (l ∷ ls) = false
-
--- a function; numbers of instructions and of bytes of text have 32 bits
+-- a function; numbers of instructions, of bytes of text and of those of the arrays that it opens have 32 bits
 abbrev pub is_plain : Listing → Routine → Bool
 is_plain code h =
-    list_all has_form h.code && (none_open h.locals && (nat_lt (length h.code) (2 ^ 32) && nat_lt (length (joined code.texts)) (2 ^ 32)))
+    all_shared h.locals
+    && (nat_lt (suc (bytes_in (gang_width code.gang) h.locals)) (2 ^ 32) && (nat_lt (length h.code) (2 ^ 32) && nat_lt (length (joined code.texts)) (2 ^ 32)))
 
 abbrev pub all_plain : Listing → Bool
 all_plain code = list_all (is_plain code) code.routines
 
 -- which functions are called
-abbrev pub is_call : Instr → Bool
-is_call (instr.Call c) = true
-is_call i = false
-
-abbrev pub has_call : Routine → Bool
-has_call h = list_any is_call h.code
-
 abbrev pub calls_function : ℕ → Instr → Bool
 calls_function f (instr.Call c) = nat_eq c.function f
 calls_function f i = false
@@ -118,6 +108,8 @@ module _ (code : Listing) where
           elems = λ b. Truth;
           text_at = text_start code.texts;
           before = λ a. 0;
+          room = 0;
+          stack = None;
         }
 
     -- of one that another one calls
@@ -127,6 +119,7 @@ module _ (code : Listing) where
     abbrev pub type_of : Place → ValueType
     type_of Counter = I32
     type_of Depth = I32
+    type_of Top = I32
     type_of (Scalar r) = sized (size_of (elem_of h (scalar_register r)))
     type_of (Base a) = I32
     type_of (Count a) = I64
@@ -153,7 +146,7 @@ module _ (code : Listing) where
           params = map type_of (taken_places (gang_width code.gang) h);
           result = back_type h.returns;
           locals = map type_of (own_places (gang_width code.gang) h);
-          code = function_code inner;
+          code = routine_code inner;
         }
 
     abbrev pub function_of : Function

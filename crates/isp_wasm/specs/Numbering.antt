@@ -9,7 +9,7 @@ use Rattle.isp_code.specs.declared.function.ParamKind.{ParamKind}
 use Rattle.isp_code.specs.declared.function.ParamKind.TheVariants as kind
 use Rattle.isp_code.specs.declared.register.Class.TheVariants as class
 use Rattle.isp_wasm_meaning.specs.Syntax as wasm
-use Rattle.isp_wasm.specs.Places.{Counter, Scalar, Vector, Mask, Base, Count, Fresh, Spare, Depth, shape_of, parts_for}
+use Rattle.isp_wasm.specs.Places.{Counter, Scalar, Vector, Mask, Base, Count, Fresh, Spare, Depth, Top, shape_of, parts_for}
 use Rattle.isp_wasm.specs.Locals.{param_places, local_in}
 
 -- how many locals a parameter has
@@ -70,6 +70,7 @@ module _ (lanes : ℕ) (h : Routine) where
         → local_in lanes h (Vector r j) ≡ vectors_from + parts_before lanes (vectors_of h) r + j
     pub masks : (r j : ℕ) → r < h.masks → j < 2 → local_in lanes h (Mask r j) ≡ masks_from + 2 * r + j
     pub depth : local_in lanes h Depth ≡ masks_from + 2 * h.masks
+    pub top : local_in lanes h Top ≡ masks_from + 2 * h.masks + 1
 
 abbrev pub LocalsAreNumbered : Type 0
 LocalsAreNumbered = (lanes : ℕ) (h : Routine) → AreNumbered lanes h

@@ -1,5 +1,5 @@
 -- What each local of a WebAssembly function is for, and how element types lie in it.
-use Rattle.std.specs.Prelude.{ℕ, List, [], slice_index_or, ◌+◌, ◌-◌, ◌/◌}
+use Rattle.std.specs.Prelude.{ℕ, List, [], Option, slice_index_or, ◌+◌, ◌-◌, ◌/◌}
 use Rattle.isp_base.specs.Types.{gang_width}
 use Rattle.isp_base.specs.declared.types.Elem.{Elem}
 use Rattle.isp_base.specs.declared.types.Elem.TheVariants.{Bool as Truth, I8, U8, I16, U16, I32, U32, I64, U64}
@@ -11,8 +11,8 @@ use Rattle.isp_wasm_meaning.specs.Syntax as wasm
 use Rattle.isp_wasm_meaning.specs.Meaning.{count}
 
 -- The number of the rung to jump to; a scalar register; a part of a vector or a mask register, 16 bytes; where an array
--- begins, and its number of elements; what is only of use within one instruction: a part of 16 bytes, and a number; and how
--- many calls wait.
+-- begins, and its number of elements; what is only of use within one instruction: a part of 16 bytes, and a number; how
+-- many calls wait; and where the next array lies that a function opens.
 pub data Place : Type 0 where
   Counter : Place
   Scalar : ℕ → Place
@@ -23,6 +23,7 @@ pub data Place : Type 0 where
   Fresh : ℕ → Place
   Spare : wasm.Size → ℕ → Place
   Depth : Place
+  Top : Place
 
 -- what an instruction keeps that does not write it
 abbrev pub IsKept : Place → Type 0
@@ -63,7 +64,8 @@ abbrev pub parts_for : ℕ → wasm.Shape → ℕ
 parts_for lanes s = (lanes + (count s - 1)) / count s
 
 -- A function of some code, as it runs: its arrays, the calls that wait for it, the local of each place; rungs, the first instruction of each, and
--- the rung that begins at an instruction; and where each store begins, with the type of its elements; where each text lies; and the memory before.
+-- the rung that begins at an instruction; and where each store begins, with the type of its elements; where each text lies; the memory as it begins, and its bytes;
+-- and from where on arrays lie that functions open, where any may.
 pub record Setting : Type 0 where
   pub code : Listing
   pub routine : Routine
@@ -77,6 +79,8 @@ pub record Setting : Type 0 where
   pub elems : ℕ → Elem
   pub text_at : ℕ → ℕ
   pub before : ℕ → ℕ
+  pub room : ℕ
+  pub stack : Option ℕ
 
 module _ (w : Setting) where
   abbrev pub gang : ℕ

@@ -18,8 +18,9 @@ use Rattle.isp_code.specs.declared.register.Register.{Register}
 use Rattle.isp_wasm_meaning.specs.Syntax.{I8x16}
 use Rattle.isp_wasm_meaning.specs.Meaning.{Report, State, Result, Returned, Trapped, lane, flags, count, loaded, bytes}
 use Rattle.isp_wasm_meaning.specs.Ladder.{Machine}
-use Rattle.isp_wasm.specs.Places.{Setting, Place, Scalar, Vector, Mask, Base, Count, Depth, elem, shape, gang, text, bytes_of}
+use Rattle.isp_wasm.specs.Places.{Setting, Place, Scalar, Vector, Mask, Base, Count, Depth, Top, elem, shape, gang, text, bytes_of}
 use Rattle.isp_wasm.specs.Rows.{cell}
+use Rattle.isp_wasm.specs.Stack.{IsBelow, open_bytes, top, floor}
 
 abbrev pub scalar_register : ℕ → Register
 scalar_register r = record { class = class.Scalar; number = r }
@@ -29,7 +30,8 @@ vector_register r = record { class = class.Vector; number = r }
 
 module _ (w : Setting) where
   -- The locals: a scalar is its bits; a vector's lanes in the gang are its lanes; a mask's lanes are all ones or zeros, also
-  -- past the gang; where each array begins, and its number of elements; and how many calls wait.
+  -- past the gang; where each array begins, and its number of elements; how many calls wait; and
+  -- where the next array lies.
   pub record Holds (scalars : ℕ → ℕ) (vectors : ℕ → Lanes) (masks : ℕ → Sets.Mask) (l : ℕ → ℕ) : Type 0 where
     pub scalars_are : (r : ℕ) → l (w.local (Scalar r)) ≡ scalars r
     pub vectors_are : (r j k : ℕ) → k < count (shape w (vector_register r)) → j * count (shape w (vector_register r)) + k < gang w
@@ -41,19 +43,21 @@ module _ (w : Setting) where
     pub bases : (a : ℕ) → l (w.local (Base a)) ≡ w.begins (w.home.named a)
     pub counts : (a : ℕ) → l (w.local (Count a)) ≡ w.home.sizes (w.home.named a)
     pub depth : l (w.local Depth) ≡ length w.waiting
+    pub top_is : l (w.local Top) ≡ top w
 
-  -- a byte of no array
+  -- a byte of no array, nor where the function's arrays may lie
   abbrev pub IsBeside : ℕ → Type 0
-  IsBeside a = (b : ℕ) → (a < w.begins b) ⊎ (w.begins b + w.home.sizes b * bytes_of (w.elems b) ≤ a)
+  IsBeside a = ((b : ℕ) → (a < w.begins b) ⊎ (w.begins b + w.home.sizes b * bytes_of (w.elems b) ≤ a)) × IsBelow (floor w) a
 
   -- The memory of so many bytes: the elements of each store, in its own bytes, little endian; the texts; and what lies beside
-  -- the arrays is as it was before.
+  -- the arrays is as it was before the function began.
   pub record Keeps (arrays : ℕ → Lanes) (memory : ℕ → ℕ) (size : ℕ) : Type 0 where
     pub bytes_fit : (a : ℕ) → memory a < 256
     pub elements : (b e : ℕ) → e < w.home.sizes b → loaded (bytes_of (w.elems b)) (w.begins b + e * bytes_of (w.elems b)) memory ≡ arrays b e
     pub elements_fit : (b e : ℕ) → e < w.home.sizes b → arrays b e < 2 ^ width (w.elems b)
     pub room : (b : ℕ) → w.begins b + w.home.sizes b * bytes_of (w.elems b) ≤ size
     pub small : size ≤ 2 ^ 32
+    pub whole : size ≡ w.room
     pub texts : (t : ℕ) → bytes (length (text w t)) (w.text_at t) memory ≡ text w t
     pub text_room : (t : ℕ) → w.text_at t + length (text w t) ≤ size
     pub rest : (a : ℕ) → IsBeside a → memory a ≡ w.before a
@@ -127,9 +131,19 @@ module _ (w : Setting) where
     pub out_is : s.out ≡ conf.out
     pub keeps : Keeps conf.arrays s.memory s.size
 
+  -- the machine comes to where all arrays that are open leave no byte of the memory behind them
+  pub record IsFull (c : Conf) : Type 0 where
+    pub conf : Conf
+    pub steps : ℕ
+    pub goes : after w.code steps (machine.Runs c) ≡ machine.Runs conf
+    pub address : ℕ
+    pub stack_is : w.stack ≡ Some address
+    pub full : w.room ≤ address + open_bytes w.code conf
+
   abbrev pub Final : Conf → Result → Type 0
   Final c (Returned v s) = Leaves c v s
   Final c (Trapped (Some r) s) = Fails c r s
+  Final c (Trapped None s) = IsFull c
   Final c r = ⊥
 
   pub record Cut (f : ℕ) (c : Conf) (s : State) : Type 0 where

@@ -8,6 +8,9 @@ use Rattle.isp_base.specs.Values.{width, wrap}
 use Rattle.isp_base.specs.declared.types.Elem.{Elem}
 use Rattle.isp_base.specs.declared.types.Elem.TheVariants.{Bool as Truth, I8, I16, I32, I64, U64}
 use Rattle.isp_code.specs.Calls.{place_at}
+use Rattle.isp_code.specs.Lines.{local_size}
+use Rattle.isp_code.specs.Registers.{passed}
+use Rattle.isp_code.specs.declared.function.Local.{Local as Opened}
 use Rattle.isp_code.specs.declared.instr.Call.{Call}
 use Rattle.isp_code.specs.declared.instr.Division.{Division}
 use Rattle.isp_code.specs.declared.instr.Division.TheVariants as division
@@ -36,8 +39,9 @@ use Rattle.isp_wasm_meaning.specs.Meaning.{of_lanes, flags, count}
 use Rattle.isp_wasm_meaning.specs.Ladder.{dispatched}
 use Rattle.isp_wasm_meaning.specs.Syntax as wasm
 use Rattle.isp_wasm_meaning.specs.Syntax.{Shape, I8x16, Add, Sub, Mul, And, Or, Xor, Eq, Ne, LtU, LtS, DivU, RemU, Eqz, Ctz, Wrap, ExtendU, Splat, Extract, Bitmask, Of, BitsOf, CompareLanes, Bits, Replace, Expr, Const32, Const64, Const128, Local, One, Two, Select, Bitselect}
-use Rattle.isp_wasm_meaning.specs.Syntax.{Code, Skip, Unreachable, Then, Set, Load, Store, Divide, Fail, Write, If, Br, Return, Call as CallFunction, GetGlobal, SetGlobal, Print, SignedText, UnsignedText, TruthText, ByteText}
-use Rattle.isp_wasm.specs.Places.{Setting, gang, text, Counter, Scalar, Vector, Mask, Base, Count, Fresh, Spare, Depth, bytes_of, elem, shape, parts, size_of}
+use Rattle.isp_wasm_meaning.specs.Syntax.{Code, Skip, Unreachable, Then, Set, Load, Store, Divide, Fail, Write, If, Br, Return, Call as CallFunction, GetGlobal, SetGlobal, Clear, Print, SignedText, UnsignedText, TruthText, ByteText}
+use Rattle.isp_wasm.specs.Places.{Setting, gang, text, Counter, Scalar, Vector, Mask, Base, Count, Fresh, Spare, Depth, Top, bytes_of, elem, shape, parts, size_of}
+use Rattle.isp_wasm.specs.Stack.{local_bytes, bytes_in}
 use Rattle.isp_wasm.specs.Words.{constant, below, whole_expr, plain_expr, unary_expr, compare_expr, convert_expr}
 use Rattle.isp_wasm.specs.Rows.{as_cell, lane_at, widened, narrowed, ones, compare_row, unary_row, by_lane, present, plain_row}
 
@@ -398,7 +402,7 @@ module _ (w : Setting) where
   passed_all k (x ∷ xs) = passed_of k x.class x ++ passed_all k xs
 
   abbrev pub arguments_of : Call → List Expr
-  arguments_of k = plus waiting_calls 1 ∷ (listed (parts w I8x16) (mask_local k.mask) ++ passed_all k.mask k.arguments)
+  arguments_of k = plus waiting_calls 1 ∷ Local (w.local Top) ∷ (listed (parts w I8x16) (mask_local k.mask) ++ passed_all k.mask k.arguments)
 
   -- functions that others call come behind as many as the code has
   abbrev pub called_number : Call → ℕ
@@ -463,7 +467,7 @@ module _ (w : Setting) where
   code_of depth (instr.Fail x q) = If (lanes_as_bits x) (fault 2 q (lowest_of x)) Skip
   code_of depth (instr.Return None) = Return None
   code_of depth (instr.Return (Some x)) = return_code x.class x
-  code_of depth i = Skip
+  code_of depth (instr.Clear a k) = Clear (Local (w.local (Base a.number))) (Const32 (local_size (slice_get w.routine.locals (a.number - passed w.routine)) * bytes_of (elem w a)))
 
   abbrev pub code_at : ℕ → Option Instr → Code
   code_at depth None = Return None
@@ -481,3 +485,21 @@ module _ (w : Setting) where
   -- control does not come behind the loop; a function that gives something back is to end so
   abbrev pub function_code : Code
   function_code = Then (dispatched (w.local Counter) rung w.rungs) Unreachable
+
+  -- ---- arrays that it opens
+
+  -- where each begins, and its number of elements, from number a on; and where the next one lies
+  abbrev pub arrays_code : List Opened → ℕ → Code
+  arrays_code [] a = Skip
+  arrays_code (l ∷ ls) a =
+      Then (Set (w.local (Base a)) (Local (w.local Top)))
+      (Then (Set (w.local (Count a)) (Const64 l.size))
+      (Then (Set (w.local Top) (Two (Of wasm.I32 Add) (Local (w.local Top)) (Const32 (local_bytes (gang w) l)))) (arrays_code ls (suc a))))
+
+  -- Their bytes are zeroed, and one behind them: where there is no room for them, that traps.
+  abbrev pub begin_code : List Opened → Code
+  begin_code [] = Skip
+  begin_code (l ∷ ls) = Then (Clear (Local (w.local Top)) (Const32 (suc (bytes_in (gang w) (l ∷ ls))))) (arrays_code (l ∷ ls) (passed w.routine))
+
+  abbrev pub routine_code : Code
+  routine_code = Then (begin_code w.routine.locals) function_code

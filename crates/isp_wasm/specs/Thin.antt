@@ -1,11 +1,12 @@
 -- Which code is covered: the forms of instructions that are translated, with what the verifier says of their operands.
-use Rattle.std.specs.Prelude.{◌≡◌, ℕ, suc, ◌+◌, ◌<◌, Option, Some, None, false, slice_get}
+use Rattle.std.specs.Prelude.{◌≡◌, ℕ, suc, ◌+◌, ◌-◌, ◌*◌, ◌^◌, ◌<◌, Option, Some, None, false, slice_get}
 use Rattle.isp_base.specs.declared.operators.UnaryOp.{UnaryOp}
 use Rattle.isp_base.specs.declared.operators.UnaryOp.TheVariants as unary
 use Rattle.isp_base.specs.declared.types.Elem.{Elem}
 use Rattle.isp_base.specs.declared.types.Elem.TheVariants.{Bool as Truth, I32, I64}
 use Rattle.isp_code.specs.Fine.{CallFine, IsGiven}
-use Rattle.isp_code.specs.Registers.{is_per_lane}
+use Rattle.isp_code.specs.Lines.{local_size}
+use Rattle.isp_code.specs.Registers.{passed, is_per_lane}
 use Rattle.isp_code.specs.declared.instr.Instr.{Instr}
 use Rattle.isp_code.specs.declared.instr.Instr.TheVariants as instr
 use Rattle.isp_code.specs.declared.instr.JumpTest.TheVariants as jump
@@ -21,7 +22,7 @@ use Rattle.isp_code.specs.declared.instr.VectorInstr.TheVariants as vector
 use Rattle.isp_code.specs.declared.register.Class.{Class}
 use Rattle.isp_code.specs.declared.register.Class.TheVariants as class
 use Rattle.isp_code.specs.declared.register.Register.{Register}
-use Rattle.isp_wasm.specs.Places.{Setting, elem}
+use Rattle.isp_wasm.specs.Places.{Setting, elem, bytes_of}
 
 -- not a bool
 abbrev pub IsInteger : Elem → Type 0
@@ -48,6 +49,12 @@ module _ (w : Setting) where
     pub shared : is_per_lane w.routine a ≡ false
     pub elem_is : elem w a ≡ t
     pub stored_as : w.elems (w.home.named a.number) ≡ t
+
+  -- one that the function opens
+  pub record IsOpened (a : Register) : Type 0 where
+    pub array : IsArray a (elem w a)
+    pub size_is : w.home.sizes (w.home.named a.number) ≡ local_size (slice_get w.routine.locals (a.number - passed w.routine))
+    pub few : local_size (slice_get w.routine.locals (a.number - passed w.routine)) * bytes_of (elem w a) < 2 ^ 32
 
   -- a rung begins there
   pub record IsHead (to : ℕ) : Type 0 where
@@ -127,7 +134,7 @@ module _ (w : Setting) where
   IsThin (instr.PrintVector x k) = IsVector x (elem w x)
   IsThin (instr.Call k) = CallFine w.code w.routine k
   IsThin (instr.Return x) = IsGiven w.routine w.routine.returns x
-  IsThin i = ⊥
+  IsThin (instr.Clear a k) = IsOpened a
 
   -- where control does not go on to the next instruction
   abbrev pub IsLast : Option Instr → Type 0

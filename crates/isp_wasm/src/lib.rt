@@ -7,6 +7,7 @@ ghost use Rattle.isp_wasm.specs.Entry.{EntriesAgree};
 ghost use Rattle.isp_wasm.specs.Kernel.{KernelsAgree, ModulesValid};
 ghost use Rattle.isp_wasm.specs.Lines.{FineIsThin};
 ghost use Rattle.isp_wasm.specs.Numbering.{LocalsAreNumbered};
+ghost use Rattle.isp_wasm.specs.Room.{RoomIsEnough};
 
 /// A function in WebAssembly that stands before a rung as the machine stands before an instruction ends, traps and
 /// writes as the machine does from there, where the code is covered.
@@ -47,4 +48,10 @@ pub fn modules_valid()
 /// masks begin.
 pub fn locals_are_numbered()
     ensures { LocalsAreNumbered }
+{}
+
+/// How many bytes are enough for all arrays that are open at a step of a run: a function that calls none opens its own alone,
+/// else as many calls run as may, each with those of the function that opens most.
+pub fn room_is_enough()
+    ensures { RoomIsEnough }
 {}

@@ -6,11 +6,11 @@ use Rattle.std.proofs.lemmas.Grind.{flat_map-append}
 use Rattle.std.proofs.Math.Nat.{mod-lt, mod-mod}
 use Rattle.std.proofs.lemmas.Nat.{pow_pos}
 use Rattle.isp_wasm_meaning.specs.Syntax.{Binary, Of, BitsOf, ShiftOf, Compare, Lanes, CompareLanes, Bits, Replace, Shuffle, Expr, Const32, Const64, Const128, Local, One, Two, Select, Bitselect}
-use Rattle.isp_wasm_meaning.specs.Syntax.{Code, Skip, Then, Set, Load, Store, Divide, If, Block, Loop, Br, BrTable, Return, Unreachable, Call, Write, Fail, Print, GetGlobal, SetGlobal}
+use Rattle.isp_wasm_meaning.specs.Syntax.{Code, Skip, Then, Set, Load, Store, Divide, If, Block, Loop, Br, BrTable, Return, Unreachable, Call, Write, Fail, Print, GetGlobal, SetGlobal, Clear}
 use Rattle.isp_wasm_binary.specs.Numbers.{u32, signed_groups, i32, i64, low_bytes, v128}
 use Rattle.isp_wasm_binary.specs.Operators.{binary_bytes}
 use Rattle.isp_wasm_binary.specs.Instructions.{Word, Const32_word, Const64_word, Const128_word, Get_word, Set_word, Unary_word, Binary_word, Division_word, Select_word, Bitselect_word, Load_word, Store_word}
-use Rattle.isp_wasm_binary.specs.Instructions.{Block_word, Loop_word, If_word, Else_word, End_word, Br_word, BrTable_word, Return_word, Call_word, Unreachable_word, GetGlobal_word, SetGlobal_word, word_bytes, access, is_nothing, host_write, host_trap, host_print, hosts}
+use Rattle.isp_wasm_binary.specs.Instructions.{Block_word, Loop_word, If_word, Else_word, End_word, Br_word, BrTable_word, Return_word, Call_word, Unreachable_word, GetGlobal_word, SetGlobal_word, Fill_word, word_bytes, access, is_nothing, host_write, host_trap, host_print, hosts}
 use Rattle.isp_wasm_binary.specs.Instructions.{expr_bytes, result_bytes, returned_bytes, else_bytes, code_bytes}
 use Rattle.isp_wasm_binary.specs.Same.{sixteen, expr_words, result_words, returned_words, else_words, code_words}
 use Rattle.isp_wasm_binary.proofs.ReadWords.{IsWord, AllWords}
@@ -104,6 +104,7 @@ code_flat (Fail k a b p) =
 code_flat (Print o e) = join (expr_words e) _ _ _ (expr_flat e) (one (Call_word (host_print o)) _ refl)
 code_flat (GetGlobal x g) = front (GetGlobal_word g) _ _ (one (Set_word x) _ refl)
 code_flat (SetGlobal g e) = join (expr_words e) _ _ _ (expr_flat e) (one (SetGlobal_word g) _ refl)
+code_flat (Clear a n) = join (expr_words a) _ _ _ (expr_flat a) (ap₂ (λ x y. x ++ y) (const 0) (join (expr_words n) _ _ _ (expr_flat n) (one Fill_word _ refl)))
 
 -- ---- its numbers are within their bits
 
@@ -170,3 +171,4 @@ code_all (Fail k a b p) =
 code_all (Print o e) = both (expr_words e) _ (expr_all e) (tt, tt)
 code_all (GetGlobal x g) = (tt, (tt, tt))
 code_all (SetGlobal g e) = both (expr_words e) _ (expr_all e) (tt, tt)
+code_all (Clear a n) = both (expr_words a) _ (expr_all a) (mod-lt 0 (pow_pos 32), both (expr_words n) _ (expr_all n) (tt, tt))

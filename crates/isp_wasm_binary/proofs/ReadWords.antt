@@ -8,7 +8,7 @@ use Rattle.isp_wasm_meaning.specs.Syntax.{Unary, Eqz, Ctz, Wrap, ExtendU, Extend
 use Rattle.isp_wasm_meaning.specs.Syntax.{Binary, Of, BitsOf, ShiftOf, Compare, Lanes, CompareLanes, Bits, Replace, Shuffle}
 use Rattle.isp_wasm_binary.specs.Numbers.{groups, u32}
 use Rattle.isp_wasm_binary.specs.Instructions.{Access, Bytes1, Bytes2, Bytes4, Bytes8, NoAccess, Word, Const32_word, Const64_word, Const128_word, Get_word, Set_word, Unary_word, Binary_word, Division_word, Select_word, Bitselect_word, Load_word, Store_word}
-use Rattle.isp_wasm_binary.specs.Instructions.{Block_word, Loop_word, If_word, Else_word, End_word, Br_word, BrTable_word, Return_word, Call_word, Unreachable_word, GetGlobal_word, SetGlobal_word, word_bytes}
+use Rattle.isp_wasm_binary.specs.Instructions.{Block_word, Loop_word, If_word, Else_word, End_word, Br_word, BrTable_word, Return_word, Call_word, Unreachable_word, GetGlobal_word, SetGlobal_word, Fill_word, word_bytes}
 use Rattle.isp_wasm_binary.proofs.Numbers.{Read, read_groups, read_signed, read_low, u32_back, i32_back, i64_back, v128_back}
 
 -- an instruction whose numbers are within its bits, and whose shuffle names 16 bytes
@@ -135,6 +135,11 @@ simd_step (n, r) =
     (choose (nat_eq n 2005) (with_two (λ m o. Store_word (NoAccess m) o) (read_groups 4 r))
     (either (found simd_number simd_words n r) (lane_step n r)))))
 
+-- an instruction of two more bytes
+abbrev behind_two : Word → List ℕ → Step
+behind_two w (a ∷ b ∷ r) = Some (w, r)
+behind_two w r = None
+
 abbrev number_step : ℕ → List ℕ → Step
 number_step b r =
     choose (nat_eq b 0x41) (with_number Const32_word (read_signed 4 32 r))
@@ -145,7 +150,8 @@ number_step b r =
     (choose (nat_eq b 0x0E) (table (read_groups 4 r))
     (choose (nat_eq b 0x10) (with_number Call_word (read_groups 4 r))
     (choose (nat_eq b 0x23) (with_number GetGlobal_word (read_groups 4 r))
-    (choose (nat_eq b 0x24) (with_number SetGlobal_word (read_groups 4 r)) None))))))))
+    (choose (nat_eq b 0x24) (with_number SetGlobal_word (read_groups 4 r))
+    (choose (nat_eq b 0xFC) (behind_two Fill_word r) None)))))))))
 
 abbrev memory_step : ℕ → List ℕ → Step
 memory_step b r =
@@ -404,6 +410,7 @@ word_read (Call_word f) h r = ap (λ t. Some (Call_word t.0, t.1)) (u32_back f r
 word_read Unreachable_word h r = refl
 word_read (GetGlobal_word x) h r = ap (λ t. Some (GetGlobal_word t.0, t.1)) (u32_back x r)
 word_read (SetGlobal_word x) h r = ap (λ t. Some (SetGlobal_word t.0, t.1)) (u32_back x r)
+word_read Fill_word h r = refl
 
 -- ---- and so is a list of them
 

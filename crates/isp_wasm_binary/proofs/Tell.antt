@@ -119,9 +119,10 @@ modules_tell m n e =
     let t6 = cons_parts _ _ _ _ t5.1 in
     let x1 = cons_parts _ _ _ _ s.exports_are in
     let x2 = cons_parts _ _ _ _ x1.1 in
+    let x3 = cons_parts _ _ _ _ x2.1 in
     let groups = sym (body_locals 0 m.functions) ∙ s.function_locals ∙ body_locals 0 n.functions in
     record {
-      exports_are = exports_same 0 m.functions n.functions t6.1 x2.1;
+      exports_are = exports_same 0 m.functions n.functions t6.1 x3.1;
       params_are = again type_of (λ t. t.params) (λ f. f.params) (λ f. refl) m.functions n.functions t6.1;
       results_are = again type_of (λ t. first_of t.results) (λ f. f.result) (λ f. first_result f.result) m.functions n.functions t6.1;
       locals_are = again (λ f. grouped f.locals) spread (λ f. f.locals) (λ f. spread_grouped f.locals) m.functions n.functions groups;

@@ -1,5 +1,5 @@
 -- The bytes of a module of isp_wasm_meaning, with what each has in common.
-use Rattle.std.specs.Prelude.{◌≡◌, ℕ, zero, suc, ◌+◌, ◌/◌, List, [], ◌∷◌, length, map, Option, Some, None, Bool, true, false, codes}
+use Rattle.std.specs.Prelude.{◌≡◌, ℕ, zero, suc, ◌+◌, ◌/◌, List, [], ◌∷◌, ◌++◌, length, map, Option, Some, None, Bool, true, false, codes}
 use Rattle.isp_wasm_meaning.specs.Module.{ValueType, I32, I64, V128, Function, Module}
 use Rattle.isp_wasm_binary.specs.Instructions.{hosts}
 use Rattle.isp_wasm_binary.specs.Modules.{FuncType, Import, Global, Group, Body, FunctionKind, MemoryKind, GlobalKind, Export, Piece, Sections, sections_bytes}
@@ -78,6 +78,10 @@ abbrev pub pieces_of : List ℕ → List Piece
 pieces_of [] = []
 pieces_of (b ∷ bs) = record { at = 0; has = b ∷ bs } ∷ []
 
+-- behind its first bytes, until a host says where
+abbrev pub stack_of : Module → Global
+stack_of m = record { type = I32; changes = true; first = length m.memory }
+
 abbrev pub sections_of : Module → Sections
 sections_of m =
     record {
@@ -85,10 +89,10 @@ sections_of m =
       imports = host_imports;
       functions = bodies 0 m.functions;
       pages = length m.memory / 65536 + 1;
-      globals = record { type = I32; changes = false; first = length m.memory } ∷ results 16;
+      globals = record { type = I32; changes = false; first = length m.memory } ∷ (results 16 ++ stack_of m ∷ []);
       exports =
           record { name = codes "isp.memory"; kind = MemoryKind; index = 0 } ∷ record { name = codes "isp.base"; kind = GlobalKind; index = 0 }
-          ∷ names 0 m.functions;
+          ∷ record { name = codes "isp.stack"; kind = GlobalKind; index = 17 } ∷ names 0 m.functions;
       pieces = pieces_of m.memory;
     }
 

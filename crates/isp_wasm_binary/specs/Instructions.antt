@@ -3,7 +3,7 @@ use Rattle.std.specs.Prelude.{ℕ, ◌+◌, List, [], ◌∷◌, ◌++◌, Optio
 use Rattle.std.specs.List.{flat_map}
 use Rattle.isp_wasm_meaning.specs.Syntax.{Size, Division, Unary, Binary, Expr, Const32, Const64, Const128, Local, One, Two, Select, Bitselect}
 use Rattle.isp_wasm_meaning.specs.Syntax.{Printed, SignedText, UnsignedText, TruthText, ByteText}
-use Rattle.isp_wasm_meaning.specs.Syntax.{Code, Skip, Then, Set, Load, Store, Divide, If, Block, Loop, Br, BrTable, Return, Unreachable, Call, Write, Fail, Print, GetGlobal, SetGlobal}
+use Rattle.isp_wasm_meaning.specs.Syntax.{Code, Skip, Then, Set, Load, Store, Divide, If, Block, Loop, Br, BrTable, Return, Unreachable, Call, Write, Fail, Print, GetGlobal, SetGlobal, Clear}
 use Rattle.isp_wasm_binary.specs.Numbers.{u32, i32, i64, v128, vector}
 use Rattle.isp_wasm_binary.specs.Operators.{simd, no_such, unary_bytes, binary_bytes, division_bytes}
 
@@ -44,6 +44,7 @@ pub data Word : Type 0 where
   Unreachable_word : Word
   GetGlobal_word : (global : ℕ) → Word
   SetGlobal_word : (global : ℕ) → Word
+  Fill_word : Word
 
 -- 5.4.6 memarg: the alignment, as the power of two that the bytes are, and the offset. i32.load8_u, i32.load16_u, i32.load,
 -- i64.load; i32.store8, i32.store16, i32.store, i64.store
@@ -62,7 +63,7 @@ store_bytes Bytes8 o = 0x37 ∷ (u32 3 ++ u32 o)
 store_bytes (NoAccess n) o = no_such 5 ++ (u32 n ++ u32 o)
 
 -- 5.4.1 control, 5.4.3 parametric, 5.4.4 variable, 5.4.6 memory, 5.4.7 numeric, 5.4.8 vector instructions. A block, a loop and
--- an if have the empty type, 0x40.
+-- an if have the empty type, 0x40. memory.fill is of memory 0.
 abbrev pub word_bytes : Word → List ℕ
 word_bytes (Const32_word n) = 0x41 ∷ i32 n
 word_bytes (Const64_word n) = 0x42 ∷ i64 n
@@ -88,6 +89,7 @@ word_bytes (Call_word f) = 0x10 ∷ u32 f
 word_bytes Unreachable_word = 0x00 ∷ []
 word_bytes (GetGlobal_word x) = 0x23 ∷ u32 x
 word_bytes (SetGlobal_word x) = 0x24 ∷ u32 x
+word_bytes Fill_word = 0xFC ∷ 0x0B ∷ 0x00 ∷ []
 
 -- ---- folded code, as these instructions
 
@@ -158,3 +160,4 @@ code_bytes (Fail k a b p) =
 code_bytes (Print o e) = expr_bytes e ++ word_bytes (Call_word (host_print o))
 code_bytes (GetGlobal x g) = word_bytes (GetGlobal_word g) ++ word_bytes (Set_word x)
 code_bytes (SetGlobal g e) = expr_bytes e ++ word_bytes (SetGlobal_word g)
+code_bytes (Clear a n) = expr_bytes a ++ (word_bytes (Const32_word 0) ++ (expr_bytes n ++ word_bytes Fill_word))

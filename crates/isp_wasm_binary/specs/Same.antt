@@ -4,9 +4,9 @@ use Rattle.std.specs.List.{flat_map}
 use Rattle.isp_wasm_meaning.specs.Lists.{listed}
 use Rattle.isp_wasm_meaning.specs.Module.{ValueType, I32, I64, V128}
 use Rattle.isp_wasm_meaning.specs.Syntax.{Binary, Shuffle, Expr, Const32, Const64, Const128, Local, One, Two, Select, Bitselect}
-use Rattle.isp_wasm_meaning.specs.Syntax.{Code, Skip, Then, Set, Load, Store, Divide, If, Block, Loop, Br, BrTable, Return, Unreachable, Call, Write, Fail, Print, GetGlobal, SetGlobal}
+use Rattle.isp_wasm_meaning.specs.Syntax.{Code, Skip, Then, Set, Load, Store, Divide, If, Block, Loop, Br, BrTable, Return, Unreachable, Call, Write, Fail, Print, GetGlobal, SetGlobal, Clear}
 use Rattle.isp_wasm_binary.specs.Instructions.{Word, Const32_word, Const64_word, Const128_word, Get_word, Set_word, Unary_word, Binary_word, Division_word, Select_word, Bitselect_word, Load_word, Store_word}
-use Rattle.isp_wasm_binary.specs.Instructions.{Block_word, Loop_word, If_word, Else_word, End_word, Br_word, BrTable_word, Return_word, Call_word, Unreachable_word, GetGlobal_word, SetGlobal_word, access, is_nothing, host_write, host_trap, host_print, hosts}
+use Rattle.isp_wasm_binary.specs.Instructions.{Block_word, Loop_word, If_word, Else_word, End_word, Br_word, BrTable_word, Return_word, Call_word, Unreachable_word, GetGlobal_word, SetGlobal_word, Fill_word, access, is_nothing, host_write, host_trap, host_print, hosts}
 use Rattle.isp_wasm_binary.specs.Modules.{Global, Piece, Sections, sections_bytes}
 
 -- ---- the instructions of folded code, one behind the other
@@ -59,6 +59,7 @@ code_words (Fail k a b p) =
 code_words (Print o e) = expr_words e ++ Call_word (host_print o) ∷ []
 code_words (GetGlobal x g) = GetGlobal_word g ∷ Set_word x ∷ []
 code_words (SetGlobal g e) = expr_words e ++ SetGlobal_word g ∷ []
+code_words (Clear a n) = expr_words a ++ Const32_word 0 ∷ (expr_words n ++ Fill_word ∷ [])
 
 -- what a global keeps of a number, by its type
 abbrev pub kept_by : ValueType → ℕ → ℕ

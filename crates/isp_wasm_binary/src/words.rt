@@ -276,6 +276,15 @@ impl Bytes {
         self.unsigned(global)
     }
 
+    /// One value to so many bytes of the memory: what stands before it is the address, the value and the number of bytes.
+    pub fn fill(&mut self) -> Result<(), AllocError>
+        ensures { OnOk result (self.new ≡ self.old ++ word_bytes instructions.Fill_word) }
+    {
+        self.byte(0xFC)?;
+        self.byte(0x0B)?;
+        self.byte(0x00)
+    }
+
     /// What is never reached.
     pub fn unreachable(&mut self) -> Result<(), AllocError>
         ensures { OnOk result (self.new ≡ self.old ++ word_bytes instructions.Unreachable_word) }

@@ -3,7 +3,7 @@ use Rattle.std.proofs.Common.{◌≡◌, ℕ, List, [], ◌∷◌, Some, None, r
 use Rattle.std.specs.Prelude.{map, slice_index_or}
 use Rattle.isp_wasm_meaning.specs.Digits.{digit, packed}
 use Rattle.isp_wasm_meaning.specs.Syntax.{I32, Add, Sub, Mul, DivU, Eqz, Of, Const32, Const64, Local, One, Two}
-use Rattle.isp_wasm_meaning.specs.Syntax.{Code, Skip, Unreachable, Then, Set, Load, Store, Divide, If, Block, Loop, Br, BrTable, Return, Call, GetGlobal, SetGlobal}
+use Rattle.isp_wasm_meaning.specs.Syntax.{Code, Skip, Unreachable, Then, Set, Load, Store, Divide, If, Block, Loop, Br, BrTable, Return, Call, GetGlobal, SetGlobal, Clear}
 use Rattle.isp_wasm_meaning.specs.Meaning.{State, Result, Returned, Trapped, called, bytes}
 
 -- a byte at the address that local 2 has, which is the next one then
@@ -71,6 +71,10 @@ offset_past_the_end = refl
 store_at_the_end : map (ends 3 ((Then (point 1) (Then (Store 8 (Local 0) 8 (Const64 5)) (point 2))) ∷ [])) ((65520 ∷ 0 ∷ []) ∷ (65521 ∷ 0 ∷ []) ∷ (4294967288 ∷ 0 ∷ []) ∷ []) ≡ ((0 ∷ 0 ∷ 1 ∷ 2 ∷ 0 ∷ []) ∷ (2 ∷ 0 ∷ 1 ∷ 0 ∷ 0 ∷ []) ∷ (2 ∷ 0 ∷ 1 ∷ 0 ∷ 0 ∷ []) ∷ [])
 unfolding digit packed
 store_at_the_end = refl
+
+clear : map (ends 6 ((Then (point 1) (Then (point 2) (Then (point 3) (Then (point 4) (Then (Clear (Local 0) (Local 1)) (point 5)))))) ∷ [])) ((0 ∷ 0 ∷ []) ∷ (0 ∷ 1 ∷ []) ∷ (1 ∷ 2 ∷ []) ∷ (3 ∷ 65533 ∷ []) ∷ (3 ∷ 65534 ∷ []) ∷ (65535 ∷ 1 ∷ []) ∷ (65535 ∷ 2 ∷ []) ∷ (65536 ∷ 0 ∷ []) ∷ (65537 ∷ 0 ∷ []) ∷ (1 ∷ 4294967295 ∷ []) ∷ (4294967295 ∷ 0 ∷ []) ∷ (4294967295 ∷ 1 ∷ []) ∷ []) ≡ ((0 ∷ 0 ∷ 1 ∷ 2 ∷ 3 ∷ 4 ∷ 5 ∷ 0 ∷ []) ∷ (0 ∷ 0 ∷ 0 ∷ 2 ∷ 3 ∷ 4 ∷ 5 ∷ 0 ∷ []) ∷ (0 ∷ 0 ∷ 1 ∷ 0 ∷ 0 ∷ 4 ∷ 5 ∷ 0 ∷ []) ∷ (0 ∷ 0 ∷ 1 ∷ 2 ∷ 3 ∷ 0 ∷ 5 ∷ 0 ∷ []) ∷ (2 ∷ 0 ∷ 1 ∷ 2 ∷ 3 ∷ 4 ∷ 0 ∷ 0 ∷ []) ∷ (0 ∷ 0 ∷ 1 ∷ 2 ∷ 3 ∷ 4 ∷ 5 ∷ 0 ∷ []) ∷ (2 ∷ 0 ∷ 1 ∷ 2 ∷ 3 ∷ 4 ∷ 0 ∷ 0 ∷ []) ∷ (0 ∷ 0 ∷ 1 ∷ 2 ∷ 3 ∷ 4 ∷ 5 ∷ 0 ∷ []) ∷ (2 ∷ 0 ∷ 1 ∷ 2 ∷ 3 ∷ 4 ∷ 0 ∷ 0 ∷ []) ∷ (2 ∷ 0 ∷ 1 ∷ 2 ∷ 3 ∷ 4 ∷ 0 ∷ 0 ∷ []) ∷ (2 ∷ 0 ∷ 1 ∷ 2 ∷ 3 ∷ 4 ∷ 0 ∷ 0 ∷ []) ∷ (2 ∷ 0 ∷ 1 ∷ 2 ∷ 3 ∷ 4 ∷ 0 ∷ 0 ∷ []) ∷ [])
+unfolding digit packed
+clear = refl
 
 call_result : map (ends 3 ((Then (point 1) (Then (Call 1 ((Local 1) ∷ (Two (Of I32 Add) (Local 0) (Const32 1)) ∷ []) (Some 3)) (Then (point 2) (Then (Return (Some (Local 3))) Unreachable)))) ∷ (Then (Set 3 (Two (Of I32 Sub) (Local 0) (Local 1))) (Then (Return (Some (Local 3))) Unreachable)) ∷ [])) ((0 ∷ 0 ∷ []) ∷ (1 ∷ 5 ∷ []) ∷ (3 ∷ 2 ∷ []) ∷ []) ≡ ((1 ∷ 4294967295 ∷ 1 ∷ 2 ∷ 0 ∷ []) ∷ (1 ∷ 3 ∷ 1 ∷ 2 ∷ 0 ∷ []) ∷ (1 ∷ 4294967294 ∷ 1 ∷ 2 ∷ 0 ∷ []) ∷ [])
 unfolding digit packed

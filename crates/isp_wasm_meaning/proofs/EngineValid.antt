@@ -2,7 +2,7 @@
 use Rattle.std.proofs.Common.{◌≡◌, List, [], ◌∷◌, map, Option, Some, None, Bool, true, false, refl}
 use Rattle.isp_wasm_meaning.specs.Lists.{evens}
 use Rattle.isp_wasm_meaning.specs.Module.{ValueType, I32 as W, I64 as L, V128 as V}
-use Rattle.isp_wasm_meaning.specs.Syntax.{Code, Add, And, Bitmask, Bits, BitsOf, Bitselect, Block, Br, BrTable, ByteText, Call, Compare, CompareLanes, Const32, Ctz, DivU, Divide, Eq, Eqz, Extend16S, Extend8S, ExtendHigh, ExtendLow, ExtendS, ExtendU, Extract, Fail, GetGlobal, I16x8, I32, I32x4, I64, I64x2, I8x16, If, Lanes, Load, Local, Loop, LtS, LtU, Mul, Ne, Of, One, Or, Print, RemU, Replace, Return, Select, Set, SetGlobal, ShiftOf, Shl, ShrS, ShrU, Shuffle, SignedText, Skip, Splat, Store, Sub, Then, TruthText, Two, Unreachable, UnsignedText, Wrap, Write, Xor}
+use Rattle.isp_wasm_meaning.specs.Syntax.{Code, Add, And, Bitmask, Bits, BitsOf, Bitselect, Block, Br, BrTable, ByteText, Call, Clear, Compare, CompareLanes, Const32, Ctz, DivU, Divide, Eq, Eqz, Extend16S, Extend8S, ExtendHigh, ExtendLow, ExtendS, ExtendU, Extract, Fail, GetGlobal, I16x8, I32, I32x4, I64, I64x2, I8x16, If, Lanes, Load, Local, Loop, LtS, LtU, Mul, Ne, Of, One, Or, Print, RemU, Replace, Return, Select, Set, SetGlobal, ShiftOf, Shl, ShrS, ShrU, Shuffle, SignedText, Skip, Splat, Store, Sub, Then, TruthText, Two, Unreachable, UnsignedText, Wrap, Write, Xor}
 use Rattle.isp_wasm_meaning.specs.Valid.{is_valid_function}
 
 -- a function of this code that takes and gives values of these types, in a module with two others
@@ -491,6 +491,9 @@ code_end_table_i32 = refl
 code_write : map (takes (Write (Local 0) (Local 1)) None) ((W ∷ W ∷ []) ∷ (W ∷ L ∷ []) ∷ (W ∷ V ∷ []) ∷ (L ∷ W ∷ []) ∷ (L ∷ L ∷ []) ∷ (L ∷ V ∷ []) ∷ (V ∷ W ∷ []) ∷ (V ∷ L ∷ []) ∷ (V ∷ V ∷ []) ∷ []) ≡ (true ∷ false ∷ false ∷ false ∷ false ∷ false ∷ false ∷ false ∷ false ∷ [])
 code_write = refl
 
+code_clear : map (takes (Clear (Local 0) (Local 1)) None) ((W ∷ W ∷ []) ∷ (W ∷ L ∷ []) ∷ (W ∷ V ∷ []) ∷ (L ∷ W ∷ []) ∷ (L ∷ L ∷ []) ∷ (L ∷ V ∷ []) ∷ (V ∷ W ∷ []) ∷ (V ∷ L ∷ []) ∷ (V ∷ V ∷ []) ∷ []) ≡ (true ∷ false ∷ false ∷ false ∷ false ∷ false ∷ false ∷ false ∷ false ∷ [])
+code_clear = refl
+
 code_call : map (takes (Call 0 (Local 0 ∷ Local 1 ∷ []) (Some 2)) None) ((W ∷ W ∷ W ∷ []) ∷ (W ∷ W ∷ L ∷ []) ∷ (W ∷ W ∷ V ∷ []) ∷ (W ∷ L ∷ W ∷ []) ∷ (W ∷ L ∷ L ∷ []) ∷ (W ∷ L ∷ V ∷ []) ∷ (W ∷ V ∷ W ∷ []) ∷ (W ∷ V ∷ L ∷ []) ∷ (W ∷ V ∷ V ∷ []) ∷ (L ∷ W ∷ W ∷ []) ∷ (L ∷ W ∷ L ∷ []) ∷ (L ∷ W ∷ V ∷ []) ∷ (L ∷ L ∷ W ∷ []) ∷ (L ∷ L ∷ L ∷ []) ∷ (L ∷ L ∷ V ∷ []) ∷ (L ∷ V ∷ W ∷ []) ∷ (L ∷ V ∷ L ∷ []) ∷ (L ∷ V ∷ V ∷ []) ∷ (V ∷ W ∷ W ∷ []) ∷ (V ∷ W ∷ L ∷ []) ∷ (V ∷ W ∷ V ∷ []) ∷ (V ∷ L ∷ W ∷ []) ∷ (V ∷ L ∷ L ∷ []) ∷ (V ∷ L ∷ V ∷ []) ∷ (V ∷ V ∷ W ∷ []) ∷ (V ∷ V ∷ L ∷ []) ∷ (V ∷ V ∷ V ∷ []) ∷ []) ≡ (false ∷ false ∷ false ∷ false ∷ true ∷ false ∷ false ∷ false ∷ false ∷ false ∷ false ∷ false ∷ false ∷ false ∷ false ∷ false ∷ false ∷ false ∷ false ∷ false ∷ false ∷ false ∷ false ∷ false ∷ false ∷ false ∷ false ∷ [])
 code_call = refl
 
@@ -539,11 +542,17 @@ code_get_global_16 = refl
 code_set_global_16 : map (takes (SetGlobal 16 (Local 0)) None) ((W ∷ []) ∷ (L ∷ []) ∷ (V ∷ []) ∷ []) ≡ (false ∷ false ∷ true ∷ [])
 code_set_global_16 = refl
 
-code_get_global_17 : map (takes (GetGlobal 0 17) None) ((W ∷ []) ∷ (L ∷ []) ∷ (V ∷ []) ∷ []) ≡ (false ∷ false ∷ false ∷ [])
+code_get_global_17 : map (takes (GetGlobal 0 17) None) ((W ∷ []) ∷ (L ∷ []) ∷ (V ∷ []) ∷ []) ≡ (true ∷ false ∷ false ∷ [])
 code_get_global_17 = refl
 
-code_set_global_17 : map (takes (SetGlobal 17 (Local 0)) None) ((W ∷ []) ∷ (L ∷ []) ∷ (V ∷ []) ∷ []) ≡ (false ∷ false ∷ false ∷ [])
+code_set_global_17 : map (takes (SetGlobal 17 (Local 0)) None) ((W ∷ []) ∷ (L ∷ []) ∷ (V ∷ []) ∷ []) ≡ (true ∷ false ∷ false ∷ [])
 code_set_global_17 = refl
+
+code_get_global_18 : map (takes (GetGlobal 0 18) None) ((W ∷ []) ∷ (L ∷ []) ∷ (V ∷ []) ∷ []) ≡ (false ∷ false ∷ false ∷ [])
+code_get_global_18 = refl
+
+code_set_global_18 : map (takes (SetGlobal 18 (Local 0)) None) ((W ∷ []) ∷ (L ∷ []) ∷ (V ∷ []) ∷ []) ≡ (false ∷ false ∷ false ∷ [])
+code_set_global_18 = refl
 
 code_fail : map (takes (Fail 1 2 3 (Local 0)) None) ((W ∷ []) ∷ (L ∷ []) ∷ (V ∷ []) ∷ []) ≡ (true ∷ false ∷ false ∷ [])
 code_fail = refl

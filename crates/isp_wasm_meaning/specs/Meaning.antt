@@ -8,7 +8,7 @@ use Rattle.isp_wasm_meaning.specs.Syntax.{Shape, I8x16, I16x8, I32x4, I64x2, Siz
 use Rattle.isp_wasm_meaning.specs.Syntax.{Unary, Eqz, Ctz, Wrap, ExtendU, ExtendS, Extend8S, Extend16S, Splat, Extract, ExtendLow, ExtendHigh, Bitmask}
 use Rattle.isp_wasm_meaning.specs.Syntax.{Binary, Of, BitsOf, ShiftOf, Compare, Lanes, CompareLanes, Bits, Replace, Shuffle, Expr, Const32, Const64, Const128, Local, One, Two, Select, Bitselect}
 use Rattle.isp_wasm_meaning.specs.Syntax.{Printed, SignedText, UnsignedText, TruthText, ByteText}
-use Rattle.isp_wasm_meaning.specs.Syntax.{Code, Skip, Unreachable, Then, Set, Load, Store, Divide, If, Block, Loop, Br, BrTable, Return, Call, Write, Fail, Print, GetGlobal, SetGlobal}
+use Rattle.isp_wasm_meaning.specs.Syntax.{Code, Skip, Unreachable, Then, Set, Load, Store, Divide, If, Block, Loop, Br, BrTable, Return, Call, Write, Fail, Print, GetGlobal, SetGlobal, Clear}
 
 -- ---- numbers
 
@@ -182,11 +182,15 @@ set_local x v s = record s { locals = λ y. if nat_eq y x then v else s.locals y
 abbrev pub stored : ℕ → ℕ → ℕ → (ℕ → ℕ) → ℕ → ℕ
 stored n a v memory b = if nat_le a b && nat_lt b (a + n) then digit 256 (b - a) v else memory b
 
+-- zeros in so many bytes from an address on
+abbrev pub cleared : ℕ → ℕ → (ℕ → ℕ) → ℕ → ℕ
+cleared n a memory b = if nat_le a b && nat_lt b (a + n) then 0 else memory b
+
 -- and the value of so many bytes
 abbrev pub loaded : ℕ → ℕ → (ℕ → ℕ) → ℕ
 loaded n a memory = packed 256 n (λ j. memory (a + j))
 
--- 4.4.7 a load or a store past the end of the memory traps
+-- 4.4.7 a load, a store or a fill past the end of the memory traps
 abbrev pub inside : ℕ → ℕ → State → Result → Result
 inside n a s r = if nat_le (a + n) s.size then r else Trapped None s
 
@@ -254,7 +258,7 @@ back x s (OutOfFuel t) = OutOfFuel t
 
 -- with this fuel for each loop, and what the calls of functions do
 module _ (fuel : ℕ) (call : ℕ → List ℕ → State → Result) where
-  -- 4.4.5 local.set, global.get, global.set; 4.4.7 load, store; 4.4.1 binop of div_u and rem_u, which trap at the divisor 0; 4.4.8 unreachable,
+  -- 4.4.5 local.set, global.get, global.set; 4.4.7 load, store, memory.fill; 4.4.1 binop of div_u and rem_u, which trap at the divisor 0; 4.4.8 unreachable,
   -- block, loop, if, br, br_table, return, call; 4.4.10 the functions of the host
   abbrev pub run : Code → State → Result
   run Skip s = Fell s
@@ -276,6 +280,7 @@ module _ (fuel : ℕ) (call : ℕ → List ℕ → State → Result) where
   run (Print o e) s = Fell (record s { out = s.out ++ printed o (value s.locals e) })
   run (GetGlobal x g) s = Fell (set_local x (s.globals g) s)
   run (SetGlobal g e) s = Fell (set_global g (value s.locals e) s)
+  run (Clear a n) s = inside (value s.locals n) (value s.locals a) s (Fell (record s { memory = cleared (value s.locals n) (value s.locals a) s.memory }))
 
 -- 4.4.10 a function ends where its code does
 abbrev pub left : Result → Result

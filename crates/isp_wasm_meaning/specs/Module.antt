@@ -9,6 +9,7 @@
 --     memory 0    as many pages as its first bytes need and one more, without a most; exported as "isp.memory"
 --     global 0    i32, which never changes: how many first bytes there are; exported as "isp.base"
 --     globals 1 to 16    v128, which change: what a function gave back that is a vector
+--     global 17    i32, which the host sets: behind the last byte of the arrays that it passed; exported as "isp.stack"
 use Rattle.std.specs.Prelude.{ℕ, List, [], length, ◌≡◌, ◌≤◌, Option, None, slice_index_or}
 use Rattle.isp_wasm_meaning.specs.Syntax.{Code, Unreachable}
 use Rattle.isp_wasm_meaning.specs.Meaning.{State, bytes}

@@ -127,3 +127,5 @@ pub data Code : Type 0 where
   -- global.get, to a local; global.set
   GetGlobal : (local global : ℕ) → Code
   SetGlobal : (global : ℕ) → Expr → Code
+  -- zeros to so many bytes from an address on: memory.fill with 0
+  Clear : (address count : Expr) → Code

@@ -5,7 +5,7 @@ use Rattle.isp_wasm_meaning.specs.Syntax as wasm
 use Rattle.isp_wasm_meaning.specs.Syntax.{Size, Unary, Eqz, Ctz, Wrap, ExtendU, ExtendS, Extend8S, Extend16S, Splat, Extract, ExtendLow, ExtendHigh, Bitmask}
 use Rattle.isp_wasm_meaning.specs.Syntax.{Binary, Of, BitsOf, ShiftOf, Compare, Lanes, CompareLanes, Bits, Replace, Shuffle, Shape, I8x16, I64x2, Mul, LtU}
 use Rattle.isp_wasm_meaning.specs.Syntax.{Expr, Const32, Const64, Const128, Local, One, Two, Select, Bitselect}
-use Rattle.isp_wasm_meaning.specs.Syntax.{Printed, TruthText, ByteText, Code, Skip, Unreachable, Then, Set, Load, Store, Divide, If, Block, Loop, Br, BrTable, Return, Call, Write, Fail, Print, GetGlobal, SetGlobal}
+use Rattle.isp_wasm_meaning.specs.Syntax.{Printed, TruthText, ByteText, Code, Skip, Unreachable, Then, Set, Load, Store, Divide, If, Block, Loop, Br, BrTable, Return, Call, Write, Fail, Print, GetGlobal, SetGlobal, Clear}
 use Rattle.isp_wasm_meaning.specs.Meaning.{count}
 use Rattle.isp_wasm_meaning.specs.Module.{ValueType, I32, I64, V128, Function}
 
@@ -94,7 +94,7 @@ taken_by o = I64
 
 -- the globals that each module has, and those that change
 abbrev pub global_type : ℕ → Option ValueType
-global_type g = if nat_eq g 0 then Some I32 else (if nat_lt g 17 then Some V128 else None)
+global_type g = if nat_eq g 0 then Some I32 else (if nat_lt g 17 then Some V128 else (if nat_eq g 17 then Some I32 else None))
 
 abbrev pub changes : ℕ → Bool
 changes g = not (nat_eq g 0)
@@ -162,6 +162,7 @@ module _ (local : ℕ → Option ValueType) where
     is_valid depth (Print o e) = has_type e (taken_by o)
     is_valid depth (GetGlobal x g) = of_type (Local x) (global_type g)
     is_valid depth (SetGlobal g e) = changes g && of_type e (global_type g)
+    is_valid depth (Clear a n) = has_type a I32 && has_type n I32
 
 -- behind it anything may stand
 abbrev pub ends_there : Code → Bool

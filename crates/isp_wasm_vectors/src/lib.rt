@@ -15,4 +15,6 @@ mod vectors;
 
 pub use across::across_line;
 pub use lanes::lanes_line;
-pub use vectors::vector_line;
+pub use parts::lane;
+pub use rows::widened_mask;
+pub use vectors::{select_lanes, vector_line};

@@ -89,12 +89,7 @@ pub(crate) fn mask(kernel: &Kernel, register: Register, part: u8) -> Result<Part
 }
 
 /// The value of a lane of a vector register of some type.
-pub(crate) fn lane(
-    kernel: &Kernel,
-    elem: Elem,
-    register: Register,
-    lane: u8,
-) -> Result<Operand, Refusal>
+pub fn lane(kernel: &Kernel, elem: Elem, register: Register, lane: u8) -> Result<Operand, Refusal>
     ensures { IfOk result (λ x. operand_expr x ≡ rows.lane_at elem (templates.vector_local (setting kernel.now) register) lane) }
 {
     let count = count_of(shape_of(elem));

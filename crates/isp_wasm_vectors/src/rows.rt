@@ -208,7 +208,7 @@ fn byte_part(shape: Shape, part: u8) -> u8
 }
 
 /// Appends the lanes of a mask, as ones or zeros of a shape's lanes.
-pub(crate) fn widened_mask(
+pub fn widened_mask(
     kernel: &Kernel,
     out: &mut Bytes,
     shape: Shape,

@@ -222,6 +222,19 @@ fn set_lanes(
     all_set(kernel, out, result_to, mask_under(kernel, instr), parts)
 }
 
+/// Appends that the lanes of a mask are set to what was worked out, in a local for each part.
+pub fn select_lanes(
+    kernel: &Kernel,
+    out: &mut Bytes,
+    result_to: Register,
+    mask: Register,
+) -> Result<(), Refusal>
+    ensures { OnOk result (out.new ≡ out.old ++ code_bytes (templates.select_lanes (setting kernel.now) result_to mask)) }
+{
+    let parts = parts(kernel, shape(kernel, result_to));
+    all_set(kernel, out, result_to, mask, parts)
+}
+
 /// Appends an instruction that writes lanes of a vector register.
 pub fn vector_line(
     kernel: &Kernel,

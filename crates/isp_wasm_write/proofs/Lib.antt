@@ -1,4 +1,11 @@
+pub mod ArrayLines
 pub mod Constants
 pub mod Each
+pub mod JumpTests
+pub mod Listed
+pub mod PartBytes
+pub mod Passed
 pub mod Positions
+pub mod RungHeads
 pub mod Tails
+pub mod TextStarts

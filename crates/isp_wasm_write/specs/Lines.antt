@@ -1,7 +1,5 @@
 -- Groups of instructions.
 use Rattle.std.specs.Prelude.{Bool, true, false}
-use Rattle.isp_code.specs.declared.instr.MaskInstr.{MaskInstr}
-use Rattle.isp_code.specs.declared.instr.MaskInstr.TheVariants as mask
 use Rattle.isp_code.specs.declared.instr.ScalarInstr.{ScalarInstr}
 use Rattle.isp_code.specs.declared.instr.ScalarInstr.TheVariants as scalar
 
@@ -11,10 +9,3 @@ is_plain (scalar.Load a i k p) = false
 is_plain (scalar.Reduce o x k) = false
 is_plain (scalar.Extract x i k) = false
 is_plain i = true
-
--- what makes a mask of masks and of a vector of bools
-abbrev pub is_bitwise : MaskInstr → Bool
-is_bitwise (mask.Copy x) = true
-is_bitwise (mask.Binary o x y) = true
-is_bitwise (mask.Test x y) = true
-is_bitwise i = false

@@ -1,5 +1,5 @@
 //! Instructions that load or store one element, that trap, and that return.
-ghost use Rattle.std.specs.Prelude.{◌≡◌, ◌++◌, OnOk, IfOk, Some};
+ghost use Rattle.std.specs.Prelude.{◌≡◌, ◌++◌, ◌≤◌, suc, OnOk, IfOk, Some};
 ghost use Rattle.isp_code.specs.Calls.{place_at};
 ghost use Rattle.isp_code.specs.declared.instr.Instr.TheVariants as instrs;
 ghost use Rattle.isp_code.specs.declared.instr.ScalarInstr.TheVariants as scalars;
@@ -7,17 +7,47 @@ ghost use Rattle.isp_code.specs.declared.register.Class.TheVariants as classes;
 ghost use Rattle.isp_wasm_meaning.specs.Syntax as wasm;
 ghost use Rattle.isp_wasm.specs.Places as places;
 ghost use Rattle.isp_wasm.specs.Templates as templates;
+ghost use Rattle.isp_wasm.specs.Templates.{each};
 ghost use Rattle.isp_wasm_binary.specs.Instructions.{code_bytes, expr_bytes};
 ghost use Rattle.isp_wasm_write.specs.Settings.{setting};
 
 use crate::kernel::{Kernel, Place};
 use crate::refusal::Refusal;
-use crate::types::width_of;
+use crate::types::{parts_for, shape_of, width_of};
 use isp_code::{Class, Register};
 use isp_wasm_binary::Bytes;
 
 impl<'a> Kernel<'a> {
-    /// Appends `ret`, of nothing or of a scalar register. A kernel gives no vector back: `NoLocal`.
+    // So many parts of a vector register, to globals from 1 on.
+    #[tactic(auto, using(crate::proofs::Each::one_more))]
+    fn parts_given(&self, out: &mut Bytes, register: Register, parts: u32) -> Result<(), Refusal>
+        requires { parts ≤ 16 }
+        ensures { OnOk result (out.new ≡ out.old ++ code_bytes (each parts (λ j. wasm.SetGlobal (suc j) (templates.vector_local (setting self.now) register j)))) }
+    {
+        for part in 0..parts {
+            self.get(out, Place::Vector(register.number, part))?;
+            out.set_global(part + 1)?;
+        }
+        Ok(())
+    }
+
+    /// How many parts a vector register has.
+    pub fn parts_of(&self, register: Register) -> u32
+        ensures is { result ≡ places.parts (setting self.now) (places.shape (setting self.now) register) }
+        ensures few { result ≤ 16 }
+    {
+        parts_for(self.width(), shape_of(self.elem(register)))
+    }
+
+    // A vector register is given back by its parts.
+    fn vector_given(&self, out: &mut Bytes, register: Register) -> Result<(), Refusal>
+        ensures { OnOk result (out.new ≡ out.old ++ code_bytes (templates.return_code (setting self.now) classes.Vector register)) }
+    {
+        self.parts_given(out, register, self.parts_of(register))?;
+        Ok(out.give_back()?)
+    }
+
+    /// Appends `ret`, of nothing, of a scalar or of a vector register. No other is given back: `NoLocal`.
     pub fn return_line(&self, out: &mut Bytes, register: Option<Register>) -> Result<(), Refusal>
         ensures { OnOk result (out.new ≡ out.old ++ code_bytes (templates.code_of (setting self.now) 0 (instrs.Return register))) }
     {
@@ -29,7 +59,8 @@ impl<'a> Kernel<'a> {
                     out.give_back()?;
                     Ok(())
                 }
-                Class::Vector | Class::Mask | Class::Array => Err(Refusal::NoLocal),
+                Class::Vector => self.vector_given(out, register),
+                Class::Mask | Class::Array => Err(Refusal::NoLocal),
             },
         }
     }

@@ -81,7 +81,7 @@ impl<'a> Kernel<'a> {
     }
 
     /// Appends a trap of a kind at a place, of the lowest lane of a mask.
-    pub(crate) fn fault_of_lowest(
+    pub fn fault_of_lowest(
         &self,
         out: &mut Bytes,
         kind: u32,

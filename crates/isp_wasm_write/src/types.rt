@@ -1,5 +1,5 @@
 //! How the types of elements lie in WebAssembly.
-ghost use Rattle.std.specs.Prelude.{◌≡◌};
+ghost use Rattle.std.specs.Prelude.{◌≡◌, ◌≤◌};
 ghost use Rattle.isp_wasm.specs.Places as places;
 ghost use Rattle.isp_wasm.specs.Words as words;
 ghost use Rattle.isp_wasm_binary.specs.Named as named;
@@ -50,6 +50,20 @@ pub fn width_of(elem: Elem) -> Width
         Elem::I16 | Elem::U16 => Width::Two,
         Elem::I32 | Elem::U32 => Width::Four,
         Elem::I64 | Elem::U64 => Width::Eight,
+    }
+}
+
+/// How many locals a row of so many lanes of a shape takes.
+pub(crate) fn parts_for(lanes: u32, shape: Shape) -> u32
+    requires { lanes ≤ 32 }
+    ensures is { result ≡ places.parts_for lanes (named.shape shape) }
+    ensures few { result ≤ 16 }
+{
+    match shape {
+        Shape::I8x16 => (lanes + 15) / 16,
+        Shape::I16x8 => (lanes + 7) / 8,
+        Shape::I32x4 => (lanes + 3) / 4,
+        Shape::I64x2 => (lanes + 1) / 2,
     }
 }
 
