@@ -1,7 +1,7 @@
 -- Each call has what it asks, and the finished code does what the tree means.
 use Rattle.std.proofs.Common.{◌≡◌, ◌∙◌, ap, arith, is_some, subst, sym}
 use Rattle.std.proofs.lemmas.Result.{IfOk-weaker}
-use Rattle.isp_lower.specs.Adding.{Adds, simple_in}
+use Rattle.isp_lower.specs.Adding.{Adds, FewMore, simple_in}
 use Rattle.isp_lower.specs.Drafts.{Draft, begun, draft_of, finished, with_instr}
 use Rattle.isp_lower_code.specs.Asks.{simple_asks}
 use Rattle.isp_lower_code.specs.Own.{HasOwn}
@@ -10,7 +10,7 @@ use Rattle.isp_registers.specs.Reserved.{Has}
 use Rattle.isp_typed.specs.Views.{function_of, program_of}
 use Rattle.isp_tests_lower.specs.Runs.{AssignmentRuns}
 use Rattle.isp_tests_lower.specs.Trees.{assignment, site, variables}
-use Rattle.isp_tests_lower.proofs.Called.{can_be_written, assignment_numbers, assignment_own, assignment_room, assignment_runs, assignment_written}
+use Rattle.isp_tests_lower.proofs.Called.{can_be_written, next_few, none_named, assignment_few, assignment_numbers, assignment_own, assignment_room, assignment_runs, assignment_written}
 use Rattle.isp_tests_lower.proofs.Drafted.{assignment_fine, assignment_rated, heading_fits, second_small}
 use Rattle.isp_tests_lower.proofs.emitted.assignment_code.Goals as goal
 
@@ -33,6 +33,26 @@ store-requires c =
       numbers = subst (λ x. HasNumbers (simple_asks x 3)) (sym is) (assignment_numbers c.asks_are_few.ensures);
       room = subst (λ x. HasRoom d.rows (simple_asks x 3)) (sym is) (assignment_room p f c.requires.function d first c.asks_are_few.ensures);
     }
+
+pub fresh-requires : goal.fresh-requires
+fresh-requires c =
+    let p = program_of c.args.checked.now in
+    let f = function_of c.args.f.now in
+    let e1 = c.begin.new.self in
+    let e2 = c.store.new.self in
+    let first = c.in_ok-begin.ensures.begun ∙ ap (begun f) c.new-e.ensures in
+    let is = c.requires.tree in
+    let more : FewMore (draft_of e1) (draft_of e2) (simple_asks assignment 3) = subst (λ x. FewMore (draft_of e1) (draft_of e2) (simple_asks x 3)) is c.in_ok-store.ensures.few in
+    let named = c.in_ok-store.ensures.all_named (none_named p f c.requires.function (draft_of e1) first) in
+    record {
+      begun = ap (λ (d : Draft). is_some d.heading) c.in_ok-store.ensures.code.kept ∙ ap (λ (d : Draft). is_some d.heading) first;
+      few = next_few p f c.requires.function (draft_of e1) first c.next_is_behind.ensures (draft_of e2) (simple_asks assignment 3) (assignment_few c.asks_are_few.ensures) more named;
+    }
+
+pub emit-requires : goal.emit-requires
+emit-requires c =
+    let first = c.in_ok-begin.ensures.begun ∙ ap (begun (function_of c.args.f.now)) c.new-e.ensures in
+    ap (λ (d : Draft). is_some d.heading) c.in_ok-fresh.ensures.added ∙ ap (λ (d : Draft). is_some d.heading) c.in_ok-store.ensures.code.kept ∙ ap (λ (d : Draft). is_some d.heading) first
 
 pub finish-requires : goal.finish-requires
 finish-requires c =
