@@ -1,0 +1,10 @@
+mod Covered
+mod Lists
+mod RunGroups
+mod Rungs
+mod Written
+mod Exported
+mod Memories
+mod Contents
+mod FirstRefused
+mod Vectors

@@ -1,0 +1,216 @@
+//! The functions of a module: what they take and give back, and their code.
+ghost use Rattle.std.specs.Prelude.{◌≡◌, ◌++◌, ◌+◌, ◌<◌, ◌^◌, [], length, map, slice_get, None, Some, true, IfSome, OnOk, IfOk};
+ghost use Rattle.std.specs.List.{flat_map, list_any};
+ghost use Rattle.isp_code.specs.Listing.{routine_of};
+ghost use Rattle.isp_code.specs.Registers.{table_of};
+ghost use Rattle.isp_wasm_meaning.specs.Module.{unused};
+ghost use Rattle.isp_wasm.specs.Module.{module_of};
+ghost use Rattle.isp_wasm.specs.Stack.{has_call};
+ghost use Rattle.isp_wasm_binary.specs.Binary as binary;
+ghost use Rattle.isp_wasm_binary.specs.Modules as modules;
+ghost use Rattle.isp_wasm_binary.specs.Numbers.{u32, bytes, vector};
+ghost use Rattle.isp_wasm_module.specs.Refused.{module_refusal};
+ghost use Rattle.isp_wasm_module.specs.reader.Pieces.{function_at, inner_of, written_of, IsWritten};
+
+use crate::body::push_code;
+use crate::fits::{has_calls, is_inner};
+use crate::groups::push_locals;
+use crate::refusal::Stopped;
+use crate::types::{of_places, push_function_type, push_unused_type};
+use isp_code::Function;
+use isp_verify::{Registers, Verified};
+use isp_wasm_binary::Bytes;
+use isp_wasm_write::{Caller, Kernel};
+use std::alloc::Global;
+
+/// How many functions the host gives.
+pub const HOSTS: u32 = 6;
+
+/// How many functions the code has.
+pub(crate) fn routine_count(code: &Verified) -> usize
+    ensures is { result ≡ length code.now.routines }
+    ensures few { result < 2 ^ 63 }
+{
+    code.code().functions().len()
+}
+
+/// How many functions the module has: where the code has calls, two for each.
+#[tactic(auto, using(crate::proofs::Written::count_alone, crate::proofs::Written::count_twice))]
+pub(crate) fn function_count(code: &Verified) -> usize
+    ensures { result ≡ length (module_of code.now).functions }
+{
+    let count = routine_count(code);
+    if has_calls(code) { 2 * count } else { count }
+}
+
+/// Function `number`, and its registers.
+pub(crate) fn function_of<'a>(code: &'a Verified, number: usize) -> (&'a Function, &'a Registers)
+    requires { number < length code.now.routines }
+    ensures found { slice_get code.now.routines number ≡ Some (routine_of result.0.now) }
+    ensures registers { result.1.now ≡ table_of (routine_of result.0.now) }
+{
+    (&code.code().functions()[number], code.registers(number))
+}
+
+// The function that a host calls, if it is exported.
+#[tactic(auto, using(crate::proofs::Written::not_exported, crate::proofs::Written::host_written))]
+fn host_kernel<'a>(
+    alloc: Global,
+    code: &'a Verified,
+    number: usize,
+) -> Result<Option<Kernel<'a>>, Stopped>
+    requires there { number < length code.now.routines }
+    requires fits { module_refusal code.now ≡ None }
+    ensures unused { IfOk result (λ o. o ≡ None → function_at code.now number ≡ unused) }
+    ensures written { IfOk result (λ o. IfSome o (λ k. IsWritten code.now number k)) }
+{
+    let (function, registers) = function_of(code, number);
+    if !function.exported {
+        return Ok(None);
+    }
+    let kernel = Kernel::new(alloc, code.code(), function, registers, Caller::Host)?;
+    Ok(Some(kernel))
+}
+
+// The function that others call, if any does: `called` in the code, and `number` in the module.
+#[tactic(auto, using(crate::proofs::Written::not_called, crate::proofs::Written::inner_written))]
+fn inner_kernel<'a>(
+    alloc: Global,
+    code: &'a Verified,
+    called: usize,
+    number: usize,
+) -> Result<Option<Kernel<'a>>, Stopped>
+    requires there { called < length code.now.routines }
+    requires behind { number ≡ length code.now.routines + called }
+    requires calls { list_any has_call code.now.routines ≡ true }
+    ensures unused { IfOk result (λ o. o ≡ None → function_at code.now number ≡ unused) }
+    ensures written { IfOk result (λ o. IfSome o (λ k. IsWritten code.now number k)) }
+{
+    let (function, registers) = function_of(code, called);
+    if !is_inner(code, called) {
+        return Ok(None);
+    }
+    let kernel = Kernel::new(alloc, code.code(), function, registers, Caller::Function)?;
+    Ok(Some(kernel))
+}
+
+// A function of the module, if it is written.
+#[tactic(auto, using(crate::proofs::Written::past_is, crate::proofs::Written::past_calls))]
+fn kernel_of<'a>(
+    alloc: Global,
+    code: &'a Verified,
+    number: usize,
+) -> Result<Option<Kernel<'a>>, Stopped>
+    requires there { number < length (module_of code.now).functions }
+    requires fits { module_refusal code.now ≡ None }
+    ensures unused { IfOk result (λ o. o ≡ None → function_at code.now number ≡ unused) }
+    ensures written { IfOk result (λ o. IfSome o (λ k. IsWritten code.now number k)) }
+{
+    let count = routine_count(code);
+    if number < count {
+        host_kernel(alloc, code, number)
+    } else {
+        inner_kernel(alloc, code, number - count, number)
+    }
+}
+
+// Appends what a function takes and gives back.
+fn push_type(alloc: Global, out: &mut Bytes, code: &Verified, number: usize) -> Result<(), Stopped>
+    requires there { number < length (module_of code.now).functions }
+    requires fits { module_refusal code.now ≡ None }
+    ensures { OnOk result (out.new ≡ out.old ++ modules.func_type (binary.type_of (function_at code.now number))) }
+{
+    match kernel_of(alloc, code, number)? {
+        None => push_unused_type(out)?,
+        Some(kernel) => push_function_type(alloc, out, &kernel)?,
+    }
+    Ok(())
+}
+
+/// Appends what all functions take and give back.
+#[tactic(auto, using(crate::proofs::Written::more_types, crate::proofs::Written::none_left))]
+pub(crate) fn push_types(alloc: Global, out: &mut Bytes, code: &Verified) -> Result<(), Stopped>
+    requires { module_refusal code.now ≡ None }
+    ensures { OnOk result (out.new ≡ out.old ++ flat_map modules.func_type (map binary.type_of (module_of code.now).functions)) }
+{
+    for number in 0..function_count(code) {
+        push_type(alloc, out, code, number)?;
+    }
+    Ok(())
+}
+
+// The locals of a function, and its code.
+fn inner(alloc: Global, kernel: &Kernel) -> Result<Bytes, Stopped>
+    ensures { IfOk result (λ b. b ≡ inner_of (written_of kernel.now)) }
+{
+    let types = of_places(alloc, kernel, kernel.own())?;
+    let mut out = Bytes::new(alloc);
+    push_locals(alloc, &mut out, types.as_slice())?;
+    push_code(kernel, &mut out)?;
+    out.end()?;
+    Ok(out)
+}
+
+/// A number behind so many others.
+pub(crate) fn number_and(number: usize, others: u32) -> Result<u32, Stopped>
+    ensures { IfOk result (λ n. n ≡ others + number) }
+{
+    match u32::try_from(u128::from(others) + number as u128) {
+        Ok(number) => Ok(number),
+        Err(_) => Err(Stopped::TooLong),
+    }
+}
+
+/// Appends how many bytes there are, and the bytes.
+pub(crate) fn push_sized(out: &mut Bytes, content: &[u8]) -> Result<(), Stopped>
+    ensures { OnOk result (out.new ≡ out.old ++ bytes content.now) }
+{
+    let Ok(length) = u32::try_from(content.len()) else {
+        return Err(Stopped::TooLong);
+    };
+    out.unsigned(length)?;
+    out.all(content)?;
+    Ok(())
+}
+
+// Appends the code of a function.
+#[tactic(auto, using(crate::proofs::Vectors::unused_body))]
+fn push_body(alloc: Global, out: &mut Bytes, code: &Verified, number: usize) -> Result<(), Stopped>
+    requires there { number < length (module_of code.now).functions }
+    requires fits { module_refusal code.now ≡ None }
+    ensures { OnOk result (out.new ≡ out.old ++ bytes (inner_of (function_at code.now number))) }
+{
+    match kernel_of(alloc, code, number)? {
+        None => {
+            out.all(b"\x03\x00\x00\x0b")?;
+            Ok(())
+        }
+        Some(kernel) => {
+            let inner = inner(alloc, &kernel)?.into_vec();
+            push_sized(out, inner.as_slice())
+        }
+    }
+}
+
+/// Appends the code of all functions.
+#[tactic(auto, using(crate::proofs::Written::more_bodies, crate::proofs::Written::none_left))]
+pub(crate) fn push_bodies(alloc: Global, out: &mut Bytes, code: &Verified) -> Result<(), Stopped>
+    requires { module_refusal code.now ≡ None }
+    ensures { OnOk result (out.new ≡ out.old ++ flat_map modules.body_bytes (binary.bodies 0 (module_of code.now).functions)) }
+{
+    for number in 0..function_count(code) {
+        push_body(alloc, out, code, number)?;
+    }
+    Ok(())
+}
+
+/// Appends the number of each function's type: its own, behind those of the host's.
+#[tactic(auto, using(crate::proofs::Written::more_numbers, crate::proofs::Written::none_left))]
+pub(crate) fn push_type_numbers(out: &mut Bytes, code: &Verified) -> Result<(), Stopped>
+    ensures { OnOk result (out.new ≡ out.old ++ flat_map modules.type_bytes (binary.bodies 0 (module_of code.now).functions)) }
+{
+    for number in 0..function_count(code) {
+        out.unsigned(number_and(number, HOSTS)?)?;
+    }
+    Ok(())
+}

@@ -1,0 +1,19 @@
+//! Code of the machine as a module of WebAssembly, as bytes.
+#![tactic(auto)]
+
+mod body;
+mod calls;
+mod exports;
+mod fits;
+mod functions;
+mod groups;
+mod line;
+mod memory;
+mod opened;
+mod prints;
+mod refusal;
+mod sections;
+mod types;
+
+pub use refusal::Refusal;
+pub use sections::module;
