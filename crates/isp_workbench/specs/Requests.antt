@@ -2,9 +2,10 @@
 --     ExplainedCall    `explain` is `isp check`, or where it has an entry `isp run`
 --     ShownRun         `count` and `trace` run an entry of a source, and show what the run does
 --     WroteC           `c` writes the page of the code
---     Answered         a request has its story and its exit status; and but for `explain` the line on standard error
---     Commands         some request is answered; or the words are refused, and nothing went out
--- `tells line` says that a line went to standard error. What `explain` writes there is no part of a promise.
+--     Answered         a request has its story and its exit status; and but for `run` and `explain` the line on standard error
+--     Commands         some request is answered; or help goes out, or the words are refused, and nothing went out
+-- `tells line` says that a line went to standard error. What `run` and `explain` write there is no part of a promise.
+-- `holds` speaks of texts, `datas` of bytes that are found under a name.
 use Rattle.std.specs.Prelude.{◌≡◌, ◌⊎◌, ℕ, List, [], Bool, Option, Some, None, Result, ⊤}
 use Rattle.isp_code.specs.Listing.{Listing}
 use Rattle.isp_command_line.specs.declared.words.CheckRequest.{CheckRequest}
@@ -19,7 +20,8 @@ use Rattle.ispx_command_line.specs.declared.words.Call.{Call}
 use Rattle.ispx_command_line.specs.declared.words.CRequest.{CRequest}
 use Rattle.ispx_command_line.specs.declared.words.ExplainRequest.{ExplainRequest}
 use Rattle.ispx_command_line.specs.declared.words.Request.{Request}
-use Rattle.ispx_command_line.specs.declared.words.Request.TheVariants.{Explain, Count, Trace, C}
+use Rattle.ispx_command_line.specs.declared.words.Request.TheVariants.{Run, Explain, Count, Trace, C}
+use Rattle.isp_run_command.specs.Running.{RunAnswered}
 use Rattle.isp_workbench.specs.Runs.{CountShows, ShowEnds, Shows, TraceShows}
 use Rattle.isp_workbench.specs.Texts.{GivesCode, GivesNone, c_page}
 
@@ -68,11 +70,17 @@ WroteC holds q old new failed end = ((code : Listing) × HasCode holds q code ×
 abbrev pub AnsweredBy : (Result ⊤ Failure → Type 0) → ℕ → Type 0
 AnsweredBy ends status = (end : Result ⊤ Failure) × (status ≡ exit_status end) × ends end
 
-abbrev pub Answered : Holds → Request → Option (List ℕ) → Option (List ℕ) → Bool → (List ℕ → Type 0) → ℕ → Type 0
-Answered holds (Explain q) old new failed tells status = AnsweredBy (ExplainedCall holds q q.call old new failed) status
-Answered holds (Count q) old new failed tells status = AnsweredBy (λ end. ShownEnds (CountShows q) holds q old new failed end × tells (line_of end)) status
-Answered holds (Trace q) old new failed tells status = AnsweredBy (λ end. ShownEnds (TraceShows q) holds q.run old new failed end × tells (line_of end)) status
-Answered holds (C q) old new failed tells status = AnsweredBy (λ end. WroteC holds q old new failed end × tells (line_of end)) status
+abbrev pub Answered : Holds → Holds → Request → Option (List ℕ) → Option (List ℕ) → Bool → (List ℕ → Type 0) → ℕ → Type 0
+Answered holds datas (Run q) old new failed tells status = RunAnswered holds datas q old new failed status
+Answered holds datas (Explain q) old new failed tells status = AnsweredBy (ExplainedCall holds q q.call old new failed) status
+Answered holds datas (Count q) old new failed tells status = AnsweredBy (λ end. ShownEnds (CountShows q) holds q old new failed end × tells (line_of end)) status
+Answered holds datas (Trace q) old new failed tells status = AnsweredBy (λ end. ShownEnds (TraceShows q) holds q.run old new failed end × tells (line_of end)) status
+Answered holds datas (C q) old new failed tells status = AnsweredBy (λ end. WroteC holds q old new failed end × tells (line_of end)) status
 
-abbrev pub Commands : Holds → Option (List ℕ) → Option (List ℕ) → Bool → (List ℕ → Type 0) → ℕ → Type 0
-Commands holds old new failed tells status = (Refused tells status × TookAll [] old new failed) ⊎ ((q : Request) × Answered holds q old new failed tells status)
+-- help goes out, with the status of that; or the words are refused, and nothing went out
+abbrev pub WordsRefused : Option (List ℕ) → Option (List ℕ) → Bool → (List ℕ → Type 0) → ℕ → Type 0
+WordsRefused old new failed tells status =
+    (Refused tells status × TookAll [] old new failed) ⊎ ((page : List ℕ) × AnsweredBy (λ end. Writes page old new failed end × tells (line_of end)) status)
+
+abbrev pub Commands : Holds → Holds → Option (List ℕ) → Option (List ℕ) → Bool → (List ℕ → Type 0) → ℕ → Type 0
+Commands holds datas old new failed tells status = WordsRefused old new failed tells status ⊎ ((q : Request) × Answered holds datas q old new failed tells status)

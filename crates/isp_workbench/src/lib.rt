@@ -5,7 +5,6 @@ mod commands;
 mod done;
 mod explain;
 mod native;
-mod output;
 mod runs;
 mod story;
 mod texts;
