@@ -1,6 +1,10 @@
 //! Files of arrays and images, read and written whole.
+ghost use Rattle.std.specs.Prelude.{◌≡◌, ◌≢◌};
+ghost use Rattle.std.specs.declared.io.ErrorKind.TheVariants.{OutOfMemory};
+ghost use Rattle.isp_run_words.specs.declared.files.DataFault.TheVariants.{CannotRead, Memory};
+
 use isp_run_words::DataFault;
-use std::alloc::{AllocError, Global};
+use std::alloc::Global;
 use std::fs::File;
 use std::io::{ErrorKind, Read, Write};
 use std::rt::Files;
@@ -20,7 +24,11 @@ fn read_into<R: Files>(rt: &R, name: &str, bytes: &mut Vec<u8>) -> io::Result<us
     file.read_to_end(bytes)
 }
 
-fn unread(kind: ErrorKind) -> DataFault {
+// Why a file gave no bytes: of memory the system tells, and anything else is no file that can be read.
+fn unread(kind: ErrorKind) -> DataFault
+    ensures memory { kind ≡ OutOfMemory → result ≡ Memory }
+    ensures other { kind ≢ OutOfMemory → result ≡ CannotRead }
+{
     if kind == ErrorKind::OutOfMemory {
         DataFault::Memory
     } else {

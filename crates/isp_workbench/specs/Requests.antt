@@ -3,16 +3,20 @@
 --     ShownRun         `count` and `trace` run an entry of a source, and show what the run does
 --     WroteC           `c` writes the page of the code
 --     Answered         a request has its story and its exit status; and but for `run` and `explain` the line on standard error
---     Commands         some request is answered; or help goes out, or the words are refused, and nothing went out
+--     WordsRefused     words that are no request: help goes out, or they are refused and nothing does
+--     Commands         some request is answered, or the words are no request
 -- `tells line` says that a line went to standard error. What `run` and `explain` write there is no part of a promise.
 -- `holds` speaks of texts, `datas` of bytes that are found under a name.
-use Rattle.std.specs.Prelude.{◌≡◌, ◌⊎◌, ℕ, List, [], Bool, Option, Some, None, Result, ⊤}
+use Rattle.std.specs.Prelude.{◌≡◌, ◌⊎◌, ℕ, List, [], Bool, Option, Some, None, Result, Err, ⊤}
+use Rattle.clap.specs.declared.error.kind.ErrorKind.{ErrorKind}
+use Rattle.clap.specs.declared.error.kind.ErrorKind.TheVariants.{DisplayHelp, DisplayVersion}
 use Rattle.isp_code.specs.Listing.{Listing}
 use Rattle.isp_command_line.specs.declared.words.CheckRequest.{CheckRequest}
 use Rattle.isp_command_line.specs.declared.words.RunRequest.{RunRequest}
 use Rattle.isp_engine.specs.declared.failure.Failure.{Failure}
+use Rattle.isp_engine.specs.declared.failure.Failure.TheVariants.{Memory}
 use Rattle.isp_engine.specs.Checking.{WroteVerdicts}
-use Rattle.isp_engine.specs.Commands.{Given, NotGiven, Refused, RunEnds, exit_status, job_of_run}
+use Rattle.isp_engine.specs.Commands.{Given, NotGiven, RunEnds, exit_status, job_of_run}
 use Rattle.isp_engine.specs.Failures.{line_of}
 use Rattle.isp_engine.specs.Sinks.{TookAll}
 use Rattle.isp_engine.specs.Stories.{Holds, Stops, Unread, Writes}
@@ -77,10 +81,17 @@ Answered holds datas (Count q) old new failed tells status = AnsweredBy (λ end.
 Answered holds datas (Trace q) old new failed tells status = AnsweredBy (λ end. ShownEnds (TraceShows q) holds q.run old new failed end × tells (line_of end)) status
 Answered holds datas (C q) old new failed tells status = AnsweredBy (λ end. WroteC holds q old new failed end × tells (line_of end)) status
 
--- help goes out, with the status of that; or the words are refused, and nothing went out
-abbrev pub WordsRefused : Option (List ℕ) → Option (List ℕ) → Bool → (List ℕ → Type 0) → ℕ → Type 0
-WordsRefused old new failed tells status =
-    (Refused tells status × TookAll [] old new failed) ⊎ ((page : List ℕ) × AnsweredBy (λ end. Writes page old new failed end × tells (line_of end)) status)
+-- words that ask for help or for the version, which go to standard output
+abbrev pub IsHelp : ErrorKind → Type 0
+IsHelp kind = (kind ≡ DisplayHelp) ⊎ (kind ≡ DisplayVersion)
+
+-- words that are no request: help goes out; or the words are refused, and nothing went out; or memory was refused
+abbrev pub WordsRefused : ErrorKind → Option (List ℕ) → Option (List ℕ) → Bool → (List ℕ → Type 0) → ℕ → Type 0
+WordsRefused kind old new failed tells status =
+    (IsHelp kind × ((page : List ℕ) × AnsweredBy (λ end. Writes page old new failed end × tells (line_of end)) status))
+    ⊎ ((IsHelp kind → ⊥) × (status ≡ 2) × TookAll [] old new failed)
+    ⊎ AnsweredBy (λ end. (end ≡ Err Memory) × TookAll [] old new failed × tells (line_of end)) status
 
 abbrev pub Commands : Holds → Holds → Option (List ℕ) → Option (List ℕ) → Bool → (List ℕ → Type 0) → ℕ → Type 0
-Commands holds datas old new failed tells status = WordsRefused old new failed tells status ⊎ ((q : Request) × Answered holds datas q old new failed tells status)
+Commands holds datas old new failed tells status =
+    ((kind : ErrorKind) × WordsRefused kind old new failed tells status) ⊎ ((q : Request) × Answered holds datas q old new failed tells status)

@@ -1,5 +1,6 @@
 //! The whole program, over what it is handed.
 ghost use Rattle.std.specs.Prelude.{◌≡◌, false};
+ghost use Rattle.clap.specs.Values.{kind_of};
 ghost use Rattle.isp_engine.specs.Sinks.{Told};
 ghost use Rattle.isp_workbench.specs.Requests.{Answered, Commands, WordsRefused};
 
@@ -17,12 +18,14 @@ use std::alloc::{AllocError, Global};
 /// Does what `words` ask for, the first of which is the program's name, and answers the exit status.
 ///
 /// `run [--gang G] [--budget B] [--out NAME=FILE].. [--json] SOURCE ENTRY [NAME=VALUE]..` runs ENTRY with the arguments that words and
-/// files give, and says on `err` what went wrong. `explain [--gang G] [--budget B] SOURCE [ENTRY ARGUMENTS]` does what `isp check` or `isp run` does, with the same output and
-/// the same status, and says on `err` what went wrong, where, and what to write instead. `count [--gang G] [--budget B] SOURCE
-/// ENTRY ARGUMENTS` does what `isp run` does, and writes behind the answer a line of JSON with what the instructions come to.
-/// `trace`, with the same words and `[--from N] [--count M] [--lanes]`, writes the line of each step in a window of the run.
-/// `c [--gang G] [--header] FILE` writes the code of a text, or with a gang that of a source, as a C file. Of these three a line of
-/// `isp` goes to `err` where the status is not 0.
+/// files give, and says on `err` what went wrong. `explain [--gang G] [--budget B] SOURCE [ENTRY ARGUMENTS]` does what `isp check` or
+/// `isp run` does, with the same output and the same status, and says on `err` what went wrong, where, and what to write instead.
+/// `count [--gang G] [--budget B] SOURCE ENTRY ARGUMENTS` does what `isp run` does, and writes behind the answer a line of JSON with
+/// what the instructions come to. `trace`, with the same words and `[--from N] [--count M] [--lanes]`, writes the line of each step in
+/// a window of the run. `c [--gang G] [--header] FILE` writes the code of a text, or with a gang that of a source, as a C file. Of these
+/// three a line of `isp` goes to `err` where the status is not 0.
+///
+/// Help and the version go to `out`, with status 0. Other words that are no request are refused on `err`, with status 2.
 /// Where `err` fails, or has failed before, the rest of it is lost.
 pub fn command<F: SourceFiles + DataFiles, O: Sink, E: Sink>(
     alloc: Global,
@@ -64,7 +67,7 @@ fn answer<F: SourceFiles + DataFiles, O: Sink, E: Sink>(
 // Shows help, or the text of refused words, and answers the exit status.
 fn refuse<O: Sink, E: Sink>(alloc: Global, error: &Error, out: &mut O, err: &mut E) -> u8
     requires { O.has_failed out.old ≡ false }
-    ensures { WordsRefused (O.written out.old) (O.written out.new) (O.has_failed out.new)
+    ensures { WordsRefused (kind_of error.now) (O.written out.old) (O.written out.new) (O.has_failed out.new)
         (λ line. Told line (E.written err.old) (E.written err.new) (E.has_failed err.new)) result }
 {
     if error.kind() == ErrorKind::OutOfMemory {
