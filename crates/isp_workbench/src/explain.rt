@@ -6,10 +6,10 @@ ghost use Rattle.isp_workbench.specs.Requests.{AnsweredBy, ExplainedCall, as_run
 ghost use Rattle.isp_workbench.specs.Texts.{ChecksText, RunsTexts};
 
 use crate::done::{Job, check, run};
-use crate::story::{Asked, Given, entry_story, notes, plain_fault, source_story, trap_story};
 use crate::texts::read_both;
 use isp_command_line::RunRequest;
 use isp_engine::{Failure, Sink, SourceFiles, read_file, tell_line};
+use isp_explained::{Asked, Given, entry_story, notes, plain_fault, source_story, trap_story};
 use isp_messages::Source;
 use isp_remedies::advice_on;
 use isp_run_command::{show, tell};

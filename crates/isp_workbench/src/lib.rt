@@ -6,7 +6,6 @@ mod done;
 mod explain;
 mod native;
 mod runs;
-mod story;
 mod texts;
 
 pub use commands::command;
