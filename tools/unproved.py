@@ -31,7 +31,7 @@ PROVED_BY = "`bin/{0} build` proves the program and builds it"
 AT_ONCE = (2, 6)
 HELP = {"help", "--help", "-h", "--version", "-V"}
 # the crates that read the words
-READERS = {"isp": ("isp_command_line",), "ispx": ("isp_command_line", "ispx_command_line")}
+READERS = {"isp": ("isp_command_line",), "ispx": ("isp_command_line", "ispx_command_line", "isp_run_words", "isp_run_stops")}
 # how often the folder of `rt try` is looked at for the program, in seconds
 LOOKS = 0.05
 # how many programs of other sources are kept, 25 MB each

@@ -7,9 +7,9 @@
 --     Commands         some request is answered, or the words are no request
 -- `tells line` says that a line went to standard error. What `run` and `explain` write there is no part of a promise.
 -- `holds` speaks of texts, `datas` of bytes that are found under a name.
-use Rattle.std.specs.Prelude.{◌≡◌, ◌⊎◌, ℕ, List, [], Bool, Option, Some, None, Result, Err, ⊤}
+use Rattle.std.specs.Prelude.{◌≡◌, ◌≢◌, ◌⊎◌, ℕ, List, [], Bool, Option, Some, None, Result, Err, ⊤}
 use Rattle.clap.specs.declared.error.kind.ErrorKind.{ErrorKind}
-use Rattle.clap.specs.declared.error.kind.ErrorKind.TheVariants.{DisplayHelp, DisplayVersion}
+use Rattle.clap.specs.declared.error.kind.ErrorKind.TheVariants.{DisplayHelp, DisplayVersion, OutOfMemory}
 use Rattle.isp_code.specs.Listing.{Listing}
 use Rattle.isp_command_line.specs.declared.words.CheckRequest.{CheckRequest}
 use Rattle.isp_command_line.specs.declared.words.RunRequest.{RunRequest}
@@ -85,11 +85,11 @@ Answered holds datas (C q) old new failed tells status = AnsweredBy (λ end. Wro
 abbrev pub IsHelp : ErrorKind → Type 0
 IsHelp kind = (kind ≡ DisplayHelp) ⊎ (kind ≡ DisplayVersion)
 
--- words that are no request: help goes out; or the words are refused, and nothing went out; or memory was refused
+-- words that are no request: help goes out; or they are a mistake, and nothing goes out; or memory was refused
 abbrev pub WordsRefused : ErrorKind → Option (List ℕ) → Option (List ℕ) → Bool → (List ℕ → Type 0) → ℕ → Type 0
 WordsRefused kind old new failed tells status =
     (IsHelp kind × ((page : List ℕ) × AnsweredBy (λ end. Writes page old new failed end × tells (line_of end)) status))
-    ⊎ ((IsHelp kind → ⊥) × (status ≡ 2) × TookAll [] old new failed)
+    ⊎ ((IsHelp kind → ⊥) × (kind ≢ OutOfMemory) × (status ≡ 2) × TookAll [] old new failed)
     ⊎ AnsweredBy (λ end. (end ≡ Err Memory) × TookAll [] old new failed × tells (line_of end)) status
 
 abbrev pub Commands : Holds → Holds → Option (List ℕ) → Option (List ℕ) → Bool → (List ℕ → Type 0) → ℕ → Type 0
