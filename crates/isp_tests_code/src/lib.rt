@@ -1,6 +1,8 @@
-//! Worked examples of code: what is refused and what is accepted, against answers that were found without the crates.
+//! Worked examples of code and its text: what is refused and what is accepted, against answers that were found without the crates.
 #![tactic(auto)]
 
+#[cfg(test)]
+mod broken;
 #[cfg(test)]
 mod codes;
 #[cfg(test)]
@@ -9,3 +11,5 @@ mod limits;
 mod refused;
 #[cfg(test)]
 mod scatter;
+#[cfg(test)]
+mod texts;

@@ -16,4 +16,6 @@ mod rest;
 #[cfg(test)]
 mod runs;
 #[cfg(test)]
+mod traces;
+#[cfg(test)]
 mod views;

@@ -1,12 +1,11 @@
 //! Memory refused to the instances, at each growth.
-use crate::entries::{bound, checked};
+use crate::programs::{bound, checked};
 use isp_base::{Bound, Span};
 use isp_bind::answer;
 use isp_rates::Checked;
 use isp_solo::{EvalFault, SoloReport, one_by_one};
 use isp_tests_support::{Hoard, INC, Program, Tried, UNIQUE, sweep_call};
 use std::alloc::Global;
-use std::process::Abort;
 use std::test::Fail;
 
 /// Its runs take memory for variables, local arrays, calls, a `foreach`, marks and touches. g(x) is x; a becomes 5 + 0, 6 + 1, 7 + 2.

@@ -1,6 +1,6 @@
 //! The runs of the table, one after the other.
-use crate::rows::compare_all;
-use crate::worked;
+use super::rows::compare_all;
+use super::worked;
 use std::test::Fail;
 
 #[test]

@@ -1,6 +1,6 @@
 //! Counts.
-use crate::kernels::{BUMP, MANDELBROT, SHARE};
-use crate::runs::{Case, Given, counts};
+use super::kernels::{BUMP, MANDELBROT, SHARE};
+use super::runs::{Case, Given, counts};
 use std::alloc::Global;
 use std::test::Fail;
 

@@ -1,7 +1,7 @@
 //! Memory refused to the front's last two calls, to the evaluator and to the count of work, at each growth.
-use crate::entries::front;
+use crate::programs::{bound, checked};
 use isp_base::{Bound, Gang};
-use isp_bind::{answer, bind};
+use isp_bind::answer;
 use isp_lex::{SourceFault, lex};
 use isp_model::{EvalFault, Outcome, evaluate, work};
 use isp_rates::{Checked, check};
@@ -26,15 +26,6 @@ const WORKS: [(Program<'static>, u64); 2] = [
     // of 2 turns: itself, the print and its two values.
     (UNIQUE, 15),
 ];
-
-fn bound(rt: &impl Abort, alloc: Global, checked: &Checked, program: &Program<'_>) -> Bound {
-    let signature = checked
-        .signature(program.entry)
-        .expect(rt, "no such function");
-    bind(alloc, signature, program.arguments)
-        .ok()
-        .expect(rt, "not bound")
-}
 
 // What comes of a run, by its answer and its output.
 fn ended(alloc: Global, checked: &Checked, program: &Program<'_>, outcome: &Outcome) -> Tried {
@@ -168,10 +159,8 @@ fn sweep_calls(alloc: Global, given: Given<'_>) -> Result<(), Fail> {
 fn swept(rt: &impl Abort, alloc: Global, program: &Program<'_>) -> Result<(), Fail> {
     let tokens = lex(alloc, program.source).ok().expect(rt, "no words");
     let tree = parse(alloc, &tokens).ok().expect(rt, "no tree");
-    let checked = front(alloc, program.source, Gang::W4)
-        .ok()
-        .expect(rt, "no program");
-    let bound = bound(rt, alloc, &checked, program);
+    let checked = checked(rt, alloc, program.source);
+    let bound = bound(rt, alloc, &checked, program.entry, program.arguments);
     let given = Given {
         program,
         tree: &tree,
@@ -208,10 +197,8 @@ fn counted(alloc: Global, checked: &Checked, bound: &Bound, entry: &str, wanted:
 fn memory_refused_to_work(rt: HostRuntime) -> Result<(), Fail> {
     let alloc = rt.alloc();
     for (program, wanted) in &WORKS {
-        let checked = front(alloc, program.source, Gang::W4)
-            .ok()
-            .expect(&rt, "no program");
-        let bound = bound(&rt, alloc, &checked, program);
+        let checked = checked(&rt, alloc, program.source);
+        let bound = bound(&rt, alloc, &checked, program.entry, program.arguments);
         sweep_call(alloc, "work", || {
             counted(alloc, &checked, &bound, program.entry, *wanted)
         })?;

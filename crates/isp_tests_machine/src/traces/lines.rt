@@ -1,6 +1,6 @@
 //! Traces.
-use crate::kernels::{BUMP, SHARE};
-use crate::runs::{Case, Given, lines};
+use super::kernels::{BUMP, SHARE};
+use super::runs::{Case, Given, lines};
 use isp_traces::Window;
 use std::test::Fail;
 

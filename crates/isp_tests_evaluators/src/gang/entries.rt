@@ -1,13 +1,9 @@
 //! Entries that are not there.
-use isp_base::{Bound, Gang};
-use isp_bind::bind;
-use isp_lex::{SourceFault, lex};
+use crate::programs::{bound, checked};
+use isp_base::Bound;
 use isp_model::{EvalFault, evaluate, work};
-use isp_rates::{Checked, check};
-use isp_syntax::parse;
-use isp_types::resolve;
+use isp_rates::Checked;
 use std::alloc::Global;
-use std::process::Abort;
 
 /// Functions that differ in their parameters and results alone, and one that is not exported.
 const TEXT: &str =
@@ -44,13 +40,6 @@ struct Asked<'a> {
     json: &'a str,
 }
 
-/// The program of a source.
-pub(crate) fn front(alloc: Global, source: &str, gang: Gang) -> Result<Checked, SourceFault> {
-    let tokens = lex(alloc, source)?;
-    let tree = parse(alloc, &tokens)?;
-    check(alloc, resolve(alloc, &tree, gang)?)
-}
-
 fn read(line: &str) -> Option<Asked<'_>> {
     let (word, rest) = line.split_once(' ')?;
     let (entry, rest) = rest.split_once(' ')?;
@@ -61,15 +50,6 @@ fn read(line: &str) -> Option<Asked<'_>> {
         given,
         json,
     })
-}
-
-fn bound(rt: &impl Abort, alloc: Global, checked: &Checked, asked: Asked<'_>) -> Bound {
-    let signature = checked
-        .signature(asked.given)
-        .expect(rt, "no such function");
-    bind(alloc, signature, asked.json)
-        .ok()
-        .expect(rt, "not bound")
 }
 
 // Whether the entry is found.
@@ -97,11 +77,11 @@ fn is_as_told(alloc: Global, checked: &Checked, asked: Asked<'_>, bound: &Bound)
 #[test]
 fn entries_that_are_not_there(rt: HostRuntime) {
     let alloc = rt.alloc();
-    let checked = front(alloc, TEXT, Gang::W4).ok().expect(&rt, "no program");
+    let checked = checked(&rt, alloc, TEXT);
     let mut count = 0usize;
     for line in LINES.lines() {
         let asked = read(line).expect(&rt, "a line that says too little");
-        let bound = bound(&rt, alloc, &checked, asked);
+        let bound = bound(&rt, alloc, &checked, asked.given, asked.json);
         assert!(rt; is_as_told(alloc, &checked, asked, &bound), "{line}");
         count = count.saturating_add(1);
     }

@@ -1,5 +1,5 @@
 //! Memory refused to a counted run, at each growth: the same run then gives its arrays, its output and its counts.
-use crate::runs::{Given, bound, verified};
+use super::runs::{Given, bound, verified};
 use isp_machine::StartFault;
 use isp_tests_support::{Hoard, Tried, sweep};
 use isp_traces::{Counted, count_run, counts_line};

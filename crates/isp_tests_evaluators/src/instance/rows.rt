@@ -1,14 +1,11 @@
 //! What a record of the table says, and its comparison with a run.
-use crate::touched::{Named, arrays_of, read, stored};
+use super::touched::{Named, arrays_of, read, stored};
+use crate::programs::program;
 use isp_base::Gang;
 use isp_bind::bind;
-use isp_lex::{SourceFault, lex};
-use isp_rates::{Checked, check};
 use isp_solo_run::arrays::Arrays;
 use isp_solo_run::running::{Ending, Run, run_alone};
-use isp_syntax::parse;
 use isp_tests_support::{Marked, number};
-use isp_types::resolve;
 use std::alloc::{AllocError, Global};
 use std::process::Abort;
 use std::test::Fail;
@@ -74,13 +71,6 @@ fn row_of(record: &str) -> Option<Row<'_>> {
     })
 }
 
-/// The program of a source.
-pub(crate) fn front(alloc: Global, source: &str, gang: Gang) -> Result<Checked, SourceFault> {
-    let tokens = lex(alloc, source)?;
-    let tree = parse(alloc, &tokens)?;
-    check(alloc, resolve(alloc, &tree, gang)?)
-}
-
 /// What a run came to, in the words of a record, and its arrays for the run after it.
 #[derive(Drop)]
 struct Found {
@@ -111,7 +101,7 @@ fn worded(alloc: Global, arrays: &[Named<'_>], run: Run) -> Result<Found, AllocE
 
 // The run of a source by one instance, with the arrays of an earlier run.
 fn found_by(alloc: Global, source: &str, call: Call<'_>, arrays: Arrays) -> Result<Found, Fail> {
-    let checked = front(alloc, source, call.gang)?;
+    let checked = program(alloc, source, call.gang)?;
     let (Some(signature), Some(number)) = (checked.signature(call.entry), checked.entry(call.entry))
     else {
         return Err(Fail::from("no such entry"));

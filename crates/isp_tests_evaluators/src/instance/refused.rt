@@ -1,8 +1,5 @@
 //! Memory refused to the run of an instance, at each growth.
-use crate::rows::front;
-use isp_base::{Bound, Gang};
-use isp_bind::bind;
-use isp_rates::Checked;
+use crate::programs::{bound, checked};
 use isp_solo_run::arrays::Arrays;
 use isp_solo_run::running::{Ending, Run, run_alone};
 use isp_tests_support::{Tried, sweep_call};
@@ -42,13 +39,6 @@ const ROWS: [Row<'static>; 2] = [
     },
 ];
 
-fn bound(alloc: Global, checked: &Checked, row: &Row<'_>) -> Result<Bound, Fail> {
-    match checked.signature("f") {
-        Some(signature) => Ok(bind(alloc, signature, row.arguments)?),
-        None => Err(Fail::from("no such function")),
-    }
-}
-
 fn is_read(run: &Run, place: usize) -> bool {
     match run.arrays.stores.get(0) {
         Some(array) => array.read_at(place),
@@ -77,11 +67,9 @@ fn is_right(run: &Run, row: &Row<'_>) -> bool {
 fn memory_refused_to_a_run(rt: HostRuntime) -> Result<(), Fail> {
     let alloc = rt.alloc();
     for row in &ROWS {
-        let checked = front(alloc, row.source, Gang::W4)?;
-        let bound = bound(alloc, &checked, row)?;
-        let Some(function) = checked.entry("f") else {
-            return Err(Fail::from("no such entry"));
-        };
+        let checked = checked(&rt, alloc, row.source);
+        let bound = bound(&rt, alloc, &checked, "f", row.arguments);
+        let function = checked.entry("f").expect(&rt, "no such entry");
         sweep_call(alloc, "run_alone", || {
             let arguments = bound.arguments.as_slice();
             let arrays = Arrays::new(alloc);

@@ -1,0 +1,11 @@
+//! Programs by the evaluators: by the gang, by its instances one by one, and by one instance alone.
+#![tactic(auto)]
+
+#[cfg(test)]
+mod gang;
+#[cfg(test)]
+mod instance;
+#[cfg(test)]
+mod programs;
+#[cfg(test)]
+mod solo;
