@@ -40,7 +40,7 @@ def zsh(program):
     lines += ["        _describe command commands", "        return", "    fi", "    shift words", "    (( CURRENT-- ))", "    case ${words[1]} in"]
     for command in program.commands:
         options = [zsh_option(it) for it in command.options]
-        files = [f"'{'' if it.is_required else ':'}:{it.name}:{'_files' if it.is_file else ' '}'" for it in command.arguments]
+        files = [f"'{'*' if it.is_repeated else '' if it.is_required else ':'}:{for_zsh(it.name)}:{'_files' if it.is_file else ' '}'" for it in command.arguments]
         lines.append(f"    {command.name}) _arguments {' '.join([*options, *files])} ;;")
     lines += ["    help) _describe command commands ;;", "    esac", "}", f"_{program.name} \"$@\""]
     return "\n".join(lines) + "\n"

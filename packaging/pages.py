@@ -4,7 +4,7 @@ import re
 SEE_ALSO = {"isp": "ispx", "ispx": "isp"}
 EXAMPLE = {
     "isp": "isp run --gang 16 brighten.ispc brighten brighten.json",
-    "ispx": "ispx explain brighten.ispc brighten brighten.json",
+    "ispx": "ispx run brighten.ispc brighten 'pixels=[0,100,250]' count=3 level=50",
 }
 
 
@@ -39,7 +39,7 @@ def of_option(option):
 
 def usage(program, command):
     options = [f"[\\fB{quoted(it.long)}\\fR" + (f" \\fI{it.value}\\fR]" if it.value else "]") for it in command.options if it.long != "--help"]
-    arguments = [f"\\fI{it.name}\\fR" if it.is_required else f"[\\fI{it.name}\\fR]" for it in command.arguments]
+    arguments = [(f"\\fI{it.name}\\fR" if it.is_required else f"[\\fI{it.name}\\fR]") + (" .." if it.is_repeated else "") for it in command.arguments]
     return " ".join([f"\\fB{program.name} {command.name}\\fR", *options, *arguments])
 
 

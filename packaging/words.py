@@ -6,8 +6,8 @@ import re
 import subprocess
 from typing import NamedTuple, Optional
 
-OPTION = re.compile(r"^ +(?:(-\w), |    )(--[\w-]+)(?: <(\w+)>)? {2,}(.*)$")
-ARGUMENT = re.compile(r"^ +([<\[])(\w+)[>\]] {2,}(.*)$")
+OPTION = re.compile(r"^ +(?:(-\w), |    )(--[\w-]+)(?: <([\w=]+)>)? {2,}(.*)$")
+ARGUMENT = re.compile(r"^ +([<\[])([\w=]+)[>\]](\.\.\.)? {2,}(.*)$")
 COMMAND = re.compile(r"^  (\w+) {2,}(.*)$")
 NOTE = re.compile(r" \[(default|possible values): ([^]]*)\]")
 
@@ -29,6 +29,7 @@ class Argument(NamedTuple):
     name: str
     help: str
     is_required: bool
+    is_repeated: bool = False
 
     @property
     def is_file(self):
@@ -72,7 +73,7 @@ def option_of(line):
 
 def argument_of(line):
     found = ARGUMENT.match(line)
-    return found and Argument(found[2], found[3], found[1] == "<")
+    return found and Argument(found[2], found[4], found[1] == "<", bool(found[3]))
 
 
 def sections(text):

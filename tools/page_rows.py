@@ -17,7 +17,8 @@ An example is a block between ``` that begins with `$ `:
     $ cat NAME                      the lines of a file up to the next `$ `; it stays as it is until it is shown anew
     $ isp WORD..                    what it prints, and last `[STATUS]` where that is not 0; `$ bin/isp WORD..` too
     $ isp WORD.. > NAME             what it prints is what the `$ cat NAME` behind it shows
-    $ ispx WORD..                   the same of `ispx`; of `ispx explain` all behind what `isp` writes to standard output goes to standard error
+    $ ispx WORD..                   the same of `ispx`; of `ispx explain` all behind what `isp` writes to standard output goes to standard error,
+                                    of `ispx run` all where the status is not 0
 
 Other commands count for nothing. A file that a page does not show is taken from the repository, where it is there. Of a command that
 goes into another, or reads a file that is not shown since another made it, there is no row; its name is printed. The format of the
@@ -26,6 +27,7 @@ rows stands in crates/isp_tests_requests/src/main.rt.
 import glob
 import os
 import re
+import shlex
 import shutil
 import subprocess
 import sys
@@ -116,7 +118,8 @@ def row(heading, words, files, shown, program="words", outs=None):
     if outs is not None:
         out, err = [*out, *err][:outs], [*out, *err][outs:]
     yield f"=== {heading}"
-    for word in words:
+    # (a file of `ispx run` stands behind `@`)
+    for word in [it.rpartition("@")[2] for it in words]:
         if word in files:
             yield f"file {word} {spelt(files[word])}"
         elif re.search(r"[./]", word) and os.path.isfile(f"{ROOT}/{word}"):
@@ -150,7 +153,8 @@ def rows_of(page):
     files, unseen, rows, printed, differ = {}, set(), [], {}, []
     for heading, steps in examples(page):
         for (command, shown), (following, after) in zip(steps, [*steps[1:], ("", [])]):
-            words = command.removeprefix("bin/").split()
+            words = shlex.split(command.removeprefix("bin/"))
+            assert not any(" " in word for word in words), command
             into = words[-1] if words[-2:-1] == [">"] else None
             if into:
                 files.pop(into, None)
@@ -170,7 +174,9 @@ def rows_of(page):
             elif into or "|" in words or unseen.intersection(words):
                 print(f"page_rows.py: no row of `{command}`", file=sys.stderr)
             else:
-                rows += row(heading, words[1:], files, shown, PROGRAM[words[0]])
+                # (what `ispx run` refuses it shows in several lines)
+                outs = 0 if words[:2] == ["ispx", "run"] and parted(shown)[0] else None
+                rows += row(heading, words[1:], files, shown, PROGRAM[words[0]], outs)
                 printed[tuple(words[1:])] = shown
     return rows, differ
 

@@ -8,7 +8,8 @@ The toolchain's run without proof, `rt try`, builds a program that checks itself
 kept below a folder of the user, by the hash of the sources, so that it is built once for each change of them. A line on standard error says
 that nothing is proved.
 
-Whatever the released program answers without running anything, help, refused words and files that cannot be read, it answers at once.
+Whatever the released program answers without running anything, help, refused words and files that cannot be read, it answers at once, where
+the crates that read the words are those of the release.
 """
 import fcntl
 import glob
@@ -26,8 +27,11 @@ from build import FAILED, TRIAL, stop
 
 NO_RT = "these sources are not those of the release, and there is no rt on the path to build a program of them: README.md says what it is"
 PROVED_BY = "`bin/{0} build` proves the program and builds it"
-# the program's statuses of refused words and of help, and of files that cannot be read
+# the program's statuses of refused words, and of files that cannot be read; words that ask for help and for the version, whose status may be 0
 AT_ONCE = (2, 6)
+HELP = {"help", "--help", "-h", "--version", "-V"}
+# the crates that read the words
+READERS = {"isp": ("isp_command_line",), "ispx": ("isp_command_line", "ispx_command_line", "isp_run_words", "isp_run_stops")}
 # how often the folder of `rt try` is looked at for the program, in seconds
 LOOKS = 0.05
 # how many programs of other sources are kept, 25 MB each
@@ -47,13 +51,19 @@ def harmless(words, empty):
     return given
 
 
-def at_once(released, words):
+def reads_the_same(name):
+    """Whether the program takes the same words as the released one."""
+    about, _ = sources.manifest()
+    return all(about["source"].get(it) == hashed for it, hashed in sources.hashes(READERS[name]).items())
+
+
+def at_once(name, released, words):
     """Returns the status, where the released program has answered the words, which ask for no run, or None."""
-    if not released:
+    if not released or not reads_the_same(name):
         return None
     with tempfile.NamedTemporaryFile(prefix="isp-empty-") as empty:
         ran = subprocess.run([released, *harmless(words, empty.name)], stdin=subprocess.DEVNULL, capture_output=True)
-    if ran.returncode not in AT_ONCE:
+    if ran.returncode not in AT_ONCE and not (ran.returncode == 0 and HELP.intersection(words)):
         return None
     # (the same, but for the names that its message tells)
     return subprocess.run([released, *words], stdin=subprocess.DEVNULL).returncode
@@ -138,7 +148,7 @@ def answer(name, total, released, words):
     cache = folder_for_programs()
     program = f"{cache}/{total}/{name}-not-proved"
     if not os.path.exists(program):
-        known = at_once(released, words)
+        known = at_once(name, released, words)
         if known is not None:
             return known
         if not shutil.which("rt"):

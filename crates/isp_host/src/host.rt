@@ -4,7 +4,9 @@ ghost use Rattle.std.specs.IoError.{error_kind};
 ghost use Rattle.std.specs.declared.io.ErrorKind.TheVariants.{Interrupted, OutOfMemory};
 ghost use Rattle.isp_engine.specs.declared.files.FileFault.TheVariants.{CannotRead, Memory};
 
+use crate::data::{read_data, write_data};
 use isp_engine::{FileFault, Sink, SinkFault, SourceFiles, read_source};
+use isp_run_words::{DataFault, DataFiles};
 use std::alloc::Global;
 use std::fs::File;
 use std::io;
@@ -29,6 +31,16 @@ impl<R: Files> SourceFiles for HostFiles<'_, R> {
             Ok(mut file) => read_source(alloc, &mut file),
             Err(error) => Err(unopened(error.kind())),
         }
+    }
+}
+
+impl<R: Files> DataFiles for HostFiles<'_, R> {
+    fn read_bytes(&self, alloc: Global, name: &str) -> Result<Vec<u8>, DataFault> {
+        read_data(self.rt, alloc, name)
+    }
+
+    fn write_bytes(&self, alloc: Global, name: &str, bytes: &[u8]) -> bool {
+        write_data(self.rt, alloc, name, bytes)
     }
 }
 

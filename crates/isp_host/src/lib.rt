@@ -1,6 +1,7 @@
 //! The system's words, files and streams, as isp_engine wants them.
 #![tactic(auto)]
 
+mod data;
 mod host;
 mod words;
 

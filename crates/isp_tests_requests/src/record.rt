@@ -1,5 +1,6 @@
 //! One request, line by line.
 use crate::fakes::{Page, Shelf};
+use hex::decode;
 use isp_tests_support::{Marked, number, parted, spelt_out};
 use std::alloc::{AllocError, Global};
 
@@ -16,6 +17,7 @@ pub(crate) struct Record<'a> {
     status: u64,
     out: String,
     err: String,
+    left: &'a str,
 }
 
 /// Whose words they are.
@@ -45,6 +47,7 @@ impl<'a> Record<'a> {
             status: 0,
             out: String::new(alloc),
             err: String::new(alloc),
+            left: "",
         }
     }
 
@@ -53,6 +56,9 @@ impl<'a> Record<'a> {
         let (word, rest) = parted(line, ' ');
         match word {
             "file" => self.put_file(rest)?,
+            "data" => self.put_data(rest)?,
+            "closed" => self.files.close(rest)?,
+            "left" => self.left = rest,
             "words" => self.ask(Program::Isp, rest),
             "ispx" => self.ask(Program::Ispx, rest),
             "kept" => self.keep(rest)?,
@@ -76,7 +82,16 @@ impl<'a> Record<'a> {
         let (name, text) = parted(rest, ' ');
         let marked = Marked::new(self.alloc, spelt_out(self.alloc, text)?.as_str())?;
         self.place = format!(in self.alloc; "{}..{}", marked.start, marked.end)?;
-        self.files.put(name, marked.source)
+        self.files.put(name, marked.source.into_bytes())
+    }
+
+    // A file of bytes, in hexadecimal digits.
+    fn put_data(&mut self, rest: &'a str) -> Result<(), AllocError> {
+        let (name, digits) = parted(rest, ' ');
+        match decode(self.alloc, digits) {
+            Ok(bytes) => self.files.put(name, bytes),
+            Err(_) => Ok(()),
+        }
     }
 
     // What the words before write, if it begins as is said, is the text of a file.
@@ -85,7 +100,7 @@ impl<'a> Record<'a> {
         let beginning = spelt_out(self.alloc, beginning)?;
         let text = self.answer()?.out.text(self.alloc)?;
         if text.as_str().starts_with(beginning.as_str()) {
-            self.files.put(name, text)?;
+            self.files.put(name, text.into_bytes())?;
         }
         Ok(())
     }
@@ -121,11 +136,13 @@ impl<'a> Record<'a> {
     pub(crate) fn difference(&self) -> Result<Option<String>, AllocError> {
         let alloc = self.alloc;
         let Answer { status, out, err } = self.answer()?;
-        if u64::from(status) == self.status && out.is(&self.out) && err.is(&self.err) {
+        let left = self.files.left()?;
+        let is_left = left.as_str() == self.left;
+        if u64::from(status) == self.status && out.is(&self.out) && err.is(&self.err) && is_left {
             return Ok(None);
         }
         let (out, err) = (out.text(alloc)?, err.text(alloc)?);
-        let difference = format!(in alloc; "{}: status {status}, {out}, {err}", self.name)?;
+        let difference = format!(in alloc; "{}: status {status}, {out}, {err}, {left}", self.name)?;
         Ok(Some(difference))
     }
 }

@@ -2,16 +2,21 @@
 --     ExplainedCall    `explain` is `isp check`, or where it has an entry `isp run`
 --     ShownRun         `count` and `trace` run an entry of a source, and show what the run does
 --     WroteC           `c` writes the page of the code
---     Answered         a request has its story and its exit status; and but for `explain` the line on standard error
---     Commands         some request is answered; or the words are refused, and nothing went out
--- `tells line` says that a line went to standard error. What `explain` writes there is no part of a promise.
-use Rattle.std.specs.Prelude.{◌≡◌, ◌⊎◌, ℕ, List, [], Bool, Option, Some, None, Result, ⊤}
+--     Answered         a request has its story and its exit status; and but for `run` and `explain` the line on standard error
+--     WordsRefused     words that are no request: help goes out, or they are refused and nothing does
+--     Commands         some request is answered, or the words are no request
+-- `tells line` says that a line went to standard error. What `run` and `explain` write there is no part of a promise.
+-- `holds` speaks of texts, `datas` of bytes that are found under a name.
+use Rattle.std.specs.Prelude.{◌≡◌, ◌≢◌, ◌⊎◌, ℕ, List, [], Bool, Option, Some, None, Result, Err, ⊤}
+use Rattle.clap.specs.declared.error.kind.ErrorKind.{ErrorKind}
+use Rattle.clap.specs.declared.error.kind.ErrorKind.TheVariants.{DisplayHelp, DisplayVersion, OutOfMemory}
 use Rattle.isp_code.specs.Listing.{Listing}
 use Rattle.isp_command_line.specs.declared.words.CheckRequest.{CheckRequest}
 use Rattle.isp_command_line.specs.declared.words.RunRequest.{RunRequest}
 use Rattle.isp_engine.specs.declared.failure.Failure.{Failure}
+use Rattle.isp_engine.specs.declared.failure.Failure.TheVariants.{Memory}
 use Rattle.isp_engine.specs.Checking.{WroteVerdicts}
-use Rattle.isp_engine.specs.Commands.{Given, NotGiven, Refused, RunEnds, exit_status, job_of_run}
+use Rattle.isp_engine.specs.Commands.{Given, NotGiven, RunEnds, exit_status, job_of_run}
 use Rattle.isp_engine.specs.Failures.{line_of}
 use Rattle.isp_engine.specs.Sinks.{TookAll}
 use Rattle.isp_engine.specs.Stories.{Holds, Stops, Unread, Writes}
@@ -19,7 +24,8 @@ use Rattle.ispx_command_line.specs.declared.words.Call.{Call}
 use Rattle.ispx_command_line.specs.declared.words.CRequest.{CRequest}
 use Rattle.ispx_command_line.specs.declared.words.ExplainRequest.{ExplainRequest}
 use Rattle.ispx_command_line.specs.declared.words.Request.{Request}
-use Rattle.ispx_command_line.specs.declared.words.Request.TheVariants.{Explain, Count, Trace, C}
+use Rattle.ispx_command_line.specs.declared.words.Request.TheVariants.{Run, Explain, Count, Trace, C}
+use Rattle.isp_run_command.specs.Running.{RunAnswered}
 use Rattle.isp_workbench.specs.Runs.{CountShows, ShowEnds, Shows, TraceShows}
 use Rattle.isp_workbench.specs.Texts.{GivesCode, GivesNone, c_page}
 
@@ -68,11 +74,24 @@ WroteC holds q old new failed end = ((code : Listing) × HasCode holds q code ×
 abbrev pub AnsweredBy : (Result ⊤ Failure → Type 0) → ℕ → Type 0
 AnsweredBy ends status = (end : Result ⊤ Failure) × (status ≡ exit_status end) × ends end
 
-abbrev pub Answered : Holds → Request → Option (List ℕ) → Option (List ℕ) → Bool → (List ℕ → Type 0) → ℕ → Type 0
-Answered holds (Explain q) old new failed tells status = AnsweredBy (ExplainedCall holds q q.call old new failed) status
-Answered holds (Count q) old new failed tells status = AnsweredBy (λ end. ShownEnds (CountShows q) holds q old new failed end × tells (line_of end)) status
-Answered holds (Trace q) old new failed tells status = AnsweredBy (λ end. ShownEnds (TraceShows q) holds q.run old new failed end × tells (line_of end)) status
-Answered holds (C q) old new failed tells status = AnsweredBy (λ end. WroteC holds q old new failed end × tells (line_of end)) status
+abbrev pub Answered : Holds → Holds → Request → Option (List ℕ) → Option (List ℕ) → Bool → (List ℕ → Type 0) → ℕ → Type 0
+Answered holds datas (Run q) old new failed tells status = RunAnswered holds datas q old new failed status
+Answered holds datas (Explain q) old new failed tells status = AnsweredBy (ExplainedCall holds q q.call old new failed) status
+Answered holds datas (Count q) old new failed tells status = AnsweredBy (λ end. ShownEnds (CountShows q) holds q old new failed end × tells (line_of end)) status
+Answered holds datas (Trace q) old new failed tells status = AnsweredBy (λ end. ShownEnds (TraceShows q) holds q.run old new failed end × tells (line_of end)) status
+Answered holds datas (C q) old new failed tells status = AnsweredBy (λ end. WroteC holds q old new failed end × tells (line_of end)) status
 
-abbrev pub Commands : Holds → Option (List ℕ) → Option (List ℕ) → Bool → (List ℕ → Type 0) → ℕ → Type 0
-Commands holds old new failed tells status = (Refused tells status × TookAll [] old new failed) ⊎ ((q : Request) × Answered holds q old new failed tells status)
+-- words that ask for help or for the version, which go to standard output
+abbrev pub IsHelp : ErrorKind → Type 0
+IsHelp kind = (kind ≡ DisplayHelp) ⊎ (kind ≡ DisplayVersion)
+
+-- words that are no request: help goes out; or they are a mistake, and nothing goes out; or memory was refused
+abbrev pub WordsRefused : ErrorKind → Option (List ℕ) → Option (List ℕ) → Bool → (List ℕ → Type 0) → ℕ → Type 0
+WordsRefused kind old new failed tells status =
+    (IsHelp kind × ((page : List ℕ) × AnsweredBy (λ end. Writes page old new failed end × tells (line_of end)) status))
+    ⊎ ((IsHelp kind → ⊥) × (kind ≢ OutOfMemory) × (status ≡ 2) × TookAll [] old new failed)
+    ⊎ AnsweredBy (λ end. (end ≡ Err Memory) × TookAll [] old new failed × tells (line_of end)) status
+
+abbrev pub Commands : Holds → Holds → Option (List ℕ) → Option (List ℕ) → Bool → (List ℕ → Type 0) → ℕ → Type 0
+Commands holds datas old new failed tells status =
+    ((kind : ErrorKind) × WordsRefused kind old new failed tells status) ⊎ ((q : Request) × Answered holds datas q old new failed tells status)

@@ -1,29 +1,33 @@
 //! The whole program, over what it is handed.
 ghost use Rattle.std.specs.Prelude.{◌≡◌, false};
-ghost use Rattle.isp_engine.specs.Commands.{Refused};
+ghost use Rattle.clap.specs.Values.{kind_of};
 ghost use Rattle.isp_engine.specs.Sinks.{Told};
-ghost use Rattle.isp_workbench.specs.Requests.{Answered, Commands};
+ghost use Rattle.isp_workbench.specs.Requests.{Answered, Commands, WordsRefused};
 
 use crate::explain::explain;
 use crate::native::c_file;
-use crate::output::show;
 use crate::runs::{count, trace};
 use clap::Error;
 use clap::error::ErrorKind;
-use isp_engine::{Failure, Sink, SourceFiles, tell_end};
+use isp_engine::{Failure, Sink, SourceFiles, tell_end, write_text};
+use isp_run_command::{run, show};
+use isp_run_words::DataFiles;
 use ispx_command_line::{Request, read_words};
 use std::alloc::{AllocError, Global};
 
 /// Does what `words` ask for, the first of which is the program's name, and answers the exit status.
 ///
-/// `explain [--gang G] [--budget B] SOURCE [ENTRY ARGUMENTS]` does what `isp check` or `isp run` does, with the same output and
-/// the same status, and says on `err` what went wrong, where, and what to write instead. `count [--gang G] [--budget B] SOURCE
-/// ENTRY ARGUMENTS` does what `isp run` does, and writes behind the answer a line of JSON with what the instructions come to.
-/// `trace`, with the same words and `[--from N] [--count M] [--lanes]`, writes the line of each step in a window of the run.
-/// `c [--gang G] [--header] FILE` writes the code of a text, or with a gang that of a source, as a C file. Of these three a line of
-/// `isp` goes to `err` where the status is not 0.
+/// `run [--gang G] [--budget B] [--out NAME=FILE].. [--json] SOURCE ENTRY [NAME=VALUE]..` runs ENTRY with the arguments that words and
+/// files give, and says on `err` what went wrong. `explain [--gang G] [--budget B] SOURCE [ENTRY ARGUMENTS]` does what `isp check` or
+/// `isp run` does, with the same output and the same status, and says on `err` what went wrong, where, and what to write instead.
+/// `count [--gang G] [--budget B] SOURCE ENTRY ARGUMENTS` does what `isp run` does, and writes behind the answer a line of JSON with
+/// what the instructions come to. `trace`, with the same words and `[--from N] [--count M] [--lanes]`, writes the line of each step in
+/// a window of the run. `c [--gang G] [--header] FILE` writes the code of a text, or with a gang that of a source, as a C file. Of these
+/// three a line of `isp` goes to `err` where the status is not 0.
+///
+/// Help and the version go to `out`, with status 0. Other words that are no request are refused on `err`, with status 2.
 /// Where `err` fails, or has failed before, the rest of it is lost.
-pub fn command<F: SourceFiles, O: Sink, E: Sink>(
+pub fn command<F: SourceFiles + DataFiles, O: Sink, E: Sink>(
     alloc: Global,
     words: &[String],
     files: &F,
@@ -31,16 +35,16 @@ pub fn command<F: SourceFiles, O: Sink, E: Sink>(
     err: &mut E,
 ) -> u8
     requires { O.has_failed out.old ≡ false }
-    ensures { Commands (F.holds files.now) (O.written out.old) (O.written out.new) (O.has_failed out.new)
+    ensures { Commands (F.holds files.now) (F.has_bytes files.now) (O.written out.old) (O.written out.new) (O.has_failed out.new)
         (λ line. Told line (E.written err.old) (E.written err.new) (E.has_failed err.new)) result }
 {
     match read_words(alloc, words) {
         Ok(request) => answer(alloc, &request, files, out, err),
-        Err(error) => refuse(alloc, &error, err),
+        Err(error) => refuse(alloc, &error, out, err),
     }
 }
 
-fn answer<F: SourceFiles, O: Sink, E: Sink>(
+fn answer<F: SourceFiles + DataFiles, O: Sink, E: Sink>(
     alloc: Global,
     request: &Request<'_>,
     files: &F,
@@ -48,10 +52,11 @@ fn answer<F: SourceFiles, O: Sink, E: Sink>(
     err: &mut E,
 ) -> u8
     requires { O.has_failed out.old ≡ false }
-    ensures { Answered (F.holds files.now) request.now (O.written out.old) (O.written out.new) (O.has_failed out.new)
+    ensures { Answered (F.holds files.now) (F.has_bytes files.now) request.now (O.written out.old) (O.written out.new) (O.has_failed out.new)
         (λ line. Told line (E.written err.old) (E.written err.new) (E.has_failed err.new)) result }
 {
     match request {
+        Request::Run(wanted) => run(alloc, wanted, files, out, err),
         Request::Explain(wanted) => explain(alloc, wanted, files, out, err),
         Request::Count(wanted) => tell_end(count(alloc, wanted, files, out), err),
         Request::Trace(wanted) => tell_end(trace(alloc, wanted, files, out), err),
@@ -59,17 +64,23 @@ fn answer<F: SourceFiles, O: Sink, E: Sink>(
     }
 }
 
-// Shows the text of refused words, and answers the exit status.
-fn refuse<E: Sink>(alloc: Global, error: &Error, err: &mut E) -> u8
-    ensures { Refused (λ line. Told line (E.written err.old) (E.written err.new) (E.has_failed err.new)) result }
+// Shows help, or the text of refused words, and answers the exit status.
+fn refuse<O: Sink, E: Sink>(alloc: Global, error: &Error, out: &mut O, err: &mut E) -> u8
+    requires { O.has_failed out.old ≡ false }
+    ensures { WordsRefused (kind_of error.now) (O.written out.old) (O.written out.new) (O.has_failed out.new)
+        (λ line. Told line (E.written err.old) (E.written err.new) (E.has_failed err.new)) result }
 {
     if error.kind() == ErrorKind::OutOfMemory {
         return tell_end(Err(Failure::Memory), err);
     }
     match format!(in alloc; "{error}") {
         Ok(text) => {
-            show(text.as_str(), err);
-            2
+            if error.use_stderr() {
+                show(text.as_str(), err);
+                2
+            } else {
+                tell_end(write_text(text.as_str(), out), err)
+            }
         }
         Err(AllocError) => tell_end(Err(Failure::Memory), err),
     }

@@ -6,15 +6,15 @@ ghost use Rattle.isp_workbench.specs.Requests.{AnsweredBy, ExplainedCall, as_run
 ghost use Rattle.isp_workbench.specs.Texts.{ChecksText, RunsTexts};
 
 use crate::done::{Job, check, run};
-use crate::output::show;
-use crate::story::{Asked, Given, entry_story, notes, plain_fault, source_story, trap_story};
 use crate::texts::read_both;
 use isp_command_line::RunRequest;
 use isp_engine::{Failure, Sink, SourceFiles, read_file, tell_line};
+use isp_explained::{Asked, Given, entry_story, notes, plain_fault, source_story, trap_story};
 use isp_messages::Source;
 use isp_remedies::advice_on;
+use isp_run_command::{show, tell};
 use ispx_command_line::{Call, ExplainRequest};
-use std::alloc::{AllocError, Global};
+use std::alloc::Global;
 
 /// Checks a source, or runs an entry of it, as `isp` does, and answers the status of `isp`; says on `err` what went wrong.
 pub(crate) fn explain<F: SourceFiles, O: Sink, E: Sink>(
@@ -177,12 +177,5 @@ fn say_plainly<E: Sink>(failure: &Failure<'_>, err: &mut E) {
         show("\nFix: ", err);
         show(advice.fix, err);
         show("\n", err);
-    }
-}
-
-fn tell<E: Sink>(text: Result<String, AllocError>, err: &mut E) {
-    match text {
-        Ok(text) => show(text.as_str(), err),
-        Err(AllocError) => tell_line(&Failure::Memory, err),
     }
 }

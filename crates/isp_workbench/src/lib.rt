@@ -5,9 +5,7 @@ mod commands;
 mod done;
 mod explain;
 mod native;
-mod output;
 mod runs;
-mod story;
 mod texts;
 
 pub use commands::command;

@@ -3,6 +3,7 @@ use clap::error::ErrorKind;
 use clap::{Arg, ArgAction, ArgMatches, Command, Error, value_parser};
 use isp_base::Gang;
 use isp_command_line::{RunRequest, VERSION};
+use isp_run_words::RunWords;
 use std::alloc::{AllocError, Global};
 
 /// An entry that is run, and the name of the file with its arguments.
@@ -41,8 +42,9 @@ pub struct TraceRequest<'a> {
 }
 
 /// What command words ask for. Sources, code and arguments are names of files.
-#[derive(Clone, Copy, Debug)]
+#[derive(Debug, Drop)]
 pub enum Request<'a> {
+    Run(RunWords<'a>),
     Explain(ExplainRequest<'a>),
     Count(RunRequest<'a>),
     Trace(TraceRequest<'a>),
@@ -53,6 +55,7 @@ pub enum Request<'a> {
 pub fn read_words<'a>(alloc: Global, words: &'a [String]) -> Result<Request<'a>, Error> {
     let matches = ispx(alloc)?.try_get_matches_from(words)?;
     let chosen = match matches.subcommand() {
+        Some(("run", inner)) => words_of(alloc, inner)?.map(Request::Run),
         Some((name, inner)) => chosen(name, inner),
         None => None,
     };
@@ -92,6 +95,42 @@ fn chosen<'a>(name: &str, inner: &ArgMatches<'a>) -> Option<Request<'a>> {
     }
 }
 
+fn words_of<'a>(alloc: Global, inner: &ArgMatches<'a>) -> Result<Option<RunWords<'a>>, AllocError> {
+    let values = list_of(alloc, inner, "NAME=VALUE")?;
+    let outputs = list_of(alloc, inner, "out")?;
+    let (Some(gang), Some(source), Some(entry)) = (
+        gang_of(inner),
+        inner.get_str("SOURCE"),
+        inner.get_str("ENTRY"),
+    ) else {
+        return Ok(None);
+    };
+    Ok(Some(RunWords {
+        gang,
+        budget: inner.get_one::<u64>("budget"),
+        source,
+        entry,
+        values,
+        outputs,
+        is_json: inner.get_flag("json"),
+    }))
+}
+
+// The values of an argument, in their order.
+fn list_of<'a>(
+    alloc: Global,
+    inner: &ArgMatches<'a>,
+    name: &str,
+) -> Result<Vec<&'a str>, AllocError> {
+    let mut list = Vec::new(alloc);
+    if let Some(values) = inner.get_strs(name) {
+        for value in values {
+            list.push(*value)?;
+        }
+    }
+    Ok(list)
+}
+
 fn run_of<'a>(inner: &ArgMatches<'a>) -> Option<RunRequest<'a>> {
     Some(RunRequest {
         gang: gang_of(inner)?,
@@ -118,13 +157,58 @@ fn ispx<'a>(alloc: Global) -> Result<Command<'a>, Error> {
     let named = Command::new(alloc, "ispx")
         .bin_name("ispx")?
         .version(VERSION)
-        .about("Explains what `isp` refuses, shows what a run does, and writes kernels as C")
+        .about(
+            "Runs kernels, explains what is refused, shows what a run does, and writes kernels as C",
+        )
         .subcommand_required(true);
     let shown = named
+        .subcommand(run_words(alloc)?)?
         .subcommand(explain(alloc)?)?
         .subcommand(count(alloc)?)?
         .subcommand(trace(alloc)?)?;
     Ok(shown.subcommand(c(alloc)?)?)
+}
+
+fn run_words<'a>(alloc: Global) -> Result<Command<'a>, AllocError> {
+    Command::new(alloc, "run")
+        .about("Runs ENTRY of SOURCE with values from the command line and from files")
+        .arg(gang(alloc).default_value("16"))?
+        .arg(number(alloc, "budget", "B").help(
+            "Instructions that may run; as many as it takes unless given",
+        ))?
+        .arg(output(alloc))?
+        .arg(
+            Arg::new(alloc, "json")
+                .long("json")
+                .help("Says what goes wrong as JSON, for tools")
+                .action(ArgAction::SetTrue),
+        )?
+        .arg(
+            named(alloc, "SOURCE")
+                .required(true)
+                .help("File with the kernels, text in ISPC"),
+        )?
+        .arg(
+            named(alloc, "ENTRY")
+                .required(true)
+                .help("Exported function to call"),
+        )?
+        .arg(values(alloc))
+}
+
+fn output<'a>(alloc: Global) -> Arg<'a> {
+    Arg::new(alloc, "out")
+        .long("out")
+        .value_name("NAME=FILE")
+        .help("Writes an array to a file, by its ending: .json, .npy, .pgm or .ppm")
+        .action(ArgAction::Append)
+}
+
+fn values<'a>(alloc: Global) -> Arg<'a> {
+    Arg::new(alloc, "NAME=VALUE")
+        .num_args(0..)
+        .help("A number, true, false, [1,2,3], @FILE (.json, .npy, .pgm, .ppm), - or zeros(N*M)")
+        .action(ArgAction::Append)
 }
 
 fn explain<'a>(alloc: Global) -> Result<Command<'a>, AllocError> {

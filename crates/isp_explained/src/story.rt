@@ -15,7 +15,7 @@ use std::fmt::Write;
 
 /// What was done, as far as it was read: the source, and the entry with its arguments.
 #[derive(Clone, Copy)]
-pub(crate) struct Asked<'n, 't> {
+pub struct Asked<'n, 't> {
     source: Source<'n, 't>,
     gang: Gang,
     call: Option<Given<'n, 't>>,
@@ -23,23 +23,20 @@ pub(crate) struct Asked<'n, 't> {
 
 /// An entry, and its arguments.
 #[derive(Clone, Copy)]
-pub(crate) struct Given<'n, 't> {
-    pub(crate) entry: &'n str,
-    pub(crate) arguments: Source<'n, 't>,
+pub struct Given<'n, 't> {
+    pub entry: &'n str,
+    pub arguments: Source<'n, 't>,
 }
 
 impl<'n, 't> Asked<'n, 't> {
-    pub(crate) fn of(
-        source: Source<'n, 't>,
-        gang: Gang,
-        call: Option<Given<'n, 't>>,
-    ) -> Asked<'n, 't> {
+    /// A source for a gang, and the entry of it that was run.
+    pub fn of(source: Source<'n, 't>, gang: Gang, call: Option<Given<'n, 't>>) -> Asked<'n, 't> {
         Asked { source, gang, call }
     }
 }
 
 /// Where a source is refused, why, and what to write instead.
-pub(crate) fn source_story(
+pub fn source_story(
     alloc: Global,
     asked: &Asked<'_, '_>,
     fault: Fault,
@@ -48,16 +45,12 @@ pub(crate) fn source_story(
 }
 
 /// Where a run trapped, for which instance, and what to write instead.
-pub(crate) fn trap_story(
-    alloc: Global,
-    asked: &Asked<'_, '_>,
-    trap: Trap,
-) -> Result<String, AllocError> {
+pub fn trap_story(alloc: Global, asked: &Asked<'_, '_>, trap: Trap) -> Result<String, AllocError> {
     trap_message(alloc, asked.source, trap)?.text(alloc)
 }
 
 /// Why an entry was not run: what is exported, or which of its arguments is refused.
-pub(crate) fn entry_story(
+pub fn entry_story(
     alloc: Global,
     asked: &Asked<'_, '_>,
     fault: RunFault,
@@ -69,7 +62,7 @@ pub(crate) fn entry_story(
 }
 
 /// The words by which docs/FAULTS.md has a failure without a place.
-pub(crate) fn plain_fault(failure: &Failure<'_>) -> &'static str {
+pub fn plain_fault(failure: &Failure<'_>) -> &'static str {
     match failure {
         Failure::BudgetUsed => "budget used",
         Failure::CannotRead(_) => "cannot read",
@@ -134,7 +127,7 @@ fn push_exports(page: &mut String, checked: &Checked) -> Result<(), AllocError> 
 }
 
 /// Which rule each exported function breaks that is no independent entry, where, and what to write instead.
-pub(crate) fn notes(alloc: Global, asked: &Asked<'_, '_>) -> Result<String, AllocError> {
+pub fn notes(alloc: Global, asked: &Asked<'_, '_>) -> Result<String, AllocError> {
     let mut page = String::new(alloc);
     if let Some(checked) = checked_again(alloc, asked)? {
         push_notes(&mut page, alloc, asked.source, &checked)?;
