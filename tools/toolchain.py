@@ -14,7 +14,7 @@ import os
 import shutil
 import sys
 
-STORE = os.environ.get("ISP_KEPT", "/var/tmp/isp-kept")
+STORE = os.environ.get("ISP_KEPT") or os.path.expanduser("~/.cache/isp-gate")
 
 
 def toolchain():
