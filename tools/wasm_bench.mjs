@@ -43,9 +43,10 @@ async function measured(text) {
   for (let round = 0; round < Number(rounds); round++) {
     for (const form of forms) {
       begin(form.lent);
-      const from = process.hrtime.bigint();
+      const before = process.cpuUsage();
       const { result } = form.module.call(name, form.values);
-      form.least = Math.min(form.least, Number(process.hrtime.bigint() - from));
+      const { user, system } = process.cpuUsage(before);
+      form.least = Math.min(form.least, 1000 * (user + system));
       const found = sum(form.lent, result);
       wanted ??= found;
       form.wrong += found !== wanted;
