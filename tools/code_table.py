@@ -1,5 +1,5 @@
 #!/usr/bin/env python3
-"""Writes crates/isp_tests_code/src/codes/table.rt: instructions that the verifier takes, and wrong ones.
+"""Writes crates/isp_tests_machine/src/code/codes/table.rt: instructions that the verifier takes, and wrong ones.
 
 Each line of the table of instructions in docs/MACHINE.md stands here once, as code text, with what it asks of each
 operand. A wrong instruction differs from a right one in one operand: it is not there (40), has
@@ -136,7 +136,7 @@ pub(super) const LINES: &str = "{lines}
 
 def main():
     lines = [f"{line}|{rule}" for line, rule in rows()]
-    written.put({"crates/isp_tests_code/src/codes/table.rt": HEAD.format(count=len(lines), lines="\n".join(lines))})
+    written.put({"crates/isp_tests_machine/src/code/codes/table.rt": HEAD.format(count=len(lines), lines="\n".join(lines))})
     if "--check" not in sys.argv:
         print(sum(not it.endswith("|") for it in lines), "are wrong")
 

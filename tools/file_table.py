@@ -1,10 +1,10 @@
 #!/usr/bin/env python3
-"""Writes crates/isp_tests_files/data/files.rows: files of arrays and images, and what each holds or what is wrong with it.
+"""Writes crates/isp_tests_cases/data/files/files.rows: files of arrays and images, and what each holds or what is wrong with it.
 
 The bytes are made here by struct, from the descriptions of the formats (NumPy's NEP 1, Netpbm's pgm and ppm), so what they hold is
 known; what is wrong with the broken ones, and where, stands beside each by hand. Nothing is taken from the crates.
 
-    python3 tools/file_table.py             writes it, and the count of its files in crates/isp_tests_files/stdout
+    python3 tools/file_table.py             writes it, and the count of its files in crates/isp_tests_cases/stdout
     python3 tools/file_table.py --check     ends with status 1 where one is stale
 """
 import struct
@@ -196,8 +196,9 @@ def main():
     rows = []
     for form, data, answer in [*arrays(), *saved(), *broken_arrays(), *images()]:
         rows.append(f"{form} {data.hex()}|{answer}")
-    folder = "crates/isp_tests_files"
-    written.put({f"{folder}/data/files.rows": "".join(f"{row}\n" for row in rows), f"{folder}/stdout": f"files.rows: {len(rows)} files\n"})
+    folder = "crates/isp_tests_cases"
+    count = f"{folder}/stdout"
+    written.put({f"{folder}/data/files/files.rows": "".join(f"{row}\n" for row in rows), count: written.with_count(count, len(rows), "files")})
 
 
 main()

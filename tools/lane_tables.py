@@ -1,7 +1,7 @@
 #!/usr/bin/env python3
-"""Counts the writes of vectors of each kernel of examples/, by a pass of its own over their code: the data of isp_tests_lanes_read.
+"""Counts the writes of vectors of each kernel of examples/, by a pass of its own over their code: data of isp_tests_cases.
 
-    python3 tools/lane_tables.py             writes crates/isp_tests_lanes_read: data/, args and stdout
+    python3 tools/lane_tables.py             writes data/lanes of crates/isp_tests_cases, and its files in args and stdout
     python3 tools/lane_tables.py --check     ends with status 1 where one of them is stale
 
 The code is what `bin/isp asm` says, or the program that ISP names. The pass stands on no crate. Forward, a set of masks is a number
@@ -16,7 +16,8 @@ sys.dont_write_bytecode = True
 import written  # noqa: E402
 
 ROOT = os.path.dirname(os.path.dirname(os.path.realpath(__file__)))
-CRATE = "crates/isp_tests_lanes_read"
+CRATE = "crates/isp_tests_cases"
+FOLDER = "lanes"
 GANG = 8
 
 JUMPS = {"jmp", "jz", "jnz", "joff", "jon", "jall"}
@@ -181,20 +182,22 @@ def kinds(masks, code):
     return found
 
 
-def told(name, code):
+def told(code):
     found = [kind for masks, lines in functions(code) for kind in kinds(masks, lines)]
-    return f"{name}: taken, " + ", ".join(f"{found.count(kind)} {kind}" for kind in ("full", "free", "useless", "select"))
+    return "taken, " + ", ".join(f"{found.count(kind)} {kind}" for kind in ("full", "free", "useless", "select"))
 
 
 def main():
     program = os.environ.get("ISP", f"{ROOT}/bin/isp")
     codes = {}
     for source in sorted(glob.glob(f"{ROOT}/examples/*.ispc")):
-        name = os.path.basename(source).removesuffix(".ispc") + ".code"
-        codes[name] = subprocess.run([program, "asm", "--gang", str(GANG), source], check=True, capture_output=True, text=True).stdout
-    files = {f"{CRATE}/data/{name}": code for name, code in codes.items()}
-    files[f"{CRATE}/args"] = "".join(f"{name}\n" for name in codes)
-    files[f"{CRATE}/stdout"] = "".join(f"{told(name, code)}\n" for name, code in codes.items())
+        name = os.path.basename(source).removesuffix(".ispc")
+        codes[f"{FOLDER}/{name}.code"] = subprocess.run([program, "asm", "--gang", str(GANG), source], check=True, capture_output=True, text=True).stdout
+    files = {f"{CRATE}/data/{name}": f"{told(code)}\n{code}" for name, code in codes.items()}
+    with open(f"{ROOT}/{CRATE}/args", encoding="utf-8") as file:
+        others = [name for name in file.read().splitlines() if not name.startswith(f"{FOLDER}/")]
+    files[f"{CRATE}/args"] = "".join(f"{name}\n" for name in [*others, *codes])
+    files[f"{CRATE}/stdout"] = written.with_count(f"{CRATE}/stdout", len(codes), "kernels")
     written.put(files)
 
 

@@ -1,5 +1,5 @@
 #!/usr/bin/env python3
-"""Writes crates/isp_tests_base/src/operators/table.rt: what each operator gives at the ends of each type.
+"""Writes crates/isp_tests_front/src/base/operators/table.rt: what each operator gives at the ends of each type.
 
 The numbers come from Python's whole numbers, of any size, and from the rules of the language;
 nothing here is taken from the crates.
@@ -93,7 +93,7 @@ def lines(type_name, width, signed):
 
 def main():
     text = "\n".join(text for type_ in TYPES for text in lines(*type_))
-    written.put({"crates/isp_tests_base/src/operators/table.rt": f'{HEAD}pub(super) const TABLE: &str = "{text}";\n'})
+    written.put({"crates/isp_tests_front/src/base/operators/table.rt": f'{HEAD}pub(super) const TABLE: &str = "{text}";\n'})
 
 
 main()

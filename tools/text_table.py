@@ -1,9 +1,9 @@
 #!/usr/bin/env python3
-"""Writes crates/isp_tests_texts/data/faults.rows: texts that are those of no code, and some that are, with the fault of each.
+"""Writes crates/isp_tests_cases/data/texts/faults.rows: texts that are those of no code, and some that are, with the fault of each.
 
 A reader of its own, written from docs/MACHINE.md (Code text), judges each text. Nothing is taken from the crates.
 
-    python3 tools/text_table.py             writes it, and the count of its texts in crates/isp_tests_texts/stdout
+    python3 tools/text_table.py             writes it, and the count of its texts in crates/isp_tests_cases/stdout
     python3 tools/text_table.py --check     ends with status 1 where one is stale
 """
 import re
@@ -292,8 +292,9 @@ def main():
             seen.add(text)
             found = fault(text)
             out.append(text.replace("\n", "␤") + "|" + (f"{found[0]} {NAMES[found[0]]} at line {found[1]}" if found else "read"))
-    rows_of = {"data/faults.rows": "\n".join(out) + "\n", "stdout": f"faults.rows: {len(out)} texts\n"}
-    written.put({f"crates/isp_tests_texts/{name}": text for name, text in rows_of.items()})
+    folder = "crates/isp_tests_cases"
+    count = f"{folder}/stdout"
+    written.put({f"{folder}/data/texts/faults.rows": "\n".join(out) + "\n", count: written.with_count(count, len(out), "texts")})
     print(len(out), "texts,", sum(row.endswith("|read") for row in out), "without a fault")
 
 

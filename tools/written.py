@@ -22,6 +22,14 @@ def same(path, text):
     return found == text or (path.endswith(".rt") and plain(found) == plain(text))
 
 
+def with_count(path, count, name):
+    """Returns the text of a file whose line `N NAME, 0 differ` has this count."""
+    with open(f"{ROOT}/{path}", encoding="utf-8") as file:
+        lines = file.read().splitlines()
+    changed = [f"{count} {name}, 0 differ" if re.fullmatch(rf"\d+ {name}, 0 differ", line) else line for line in lines]
+    return "".join(f"{line}\n" for line in changed)
+
+
 def put(files):
     """Writes these files, each a path from the top of the repository and its text; with --check compares them, and ends."""
     if sys.argv[1:] == ["--check"]:

@@ -1,6 +1,7 @@
 //! One record of cases, line by line.
 use crate::alone::{downward, upward};
 use crate::found::Found;
+use crate::tried::Tried;
 use crate::ways::{
     accepted, compiled, evaluated, executed, goes_on, is_read_back, left, lines_with, sent, worked,
 };
@@ -69,20 +70,6 @@ fn word_of(text: &str) -> Word {
         }
     }
     Word::Comes
-}
-
-/// How many cases were tried, and a line for each thing in which one does not come to what it says.
-#[derive(Drop)]
-pub(crate) struct Tried {
-    pub cases: u64,
-    pub differences: Vec<String>,
-}
-
-impl Tried {
-    fn differ(&mut self, line: String) -> Result<(), AllocError> {
-        self.differences.push(line)?;
-        Ok(())
-    }
 }
 
 /// What a record says, up to the line that was read last.
@@ -205,7 +192,7 @@ impl<'a> Case<'a> {
             Way::Front => accepted(self.alloc, self)?,
             Way::Code => compiled(self.alloc, self)?,
         };
-        tried.cases = tried.cases.saturating_add(1);
+        tried.begin();
         if found != wanted {
             tried.differ(format!(in self.alloc; "{text}: {found}, not {wanted}")?)?;
         }
@@ -222,7 +209,7 @@ impl<'a> Case<'a> {
 
     // Tries a line that says the work of the run.
     fn count(&mut self, rest: &str, tried: &mut Tried) -> Result<(), AllocError> {
-        tried.cases = tried.cases.saturating_add(1);
+        tried.begin();
         self.work = number(rest);
         let found = worked(self.alloc, self);
         if found != self.work {
@@ -236,7 +223,7 @@ impl<'a> Case<'a> {
     fn measure(&self, rest: &str, tried: &mut Tried) -> Result<(), AllocError> {
         let (least, rest) = parted(rest, ' ');
         let (word, most) = parted(rest, ' ');
-        tried.cases = tried.cases.saturating_add(1);
+        tried.begin();
         let Some((found, lines)) = lines_with(self.alloc, self, word) else {
             return tried.differ(format!(in self.alloc; "{}: no code", self.name)?);
         };
@@ -252,7 +239,7 @@ impl<'a> Case<'a> {
     // Tries a line that says how many lines of the code's text begin with a word.
     fn count_lines(&self, rest: &str, tried: &mut Tried) -> Result<(), AllocError> {
         let (wanted, word) = parted(rest, ' ');
-        tried.cases = tried.cases.saturating_add(1);
+        tried.begin();
         let found = match lines_with(self.alloc, self, word) {
             Some((found, _lines)) => Some(found),
             None => None,
@@ -286,7 +273,7 @@ impl<'a> Case<'a> {
     }
 
     fn compare(&mut self, word: &str, rest: &str, tried: &mut Tried) -> Result<(), AllocError> {
-        tried.cases = tried.cases.saturating_add(1);
+        tried.begin();
         let wanted = self.wanted(word, rest)?;
         let found = evaluated(self.alloc, self)?;
         if !found.is(&wanted) {
@@ -333,7 +320,7 @@ impl<'a> Case<'a> {
 
     // Tries a line that says what the instances come to one by one.
     fn compare_alone(&self, told: &str, tried: &mut Tried) -> Result<(), AllocError> {
-        tried.cases = tried.cases.saturating_add(1);
+        tried.begin();
         let wanted = self.wanted_alone(told)?;
         let found = upward(self.alloc, self)?;
         if found != wanted {
@@ -348,7 +335,7 @@ impl<'a> Case<'a> {
     // Tries a line that says after how many instructions the code goes on, and has written nothing.
     fn run_on(&self, budgets: &str, tried: &mut Tried) -> Result<(), AllocError> {
         for budget in budgets.split(' ') {
-            tried.cases = tried.cases.saturating_add(1);
+            tried.begin();
             if !goes_on(self.alloc, self, number(budget)) {
                 tried.differ(format!(in self.alloc;
                     "{}: the code does not go on after {budget}",

@@ -1,61 +1,111 @@
-//! Programs with what must come out: each is judged, evaluated, compiled and run.
+//! What must come out, as data: the words name files, and the folder of a file says what its rows are.
 //!
-//! The words name files of records. A record is the lines from `=== ` and its name on. Each line begins with a word that says what it is:
+//! - In no folder of these, records of programs, which are judged, evaluated, compiled and run (src/cases.rt);
+//! - `requests/`, records of requests to the programs `isp` and `ispx` (src/requests.rt);
+//! - `texts/`, texts of code, which are read and written again (src/texts.rt);
+//! - `files/`, files of arrays and images, which are read (src/files.rt);
+//! - `lanes/`, a kernel in each, of whose code tables are found (src/lanes.rt).
 //!
-//! - `.` how what comes out was found, for the reader alone;
-//! - `source` the text, where `␤` is a line feed, `␉` a tab, and a trap's place stands between `⟦` and `⟧`;
-//! - `gang` how many instances run it, `entry` the function that is run, `arguments` its arguments in JSON;
-//! - `turns` how many turns each loop may make each time it is entered, `writes` what the run writes;
-//! - `budget` how many instructions its code may run, where no work is said or another number is meant;
-//! - `running` numbers of instructions after which the code goes on, and has written nothing: each is a case;
-//! - `code` how many lines of the code's text begin with a word, at least, that word, and a number of lines that the text has fewer than;
-//! - `lines` how many lines of the code's text begin with a word, and that word.
-//!
-//! Then comes what must come out: `work` the work of the run; `refused` and the fault of the source, `accepted` where no entry is run, `unbound` and the fault of the
-//! arguments, `ends` and the answer, `traps` with the kind, the instance and the arrays as an answer without a result, or `cut`. Lines
-//! behind it may say other turns and what must come out then. `alone` says that the instances, each run alone one by one, end with the same answer; where they
-//! do, in any record, it has to be the gang's, from 0 up and from the last down. Behind `alone` may stand what the instances come to, by itself: `ends` or `traps` as
-//! above, `cut` and the instance, `clash` with the places of the parameter and the element, or `rule` and the number of the rule that the entry breaks, at the
-//! place in the source.
-//!
-//! A text that is only judged stands in one line with what becomes of it, and inside the last `frame` in place of its `…`: `accepts TEXT`;
-//! `refuses 20 UnknownName|TEXT`, where the place of the fault stands between `⟦` and `⟧`; `compiles TEXT`; and `rejects`, which is `refuses` of the whole
-//! way to code. Each line that says what must come out is a case.
+//! Of each kind a line is printed for whatever differs, and then how many were tried and how many lines that were.
 #![tactic(auto)]
 
 mod alone;
 mod case;
+mod cases;
+mod files;
 mod found;
+mod lanes;
+mod requests;
+mod texts;
+mod tried;
 mod ways;
 
-use case::{Case, Tried};
 use std::alloc::{AllocError, Global};
 use std::{env, fs, io};
+use tried::Tried;
+
+/// What a file holds.
+#[derive(Clone, Copy, PartialEq)]
+enum Kind {
+    Cases,
+    Requests,
+    Texts,
+    Files,
+    Lanes,
+}
+
+/// The kinds, and what each has.
+const KINDS: [(Kind, &str); 5] = [
+    (Kind::Cases, "cases"),
+    (Kind::Requests, "requests"),
+    (Kind::Texts, "texts"),
+    (Kind::Files, "files"),
+    (Kind::Lanes, "kernels"),
+];
 
 fn main(rt: HostRuntime) -> io::Result<()> {
-    let alloc = rt.alloc();
-    let mut tried = Tried {
-        cases: 0,
-        differences: Vec::new(alloc),
-    };
-    let words = env::args(&rt)?.collect::<Vec<String>>(alloc)?;
+    let words = env::args(&rt)?.collect::<Vec<String>>(rt.alloc())?;
+    for (kind, name) in KINDS {
+        let tried = all_of(&rt, words.as_slice(), kind)?;
+        report(&rt, &tried, name)?;
+    }
+    Ok(())
+}
+
+// Tries the files of one kind, behind the first word.
+fn all_of(rt: &HostRuntime, words: &[String], kind: Kind) -> io::Result<Tried> {
+    let mut tried = Tried::new(rt.alloc());
     for word in words.iter().skip(1) {
-        let text = fs::read_to_string(&rt, word)?;
-        for record in text.as_str().split("=== ").skip(1) {
-            follow(alloc, record, &mut tried)?;
+        if kind_of(word.as_str()) == kind {
+            let text = fs::read_to_string(rt, word)?;
+            follow(rt.alloc(), kind, text.as_str(), &mut tried)?;
         }
     }
+    Ok(tried)
+}
+
+fn kind_of(word: &str) -> Kind {
+    match folder_of(word) {
+        "requests" => Kind::Requests,
+        "texts" => Kind::Texts,
+        "files" => Kind::Files,
+        "lanes" => Kind::Lanes,
+        _ => Kind::Cases,
+    }
+}
+
+// The folder in which a file stands, where one is named.
+fn folder_of(word: &str) -> &str {
+    let Some((path, _name)) = word.rsplit_once('/') else {
+        return "";
+    };
+    match path.rsplit_once('/') {
+        Some((_above, folder)) => folder,
+        None => path,
+    }
+}
+
+fn follow(alloc: Global, kind: Kind, text: &str, tried: &mut Tried) -> Result<(), AllocError> {
+    match kind {
+        Kind::Cases => cases::follow(alloc, text, tried),
+        Kind::Requests => requests::follow(alloc, text, tried),
+        Kind::Texts => texts::follow(alloc, text, tried),
+        Kind::Files => files::follow(alloc, text, tried),
+        Kind::Lanes => lanes::follow(alloc, text, tried),
+    }
+}
+
+// What differs, and how many were tried, if any were.
+fn report(rt: &HostRuntime, tried: &Tried, name: &str) -> io::Result<()> {
     for line in &tried.differences {
         println!(rt; "{line}")?;
     }
-    println!(rt; "{} cases, {} differ", tried.cases, tried.differences.len())
-}
-
-fn follow(alloc: Global, record: &str, tried: &mut Tried) -> Result<(), AllocError> {
-    let mut lines = record.split('\n');
-    let mut case = Case::new(alloc, lines.next().unwrap_or(""));
-    for line in lines {
-        case.follow(line, tried)?;
+    if tried.count > 0 {
+        println!(rt;
+            "{} {name}, {} differ",
+            tried.count,
+            tried.differences.len()
+        )?;
     }
     Ok(())
 }

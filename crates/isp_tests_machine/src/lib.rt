@@ -1,8 +1,12 @@
-//! Worked examples of runs, against answers that were found without the crates.
+//! Worked examples of code, lanes and runs, against answers that were found without the crates.
 #![tactic(auto)]
 
 #[cfg(test)]
+mod code;
+#[cfg(test)]
 mod codes;
+#[cfg(test)]
+mod cross;
 #[cfg(test)]
 mod entries;
 #[cfg(test)]

@@ -1,6 +1,0 @@
-use Rattle.isp_base.specs.Values.{width}
-use Rattle.isp_base.proofs.Wraps.{wrap_to-lt}
-use Rattle.isp_tests_base.proofs.arguments.push_number.Goals as goal
-
-pub push-requires : goal.push-requires
-push-requires c = rw (c.wrap.ensures, c.elem-elem.ensures) (wrap_to-lt (width c.args.array.now.elem) _)

@@ -1,0 +1,41 @@
+//! Requests with what must come out: the words of the program are answered over files and sinks in memory.
+//!
+//! A record is the lines from `=== ` and its name on. Each line begins with a word that says what it is:
+//!
+//! - `.` how what comes out was found, for the reader alone;
+//! - `file` a file's name and its text, where `␤` is a line feed, and a place may stand between `⟦` and `⟧`;
+//! - `data` a file's name and its bytes in hexadecimal digits, `closed` the name of a file that cannot be written;
+//! - `words` the words behind `isp`, `ispx` those behind `ispx`;
+//! - `kept` a file's name and how its text begins: the text is what the words before write, and there is no such file where it begins otherwise;
+//! - `status` the exit status, `out` what goes to standard output, `err` the line on standard error, without its line feed; in `out` and `err`
+//!   the first `⟦⟧` stands for the place of the file that was written last, as `S..E`.
+//! - `left` the files that were written, each as its name, `=` and its bytes in hexadecimal digits, with a blank between them.
+//!
+//! A record is tried at its end. What it does not say is 0 or empty.
+mod fakes;
+mod record;
+
+use crate::tried::Tried;
+use record::Record;
+use std::alloc::{AllocError, Global};
+
+/// Tries the records of a file.
+pub(crate) fn follow(alloc: Global, text: &str, tried: &mut Tried) -> Result<(), AllocError> {
+    for record in text.split("=== ").skip(1) {
+        tried.begin();
+        if let Some(difference) = difference(alloc, record)? {
+            tried.differ(difference)?;
+        }
+    }
+    Ok(())
+}
+
+// In what a record does not come out as it says, if it does not.
+fn difference(alloc: Global, text: &str) -> Result<Option<String>, AllocError> {
+    let mut lines = text.split('\n');
+    let mut record = Record::new(alloc, lines.next().unwrap_or(""));
+    for line in lines {
+        record.follow(line)?;
+    }
+    record.difference()
+}
