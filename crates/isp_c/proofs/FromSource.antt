@@ -32,16 +32,16 @@ use Rattle.isp_packed.proofs.Fits.{ok_same, unpacked_fits}
 use Rattle.isp_packed.specs.Packing.{IsPackable, longest, packed_answer}
 use Rattle.isp_packed.specs.Unpacking.{unpacked_of}
 use Rattle.isp_packed.specs.declared.fault.PackedFault.{PackedFault}
-use Rattle.isp_engine.specs.BoundReports.{Counts, IsCut, RunsBound, Shows}
-use Rattle.isp_engine.specs.Compilation.{IsCompilation}
-use Rattle.isp_engine.specs.Front.{IsSource}
-use Rattle.isp_engine.specs.Loading.{IsLoaded, IsNotLoaded}
+use Rattle.isp_runs.specs.BoundReports.{Counts, IsCut, RunsBound, Shows}
+use Rattle.isp_runs.specs.Compilation.{IsCompilation}
+use Rattle.isp_front.specs.Front.{IsSource}
+use Rattle.isp_runs.specs.Loading.{IsLoaded, IsNotLoaded}
 use Rattle.isp_engine.specs.declared.failure.Failure.{Failure}
 use Rattle.isp_engine.specs.declared.failure.Failure.TheVariants as failure
-use Rattle.isp_engine.specs.declared.fault.CodeFault.{CodeFault}
-use Rattle.isp_engine.specs.declared.fault.CodeFault.TheVariants as code_fault_of
-use Rattle.isp_engine.specs.declared.fault.RunFault.TheVariants as run_fault
-use Rattle.isp_engine.specs.declared.report.BoundReport.{BoundReport}
+use Rattle.isp_runs.specs.declared.fault.CodeFault.{CodeFault}
+use Rattle.isp_runs.specs.declared.fault.CodeFault.TheVariants as code_fault_of
+use Rattle.isp_runs.specs.declared.fault.RunFault.TheVariants as run_fault
+use Rattle.isp_runs.specs.declared.report.BoundReport.{BoundReport}
 use Rattle.isp_headline.specs.BoundHeadline.{BoundHeadline, DoesAsMeantBound}
 use Rattle.isp_headline.specs.Headline.{RunsAsMeant}
 use Rattle.isp_c.specs.Compiling.{Compiles, IsCodeText, IsText, NoCodeText}

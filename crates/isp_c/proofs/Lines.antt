@@ -3,7 +3,7 @@ use Rattle.std.proofs.Common.{arith, Bool, true, Option, Some, None, [], inl, in
 use Rattle.std.proofs.lemmas.Bool.{cases_lt}
 use Rattle.std.proofs.lemmas.List.{drop-drop, drop-replicate, take_all}
 use Rattle.std.proofs.lemmas.Slice.{drop-put_mid}
-use Rattle.isp_engine.specs.Sinks.{Told}
+use Rattle.isp_engine.specs.Told.{Told}
 use borrow.Rule.Slice.PartMut.{put_mid}
 
 -- bytes that are written behind the text leave zeros behind them

@@ -10,10 +10,10 @@ use Rattle.isp_base.specs.declared.types.Gang.{Gang}
 use Rattle.isp_base.specs.declared.types.Value.{Value}
 use Rattle.isp_code.specs.Entries.{parameters_of}
 use Rattle.isp_code.specs.Listing.{Listing}
-use Rattle.isp_engine.specs.BoundReports.{MeansBound, RunsBound}
-use Rattle.isp_engine.specs.Compilation.{IsCompilation}
-use Rattle.isp_engine.specs.Loading.{IsLoaded}
-use Rattle.isp_engine.specs.declared.report.BoundReport.{BoundReport}
+use Rattle.isp_runs.specs.BoundReports.{MeansBound, RunsBound}
+use Rattle.isp_runs.specs.Compilation.{IsCompilation}
+use Rattle.isp_runs.specs.Loading.{IsLoaded}
+use Rattle.isp_runs.specs.declared.report.BoundReport.{BoundReport}
 use Rattle.isp_packed.specs.Packing.{packed_answer, packed_array, packed_of, packed_value}
 use Rattle.isp_packed.specs.Unpacking.{unpacked_of}
 use Rattle.isp_c.specs.Running.{Binds, RunOf}

@@ -2,7 +2,7 @@
 use Rattle.std.proofs.Common.{◌≡◌, ℕ, List, Result, Ok, Err, IfOk, refl, subst}
 use Rattle.isp_base.specs.declared.signature.Argument.{Argument}
 use Rattle.isp_code.specs.Listing.{Listing}
-use Rattle.isp_engine.specs.Loading.{IsLoaded}
+use Rattle.isp_runs.specs.Loading.{IsLoaded}
 use Rattle.isp_traces.specs.Tracing.{TracedRun}
 use Rattle.isp_traces.specs.declared.runs.Traced.{Traced}
 use Rattle.isp_traces.specs.declared.tracing.Window.{Window}

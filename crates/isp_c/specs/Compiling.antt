@@ -3,9 +3,9 @@ use Rattle.std.specs.Prelude.{◌≡◌, ◌≢◌, ℕ, List, codes, Result, Ok
 use Rattle.isp_base.specs.Types.{gang_width}
 use Rattle.isp_base.specs.declared.types.Gang.{Gang}
 use Rattle.isp_code.specs.Listing.{Listing}
-use Rattle.isp_engine.specs.Compilation.{IsCompilation}
-use Rattle.isp_engine.specs.Front.{IsFaulty}
-use Rattle.isp_engine.specs.Loading.{IsLoaded}
+use Rattle.isp_runs.specs.Compilation.{IsCompilation}
+use Rattle.isp_front.specs.Front.{IsFaulty}
+use Rattle.isp_runs.specs.Loading.{IsLoaded}
 use Rattle.isp_engine.specs.declared.failure.Failure.TheVariants.{Source, CannotRead, Memory}
 use Rattle.isp_c.specs.Rooms.{Answers}
 use Rattle.isp_c.specs.declared.refusal.Refusal.{Refusal}

@@ -13,8 +13,8 @@ use Rattle.isp_packed.specs.Packing.{packed_answer}
 use Rattle.isp_packed.specs.Unpacking.{unpacked_of}
 use Rattle.isp_code.specs.Listing.{Listing}
 use Rattle.isp_native.specs.Text.{c_text}
-use Rattle.isp_engine.specs.Compilation.{IsCompilation}
-use Rattle.isp_engine.specs.Front.{IsSource}
+use Rattle.isp_runs.specs.Compilation.{IsCompilation}
+use Rattle.isp_front.specs.Front.{IsSource}
 use Rattle.isp_engine.specs.declared.failure.Failure.TheVariants.{BudgetUsed, Memory, Trapped}
 use Rattle.isp_headline.specs.Headline.{RunsAsMeant}
 use Rattle.isp_c.specs.Compiling.{Compiles}

@@ -10,10 +10,10 @@ use Rattle.isp_bind.specs.declared.fault.BindFault.TheVariants.{Missing, Extra, 
 use Rattle.isp_engine.specs.Failures as program
 use Rattle.isp_engine.specs.declared.failure.Failure.{Failure}
 use Rattle.isp_engine.specs.declared.failure.Failure.TheVariants as failure
-use Rattle.isp_engine.specs.declared.fault.CodeFault.{CodeFault}
-use Rattle.isp_engine.specs.declared.fault.CodeFault.TheVariants as code_fault
-use Rattle.isp_engine.specs.declared.fault.RunFault.{RunFault}
-use Rattle.isp_engine.specs.declared.fault.RunFault.TheVariants as run_fault
+use Rattle.isp_runs.specs.declared.fault.CodeFault.{CodeFault}
+use Rattle.isp_runs.specs.declared.fault.CodeFault.TheVariants as code_fault
+use Rattle.isp_runs.specs.declared.fault.RunFault.{RunFault}
+use Rattle.isp_runs.specs.declared.fault.RunFault.TheVariants as run_fault
 use Rattle.isp_lex.specs.Faults as source
 use Rattle.isp_packed.specs.declared.fault.PackedFault.{PackedFault}
 use Rattle.isp_packed.specs.declared.fault.PackedFault.TheVariants as packed

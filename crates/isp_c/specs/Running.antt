@@ -6,12 +6,12 @@ use Rattle.isp_base.specs.declared.types.Gang.{Gang}
 use Rattle.isp_base.specs.declared.types.Value.{Value}
 use Rattle.isp_code.specs.Entries.{IsEntry, IsExport, parameters_of}
 use Rattle.isp_code.specs.Listing.{Listing, Routine}
-use Rattle.isp_engine.specs.BoundReports.{MeansBound, RunsBound}
-use Rattle.isp_engine.specs.Compilation.{IsCompilation}
-use Rattle.isp_engine.specs.Loading.{IsLoaded, IsNotLoaded}
+use Rattle.isp_runs.specs.BoundReports.{MeansBound, RunsBound}
+use Rattle.isp_runs.specs.Compilation.{IsCompilation}
+use Rattle.isp_runs.specs.Loading.{IsLoaded, IsNotLoaded}
 use Rattle.isp_engine.specs.declared.failure.Failure.TheVariants.{BudgetUsed, CannotRead, Code, Memory, Run, Trapped}
-use Rattle.isp_engine.specs.declared.fault.RunFault.TheVariants.{NoEntry}
-use Rattle.isp_engine.specs.declared.report.BoundReport.{BoundReport}
+use Rattle.isp_runs.specs.declared.fault.RunFault.TheVariants.{NoEntry}
+use Rattle.isp_runs.specs.declared.report.BoundReport.{BoundReport}
 use Rattle.isp_machine.specs.declared.stop.Stop.{Stop}
 use Rattle.isp_machine.specs.declared.stop.Stop.TheVariants as stop
 use Rattle.isp_packed.specs.Packing.{packed_answer}

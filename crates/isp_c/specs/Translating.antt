@@ -1,7 +1,7 @@
 -- What isp_native does.
 use Rattle.std.specs.Prelude.{◌≡◌, ℕ, List, codes, Result, Ok, Err, IsUtf8}
 use Rattle.isp_code.specs.Listing.{Listing}
-use Rattle.isp_engine.specs.Loading.{IsLoaded}
+use Rattle.isp_runs.specs.Loading.{IsLoaded}
 use Rattle.isp_engine.specs.declared.failure.Failure.TheVariants.{CannotRead}
 use Rattle.isp_native.specs.Text.{c_text}
 use Rattle.isp_c.specs.Rooms.{Answers}

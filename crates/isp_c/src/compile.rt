@@ -1,7 +1,7 @@
 //! A source text is compiled to code text.
 ghost use Rattle.std.specs.Prelude.{◌≡◌, IfErr, IfOk, string_bytes};
 ghost use Rattle.isp_base.specs.Types.{gang_width};
-ghost use Rattle.isp_engine.specs.Compilation.{IsCompilation};
+ghost use Rattle.isp_runs.specs.Compilation.{IsCompilation};
 ghost use Rattle.isp_c.specs.Compiling.{Compiles, IsCodeText, NoCodeText};
 ghost use Rattle.isp_c.specs.Rooms.{Gives};
 

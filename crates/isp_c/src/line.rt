@@ -1,7 +1,7 @@
 //! The line of standard error, in the room that a report has for it.
 ghost use Rattle.std.specs.Prelude.{◌≡◌, ◌≤◌, ◌+◌, ◌||◌, ◌++◌, [], Ok, Some, false, true, take, length};
 ghost use Rattle.isp_engine.specs.Failures.{failure_line};
-ghost use Rattle.isp_engine.specs.Sinks.{refuses};
+ghost use Rattle.isp_output.specs.Sinks.{refuses};
 ghost use Rattle.isp_c.specs.Lines.{line_bytes, padded};
 ghost use Rattle.isp_c.specs.Refusals.{line_of};
 

@@ -3,9 +3,9 @@ ghost use Rattle.std.specs.Prelude.{◌≡◌, ◌≢◌, ◌≤◌, ℕ, List, 
 ghost use Rattle.isp_base.specs.declared.types.Gang.{Gang};
 ghost use Rattle.isp_code.specs.Entries.{IsEntry};
 ghost use Rattle.isp_code.specs.Listing.{Routine};
-ghost use Rattle.isp_engine.specs.BoundReports.{MeansBound, RunsBound};
-ghost use Rattle.isp_engine.specs.Compilation.{IsCompilation};
-ghost use Rattle.isp_engine.specs.Loading.{IsLoaded};
+ghost use Rattle.isp_runs.specs.BoundReports.{MeansBound, RunsBound};
+ghost use Rattle.isp_runs.specs.Compilation.{IsCompilation};
+ghost use Rattle.isp_runs.specs.Loading.{IsLoaded};
 ghost use Rattle.isp_engine.specs.declared.failure.Failure.TheVariants.{Memory};
 ghost use Rattle.isp_machine.specs.declared.stop.Stop.TheVariants.{Memory as StopMemory};
 ghost use Rattle.isp_packed.specs.Packing.{packed_answer};

@@ -1,14 +1,6 @@
 pub mod Reading
-pub mod Fronts
-pub mod Binds
-pub mod Means
-pub mod Runs
-pub mod BoundRuns
-pub mod Written
-pub mod Streams
-pub mod Sends
+pub mod Told
 pub mod Sources
 pub mod Solos
 pub mod Requests
-pub mod Loads
 pub mod Pieces

@@ -13,7 +13,7 @@ use Rattle.isp_independence.specs.Dependences.{number_of}
 use Rattle.isp_independence.specs.declared.dependence.Dependence.{Dependence}
 use Rattle.isp_engine.specs.Failures.{clash_line, failure_line}
 use Rattle.isp_engine.specs.declared.failure.Failure.TheVariants.{Source, Trapped, TurnsUsed, Code, NotIndependent}
-use Rattle.isp_engine.specs.declared.fault.CodeFault.TheVariants as code_fault
+use Rattle.isp_runs.specs.declared.fault.CodeFault.TheVariants as code_fault
 
 regrouped : (k a s d e b i n : List ℕ) → k ++ (a ++ (s ++ (d ++ (e ++ (b ++ (i ++ n)))))) ≡ (k ++ a ++ (s ++ d ++ e) ++ b ++ i) ++ n
 regrouped k a s d e b i n = simp append_assoc

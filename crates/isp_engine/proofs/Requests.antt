@@ -11,13 +11,13 @@ use Rattle.isp_engine.specs.declared.commands.Origin.{Origin}
 use Rattle.isp_engine.specs.declared.commands.Origin.TheVariants.{Compiled, Loaded}
 use Rattle.isp_engine.specs.declared.failure.Failure.{Failure}
 use Rattle.isp_engine.specs.declared.failure.Failure.TheVariants.{Source, Trapped, BudgetUsed, TurnsUsed, Run, Code, CannotRead, CannotWrite, Memory, NotIndependent, NotApart}
-use Rattle.isp_engine.specs.declared.fault.CodeFault.{CodeFault}
-use Rattle.isp_engine.specs.declared.fault.CodeFault.TheVariants as code_fault
+use Rattle.isp_runs.specs.declared.fault.CodeFault.{CodeFault}
+use Rattle.isp_runs.specs.declared.fault.CodeFault.TheVariants as code_fault
 use Rattle.isp_engine.specs.Commands.{Given, IsNoImage, NotGiven, Ran, RunEnds}
 use Rattle.isp_engine.specs.Stories.{Holds, Reads, Unread}
 use Rattle.isp_engine.specs.Failures.{code_failure, source_failure}
-use Rattle.isp_engine.specs.Front.{IsFaulty}
-use Rattle.isp_engine.specs.Loading.{IsNotLoaded}
+use Rattle.isp_front.specs.Front.{IsFaulty}
+use Rattle.isp_runs.specs.Loading.{IsNotLoaded}
 
 -- ---- a text that gives no code
 

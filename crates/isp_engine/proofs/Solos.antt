@@ -26,12 +26,12 @@ use Rattle.isp_typed.specs.declared.function.TypedFunction.{TypedFunction}
 use Rattle.isp_command_line.specs.declared.words.SoloRequest.{SoloRequest}
 use Rattle.isp_engine.specs.declared.failure.Failure.{Failure}
 use Rattle.isp_engine.specs.declared.failure.Failure.TheVariants.{Source, Trapped, BudgetUsed, TurnsUsed, Run, CannotRead, CannotWrite, Memory, Code, NotIndependent, NotApart}
-use Rattle.isp_engine.specs.declared.fault.RunFault.TheVariants as run_fault
+use Rattle.isp_runs.specs.declared.fault.RunFault.TheVariants as run_fault
 use Rattle.isp_engine.specs.Failures.{bind_failure, eval_failure, source_failure}
-use Rattle.isp_engine.specs.Front.{IsFaulty}
+use Rattle.isp_front.specs.Front.{IsFaulty}
 use Rattle.isp_engine.specs.Solos.{Binds, IsTold, IsUnanswered, Soloed, SoloFails, Sourced, Tells}
 use Rattle.isp_engine.specs.Stories.{Holds, Reads, Unread}
-use Rattle.isp_engine.proofs.Binds.{fits}
+use Rattle.isp_runs.proofs.Binds.{fits}
 
 -- ---- the exported function of a name
 

@@ -5,7 +5,7 @@ use Rattle.isp_lex.specs.declared.fault.Fault.{Fault}
 use Rattle.isp_lex.specs.declared.fault.SourceFault.{SourceFault}
 use Rattle.isp_lex.specs.declared.fault.SourceFault.TheVariants.{Memory, Refused}
 use Rattle.isp_engine.specs.Failures.{source_failure}
-use Rattle.isp_engine.specs.Front.{IsFaulty}
+use Rattle.isp_front.specs.Front.{IsFaulty}
 use Rattle.isp_engine.specs.Stories.{Holds, SourceFails}
 
 pub refused_source : (holds : Holds) (gang : Gang) (source text : List ℕ) → holds source (Some text) → (f : SourceFault) → ((g : Fault) → f ≡ Refused g → IsFaulty gang text g) → SourceFails holds gang source (source_failure f)

@@ -4,7 +4,7 @@ use Rattle.isp_typed.specs.Typed.{Program}
 use Rattle.isp_verdicts.specs.Verdicts.{Checks}
 use Rattle.isp_command_line.specs.declared.words.CheckRequest.{CheckRequest}
 use Rattle.isp_engine.specs.declared.failure.Failure.{Failure}
-use Rattle.isp_engine.specs.Front.{IsSource}
+use Rattle.isp_front.specs.Front.{IsSource}
 use Rattle.isp_engine.specs.Stories.{Holds, SourceFails, Stops, Writes}
 
 -- what is said of the exported functions of the source

@@ -11,24 +11,24 @@ use Rattle.isp_engine.specs.declared.commands.Origin.{Origin}
 use Rattle.isp_engine.specs.declared.commands.Origin.TheVariants.{Compiled, Loaded}
 use Rattle.isp_engine.specs.declared.failure.Failure.{Failure}
 use Rattle.isp_engine.specs.declared.failure.Failure.TheVariants.{Source, Trapped, BudgetUsed, Code, CannotRead, Memory}
-use Rattle.isp_engine.specs.declared.fault.RunFault.{RunFault}
-use Rattle.isp_engine.specs.declared.fault.RunFault.TheVariants.{WriteFailed}
-use Rattle.isp_engine.specs.declared.report.Ending.{Ending}
-use Rattle.isp_engine.specs.declared.report.Ending.TheVariants.{Ended, Trapped as Stopped, Running}
-use Rattle.isp_engine.specs.declared.report.Report.{Report}
+use Rattle.isp_runs.specs.declared.fault.RunFault.{RunFault}
+use Rattle.isp_runs.specs.declared.fault.RunFault.TheVariants.{WriteFailed}
+use Rattle.isp_runs.specs.declared.report.Ending.{Ending}
+use Rattle.isp_runs.specs.declared.report.Ending.TheVariants.{Ended, Trapped as Stopped, Running}
+use Rattle.isp_runs.specs.declared.report.Report.{Report}
 use Rattle.isp_command_line.specs.declared.words.Request.{Request}
 use Rattle.isp_command_line.specs.declared.words.Request.TheVariants as request
 use Rattle.isp_command_line.specs.declared.words.RunRequest.{RunRequest}
 use Rattle.isp_command_line.specs.declared.words.AsmRequest.{AsmRequest}
 use Rattle.isp_command_line.specs.declared.words.ExecRequest.{ExecRequest}
 use Rattle.isp_engine.specs.Failures.{failure_line, line_of, run_failure, status_of}
-use Rattle.isp_engine.specs.Sending.{Sends}
-use Rattle.isp_engine.specs.Sinks.{TookAll}
-use Rattle.isp_engine.specs.Front.{IsFaulty}
-use Rattle.isp_engine.specs.Compilation.{IsCompilation}
-use Rattle.isp_engine.specs.Loading.{IsLoaded, IsNotLoaded}
-use Rattle.isp_engine.specs.Meaning.{Means}
-use Rattle.isp_engine.specs.Reports.{Executes}
+use Rattle.isp_runs.specs.Sending.{Sends}
+use Rattle.isp_output.specs.Sinks.{TookAll}
+use Rattle.isp_front.specs.Front.{IsFaulty}
+use Rattle.isp_runs.specs.Compilation.{IsCompilation}
+use Rattle.isp_runs.specs.Loading.{IsLoaded, IsNotLoaded}
+use Rattle.isp_runs.specs.Meaning.{Means}
+use Rattle.isp_runs.specs.Reports.{Executes}
 use Rattle.isp_engine.specs.Checking.{WroteVerdicts}
 use Rattle.isp_engine.specs.Solos.{SoloEnds}
 use Rattle.isp_engine.specs.Stories.{Holds, Reads, SourceFails, Stops, UnreadOf, Writes}

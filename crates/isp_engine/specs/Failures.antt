@@ -11,12 +11,12 @@ use Rattle.isp_bind.specs.declared.fault.BindFault.{BindFault}
 use Rattle.isp_entry.specs.declared.fault.EvalFault.{EvalFault}
 use Rattle.isp_entry.specs.declared.fault.EvalFault.TheVariants as eval_fault
 use Rattle.isp_verdicts.specs.Verdicts.{dependence_text}
-use Rattle.isp_engine.specs.declared.fault.CodeFault.{CodeFault}
-use Rattle.isp_engine.specs.declared.fault.CodeFault.TheVariants.{Memory as NoCodeMemory, Text as BadText, Code as BadCode}
-use Rattle.isp_engine.specs.declared.fault.RunFault.{RunFault}
-use Rattle.isp_engine.specs.declared.fault.RunFault.TheVariants.{Memory as NoRunMemory, NoEntry, Arguments, WriteFailed}
-use Rattle.isp_engine.specs.CodeFaults.{code_fault_text}
-use Rattle.isp_engine.specs.RunFaults.{run_fault, run_fault_text}
+use Rattle.isp_runs.specs.declared.fault.CodeFault.{CodeFault}
+use Rattle.isp_runs.specs.declared.fault.CodeFault.TheVariants.{Memory as NoCodeMemory, Text as BadText, Code as BadCode}
+use Rattle.isp_runs.specs.declared.fault.RunFault.{RunFault}
+use Rattle.isp_runs.specs.declared.fault.RunFault.TheVariants.{Memory as NoRunMemory, NoEntry, Arguments, WriteFailed}
+use Rattle.isp_runs.specs.CodeFaults.{code_fault_text}
+use Rattle.isp_runs.specs.RunFaults.{run_fault, run_fault_text}
 use Rattle.isp_engine.specs.declared.failure.Failure.{Failure}
 use Rattle.isp_engine.specs.declared.failure.Failure.TheVariants.{Source, Trapped, BudgetUsed, TurnsUsed, Run, CannotRead, CannotWrite, Memory, Code, NotIndependent, NotApart}
 

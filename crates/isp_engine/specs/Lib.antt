@@ -1,16 +1,5 @@
-pub mod RunFaults
-pub mod CodeFaults
-pub mod Sinks
 pub mod Files
-pub mod Front
-pub mod Compilation
-pub mod Loading
-pub mod Reports
-pub mod Stops
-pub mod Sending
-pub mod OneByOne
-pub mod Meaning
-pub mod BoundReports
+pub mod Told
 pub mod Failures
 pub mod Stories
 pub mod Checking

@@ -17,8 +17,8 @@ use Rattle.isp_typed.specs.Typed.{Program, TFunction}
 use Rattle.isp_command_line.specs.declared.words.SoloRequest.{SoloRequest}
 use Rattle.isp_engine.specs.declared.failure.Failure.{Failure}
 use Rattle.isp_engine.specs.declared.failure.Failure.TheVariants.{Source, Trapped, TurnsUsed, Run, CannotRead, Memory, NotIndependent, NotApart}
-use Rattle.isp_engine.specs.declared.fault.RunFault.TheVariants.{NoEntry, Arguments}
-use Rattle.isp_engine.specs.Front.{IsFaulty, IsSource}
+use Rattle.isp_runs.specs.declared.fault.RunFault.TheVariants.{NoEntry, Arguments}
+use Rattle.isp_front.specs.Front.{IsFaulty, IsSource}
 use Rattle.isp_engine.specs.Stories.{Holds, Reads, Stops, UnreadOf, Writes}
 
 -- the name of a parameter, by its place

@@ -4,8 +4,8 @@ use Rattle.std.specs.Prelude.{◌≡◌, ◌⊎◌, ℕ, List, [], Bool, Option,
 use Rattle.isp_base.specs.declared.types.Gang.{Gang}
 use Rattle.isp_engine.specs.declared.failure.Failure.{Failure}
 use Rattle.isp_engine.specs.declared.failure.Failure.TheVariants.{Source, CannotRead, CannotWrite, Memory}
-use Rattle.isp_engine.specs.Front.{IsFaulty}
-use Rattle.isp_engine.specs.Sinks.{TookAll, TookSome}
+use Rattle.isp_front.specs.Front.{IsFaulty}
+use Rattle.isp_output.specs.Sinks.{TookAll, TookSome}
 
 abbrev pub Holds : Type 1
 Holds = List ℕ → Option (List ℕ) → Type 0

@@ -5,15 +5,15 @@ ghost use Rattle.isp_engine.specs.Solos.{IsTold, IsUnanswered, SoloEnds, SoloFai
 ghost use Rattle.isp_engine.specs.declared.failure.Failure.TheVariants.{Memory};
 
 use crate::failure::Failure;
-use crate::fault::RunFault;
 use crate::files::SourceFiles;
-use crate::sink::Sink;
-use crate::source::front;
 use crate::texts::{read_file, write_text};
 use isp_base::Signature;
 use isp_bind::{answer, bind};
 use isp_command_line::SoloRequest;
+use isp_front::front;
+use isp_output::Sink;
 use isp_rates::Checked;
+use isp_runs::RunFault;
 use isp_solo::{SoloReport, one_by_one};
 use std::alloc::{AllocError, Global};
 

@@ -5,10 +5,10 @@ ghost use Rattle.isp_engine.specs.Stories.{SourceFails};
 
 use crate::failure::Failure;
 use crate::files::SourceFiles;
-use crate::sink::Sink;
-use crate::source::front;
 use crate::texts::{read_file, write_text};
 use isp_command_line::CheckRequest;
+use isp_front::front;
+use isp_output::Sink;
 use isp_verdicts::verdicts;
 use std::alloc::Global;
 

@@ -1,23 +1,22 @@
 //! The whole program, over what it is handed.
 ghost use Rattle.std.specs.Prelude.{◌≡◌, ◌≢◌, false, string_bytes, Some, IfOk, IfErr};
 ghost use Rattle.isp_engine.specs.Commands.{Assembled, Commands, Ends, Given, IsImage, IsNoImage, NotGiven, Ran, RunEnds, WroteCode, end_of_ending, exit_status, job_of_exec as of_exec, job_of_run as of_run};
-ghost use Rattle.isp_engine.specs.Sinks.{Told};
+ghost use Rattle.isp_engine.specs.Told.{Told};
 ghost use Rattle.isp_engine.specs.Stories.{SourceFails};
 ghost use Rattle.isp_engine.specs.declared.failure.Failure.TheVariants.{Memory};
 
 use crate::alone::solo;
 use crate::checking::check;
+use crate::compilation::compile;
 use crate::failure::Failure;
 use crate::files::SourceFiles;
-use crate::image::{Image, compile, load_code};
 use crate::lines::{show, tell_end};
-use crate::report::Ending;
-use crate::run::run_to;
-use crate::sink::Sink;
 use crate::texts::{read_file, write_text};
 use clap::error::ErrorKind;
 use isp_base::Gang;
 use isp_command_line::{AsmRequest, ExecRequest, Request, RunRequest, read_words};
+use isp_output::Sink;
+use isp_runs::{Ending, Image, load_code, run_to};
 use std::alloc::Global;
 
 /// Does what `words` ask for, the first of which is the program's name, and answers the exit status.

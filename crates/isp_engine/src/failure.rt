@@ -2,11 +2,11 @@
 ghost use Rattle.std.specs.Prelude.{◌≡◌};
 ghost use Rattle.isp_engine.specs.Failures.{bind_failure, code_failure, eval_failure, run_failure, source_failure, status_of};
 
-use crate::fault::{CodeFault, RunFault};
 use isp_base::Trap;
 use isp_bind::BindFault;
 use isp_independence::Dependence;
 use isp_lex::{Fault, SourceFault};
+use isp_runs::{CodeFault, RunFault};
 use isp_solo::EvalFault;
 use std::alloc::AllocError;
 

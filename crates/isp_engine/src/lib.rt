@@ -2,31 +2,24 @@
 #![tactic(auto)]
 
 mod alone;
-mod bound;
 mod checking;
 mod commands;
+mod compilation;
 mod failure;
-mod fault;
 mod files;
-mod image;
 mod lines;
-mod report;
-mod run;
-mod sink;
-mod source;
-mod stream;
 mod texts;
 
-pub use bound::execute_bound;
 pub use commands::command;
+pub use compilation::compile;
 pub use failure::Failure;
-pub use fault::{CodeFault, RunFault};
 pub use files::{FileFault, SourceFiles, read_source, read_text};
-pub use image::{Image, compile, load_code};
+pub use isp_front::front;
 pub use isp_machine::{StartFault, Stop};
+pub use isp_output::{Kept, Sink, SinkFault};
+pub use isp_runs::{
+    BoundReport, CodeFault, Ending, Image, Report, RunFault, execute, execute_bound, load_code,
+    run_to,
+};
 pub use lines::{tell_end, tell_line};
-pub use report::{BoundReport, Ending, Report};
-pub use run::{execute, run_to};
-pub use sink::{Kept, Sink, SinkFault};
-pub use source::front;
 pub use texts::{read_file, write_bytes, write_text};

@@ -5,17 +5,17 @@ ghost use Rattle.isp_base.specs.Traps.{kind_text};
 ghost use Rattle.isp_engine.specs.Commands.{exit_status};
 ghost use Rattle.isp_engine.specs.Failures.{clash_line, failure_line, line_of};
 ghost use Rattle.isp_engine.specs.declared.failure.Failure.TheVariants.{Code, NotIndependent, Source, Trapped, TurnsUsed};
-ghost use Rattle.isp_engine.specs.declared.fault.CodeFault.TheVariants.{Code as BadCode, Text};
-ghost use Rattle.isp_engine.specs.Sinks.{Told, Wrote};
+ghost use Rattle.isp_runs.specs.declared.fault.CodeFault.TheVariants.{Code as BadCode, Text};
+ghost use Rattle.isp_engine.specs.Told.{Told, Wrote};
 
 use crate::failure::Failure;
-use crate::fault::CodeFault;
-use crate::sink::{Sink, SinkFault, write_all};
 use clap::Error;
 use isp_asm::Rule;
 use isp_base::{Trap, TrapKind};
 use isp_independence::Dependence;
 use isp_lex::Fault;
+use isp_output::{Sink, SinkFault, write_all};
+use isp_runs::CodeFault;
 use itoa::Buffer;
 use std::fmt;
 use std::fmt::Write;
@@ -33,7 +33,7 @@ fn write_pieces<W: Sink>(out: &mut W, pieces: &[&str]) -> Result<(), SinkFault>
 }
 
 /// Writes the line of a failure, as far as the sink takes it; nothing where it has failed before.
-#[tactic(auto, using(crate::proofs::Written::told_none))]
+#[tactic(auto, using(crate::proofs::Told::told_none))]
 pub fn tell_line<W: Sink>(failure: &Failure<'_>, out: &mut W)
     ensures { Told (failure_line failure.now) (W.written out.old) (W.written out.new) (W.has_failed out.new) }
 {

@@ -4,7 +4,7 @@ ghost use Rattle.isp_engine.specs.Stories.{Unread, Writes};
 
 use crate::failure::Failure;
 use crate::files::{FileFault, SourceFiles};
-use crate::sink::{Sink, SinkFault, write_all};
+use isp_output::{Sink, SinkFault, write_all};
 use std::alloc::Global;
 
 /// Writes a text. `CannotWrite` where a write fails or takes no byte; then the first bytes of it have gone out.

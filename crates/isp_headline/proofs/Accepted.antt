@@ -10,8 +10,8 @@ use Rattle.isp_tree.specs.Tree.{Function as Read}
 use Rattle.isp_grammar.specs.Grammar.{IsProgram as IsTree}
 use Rattle.isp_syntax.specs.Promise.{Begins, IsTooDeep, Refuses, kinds}
 use Rattle.isp_syntax.proofs.Promised.{kinds_append, one_tree}
-use Rattle.isp_engine.specs.Front.{HasTokens, HasTree, IsUnread, IsUnsound}
-use Rattle.isp_engine.proofs.Fronts.{no_program}
+use Rattle.isp_front.specs.Front.{HasTokens, HasTree, IsUnread, IsUnsound}
+use Rattle.isp_front.proofs.Fronts.{no_program}
 use Rattle.isp_headline.specs.OneProgram.{NoneRefused}
 
 module _ (text : List ℕ) (tree : List Read) (has : HasTree text tree) where

@@ -14,14 +14,14 @@ use Rattle.isp_lex.specs.declared.fault.SourceFault.{SourceFault}
 use Rattle.isp_lex.specs.declared.fault.SourceFault.TheVariants.{Memory as NoMemory, Refused}
 use Rattle.isp_typed.specs.Typed.{Program, TFunction}
 use Rattle.isp_meaning.specs.Entries.{IsExport}
-use Rattle.isp_engine.specs.declared.fault.RunFault.{RunFault}
-use Rattle.isp_engine.specs.declared.fault.RunFault.TheVariants.{Memory, NoEntry, Arguments, WriteFailed}
-use Rattle.isp_engine.specs.declared.report.Report.{Report}
-use Rattle.isp_engine.specs.Compilation.{IsCompilation}
-use Rattle.isp_engine.specs.Front.{IsFaulty}
-use Rattle.isp_engine.specs.Meaning.{Means}
-use Rattle.isp_engine.specs.Reports.{Executes}
-use Rattle.isp_engine.specs.RunFaults.{run_fault}
+use Rattle.isp_runs.specs.declared.fault.RunFault.{RunFault}
+use Rattle.isp_runs.specs.declared.fault.RunFault.TheVariants.{Memory, NoEntry, Arguments, WriteFailed}
+use Rattle.isp_runs.specs.declared.report.Report.{Report}
+use Rattle.isp_runs.specs.Compilation.{IsCompilation}
+use Rattle.isp_front.specs.Front.{IsFaulty}
+use Rattle.isp_runs.specs.Meaning.{Means}
+use Rattle.isp_runs.specs.Reports.{Executes}
+use Rattle.isp_runs.specs.RunFaults.{run_fault}
 use Rattle.isp_headline.specs.declared.calls.Refusal.TheVariants.{Run, Source}
 use Rattle.isp_headline.specs.Answers.{Answers, Entered, IsReport}
 use Rattle.isp_headline.specs.Headline.{DoesAsMeant}

@@ -14,12 +14,12 @@ use Rattle.isp_command_line.specs.declared.words.RunRequest.{RunRequest}
 use Rattle.isp_command_line.specs.declared.words.ExecRequest.{ExecRequest}
 use Rattle.isp_engine.specs.declared.failure.Failure.{Failure}
 use Rattle.isp_engine.specs.declared.failure.Failure.TheVariants.{Source, Trapped, BudgetUsed, TurnsUsed, Run, CannotRead, CannotWrite, Memory, Code, NotIndependent, NotApart}
-use Rattle.isp_engine.specs.declared.fault.CodeFault.{CodeFault}
-use Rattle.isp_engine.specs.declared.fault.CodeFault.TheVariants as code_fault_of
+use Rattle.isp_runs.specs.declared.fault.CodeFault.{CodeFault}
+use Rattle.isp_runs.specs.declared.fault.CodeFault.TheVariants as code_fault_of
 use Rattle.isp_engine.specs.Commands.{NotGiven, Ran, RunEnds, job_of_exec, job_of_run}
-use Rattle.isp_engine.specs.Compilation.{IsCompilation}
-use Rattle.isp_engine.specs.Front.{IsFaulty}
-use Rattle.isp_engine.specs.Loading.{IsLoaded, IsNotLoaded}
+use Rattle.isp_runs.specs.Compilation.{IsCompilation}
+use Rattle.isp_front.specs.Front.{IsFaulty}
+use Rattle.isp_runs.specs.Loading.{IsLoaded, IsNotLoaded}
 use Rattle.isp_engine.specs.Stories.{Holds, Reads, UnreadOf}
 use Rattle.isp_headline.specs.FromSource.{ByExec, ByRun, EndsAsMeant, IsCall, IsFile}
 use Rattle.isp_headline.proofs.Accepted.{none_refused}

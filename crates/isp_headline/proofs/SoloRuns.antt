@@ -25,11 +25,11 @@ use Rattle.isp_solo.specs.Report.{upward, ReportOf}
 use Rattle.isp_solo.specs.declared.report.SoloReport.{SoloReport}
 use Rattle.isp_solo.specs.declared.report.SoloReport.TheVariants as report
 use Rattle.isp_solo.proofs.Upward.{upward_order}
-use Rattle.isp_engine.specs.declared.fault.RunFault.{RunFault}
-use Rattle.isp_engine.specs.declared.report.Report.{Report}
-use Rattle.isp_engine.specs.Meaning.{enough}
-use Rattle.isp_engine.specs.Reports.{Executes}
-use Rattle.isp_engine.specs.Sending.{answer_bytes}
+use Rattle.isp_runs.specs.declared.fault.RunFault.{RunFault}
+use Rattle.isp_runs.specs.declared.report.Report.{Report}
+use Rattle.isp_runs.specs.Meaning.{enough}
+use Rattle.isp_runs.specs.Reports.{Executes}
+use Rattle.isp_runs.specs.Sending.{answer_bytes}
 use Rattle.isp_engine.specs.Solos.{Tells}
 use Rattle.isp_headline.specs.Headline.{DoesAsMeant, Reported}
 use Rattle.isp_headline.specs.SoloIsRun.{EndsWith, SoloIsRun}

@@ -16,17 +16,17 @@ use Rattle.isp_rates.specs.Accepted.{IsAccepted}
 use Rattle.isp_meaning.specs.Entries.{IsEntry, IsExport}
 use Rattle.isp_meaning.specs.Runs.{run_of}
 use Rattle.isp_masks_code.specs.Agreement.{Agrees, RunsAgree}
-use Rattle.isp_engine.specs.declared.fault.RunFault.{RunFault}
-use Rattle.isp_engine.specs.declared.fault.RunFault.TheVariants.{Memory, NoEntry, Arguments, WriteFailed}
-use Rattle.isp_engine.specs.declared.report.BoundReport.{BoundReport}
-use Rattle.isp_engine.specs.declared.report.Report.{Report}
-use Rattle.isp_engine.specs.BoundReports.{Counts, RunsBound, Shows}
-use Rattle.isp_engine.specs.Reports.{Executes, Reports, Runs}
-use Rattle.isp_engine.specs.Sending.{Sends, SentSome}
-use Rattle.isp_engine.specs.Sinks.{TookAll}
-use Rattle.isp_engine.proofs.Binds.{short, fits}
-use Rattle.isp_engine.proofs.BoundRuns.{shows}
-use Rattle.isp_engine.proofs.Sends.{report_sent}
+use Rattle.isp_runs.specs.declared.fault.RunFault.{RunFault}
+use Rattle.isp_runs.specs.declared.fault.RunFault.TheVariants.{Memory, NoEntry, Arguments, WriteFailed}
+use Rattle.isp_runs.specs.declared.report.BoundReport.{BoundReport}
+use Rattle.isp_runs.specs.declared.report.Report.{Report}
+use Rattle.isp_runs.specs.BoundReports.{Counts, RunsBound, Shows}
+use Rattle.isp_runs.specs.Reports.{Executes, Reports, Runs}
+use Rattle.isp_runs.specs.Sending.{Sends, SentSome}
+use Rattle.isp_output.specs.Sinks.{TookAll}
+use Rattle.isp_runs.proofs.Binds.{short, fits}
+use Rattle.isp_runs.proofs.BoundRuns.{shows}
+use Rattle.isp_runs.proofs.Sends.{report_sent}
 use Rattle.isp_headline.specs.BoundHeadline.{BoundHeadline, DoesAsMeantBound}
 use Rattle.isp_headline.specs.Headline.{left_by_each, DoesAsMeant, Headline, Reported, RunsAsMeant, Sent, SentFirst}
 use Rattle.isp_headline.proofs.Programs.{one_program, one_export}

@@ -11,10 +11,10 @@ use Rattle.isp_typed.specs.Typed.{Program, TFunction}
 use Rattle.isp_meaning.specs.Entries.{IsExport}
 use Rattle.isp_bind.specs.Binding.{bound_of}
 use Rattle.isp_bind.specs.declared.fault.BindFault.{BindFault}
-use Rattle.isp_engine.specs.declared.fault.RunFault.TheVariants.{Memory, NoEntry, Arguments, WriteFailed}
-use Rattle.isp_engine.specs.declared.report.Report.{Report}
-use Rattle.isp_engine.specs.Front.{IsFaulty, IsSource}
-use Rattle.isp_engine.specs.Reports.{Reports}
+use Rattle.isp_runs.specs.declared.fault.RunFault.TheVariants.{Memory, NoEntry, Arguments, WriteFailed}
+use Rattle.isp_runs.specs.declared.report.Report.{Report}
+use Rattle.isp_front.specs.Front.{IsFaulty, IsSource}
+use Rattle.isp_runs.specs.Reports.{Reports}
 use Rattle.isp_headline.specs.declared.calls.Refusal.{Refusal}
 use Rattle.isp_headline.specs.declared.calls.Refusal.TheVariants.{Source, Run}
 use Rattle.isp_headline.specs.Headline.{RunsAsMeant}

@@ -12,10 +12,10 @@ use Rattle.isp_code.specs.Entries as code
 use Rattle.isp_code.specs.Entries.{parameters_of}
 use Rattle.isp_code.specs.Listing.{Listing, Routine}
 use Rattle.isp_code.specs.Machine.{outcome_after}
-use Rattle.isp_engine.specs.declared.report.BoundReport.{BoundReport}
-use Rattle.isp_engine.specs.BoundReports.{Counts, RunsBound, Shows}
-use Rattle.isp_engine.specs.Compilation.{IsCompilation}
-use Rattle.isp_engine.specs.Front.{IsSource}
+use Rattle.isp_runs.specs.declared.report.BoundReport.{BoundReport}
+use Rattle.isp_runs.specs.BoundReports.{Counts, RunsBound, Shows}
+use Rattle.isp_runs.specs.Compilation.{IsCompilation}
+use Rattle.isp_front.specs.Front.{IsSource}
 use Rattle.isp_headline.specs.Headline.{RunsAsMeant}
 
 -- function f of a program, which is h and has this name, and its code in an image, both from the arguments xs

@@ -15,11 +15,11 @@ use Rattle.isp_command_line.specs.declared.words.AsmRequest.{AsmRequest}
 use Rattle.isp_command_line.specs.declared.words.ExecRequest.{ExecRequest}
 use Rattle.isp_engine.specs.declared.failure.Failure.{Failure}
 use Rattle.isp_engine.specs.declared.failure.Failure.TheVariants.{Memory}
-use Rattle.isp_engine.specs.declared.fault.RunFault.{RunFault}
-use Rattle.isp_engine.specs.declared.report.Report.{Report}
+use Rattle.isp_runs.specs.declared.fault.RunFault.{RunFault}
+use Rattle.isp_runs.specs.declared.report.Report.{Report}
 use Rattle.isp_engine.specs.Commands.{RunEnds, WroteCode, end_of, job_of_exec, job_of_run}
-use Rattle.isp_engine.specs.Front.{IsSource}
-use Rattle.isp_engine.specs.Sinks.{TookAll}
+use Rattle.isp_front.specs.Front.{IsSource}
+use Rattle.isp_output.specs.Sinks.{TookAll}
 use Rattle.isp_engine.specs.Stories.{Holds}
 use Rattle.isp_headline.specs.Headline.{RunsAsMeant, Sent}
 

@@ -25,15 +25,15 @@ use Rattle.isp_code.specs.Entries as code
 use Rattle.isp_code.specs.Listing.{Listing, Routine}
 use Rattle.isp_code.specs.Machine.{outcome_after}
 use Rattle.isp_bind.specs.Binding.{bound_of}
-use Rattle.isp_engine.specs.declared.fault.RunFault.{RunFault}
-use Rattle.isp_engine.specs.declared.fault.RunFault.TheVariants.{Memory, WriteFailed}
-use Rattle.isp_engine.specs.declared.report.Report.{Report}
-use Rattle.isp_engine.specs.Compilation.{IsCompilation}
-use Rattle.isp_engine.specs.Front.{IsSource}
-use Rattle.isp_engine.specs.Meaning.{enough}
-use Rattle.isp_engine.specs.Reports.{Reports, Executes}
-use Rattle.isp_engine.specs.Sending.{Sends, sent}
-use Rattle.isp_engine.specs.Sinks.{TookAll, TookFirst}
+use Rattle.isp_runs.specs.declared.fault.RunFault.{RunFault}
+use Rattle.isp_runs.specs.declared.fault.RunFault.TheVariants.{Memory, WriteFailed}
+use Rattle.isp_runs.specs.declared.report.Report.{Report}
+use Rattle.isp_runs.specs.Compilation.{IsCompilation}
+use Rattle.isp_front.specs.Front.{IsSource}
+use Rattle.isp_runs.specs.Meaning.{enough}
+use Rattle.isp_runs.specs.Reports.{Reports, Executes}
+use Rattle.isp_runs.specs.Sending.{Sends, sent}
+use Rattle.isp_output.specs.Sinks.{TookAll, TookFirst}
 
 -- ---- how a run stands at each number: of turns in the gang's meaning, of instructions on the machine
 

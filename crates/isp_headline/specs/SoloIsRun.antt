@@ -3,15 +3,15 @@ use Rattle.std.specs.Prelude.{◌≡◌, ℕ, ◌≤◌, List, Result, Ok, Err}
 use Rattle.isp_base.specs.declared.types.Gang.{Gang}
 use Rattle.isp_code.specs.Listing.{Listing}
 use Rattle.isp_typed.specs.Typed.{Program}
-use Rattle.isp_engine.specs.declared.fault.RunFault.{RunFault}
-use Rattle.isp_engine.specs.declared.fault.RunFault.TheVariants.{Memory}
-use Rattle.isp_engine.specs.declared.report.Ending.TheVariants.{Ended}
-use Rattle.isp_engine.specs.declared.report.Report.{Report}
-use Rattle.isp_engine.specs.Front.{IsSource}
-use Rattle.isp_engine.specs.Compilation.{IsCompilation}
-use Rattle.isp_engine.specs.Meaning.{enough}
-use Rattle.isp_engine.specs.Reports.{Executes}
-use Rattle.isp_engine.specs.Sending.{report_bytes}
+use Rattle.isp_runs.specs.declared.fault.RunFault.{RunFault}
+use Rattle.isp_runs.specs.declared.fault.RunFault.TheVariants.{Memory}
+use Rattle.isp_runs.specs.declared.report.Ending.TheVariants.{Ended}
+use Rattle.isp_runs.specs.declared.report.Report.{Report}
+use Rattle.isp_front.specs.Front.{IsSource}
+use Rattle.isp_runs.specs.Compilation.{IsCompilation}
+use Rattle.isp_runs.specs.Meaning.{enough}
+use Rattle.isp_runs.specs.Reports.{Executes}
+use Rattle.isp_runs.specs.Sending.{report_bytes}
 use Rattle.isp_engine.specs.Solos.{IsTold}
 
 -- `execute` answers the report of an end that sends these bytes, unless memory was refused

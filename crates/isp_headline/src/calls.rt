@@ -1,8 +1,8 @@
 //! A text is compiled, and an entry of it is run: the end as the promise of these very calls.
 ghost use Rattle.std.specs.Prelude.{◌≡◌, List, Ok, IfOk, IfErr};
 ghost use Rattle.isp_base.specs.declared.signature.Argument.{Argument};
-ghost use Rattle.isp_engine.specs.Compilation.{IsCompilation};
-ghost use Rattle.isp_engine.specs.Front.{IsFaulty, IsSource};
+ghost use Rattle.isp_runs.specs.Compilation.{IsCompilation};
+ghost use Rattle.isp_front.specs.Front.{IsFaulty, IsSource};
 ghost use Rattle.isp_lex.specs.declared.fault.Fault.{Fault};
 ghost use Rattle.isp_typed.specs.Typed.{Program};
 ghost use Rattle.isp_headline.specs.Answers.{Answers, Entered, IsMemory};

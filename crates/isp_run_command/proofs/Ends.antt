@@ -7,7 +7,7 @@ use Rattle.isp_base.specs.declared.signature.Parameter.{Parameter}
 use Rattle.isp_base.specs.declared.types.Elem.{Elem}
 use Rattle.isp_code.specs.Entries.{IsExport, parameters_of, result_of}
 use Rattle.isp_code.specs.Listing.{Listing, Routine}
-use Rattle.isp_engine.specs.Compilation.{IsCompilation}
+use Rattle.isp_runs.specs.Compilation.{IsCompilation}
 use Rattle.isp_engine.specs.Stories.{Holds}
 use Rattle.isp_run_command.specs.Running.{Binds, HasEnded, IsRefused, NotBegun, NotCalled, NotShown}
 use Rattle.isp_run_data.specs.Loading.{Datas, IsLoaded, IsUnloaded}

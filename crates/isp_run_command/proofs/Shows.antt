@@ -3,13 +3,13 @@ use Rattle.std.proofs.Common.{◌≡◌, ℕ, List, Bool, Option, Err, sym, subs
 use Rattle.isp_base.specs.declared.signature.Argument.{Argument}
 use Rattle.isp_base.specs.declared.types.Gang.{Gang}
 use Rattle.isp_code.specs.Listing.{Listing}
-use Rattle.isp_engine.specs.BoundReports.{MeansBound, RunsBound}
-use Rattle.isp_engine.specs.Compilation.{IsCompilation}
-use Rattle.isp_engine.specs.Sinks.{TookSome}
+use Rattle.isp_runs.specs.BoundReports.{MeansBound, RunsBound}
+use Rattle.isp_runs.specs.Compilation.{IsCompilation}
+use Rattle.isp_output.specs.Sinks.{TookSome}
 use Rattle.isp_engine.specs.Stories.{Writes}
 use Rattle.isp_engine.specs.declared.failure.Failure.{Failure}
 use Rattle.isp_engine.specs.declared.failure.Failure.TheVariants as failure
-use Rattle.isp_engine.specs.declared.report.BoundReport.{BoundReport}
+use Rattle.isp_runs.specs.declared.report.BoundReport.{BoundReport}
 use Rattle.isp_entry.specs.Entered.{BeginsWith, NoneBegins}
 use Rattle.isp_run_command.specs.Running.{IsReady, WordsRan, budget_of}
 use Rattle.isp_run_data.specs.Loading.{Datas}

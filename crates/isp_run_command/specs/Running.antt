@@ -13,12 +13,12 @@ use Rattle.isp_base.specs.declared.types.Value.{Value}
 use Rattle.isp_bind.specs.Answering.{answer_text}
 use Rattle.isp_code.specs.Entries as machine
 use Rattle.isp_code.specs.Listing.{Listing, Routine}
-use Rattle.isp_engine.specs.BoundReports.{MeansBound, RunsBound}
-use Rattle.isp_engine.specs.Compilation.{IsCompilation}
-use Rattle.isp_engine.specs.Front.{IsFaulty}
-use Rattle.isp_engine.specs.Sinks.{TookAll, TookSome}
+use Rattle.isp_runs.specs.BoundReports.{MeansBound, RunsBound}
+use Rattle.isp_runs.specs.Compilation.{IsCompilation}
+use Rattle.isp_front.specs.Front.{IsFaulty}
+use Rattle.isp_output.specs.Sinks.{TookAll, TookSome}
 use Rattle.isp_engine.specs.Stories.{Holds}
-use Rattle.isp_engine.specs.declared.report.BoundReport.{BoundReport}
+use Rattle.isp_runs.specs.declared.report.BoundReport.{BoundReport}
 use Rattle.isp_machine.specs.declared.stop.Stop.{Stop}
 use Rattle.isp_machine.specs.declared.stop.Stop.TheVariants as stop
 use Rattle.isp_entry.specs.Entered.{BeginsWith}

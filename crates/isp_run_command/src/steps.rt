@@ -3,9 +3,9 @@ ghost use Rattle.std.specs.Prelude.{◌≡◌, List, ℕ, Some, IfErr, IfOk, str
 ghost use Rattle.isp_base.specs.declared.types.Gang.{Gang};
 ghost use Rattle.isp_code.specs.Entries.{IsEntry};
 ghost use Rattle.isp_code.specs.Listing.{Routine};
-ghost use Rattle.isp_engine.specs.BoundReports.{MeansBound, RunsBound};
-ghost use Rattle.isp_engine.specs.Compilation.{IsCompilation};
-ghost use Rattle.isp_engine.specs.Front.{IsSource};
+ghost use Rattle.isp_runs.specs.BoundReports.{MeansBound, RunsBound};
+ghost use Rattle.isp_runs.specs.Compilation.{IsCompilation};
+ghost use Rattle.isp_front.specs.Front.{IsSource};
 ghost use Rattle.isp_run_command.specs.Running.{Binds, IsRefused, NotBegun, NotCalled, budget_of, end_of_stop, page_of};
 ghost use Rattle.isp_run_stops.specs.declared.stop.RunStop.TheVariants as run_stop;
 ghost use Rattle.isp_typed.specs.Typed.{Program};

@@ -7,17 +7,17 @@ use Rattle.isp_lex.specs.declared.fault.SourceFault.{SourceFault}
 use Rattle.isp_lex.specs.declared.fault.SourceFault.TheVariants.{Memory as NoMemory, Refused}
 use Rattle.isp_engine.specs.declared.failure.Failure.{Failure}
 use Rattle.isp_engine.specs.declared.failure.Failure.TheVariants.{Source, Trapped, BudgetUsed, TurnsUsed, Run, Code, CannotRead, CannotWrite, Memory, NotIndependent, NotApart}
-use Rattle.isp_engine.specs.declared.fault.CodeFault.{CodeFault}
-use Rattle.isp_engine.specs.declared.fault.CodeFault.TheVariants as code_fault
+use Rattle.isp_runs.specs.declared.fault.CodeFault.{CodeFault}
+use Rattle.isp_runs.specs.declared.fault.CodeFault.TheVariants as code_fault
 use Rattle.isp_engine.specs.Checking.{WroteVerdicts}
 use Rattle.isp_engine.specs.Commands.{NotGiven, Ran, RunEnds, job_of_run}
 use Rattle.isp_engine.specs.Failures.{code_failure, source_failure}
-use Rattle.isp_engine.specs.Front.{IsFaulty}
-use Rattle.isp_engine.specs.Compilation.{IsCompilation}
-use Rattle.isp_engine.specs.Loading.{IsNotLoaded}
+use Rattle.isp_front.specs.Front.{IsFaulty}
+use Rattle.isp_runs.specs.Compilation.{IsCompilation}
+use Rattle.isp_runs.specs.Loading.{IsNotLoaded}
 use Rattle.isp_engine.specs.Stories.{Holds, Reads, SourceFails, Unread, UnreadOf}
 use Rattle.isp_engine.proofs.Requests.{unread_first, unread_second}
-use Rattle.isp_engine.proofs.Written.{adds_nil}
+use Rattle.isp_output.proofs.Written.{adds_nil}
 use Rattle.isp_command_line.specs.declared.words.RunRequest.{RunRequest}
 use Rattle.ispx_command_line.specs.declared.words.ExplainRequest.{ExplainRequest}
 use Rattle.isp_workbench.specs.declared.done.Job.{Job as Done}

@@ -18,7 +18,7 @@ use Rattle.isp_engine.specs.declared.failure.Failure.TheVariants.{Memory}
 use Rattle.isp_engine.specs.Checking.{WroteVerdicts}
 use Rattle.isp_engine.specs.Commands.{Given, NotGiven, RunEnds, exit_status, job_of_run}
 use Rattle.isp_engine.specs.Failures.{line_of}
-use Rattle.isp_engine.specs.Sinks.{TookAll}
+use Rattle.isp_output.specs.Sinks.{TookAll}
 use Rattle.isp_engine.specs.Stories.{Holds, Stops, Unread, Writes}
 use Rattle.ispx_command_line.specs.declared.words.Call.{Call}
 use Rattle.ispx_command_line.specs.declared.words.CRequest.{CRequest}

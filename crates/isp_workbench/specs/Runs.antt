@@ -11,11 +11,11 @@ use Rattle.isp_bind.specs.Answering.{answer_text}
 use Rattle.isp_bind.specs.Binding.{bound_of}
 use Rattle.isp_code.specs.Entries.{IsEntry, IsExport, parameters_of}
 use Rattle.isp_code.specs.Listing.{Listing, Routine}
-use Rattle.isp_engine.specs.Sinks.{TookAll, TookSome}
+use Rattle.isp_output.specs.Sinks.{TookAll, TookSome}
 use Rattle.isp_engine.specs.Stories.{Stops}
 use Rattle.isp_engine.specs.declared.failure.Failure.{Failure}
 use Rattle.isp_engine.specs.declared.failure.Failure.TheVariants as failure
-use Rattle.isp_engine.specs.declared.fault.RunFault.TheVariants.{NoEntry, Arguments}
+use Rattle.isp_runs.specs.declared.fault.RunFault.TheVariants.{NoEntry, Arguments}
 use Rattle.isp_machine.specs.declared.stop.Stop.{Stop}
 use Rattle.isp_machine.specs.declared.stop.Stop.TheVariants.{Running, Trapped, Ended, Memory}
 use Rattle.isp_traces.specs.Counting.{CountedRun}

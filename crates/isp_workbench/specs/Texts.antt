@@ -12,9 +12,9 @@ use Rattle.isp_verdicts.specs.Verdicts.{Checks}
 use Rattle.isp_engine.specs.declared.failure.Failure.{Failure}
 use Rattle.isp_engine.specs.declared.failure.Failure.TheVariants.{Source, Code, Memory}
 use Rattle.isp_engine.specs.Commands.{Ran}
-use Rattle.isp_engine.specs.Front.{IsFaulty, IsSource}
-use Rattle.isp_engine.specs.Compilation.{IsCompilation}
-use Rattle.isp_engine.specs.Loading.{IsLoaded, IsNotLoaded}
+use Rattle.isp_front.specs.Front.{IsFaulty, IsSource}
+use Rattle.isp_runs.specs.Compilation.{IsCompilation}
+use Rattle.isp_runs.specs.Loading.{IsLoaded, IsNotLoaded}
 use Rattle.isp_engine.specs.Stories.{Stops, Writes}
 use Rattle.isp_workbench.specs.declared.done.Job.{Job}
 

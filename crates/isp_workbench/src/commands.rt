@@ -1,7 +1,7 @@
 //! The whole program, over what it is handed.
 ghost use Rattle.std.specs.Prelude.{◌≡◌, false};
 ghost use Rattle.clap.specs.Values.{kind_of};
-ghost use Rattle.isp_engine.specs.Sinks.{Told};
+ghost use Rattle.isp_engine.specs.Told.{Told};
 ghost use Rattle.isp_workbench.specs.Requests.{Answered, Commands, WordsRefused};
 
 use crate::explain::explain;

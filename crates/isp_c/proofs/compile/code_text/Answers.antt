@@ -1,6 +1,6 @@
 use Rattle.std.proofs.Common.{subst}
 use Rattle.std.proofs.lemmas.Str.{IsUtf8-string_bytes}
-use Rattle.isp_engine.specs.Compilation.{IsCompilation}
+use Rattle.isp_runs.specs.Compilation.{IsCompilation}
 use Rattle.isp_c.proofs.compile.code_text.Goals as goal
 
 pub returns-in-Ok-text-clause-ok : goal.returns-in-Ok-text-clause-ok

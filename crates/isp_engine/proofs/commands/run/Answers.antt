@@ -1,7 +1,7 @@
 use Rattle.std.proofs.Common.{inr, sym}
 use Rattle.std.proofs.lemmas.Result.{err_from_is_err_and}
 use Rattle.isp_engine.proofs.Requests.{run_ends}
-use Rattle.isp_engine.proofs.Written.{adds_nil}
+use Rattle.isp_output.proofs.Written.{adds_nil}
 use Rattle.isp_engine.proofs.commands.run.Goals as goal
 
 pub returns-in_err-image : goal.returns-in_err-image

@@ -1,4 +1,4 @@
-use Rattle.isp_engine.proofs.Written.{told}
+use Rattle.isp_engine.proofs.Told.{told}
 use Rattle.isp_engine.proofs.lines.tell_line.Goals as goal
 
 pub returns-then-not-failed : goal.returns-then-not-failed

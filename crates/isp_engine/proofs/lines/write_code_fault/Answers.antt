@@ -1,6 +1,6 @@
 use Rattle.std.proofs.Common.{ap, subst, ◌∙◌}
 use Rattle.std.specs.Fmt.{decimal}
-use Rattle.isp_engine.specs.Sinks.{Wrote}
+use Rattle.isp_engine.specs.Told.{Wrote}
 use Rattle.isp_engine.proofs.Pieces.{code_line}
 use Rattle.isp_engine.proofs.lines.write_code_fault.Goals as goal
 

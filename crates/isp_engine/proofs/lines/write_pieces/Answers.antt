@@ -1,6 +1,7 @@
 use Rattle.std.proofs.Common.{[], refl, sym, arith}
 use Rattle.std.proofs.lemmas.Result.{err_from_is_err_and}
-use Rattle.isp_engine.proofs.Written.{adds_nil, piece_cut, piece_next, pieces_all, took_both}
+use Rattle.isp_output.proofs.Written.{adds_nil, took_both}
+use Rattle.isp_engine.proofs.Told.{piece_cut, piece_next, pieces_all}
 use Rattle.isp_engine.proofs.lines.write_pieces.Goals as goal
 
 pub loop-piece-init : goal.loop-piece-init

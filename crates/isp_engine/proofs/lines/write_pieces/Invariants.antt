@@ -1,6 +1,6 @@
 use Rattle.std.proofs.Common.{◌≡◌, ◌++◌, ℕ, List, drop}
 use Rattle.std.specs.Prelude.{flat_map}
-use Rattle.isp_engine.specs.Sinks.{TookAll}
+use Rattle.isp_output.specs.Sinks.{TookAll}
 use Rattle.isp_engine.proofs.lines.write_pieces.Given as goal
 
 abbrev pub invariant-loop-piece : goal.invariant-loop-piece

@@ -1,5 +1,5 @@
 use Rattle.std.proofs.Common.{subst}
-use Rattle.isp_engine.specs.Sinks.{Wrote}
+use Rattle.isp_engine.specs.Told.{Wrote}
 use Rattle.isp_engine.proofs.Pieces.{text_line}
 use Rattle.isp_engine.proofs.lines.write_text_fault.Goals as goal
 

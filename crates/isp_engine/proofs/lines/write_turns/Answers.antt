@@ -1,5 +1,5 @@
 use Rattle.std.proofs.Common.{subst}
-use Rattle.isp_engine.specs.Sinks.{Wrote}
+use Rattle.isp_engine.specs.Told.{Wrote}
 use Rattle.isp_engine.proofs.Pieces.{turns_line}
 use Rattle.isp_engine.proofs.lines.write_turns.Goals as goal
 

@@ -1,4 +1,4 @@
-use Rattle.isp_engine.proofs.BoundRuns.{each_ok}
+use Rattle.isp_runs.proofs.BoundRuns.{each_ok}
 use Rattle.isp_headline.proofs.calls.compile_as_meant.Goals as goal
 
 pub returns-clause-faithful : goal.returns-clause-faithful

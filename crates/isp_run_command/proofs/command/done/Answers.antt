@@ -1,6 +1,6 @@
 use Rattle.std.proofs.Common.{inl, inr, refl, sym}
 use Rattle.std.proofs.lemmas.Result.{err_from_is_err_and}
-use Rattle.isp_engine.proofs.Written.{adds_nil}
+use Rattle.isp_output.proofs.Written.{adds_nil}
 use Rattle.isp_run_command.proofs.Shows.{lost}
 use Rattle.isp_run_command.proofs.command.done.Goals as goal
 

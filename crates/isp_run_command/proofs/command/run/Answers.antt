@@ -1,5 +1,5 @@
 use Rattle.std.proofs.Common.{Err, Some, inl, inr, refl, subst, sym}
-use Rattle.isp_engine.proofs.Written.{adds_nil}
+use Rattle.isp_output.proofs.Written.{adds_nil}
 use Rattle.isp_run_command.proofs.Ends.{unasked}
 use Rattle.isp_run_command.proofs.command.run.Goals as goal
 

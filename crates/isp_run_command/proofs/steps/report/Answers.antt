@@ -1,5 +1,5 @@
 use Rattle.std.proofs.Common.{ℕ, subst}
-use Rattle.isp_engine.specs.BoundReports.{MeansBound}
+use Rattle.isp_runs.specs.BoundReports.{MeansBound}
 use Rattle.isp_run_command.proofs.steps.report.Goals as goal
 
 pub returns-in-Ok-clause-means : goal.returns-in-Ok-clause-means

@@ -1,5 +1,5 @@
 use Rattle.std.proofs.Common.{inl, inr, refl, rules, sym}
-use Rattle.isp_engine.proofs.Written.{adds_nil}
+use Rattle.isp_output.proofs.Written.{adds_nil}
 use Rattle.isp_workbench.proofs.commands.refuse.Goals as goal
 
 pub returns-then-use_stderr : goal.returns-then-use_stderr

@@ -1,0 +1,6 @@
+//! The front of the compiler: from a source text to a checked program.
+#![tactic(auto)]
+
+mod source;
+
+pub use source::front;

@@ -1,0 +1,9 @@
+pub mod RunFaults
+pub mod CodeFaults
+pub mod Compilation
+pub mod Loading
+pub mod Reports
+pub mod Sending
+pub mod OneByOne
+pub mod Meaning
+pub mod BoundReports
