@@ -26,7 +26,8 @@ TAKEN = {
     "explain.rows": ["12 LeftOut", "docs/INDEPENDENCE.md, Asking", "trap divide", "70 NotJson"],
     "ispx.rows": [
         "and run", "a value in place of an array, by its parameter", "no entry, and what is exported", "count: output, answer and counts",
-        "trace: with lanes, in a window", "the C file of a source", "the prototypes of the exported functions", "a command that is none"],
+        "trace: with lanes, in a window", "the C file of a source", "the prototypes of the exported functions",
+        "the WebAssembly module of a source", "no module where a function calls one with a varying local array", "a command that is none"],
 }
 
 
@@ -38,7 +39,7 @@ class Growths:
     """A request of a record: its files, its words, and what must come of it. `programs` has the paths of `isp` and `ispx`, `library` is what refuses."""
 
     def __init__(self, file, record, programs, library):
-        self.library, self.files, self.words, self.status, self.out, self.err = library, {}, [], 0, "", ""
+        self.library, self.files, self.words, self.status, self.out, self.err = library, {}, [], 0, b"", ""
         self.name, *lines = record.split("\n")
         self.name, place = f"{file}: {self.name}", ""
         for line in lines:
@@ -54,7 +55,9 @@ class Growths:
             elif word == "status":
                 self.status = int(rest)
             elif word == "out":
-                self.out = spelt_out(rest).replace("⟦⟧", place)
+                self.out = spelt_out(rest).replace("⟦⟧", place).encode()
+            elif word == "bytes":
+                self.out = bytes.fromhex(rest)
             elif word == "err":
                 self.err = spelt_out(rest).replace("⟦⟧", place) + "\n"
         self.explains = self.words[1] == "explain"
@@ -96,7 +99,7 @@ class Growths:
         os.close(writing)
         met = os.read(reading, 1) != b""
         os.close(reading)
-        return met, ran.returncode, ran.stdout.decode(), ran.stderr.decode()
+        return met, ran.returncode, ran.stdout, ran.stderr.decode()
 
 
 def requests(programs, folder, whole):

@@ -7,8 +7,8 @@
 //! - `data` a file's name and its bytes in hexadecimal digits, `closed` the name of a file that cannot be written;
 //! - `words` the words behind `isp`, `ispx` those behind `ispx`;
 //! - `kept` a file's name and how its text begins: the text is what the words before write, and there is no such file where it begins otherwise;
-//! - `status` the exit status, `out` what goes to standard output, `err` the line on standard error, without its line feed; in `out` and `err`
-//!   the first `⟦⟧` stands for the place of the file that was written last, as `S..E`.
+//! - `status` the exit status, `out` what goes to standard output, or `bytes` its bytes in hexadecimal digits, `err` the line on standard error,
+//!   without its line feed; in `out` and `err` the first `⟦⟧` stands for the place of the file that was written last, as `S..E`;
 //! - `left` the files that were written, each as its name, `=` and its bytes in hexadecimal digits, with a blank between them.
 //!
 //! A record is tried at its end. What it does not say is 0 or empty.

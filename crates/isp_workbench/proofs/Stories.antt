@@ -15,7 +15,8 @@ use Rattle.isp_engine.specs.Failures.{code_failure, source_failure}
 use Rattle.isp_front.specs.Front.{IsFaulty}
 use Rattle.isp_runs.specs.Compilation.{IsCompilation}
 use Rattle.isp_runs.specs.Loading.{IsNotLoaded}
-use Rattle.isp_engine.specs.Stories.{Holds, Reads, SourceFails, Unread, UnreadOf}
+use Rattle.isp_output.specs.Sinks.{Told}
+use Rattle.isp_engine.specs.Stories.{Holds, Reads, SourceFails, Unread, UnreadOf, Writes}
 use Rattle.isp_engine.proofs.Requests.{unread_first, unread_second}
 use Rattle.isp_output.proofs.Written.{adds_nil}
 use Rattle.isp_command_line.specs.declared.words.RunRequest.{RunRequest}
@@ -114,3 +115,19 @@ module _ (holds : Holds) (q : RunRequest) where
         inl (record { code = h.code; json = done.arguments.text.now; given = record { files = files_of; json_is = refl; image = image }; ran = ran })
     run_story old new failed (Ok u) (inr h) = absurd h
     run_story old new failed (Err f) (inr h) = inr (not_compiled files_of f (subst (λ g. GivesNone (Some g) done.source.text.now f) gang h.0), h.1)
+
+-- ---- a line that is written as a text
+
+pub writes_told : (line : List ℕ) (old new : Option (List ℕ)) (failed : Bool) (end : Result ⊤ Failure) → Writes line old new failed end → Told line old new failed
+writes_told line old new failed (Ok u) h = inl h
+writes_told line old new failed (Err CannotWrite) h = inr h
+writes_told line old new failed (Err (Source f)) h = absurd h
+writes_told line old new failed (Err (Trapped t)) h = absurd h
+writes_told line old new failed (Err BudgetUsed) h = absurd h
+writes_told line old new failed (Err (TurnsUsed p)) h = absurd h
+writes_told line old new failed (Err (Run f)) h = absurd h
+writes_told line old new failed (Err (CannotRead name)) h = absurd h
+writes_told line old new failed (Err Memory) h = absurd h
+writes_told line old new failed (Err (Code f)) h = absurd h
+writes_told line old new failed (Err (NotIndependent d)) h = absurd h
+writes_told line old new failed (Err (NotApart name e)) h = absurd h

@@ -2,6 +2,7 @@
 --     ExplainedCall    `explain` is `isp check`, or where it has an entry `isp run`
 --     ShownRun         `count` and `trace` run an entry of a source, and show what the run does
 --     WroteC           `c` writes the page of the code
+--     WasmAnswered     `wasm` writes the file of its module, or the line that says why there is none
 --     Answered         a request has its story and its exit status; and but for `run` and `explain` the line on standard error
 --     WordsRefused     words that are no request: help goes out, or they are refused and nothing does
 --     Commands         some request is answered, or the words are no request
@@ -10,6 +11,7 @@
 use Rattle.std.specs.Prelude.{◌≡◌, ◌≢◌, ◌⊎◌, ℕ, List, [], Bool, Option, Some, None, Result, Err, ⊤}
 use Rattle.clap.specs.declared.error.kind.ErrorKind.{ErrorKind}
 use Rattle.clap.specs.declared.error.kind.ErrorKind.TheVariants.{DisplayHelp, DisplayVersion, OutOfMemory}
+use Rattle.isp_base.specs.declared.types.Gang.{Gang}
 use Rattle.isp_code.specs.Listing.{Listing}
 use Rattle.isp_command_line.specs.declared.words.CheckRequest.{CheckRequest}
 use Rattle.isp_command_line.specs.declared.words.RunRequest.{RunRequest}
@@ -24,10 +26,22 @@ use Rattle.ispx_command_line.specs.declared.words.Call.{Call}
 use Rattle.ispx_command_line.specs.declared.words.CRequest.{CRequest}
 use Rattle.ispx_command_line.specs.declared.words.ExplainRequest.{ExplainRequest}
 use Rattle.ispx_command_line.specs.declared.words.Request.{Request}
-use Rattle.ispx_command_line.specs.declared.words.Request.TheVariants.{Run, Explain, Count, Trace, C}
+use Rattle.ispx_command_line.specs.declared.words.Request.TheVariants.{Run, Explain, Count, Trace, C, Wasm}
+use Rattle.ispx_command_line.specs.declared.words.WasmRequest.{WasmRequest}
 use Rattle.isp_run_command.specs.Running.{RunAnswered}
+use Rattle.isp_wasm_file.specs.File.{file_of}
+use Rattle.isp_wasm_file.specs.Lines.{refusal_line}
+use Rattle.isp_wasm_module.specs.Refused.{explains, module_refusal}
+use Rattle.isp_wasm_module.specs.declared.refusal.Refusal.{Refusal}
+use Rattle.isp_wasm_module.specs.declared.refusal.Refusal.TheVariants as no_module
 use Rattle.isp_workbench.specs.Runs.{CountShows, ShowEnds, Shows, TraceShows}
 use Rattle.isp_workbench.specs.Texts.{GivesCode, GivesNone, c_page}
+
+-- ---- how a request ends
+
+-- it ends in such a way, and has the status of that
+abbrev pub AnsweredBy : (Result ⊤ Failure → Type 0) → ℕ → Type 0
+AnsweredBy ends status = (end : Result ⊤ Failure) × (status ≡ exit_status end) × ends end
 
 -- ---- explain
 
@@ -53,26 +67,51 @@ pub record ShownRun (shows : Shows) (holds : Holds) (q : RunRequest) (old new : 
 abbrev pub ShownEnds : Shows → Holds → RunRequest → Option (List ℕ) → Option (List ℕ) → Bool → Result ⊤ Failure → Type 0
 ShownEnds shows holds q old new failed end = ShownRun shows holds q old new failed end ⊎ Stops (NotGiven holds (job_of_run q)) old new failed end
 
--- ---- c
+-- ---- code
 
 -- the text of the file gives the code
-pub record HasCode (holds : Holds) (q : CRequest) (code : Listing) : Type 0 where
+pub record HasCode (holds : Holds) (gang : Option Gang) (file : List ℕ) (code : Listing) : Type 0 where
   pub text : List ℕ
-  pub has_text : holds q.file.now (Some text)
-  pub gives : GivesCode q.gang text code
+  pub has_text : holds file (Some text)
+  pub gives : GivesCode gang text code
 
 -- it cannot be read, or gives none
-abbrev pub HasNoCode : Holds → CRequest → Failure → Type 0
-HasNoCode holds q f = Unread holds q.file.now f ⊎ ((text : List ℕ) × holds q.file.now (Some text) × GivesNone q.gang text f)
+abbrev pub HasNoCode : Holds → Option Gang → List ℕ → Failure → Type 0
+HasNoCode holds gang file f = Unread holds file f ⊎ ((text : List ℕ) × holds file (Some text) × GivesNone gang text f)
+
+-- ---- c
 
 abbrev pub WroteC : Holds → CRequest → Option (List ℕ) → Option (List ℕ) → Bool → Result ⊤ Failure → Type 0
-WroteC holds q old new failed end = ((code : Listing) × HasCode holds q code × Writes (c_page q.is_header code) old new failed end) ⊎ Stops (HasNoCode holds q) old new failed end
+WroteC holds q old new failed end =
+    ((code : Listing) × HasCode holds q.gang q.file.now code × Writes (c_page q.is_header code) old new failed end) ⊎ Stops (HasNoCode holds q.gang q.file.now) old new failed end
+
+-- ---- wasm
+
+-- the file of the code's module
+abbrev pub WroteWasm : Holds → WasmRequest → Option (List ℕ) → Option (List ℕ) → Bool → Result ⊤ Failure → Type 0
+WroteWasm holds q old new failed end =
+    ((code : Listing) × HasCode holds q.gang q.file.now code × (module_refusal code ≡ None) × Writes (file_of code) old new failed end)
+    ⊎ Stops (HasNoCode holds q.gang q.file.now) old new failed end
+
+-- why there is no module: memory was refused, or the line of the refusal says it
+abbrev pub ToldWhy : Listing → Refusal → (List ℕ → Type 0) → ℕ → Type 0
+ToldWhy code r tells status =
+    AnsweredBy (λ end. (end ≡ Err Memory) × tells (line_of end)) status ⊎ ((r ≢ no_module.Memory) × (status ≡ 8) × tells (refusal_line code r))
+
+-- then nothing goes out
+pub record NoWasm (holds : Holds) (q : WasmRequest) (old new : Option (List ℕ)) (failed : Bool) (tells : List ℕ → Type 0) (status : ℕ) : Type 0 where
+  pub code : Listing
+  pub has_code : HasCode holds q.gang q.file.now code
+  pub refusal : Refusal
+  pub explained : explains refusal (module_refusal code)
+  pub nothing : TookAll [] old new failed
+  pub told : ToldWhy code refusal tells status
+
+abbrev pub WasmAnswered : Holds → WasmRequest → Option (List ℕ) → Option (List ℕ) → Bool → (List ℕ → Type 0) → ℕ → Type 0
+WasmAnswered holds q old new failed tells status =
+    AnsweredBy (λ end. WroteWasm holds q old new failed end × tells (line_of end)) status ⊎ NoWasm holds q old new failed tells status
 
 -- ---- the whole
-
--- it ends in such a way, and has the status of that
-abbrev pub AnsweredBy : (Result ⊤ Failure → Type 0) → ℕ → Type 0
-AnsweredBy ends status = (end : Result ⊤ Failure) × (status ≡ exit_status end) × ends end
 
 abbrev pub Answered : Holds → Holds → Request → Option (List ℕ) → Option (List ℕ) → Bool → (List ℕ → Type 0) → ℕ → Type 0
 Answered holds datas (Run q) old new failed tells status = RunAnswered holds datas q old new failed status
@@ -80,6 +119,7 @@ Answered holds datas (Explain q) old new failed tells status = AnsweredBy (Expla
 Answered holds datas (Count q) old new failed tells status = AnsweredBy (λ end. ShownEnds (CountShows q) holds q old new failed end × tells (line_of end)) status
 Answered holds datas (Trace q) old new failed tells status = AnsweredBy (λ end. ShownEnds (TraceShows q) holds q.run old new failed end × tells (line_of end)) status
 Answered holds datas (C q) old new failed tells status = AnsweredBy (λ end. WroteC holds q old new failed end × tells (line_of end)) status
+Answered holds datas (Wasm q) old new failed tells status = WasmAnswered holds q old new failed tells status
 
 -- words that ask for help or for the version, which go to standard output
 abbrev pub IsHelp : ErrorKind → Type 0

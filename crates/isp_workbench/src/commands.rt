@@ -7,6 +7,7 @@ ghost use Rattle.isp_workbench.specs.Requests.{Answered, Commands, WordsRefused}
 use crate::explain::explain;
 use crate::native::c_file;
 use crate::runs::{count, trace};
+use crate::wasm::wasm;
 use clap::Error;
 use clap::error::ErrorKind;
 use isp_engine::{Failure, Sink, SourceFiles, tell_end, write_text};
@@ -22,8 +23,8 @@ use std::alloc::{AllocError, Global};
 /// `isp run` does, with the same output and the same status, and says on `err` what went wrong, where, and what to write instead.
 /// `count [--gang G] [--budget B] SOURCE ENTRY ARGUMENTS` does what `isp run` does, and writes behind the answer a line of JSON with
 /// what the instructions come to. `trace`, with the same words and `[--from N] [--count M] [--lanes]`, writes the line of each step in
-/// a window of the run. `c [--gang G] [--header] FILE` writes the code of a text, or with a gang that of a source, as a C file. Of these
-/// three a line of `isp` goes to `err` where the status is not 0.
+/// a window of the run. `c [--gang G] [--header] FILE` writes the code of a text, or with a gang that of a source, as a C file, and
+/// `wasm [--gang G] FILE` as a module of WebAssembly. Of these four a line goes to `err` where the status is not 0.
 ///
 /// Help and the version go to `out`, with status 0. Other words that are no request are refused on `err`, with status 2.
 /// Where `err` fails, or has failed before, the rest of it is lost.
@@ -61,6 +62,7 @@ fn answer<F: SourceFiles + DataFiles, O: Sink, E: Sink>(
         Request::Count(wanted) => tell_end(count(alloc, wanted, files, out), err),
         Request::Trace(wanted) => tell_end(trace(alloc, wanted, files, out), err),
         Request::C(wanted) => tell_end(c_file(alloc, wanted, files, out), err),
+        Request::Wasm(wanted) => wasm(alloc, wanted, files, out, err),
     }
 }
 

@@ -7,5 +7,6 @@ mod explain;
 mod native;
 mod runs;
 mod texts;
+mod wasm;
 
 pub use commands::command;

@@ -19,22 +19,23 @@ pub(crate) fn c_file<'a, F: SourceFiles, O: Sink>(
     requires { O.has_failed out.old ≡ false }
     ensures { WroteC (F.holds files.now) request.now (O.written out.old) (O.written out.new) (O.has_failed out.new) result }
 {
-    let image = code_of(alloc, request, files)?;
+    let image = code_of(alloc, request.gang, request.file, files)?;
     let page = page_of(alloc, &image, request.is_header)?;
     write_text(page.as_str(), out)
 }
 
-// The code of the file.
-fn code_of<'a, F: SourceFiles>(
+/// The code of a file, which has it as text, or where there is a gang a source.
+pub(crate) fn code_of<'a, F: SourceFiles>(
     alloc: Global,
-    request: &CRequest<'a>,
+    gang: Option<Gang>,
+    file: &'a str,
     files: &F,
 ) -> Result<Image, Failure<'a>>
-    ensures ok { IfOk result (HasCode (F.holds files.now) request.now) }
-    ensures err { IfErr result (HasNoCode (F.holds files.now) request.now) }
+    ensures ok { IfOk result (HasCode (F.holds files.now) gang file.now) }
+    ensures err { IfErr result (HasNoCode (F.holds files.now) gang file.now) }
 {
-    let text = read_file(alloc, files, request.file)?;
-    let image = image_of(alloc, request.gang, text.as_str())?;
+    let text = read_file(alloc, files, file)?;
+    let image = image_of(alloc, gang, text.as_str())?;
     Ok(image)
 }
 

@@ -3,4 +3,4 @@
 
 mod words;
 
-pub use words::{CRequest, Call, ExplainRequest, Request, TraceRequest, read_words};
+pub use words::{CRequest, Call, ExplainRequest, Request, TraceRequest, WasmRequest, read_words};

@@ -31,6 +31,13 @@ pub struct CRequest<'a> {
     pub file: &'a str,
 }
 
+/// Code is written as a module of WebAssembly: the code of a text, or where there is a gang that of a source.
+#[derive(Clone, Copy, Debug)]
+pub struct WasmRequest<'a> {
+    pub gang: Option<Gang>,
+    pub file: &'a str,
+}
+
 /// An entry of a source is run, and `count` of its steps from number `from` on are shown; with the lanes that each wrote where
 /// these are wanted.
 #[derive(Clone, Copy, Debug)]
@@ -49,6 +56,7 @@ pub enum Request<'a> {
     Count(RunRequest<'a>),
     Trace(TraceRequest<'a>),
     C(CRequest<'a>),
+    Wasm(WasmRequest<'a>),
 }
 
 /// What the words ask for, or the text that the user is to see.
@@ -89,6 +97,10 @@ fn chosen<'a>(name: &str, inner: &ArgMatches<'a>) -> Option<Request<'a>> {
         "c" => Some(Request::C(CRequest {
             gang: gang_of(inner),
             is_header: inner.get_flag("header"),
+            file: inner.get_str("FILE")?,
+        })),
+        "wasm" => Some(Request::Wasm(WasmRequest {
+            gang: gang_of(inner),
             file: inner.get_str("FILE")?,
         })),
         _ => None,
@@ -158,7 +170,7 @@ fn ispx<'a>(alloc: Global) -> Result<Command<'a>, Error> {
         .bin_name("ispx")?
         .version(VERSION)
         .about(
-            "Runs kernels, explains what is refused, shows what a run does, and writes kernels as C",
+            "Runs kernels, explains what is refused, shows what a run does, and writes kernels as C and WebAssembly",
         )
         .subcommand_required(true);
     let shown = named
@@ -166,7 +178,7 @@ fn ispx<'a>(alloc: Global) -> Result<Command<'a>, Error> {
         .subcommand(explain(alloc)?)?
         .subcommand(count(alloc)?)?
         .subcommand(trace(alloc)?)?;
-    Ok(shown.subcommand(c(alloc)?)?)
+    Ok(shown.subcommand(c(alloc)?)?.subcommand(wasm(alloc)?)?)
 }
 
 fn run_words<'a>(alloc: Global) -> Result<Command<'a>, AllocError> {
@@ -296,11 +308,21 @@ fn c<'a>(alloc: Global) -> Result<Command<'a>, AllocError> {
         .about("Writes code as a C file")
         .arg(gang(alloc))?
         .arg(header(alloc))?
-        .arg(
-            named(alloc, "FILE").required(true).help(
-                "File with code, as `isp asm` writes it, or with `--gang` with kernels",
-            ),
-        )
+        .arg(code_file(alloc))
+}
+
+fn wasm<'a>(alloc: Global) -> Result<Command<'a>, AllocError> {
+    Command::new(alloc, "wasm")
+        .about("Writes code as a WebAssembly module")
+        .arg(gang(alloc))?
+        .arg(code_file(alloc))
+}
+
+// A file with code, or where there is a gang a source.
+fn code_file<'a>(alloc: Global) -> Arg<'a> {
+    named(alloc, "FILE").required(true).help(
+        "File with code, as `isp asm` writes it, or with `--gang` with kernels",
+    )
 }
 
 fn named<'a>(alloc: Global, name: &'a str) -> Arg<'a> {

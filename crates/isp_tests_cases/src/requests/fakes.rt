@@ -129,9 +129,9 @@ impl Page {
         }
     }
 
-    /// Whether this text was written.
-    pub(crate) fn is(&self, text: &String) -> bool {
-        self.bytes.as_slice() == text.as_bytes()
+    /// Whether these bytes were written.
+    pub(crate) fn is(&self, bytes: &[u8]) -> bool {
+        self.bytes.as_slice() == bytes
     }
 
     /// What was written, where it is a text.

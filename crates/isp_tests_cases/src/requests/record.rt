@@ -15,7 +15,7 @@ pub(crate) struct Record<'a> {
     program: Program,
     words: &'a str,
     status: u64,
-    out: String,
+    out: Vec<u8>,
     err: String,
     left: &'a str,
 }
@@ -45,7 +45,7 @@ impl<'a> Record<'a> {
             program: Program::Isp,
             words: "",
             status: 0,
-            out: String::new(alloc),
+            out: Vec::new(alloc),
             err: String::new(alloc),
             left: "",
         }
@@ -63,7 +63,8 @@ impl<'a> Record<'a> {
             "ispx" => self.ask(Program::Ispx, rest),
             "kept" => self.keep(rest)?,
             "status" => self.status = number(rest).unwrap_or(0),
-            "out" => self.out = self.placed(rest)?,
+            "out" => self.out = self.placed(rest)?.into_bytes(),
+            "bytes" => self.out = decode(self.alloc, rest).unwrap_or(Vec::new(self.alloc)),
             "err" => {
                 self.err = self.placed(rest)?;
                 self.err.push_str("\n")?;
@@ -138,7 +139,11 @@ impl<'a> Record<'a> {
         let Answer { status, out, err } = self.answer()?;
         let left = self.files.left()?;
         let is_left = left.as_str() == self.left;
-        if u64::from(status) == self.status && out.is(&self.out) && err.is(&self.err) && is_left {
+        if u64::from(status) == self.status
+            && out.is(self.out.as_slice())
+            && err.is(self.err.as_bytes())
+            && is_left
+        {
             return Ok(None);
         }
         let (out, err) = (out.text(alloc)?, err.text(alloc)?);
