@@ -205,9 +205,9 @@ function checkApart(name, arrays) {
 }
 
 /** Refuses bytes other than 0 and 1 as bools. */
-function checkBools(parameter, bytes) {
-  const at = parameter.code === "b" ? bytes.findIndex((it) => it > 1) : -1;
-  if (at >= 0) throw new RangeError(`${parameter.name}[${at}]: wanted bool, a byte 0 or 1, given ${bytes[at]}`);
+function checkBools(name, bytes) {
+  const at = bytes.findIndex((it) => it > 1);
+  if (at >= 0) throw new RangeError(`${name}[${at}]: wanted bool, a byte 0 or 1, given ${bytes[at]}`);
 }
 
 /** Whether a typed array has elements of this type. */
@@ -224,6 +224,7 @@ function copyBack(copy, original) {
 
 // ---- the functions of a module
 
+/** The functions of a module that are exported, and its memory, where the arrays lie that `array` makes. */
 export class Kernels {
   #exports;
   #gang;
@@ -337,7 +338,7 @@ export class Kernels {
   /** An array with the values of a typed array or a list. */
   #filled({ name, code }, values) {
     const isView = ArrayBuffer.isView(values) && hasType(values, code);
-    if (isView) checkBools({ name, code }, values);
+    if (isView && code === "b") checkBools(name, values);
     const elements = isView ? values : Array.from(values, (it, k) => bitsOf(`${name}[${k}]`, code, it));
     const made = this.#room(code, elements.length);
     made.values.set(elements);
@@ -368,7 +369,7 @@ export class Kernels {
   /** An array as a function takes it: its address and its count. */
   #passed({ parameter, begin, length, value }) {
     if (value === undefined) {
-      checkBools(parameter, new Uint8Array(this.#memory.buffer, begin, parameter.code === "b" ? length : 0));
+      if (parameter.code === "b") checkBools(parameter.name, new Uint8Array(this.#memory.buffer, begin, length));
       return [begin, BigInt(length)];
     }
     const copy = this.#filled(parameter, value);
