@@ -18,15 +18,18 @@ const { EngineError, Kernels, Trap, load } = isp;
 const PROGRAM = process.argv[2] ?? fileURLToPath(new URL("../crates/ispx/out/ispx", import.meta.url));
 const FOLDER = mkdtempSync(`${tmpdir()}/isp-js-`);
 const GANGS = [4, 8, 16, 32];
-const PARTS = 42;
+const PARTS = 43;
 
-/** The bytes of a kernel's module. */
-function bytesOf(source, gang) {
-  writeFileSync(`${FOLDER}/kernel.ispc`, source);
-  const { status, stdout, stderr, error } = spawnSync(PROGRAM, ["wasm", "--gang", gang, `${FOLDER}/kernel.ispc`], { maxBuffer: 1 << 26 });
-  assert.equal(status, 0, `${error ?? ""}${stderr} of ${source}`);
+/** What `ispx wasm` with these options makes of a text. */
+function moduleOf(text, ...options) {
+  writeFileSync(`${FOLDER}/kernel`, text);
+  const { status, stdout, stderr, error } = spawnSync(PROGRAM, ["wasm", ...options, `${FOLDER}/kernel`], { maxBuffer: 1 << 26 });
+  assert.equal(status, 0, `${error ?? ""}${stderr} of ${text}`);
   return stdout;
 }
+
+/** The bytes of a kernel's module. */
+const bytesOf = (source, gang) => moduleOf(source, "--gang", gang);
 
 const made = (source, gang = 8) => load(bytesOf(source, gang), { source });
 
@@ -278,6 +281,11 @@ async function markOfBytes() {
   assert.equal(kernels.call("f").output, "\ufeffa");
 }
 
+async function charactersInTwo() {
+  const kernels = await load(moduleOf("isp 1 gang 4\ntext c3\ntext a9\nfunc f export void\nm 1\nsay t0\nsay t1\nret -\nend\n"));
+  assert.equal(kernels.call("f").output, "é");
+}
+
 // ---- memory
 
 const FILLED = `export void f(uniform uint8 a[], uniform int count) {
@@ -323,7 +331,7 @@ async function openedArrays() {
   const a = kernels.array("uint8", (buffer.byteLength || 65536) - byteOffset);
   assert.equal(kernels.call("g", { n: 5 }).result, 5);
   assert.equal(kernels.call("f", { a, n: 200 }).result, 20100);
-  assert.deepEqual([...a.values.subarray(0, 3)], [1, 0, 0]);
+  assert.ok(a.values.every((it, k) => it === (k === 0 ? 1 : 0)));
   const again = kernels.array("int", 20000);
   assert.ok(again.values.every((it) => it === 0));
 }
@@ -441,7 +449,7 @@ const parts = [
   ...GANGS.map((it) => [`an array near the end of memory, gang ${it}`, () => endOfMemory(it)]),
   ...Object.entries({
     bools, otherNames, wrongArguments, wrongNames, refusedCallsChangeNothing, numbersOf64Bits, greatestCount, otherViews, ownValues, overlaps, trapsWithoutSource,
-    arraysAfterATrap, printed, markOfBytes, exactEndOfMemory, openedArrays, memoryThatCannotGrow, openedArraysThatCannotLie, copiesLeaveNothing, valuesGiven, noStack,
+    arraysAfterATrap, printed, markOfBytes, charactersInTwo, exactEndOfMemory, openedArrays, memoryThatCannotGrow, openedArraysThatCannotLie, copiesLeaveNothing, valuesGiven, noStack,
     endlessRuns, loads, gangs, noModule, declared,
   }),
 ];
