@@ -10,6 +10,7 @@ import pages
 import words
 
 HEADERS = ("isp.h", "isp_machine.h", "isp_calls.h")
+JAVASCRIPT = ("isp.js", "isp.d.ts", "package.json")
 SONAME = "libisp.so.0"
 PROGRAMS = ("isp", "ispx")
 EXAMPLES = re.compile(r"examples/([\w.]+\.(ispc|json|answer|md|py)|(c|python)/[\w.]+)$")
@@ -107,6 +108,11 @@ def python(release, layout):
     return found
 
 
+def javascript(release):
+    """Returns what runs kernels as WebAssembly from JavaScript."""
+    return {f"share/javascript/isp/{name}": File(content(f"{release.root}/js/{name}")) for name in JAVASCRIPT}
+
+
 def told(release, layout, date):
     """Returns the man pages and the completions."""
     found, readme = {}, content(f"{release.root}/README.md").decode()
@@ -130,7 +136,7 @@ def documents(release):
 def tree(release, layout, date):
     """Returns all that is installed, by its name below the prefix."""
     found = {f"bin/{name}": File(release.artefact(name), 0o755) for name in PROGRAMS}
-    for part in (development(release, layout), python(release, layout), told(release, layout, date), documents(release)):
+    for part in (development(release, layout), python(release, layout), javascript(release), told(release, layout, date), documents(release)):
         found.update(part)
     return dict(sorted(found.items()))
 

@@ -13,7 +13,7 @@ import tree
 SECONDS = 300
 MIRROR = "http://deb.debian.org/debian"
 SUITE = "bookworm"
-INSIDE = "python3,python3-numpy,gcc,libc6-dev,pkg-config,man-db,bash-completion,zsh,fish"
+INSIDE = "python3,python3-numpy,gcc,libc6-dev,pkg-config,man-db,bash-completion,zsh,fish,nodejs"
 
 # (/proc is mounted for the one command alone)
 CHROOT = 'mount -t proc proc "$0/proc" && exec chroot "$0" "$@"'
@@ -40,6 +40,19 @@ eval "gcc -std=c11 -O2 $(pkg-config --cflags isp) -o fixed '$DOC/examples/c/run.
 AS_C = """
 ispx c --gang 16 "$DOC/examples/brighten.ispc" >brighten.c
 eval "gcc -std=gnu11 -O1 -c $(pkg-config --cflags isp) brighten.c -o brighten.o"
+"""
+JAVASCRIPT = """
+ispx wasm --gang 16 "$DOC/examples/brighten.ispc" >brighten.wasm
+cp -r "$SHARE/javascript/isp" js
+echo '
+import { readFile } from "node:fs/promises";
+import { load } from "./js/isp.js";
+const kernels = await load(readFile("brighten.wasm"));
+const pixels = [0, 100, 250];
+kernels.call("brighten", { pixels, count: 3, level: 50 });
+console.log(...pixels);
+' >main.mjs
+node main.mjs
 """
 PYTHON = """
 python3 -c '
@@ -91,6 +104,7 @@ EVERYWHERE = [
     ("a C program by pkg-config", BY_PKG_CONFIG, "libisp.so.0\n"),
     ("a C program with libisp.a", STATIC, ""),
     ("a kernel as C", AS_C, ""),
+    ("a kernel from JavaScript", JAVASCRIPT, "50 150 255\n"),
     ("Python", PYTHON, "True True\n"),
     ("Python, native", NATIVE, "True\n"),
     ("man", MAN, None),
@@ -195,7 +209,7 @@ def try_tarball(release, work, trials):
 def stored_root():
     """Returns a tar file of a small Debian with what the trials need, and makes it where there is none."""
     cache = pathlib.Path(os.environ.get("XDG_CACHE_HOME") or pathlib.Path.home() / ".cache") / "isp"
-    stored = cache / f"{SUITE}-for-trials.tar"
+    stored = cache / f"{SUITE}-with-{INSIDE.count(',') + 1}-for-trials.tar"
     if not stored.exists():
         cache.mkdir(mode=0o700, parents=True, exist_ok=True)
         with tempfile.TemporaryDirectory(dir=cache) as work:
