@@ -398,9 +398,9 @@ export class Kernels {
   #host() {
     const print = (value) => this.#printed.push(new TextEncoder().encode(String(value)));
     return {
-      // (an i32 comes with a sign)
+      // (an i32 and an i64 come with a sign)
       write: (at, count) => this.#printed.push(new Uint8Array(this.#memory.buffer, at >>> 0, count >>> 0).slice()),
-      print_signed: (value) => print(BigInt.asIntN(64, value)),
+      print_signed: print,
       print_unsigned: (value) => print(BigInt.asUintN(64, value)),
       print_bool: (value) => print(value !== 0),
       print_byte: (value) => this.#printed.push(Uint8Array.of(value)),
