@@ -57,11 +57,11 @@ fn section(alloc: Global, code: &Code) -> Result<Vec<u8>, Stopped>
 }
 
 // The module, and the section behind it.
-fn with_text(alloc: Global, module: Vec<u8>, code: &Code) -> Result<Vec<u8>, Stopped>
-    ensures { IfOk result (λ v. v.items ≡ module.items ++ text_section code.now) }
+fn with_text(alloc: Global, made: Vec<u8>, code: &Code) -> Result<Vec<u8>, Stopped>
+    ensures { IfOk result (λ v. v.items ≡ made.items ++ text_section code.now) }
 {
     let section = section(alloc, code)?;
-    let mut file = module;
+    let mut file = made;
     file.extend_from_slice(section.as_slice())?;
     Ok(file)
 }

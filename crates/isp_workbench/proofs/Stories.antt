@@ -1,5 +1,5 @@
 -- What is done of texts is what a request asks for, where its files hold them.
-use Rattle.std.proofs.Common.{◌≡◌, ◌≢◌, ℕ, List, Bool, false, Option, Some, None, Result, Ok, Err, refl, sym, subst, inl, inr}
+use Rattle.std.proofs.Common.{◌≡◌, ◌≢◌, ℕ, List, Bool, true, false, Option, Some, None, Result, Ok, Err, refl, sym, subst, inl, inr}
 use Rattle.std.specs.Prelude.{⊤}
 use Rattle.isp_base.specs.declared.types.Gang.{Gang}
 use Rattle.isp_lex.specs.declared.fault.Fault.{Fault}
@@ -131,3 +131,7 @@ writes_told line old new failed (Err Memory) h = absurd h
 writes_told line old new failed (Err (Code f)) h = absurd h
 writes_told line old new failed (Err (NotIndependent d)) h = absurd h
 writes_told line old new failed (Err (NotApart name e)) h = absurd h
+
+-- nothing goes to a sink that has failed before
+pub untold : (line : List ℕ) (old : Option (List ℕ)) (failed : Bool) → failed ≡ true → Told line old old failed
+untold line old failed e = inr ((0, sym (adds_nil old)), e)

@@ -2,7 +2,7 @@
 --     ExplainedCall    `explain` is `isp check`, or where it has an entry `isp run`
 --     ShownRun         `count` and `trace` run an entry of a source, and show what the run does
 --     WroteC           `c` writes the page of the code
---     WasmAnswered     `wasm` writes the file of its module, or the line that says why there is none
+--     WroteWasm        `wasm` writes the file of the code's module, or the line that says why there is none
 --     Answered         a request has its story and its exit status; and but for `run` and `explain` the line on standard error
 --     WordsRefused     words that are no request: help goes out, or they are refused and nothing does
 --     Commands         some request is answered, or the words are no request
@@ -87,29 +87,21 @@ WroteC holds q old new failed end =
 
 -- ---- wasm
 
--- the file of the code's module
-abbrev pub WroteWasm : Holds → WasmRequest → Option (List ℕ) → Option (List ℕ) → Bool → Result ⊤ Failure → Type 0
-WroteWasm holds q old new failed end =
-    ((code : Listing) × HasCode holds q.gang q.file.now code × (module_refusal code ≡ None) × Writes (file_of code) old new failed end)
-    ⊎ Stops (HasNoCode holds q.gang q.file.now) old new failed end
-
--- why there is no module: memory was refused, or the line of the refusal says it
+-- why code has no module: memory was refused, or the line of the refusal says it
 abbrev pub ToldWhy : Listing → Refusal → (List ℕ → Type 0) → ℕ → Type 0
 ToldWhy code r tells status =
     AnsweredBy (λ end. (end ≡ Err Memory) × tells (line_of end)) status ⊎ ((r ≢ no_module.Memory) × (status ≡ 8) × tells (refusal_line code r))
 
--- then nothing goes out
-pub record NoWasm (holds : Holds) (q : WasmRequest) (old new : Option (List ℕ)) (failed : Bool) (tells : List ℕ → Type 0) (status : ℕ) : Type 0 where
-  pub code : Listing
-  pub has_code : HasCode holds q.gang q.file.now code
-  pub refusal : Refusal
-  pub explained : explains refusal (module_refusal code)
-  pub nothing : TookAll [] old new failed
-  pub told : ToldWhy code refusal tells status
+-- the file of the code's module goes out; or there is none, so that nothing does, and why is told
+abbrev pub WroteModule : Listing → Option (List ℕ) → Option (List ℕ) → Bool → (List ℕ → Type 0) → ℕ → Type 0
+WroteModule code old new failed tells status =
+    ((module_refusal code ≡ None) × AnsweredBy (λ end. Writes (file_of code) old new failed end × tells (line_of end)) status)
+    ⊎ ((r : Refusal) × explains r (module_refusal code) × TookAll [] old new failed × ToldWhy code r tells status)
 
-abbrev pub WasmAnswered : Holds → WasmRequest → Option (List ℕ) → Option (List ℕ) → Bool → (List ℕ → Type 0) → ℕ → Type 0
-WasmAnswered holds q old new failed tells status =
-    AnsweredBy (λ end. WroteWasm holds q old new failed end × tells (line_of end)) status ⊎ NoWasm holds q old new failed tells status
+abbrev pub WroteWasm : Holds → WasmRequest → Option (List ℕ) → Option (List ℕ) → Bool → (List ℕ → Type 0) → ℕ → Type 0
+WroteWasm holds q old new failed tells status =
+    ((code : Listing) × HasCode holds q.gang q.file.now code × WroteModule code old new failed tells status)
+    ⊎ AnsweredBy (λ end. Stops (HasNoCode holds q.gang q.file.now) old new failed end × tells (line_of end)) status
 
 -- ---- the whole
 
@@ -119,7 +111,7 @@ Answered holds datas (Explain q) old new failed tells status = AnsweredBy (Expla
 Answered holds datas (Count q) old new failed tells status = AnsweredBy (λ end. ShownEnds (CountShows q) holds q old new failed end × tells (line_of end)) status
 Answered holds datas (Trace q) old new failed tells status = AnsweredBy (λ end. ShownEnds (TraceShows q) holds q.run old new failed end × tells (line_of end)) status
 Answered holds datas (C q) old new failed tells status = AnsweredBy (λ end. WroteC holds q old new failed end × tells (line_of end)) status
-Answered holds datas (Wasm q) old new failed tells status = WasmAnswered holds q old new failed tells status
+Answered holds datas (Wasm q) old new failed tells status = WroteWasm holds q old new failed tells status
 
 -- words that ask for help or for the version, which go to standard output
 abbrev pub IsHelp : ErrorKind → Type 0
