@@ -31,7 +31,7 @@ const KINDS = ["divide", "index", "assert", "depth"];
 /** How many calls may run at once; the next one traps. */
 const MOST_CALLS = 256;
 
-const ALIGNED = 16, PAGE = 65536, MOST_BYTES = 2 ** 32;
+const ALIGNED = 16, PAGE = 65536;
 
 // ---- how a run can stop
 
@@ -310,12 +310,11 @@ export class Kernels {
     return this.#exports["isp.memory"];
   }
 
-  /** The memory up to this byte, at least. */
+  /** Makes the memory so large, at least. */
   #grow(end, what) {
     const more = Math.ceil((end - this.#memory.buffer.byteLength) / PAGE);
     if (more <= 0) return;
     try {
-      if (end > MOST_BYTES) throw new RangeError();
       this.#memory.grow(more);
     } catch {
       throw new RangeError(`no memory for ${what}`);
