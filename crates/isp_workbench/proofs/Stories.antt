@@ -15,7 +15,7 @@ use Rattle.isp_engine.specs.Failures.{code_failure, source_failure}
 use Rattle.isp_front.specs.Front.{IsFaulty}
 use Rattle.isp_runs.specs.Compilation.{IsCompilation}
 use Rattle.isp_runs.specs.Loading.{IsNotLoaded}
-use Rattle.isp_output.specs.Sinks.{Told}
+use Rattle.isp_engine.specs.Told.{Told}
 use Rattle.isp_engine.specs.Stories.{Holds, Reads, SourceFails, Unread, UnreadOf, Writes}
 use Rattle.isp_engine.proofs.Requests.{unread_first, unread_second}
 use Rattle.isp_output.proofs.Written.{adds_nil}

@@ -1,6 +1,6 @@
 //! Code as a module of WebAssembly.
 ghost use Rattle.std.specs.Prelude.{◌≡◌, false};
-ghost use Rattle.isp_output.specs.Sinks.{Told};
+ghost use Rattle.isp_engine.specs.Told.{Told};
 ghost use Rattle.isp_workbench.specs.Requests.{ToldWhy, WroteModule, WroteWasm};
 
 use crate::native::code_of;

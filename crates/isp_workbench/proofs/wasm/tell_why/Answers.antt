@@ -1,5 +1,5 @@
 use Rattle.std.proofs.Common.{ap, inr, refl, rules, subst, ◌∙◌}
-use Rattle.isp_output.specs.Sinks.{Told}
+use Rattle.isp_engine.specs.Told.{Told}
 use Rattle.isp_wasm_file.specs.Lines.{refusal_line}
 use Rattle.isp_workbench.proofs.wasm.tell_why.Goals as goal
 
