@@ -40,7 +40,6 @@ pub enum Operator {
 
 /// An expression.
 #[cycle(expr)]
-#[derive(Drop)]
 pub enum Expr {
     /// A number with its type.
     Number {
@@ -103,7 +102,6 @@ pub enum Expr {
 
 /// What can be stored to.
 #[cycle(expr)]
-#[derive(Drop)]
 pub enum Place {
     /// `x`, which may also be an array's name.
     Variable(Word),
@@ -117,11 +115,76 @@ pub enum Place {
 
 /// An argument of a call.
 #[cycle(expr)]
-#[derive(Drop)]
 pub enum Argument {
     Value(Expr),
     /// `&x` or `&a[e]`.
     Reference { place: Place, span: Span },
+}
+
+// Each `drop` is written out: one that is derived is proved anew in every crate that drops a tree.
+impl Drop for Expr {
+    #[cycle(expr)]
+    fn drop(self) {
+        match self {
+            Expr::Number { value: _, span: _ } => {}
+            Expr::Truth { value: _, span: _ } => {}
+            Expr::ProgramIndex { span: _ } => {}
+            Expr::ProgramCount { span: _ } => {}
+            Expr::Place(_) => {}
+            Expr::Call {
+                function: _,
+                arguments: _,
+                span: _,
+            } => {}
+            Expr::Brackets { inner: _, span: _ } => {}
+            Expr::Cast {
+                ty: _,
+                operand: _,
+                span: _,
+            } => {}
+            Expr::Prefix {
+                operator: _,
+                operand: _,
+                span: _,
+            } => {}
+            Expr::Binary {
+                operator: _,
+                left: _,
+                right: _,
+                span: _,
+            } => {}
+            Expr::Choose {
+                test: _,
+                then: _,
+                otherwise: _,
+                span: _,
+            } => {}
+        }
+    }
+}
+
+impl Drop for Place {
+    #[cycle(expr)]
+    fn drop(self) {
+        match self {
+            Place::Variable(_) => {}
+            Place::Element {
+                array: _,
+                index: _,
+                span: _,
+            } => {}
+        }
+    }
+}
+
+impl Drop for Argument {
+    #[cycle(expr)]
+    fn drop(self) {
+        match self {
+            Argument::Value(_) => {}
+            Argument::Reference { place: _, span: _ } => {}
+        }
+    }
 }
 
 impl Place {

@@ -121,7 +121,6 @@ pub enum Jump {
 
 /// A statement. `keyword` is the place of its first word alone.
 #[cycle(stmt)]
-#[derive(Drop)]
 pub enum Stmt {
     Block(Block),
     /// `;`
@@ -226,10 +225,115 @@ pub enum Stmt {
 
 /// `{ .. }`
 #[cycle(stmt)]
-#[derive(Drop)]
 pub struct Block {
     pub statements: Vec<Stmt>,
     pub span: Span,
+}
+
+// Each `drop` is written out: one that is derived is proved anew in every crate that drops a tree.
+impl Drop for Stmt {
+    #[cycle(stmt)]
+    fn drop(self) {
+        match self {
+            Stmt::Block(_) => {}
+            Stmt::Empty { span: _ } => {}
+            Stmt::Declare {
+                declaration: _,
+                span: _,
+            } => {}
+            Stmt::Simple { simple: _, span: _ } => {}
+            Stmt::If {
+                form: _,
+                test: _,
+                then: _,
+                span: _,
+            } => {}
+            Stmt::IfElse {
+                form: _,
+                test: _,
+                then: _,
+                otherwise: _,
+                span: _,
+            } => {}
+            Stmt::While {
+                form: _,
+                test: _,
+                body: _,
+                span: _,
+            } => {}
+            Stmt::Do {
+                form: _,
+                body: _,
+                test: _,
+                span: _,
+            } => {}
+            Stmt::For {
+                form: _,
+                first: _,
+                test: _,
+                step: _,
+                body: _,
+                span: _,
+            } => {}
+            Stmt::Foreach {
+                tiling: _,
+                keyword: _,
+                ranges: _,
+                body: _,
+                span: _,
+            } => {}
+            Stmt::ForeachActive {
+                keyword: _,
+                word: _,
+                body: _,
+                span: _,
+            } => {}
+            Stmt::ForeachUnique {
+                keyword: _,
+                word: _,
+                value: _,
+                body: _,
+                span: _,
+            } => {}
+            Stmt::Unmasked {
+                keyword: _,
+                body: _,
+                span: _,
+            } => {}
+            Stmt::Jump {
+                jump: _,
+                keyword: _,
+                span: _,
+            } => {}
+            Stmt::Return {
+                keyword: _,
+                value: _,
+                span: _,
+            } => {}
+            Stmt::Print {
+                keyword: _,
+                text: _,
+                text_span: _,
+                values: _,
+                span: _,
+            } => {}
+            Stmt::Assert {
+                test: _,
+                call_span: _,
+                span: _,
+            } => {}
+        }
+    }
+}
+
+impl Drop for Block {
+    #[cycle(stmt)]
+    fn drop(self) {
+        let Block {
+            statements: _,
+            span: _,
+        } = self;
+    }
 }
 
 impl Size {

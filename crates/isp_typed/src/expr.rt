@@ -8,7 +8,6 @@ use isp_base::{BinOp, Compare, Elem, Rate, Span, Ty, UnaryOp, Value};
 /// An expression. `ty` is the type of its own value, `span` where it stands. Each node is one of the
 /// source but `Convert`.
 #[cycle(expr)]
-#[derive(Drop)]
 pub enum TypedExpr {
     /// A number, `true`, `false` or `programCount`.
     Constant {
@@ -102,7 +101,6 @@ pub enum TypedExpr {
 
 /// What has a value and can be stored to.
 #[cycle(expr)]
-#[derive(Drop)]
 pub enum TypedPlace {
     /// A variable that holds a value, by its number.
     Variable {
@@ -121,7 +119,6 @@ pub enum TypedPlace {
 
 /// The array of a packed call; `span` is where its name stands.
 #[cycle(expr)]
-#[derive(Drop)]
 pub enum TypedBase {
     /// `a` or `&a`: from its first element on.
     Whole {
@@ -138,7 +135,6 @@ pub enum TypedBase {
 
 /// What is handed to a parameter.
 #[cycle(expr)]
-#[derive(Drop)]
 pub enum TypedArgument {
     /// A value of the parameter's element type.
     Value(TypedExpr),
@@ -148,11 +144,137 @@ pub enum TypedArgument {
 
 /// A call of a function, by the function's number, with an argument for each parameter.
 #[cycle(expr)]
-#[derive(Drop)]
 pub struct TypedCall {
     pub function: usize,
     pub arguments: Vec<TypedArgument>,
     pub span: Span,
+}
+
+// Each `drop` is written out: one that is derived is proved anew in every crate that drops a tree.
+impl Drop for TypedExpr {
+    #[cycle(expr)]
+    fn drop(self) {
+        match self {
+            TypedExpr::Constant { value: _, span: _ } => {}
+            TypedExpr::ProgramIndex { span: _ } => {}
+            TypedExpr::Place(_) => {}
+            TypedExpr::Convert {
+                elem: _,
+                operand: _,
+            } => {}
+            TypedExpr::Cast {
+                operand: _,
+                ty: _,
+                span: _,
+            } => {}
+            TypedExpr::Unary {
+                operator: _,
+                operand: _,
+                ty: _,
+                span: _,
+            } => {}
+            TypedExpr::Binary {
+                operator: _,
+                left: _,
+                right: _,
+                ty: _,
+                span: _,
+            } => {}
+            TypedExpr::Compare {
+                comparison: _,
+                left: _,
+                right: _,
+                rate: _,
+                span: _,
+            } => {}
+            TypedExpr::Logic {
+                logic: _,
+                left: _,
+                right: _,
+                rate: _,
+                span: _,
+            } => {}
+            TypedExpr::Choose {
+                test: _,
+                then: _,
+                otherwise: _,
+                ty: _,
+                span: _,
+            } => {}
+            TypedExpr::Call { call: _, ty: _ } => {}
+            TypedExpr::Library {
+                function: _,
+                elem: _,
+                values: _,
+                ty: _,
+                span: _,
+            } => {}
+            TypedExpr::PackedStore {
+                base: _,
+                value: _,
+                span: _,
+            } => {}
+            TypedExpr::PackedLoad {
+                base: _,
+                variable: _,
+                span: _,
+            } => {}
+        }
+    }
+}
+
+impl Drop for TypedPlace {
+    #[cycle(expr)]
+    fn drop(self) {
+        match self {
+            TypedPlace::Variable {
+                number: _,
+                ty: _,
+                span: _,
+            } => {}
+            TypedPlace::Element {
+                array: _,
+                index: _,
+                ty: _,
+                span: _,
+            } => {}
+        }
+    }
+}
+
+impl Drop for TypedBase {
+    #[cycle(expr)]
+    fn drop(self) {
+        match self {
+            TypedBase::Whole { array: _, span: _ } => {}
+            TypedBase::From {
+                array: _,
+                index: _,
+                span: _,
+            } => {}
+        }
+    }
+}
+
+impl Drop for TypedArgument {
+    #[cycle(expr)]
+    fn drop(self) {
+        match self {
+            TypedArgument::Value(_) => {}
+            TypedArgument::Array { array: _, span: _ } => {}
+        }
+    }
+}
+
+impl Drop for TypedCall {
+    #[cycle(expr)]
+    fn drop(self) {
+        let TypedCall {
+            function: _,
+            arguments: _,
+            span: _,
+        } = self;
+    }
 }
 
 impl TypedPlace {

@@ -81,7 +81,6 @@ pub struct TypedRange {
 /// A statement. `keyword` is the place of its first word. `before` is how many variables of the function
 /// are declared before it: a variable is declared outside it where its number is less.
 #[cycle(stmt)]
-#[derive(Drop)]
 pub enum TypedStmt {
     /// `{ .. }`, and `;`, which is one without statements.
     Block(TypedBlock),
@@ -194,8 +193,117 @@ pub enum TypedStmt {
 
 /// `{ .. }`
 #[cycle(stmt)]
-#[derive(Drop)]
 pub struct TypedBlock {
     pub statements: Vec<TypedStmt>,
     pub span: Span,
+}
+
+// Each `drop` is written out: one that is derived is proved anew in every crate that drops a tree.
+impl Drop for TypedStmt {
+    #[cycle(stmt)]
+    fn drop(self) {
+        match self {
+            TypedStmt::Block(_) => {}
+            TypedStmt::Declare { items: _, span: _ } => {}
+            TypedStmt::Simple { simple: _, span: _ } => {}
+            TypedStmt::If {
+                form: _,
+                before: _,
+                test: _,
+                then: _,
+                span: _,
+            } => {}
+            TypedStmt::IfElse {
+                form: _,
+                before: _,
+                test: _,
+                then: _,
+                otherwise: _,
+                span: _,
+            } => {}
+            TypedStmt::While {
+                form: _,
+                before: _,
+                test: _,
+                body: _,
+                span: _,
+            } => {}
+            TypedStmt::Do {
+                form: _,
+                before: _,
+                body: _,
+                test: _,
+                span: _,
+            } => {}
+            TypedStmt::For {
+                form: _,
+                before: _,
+                first: _,
+                test: _,
+                step: _,
+                inside: _,
+                body: _,
+                span: _,
+            } => {}
+            TypedStmt::Foreach {
+                keyword: _,
+                before: _,
+                ranges: _,
+                body: _,
+                span: _,
+            } => {}
+            TypedStmt::ForeachActive {
+                keyword: _,
+                before: _,
+                index: _,
+                body: _,
+                span: _,
+            } => {}
+            TypedStmt::ForeachUnique {
+                keyword: _,
+                before: _,
+                index: _,
+                elem: _,
+                value: _,
+                body: _,
+                span: _,
+            } => {}
+            TypedStmt::Unmasked {
+                keyword: _,
+                body: _,
+                span: _,
+            } => {}
+            TypedStmt::Jump {
+                jump: _,
+                keyword: _,
+                span: _,
+            } => {}
+            TypedStmt::Return {
+                keyword: _,
+                value: _,
+                span: _,
+            } => {}
+            TypedStmt::Print {
+                keyword: _,
+                text: _,
+                values: _,
+                span: _,
+            } => {}
+            TypedStmt::Assert {
+                test: _,
+                call_span: _,
+                span: _,
+            } => {}
+        }
+    }
+}
+
+impl Drop for TypedBlock {
+    #[cycle(stmt)]
+    fn drop(self) {
+        let TypedBlock {
+            statements: _,
+            span: _,
+        } = self;
+    }
 }
