@@ -19,7 +19,7 @@ use Rattle.isp_wasm_meaning.specs.Meaning.{Report, State, Result, Fell, Branched
 use Rattle.isp_wasm_meaning.specs.Ladder.{Whole, Told}
 use Rattle.isp_wasm.specs.Places.{Setting, Counter}
 use Rattle.isp_wasm.specs.Templates.{function_code}
-use Rattle.isp_wasm.specs.Standing.{bits_by, bits_of, Keeps, Ends, Fails, Cut, IsFull, the_machine, report_of}
+use Rattle.isp_wasm.specs.Standing.{shared_of, bits_by, bits_of, Keeps, Ends, Fails, Cut, IsFull, the_machine, report_of}
 use Rattle.isp_wasm.specs.Agreement.{Returns, Reports, Agrees, FunctionsAgree, CallsAgree, ComesBack, CallsComeBack, out_of, value_bits}
 use Rattle.isp_wasm.proofs.Chains.{function_runs}
 
@@ -119,7 +119,7 @@ module _ (w : Setting) (top : w.waiting ≡ []) (scalar : gives_vector w.routine
       let same : machine.Ended x d ≡ machine.Ended h.0 ends.conf = one_end w.code m ends.steps (machine.Runs c) (machine.Ended x d) (machine.Ended h.0 ends.conf) e ends.ends tt tt in
       let conf_is : ends.conf ≡ d = cc in
       let value_is : h.0 ≡ x = cc in
-      record { state = s; is = ap (λ z. Returned z s) (h.1 ∙ ap value_bits value_is); out_is = ends.out_is ∙ ap (λ z. z.out) conf_is; keeps = subst (λ z. Keeps w z.arrays s.memory s.size) conf_is ends.keeps }
+      record { state = s; is = ap (λ z. Returned z s) (h.1 ∙ ap value_bits value_is); out_is = ends.out_is ∙ ap (λ z. z.out) conf_is; keeps = subst (λ z. Keeps (shared_of w) z.arrays s.memory s.size) conf_is ends.keeps }
   ends_there m c x d (Trapped (Some q) s) h e =
       let same : machine.Ended x d ≡ machine.Trapped h.trap h.conf = one_end w.code m h.steps (machine.Runs c) (machine.Ended x d) (machine.Trapped h.trap h.conf) e h.fails tt tt in
       absurd cc
@@ -137,7 +137,7 @@ module _ (w : Setting) (top : w.waiting ≡ []) (scalar : gives_vector w.routine
       let same : machine.Trapped t d ≡ machine.Trapped h.trap h.conf = one_end w.code m h.steps (machine.Runs c) (machine.Trapped t d) (machine.Trapped h.trap h.conf) e h.fails tt tt in
       let conf_is : h.conf ≡ d = cc in
       let trap_is : h.trap ≡ t = cc in
-      record { state = s; is = ap (λ q. Trapped (Some q) s) (h.report_is ∙ ap (report_of w) trap_is); out_is = h.out_is ∙ ap (λ z. z.out) conf_is; keeps = subst (λ z. Keeps w z.arrays s.memory s.size) conf_is h.keeps }
+      record { state = s; is = ap (λ q. Trapped (Some q) s) (h.report_is ∙ ap (report_of w) trap_is); out_is = h.out_is ∙ ap (λ z. z.out) conf_is; keeps = subst (λ z. Keeps (shared_of w) z.arrays s.memory s.size) conf_is h.keeps }
   traps_there m c t d (OutOfFuel s) h e = absurd (let lt = runs_before w.code h.steps m (machine.Runs c) (machine.Trapped t d) h.conf h.goes e tt in omega (arith, h.far))
   traps_there m c t d (Fell s) h e = absurd h
   traps_there m c t d (Branched k s) h e = absurd h

@@ -31,7 +31,7 @@ use Rattle.isp_wasm_meaning.proofs.Ladders.{call_meets, meets_then}
 use Rattle.isp_wasm.specs.Places as place
 use Rattle.isp_wasm.specs.Places.{Setting, Counter, elem, shape, parts}
 use Rattle.isp_wasm.specs.Templates.{called_number, arguments_of, scalar_result, result_local, vector_result, take_result, select_lanes, call_code, lowest_of}
-use Rattle.isp_wasm.specs.Standing.{Stands, Holds, Keeps, AreLanes, IsSettled, scalar_register, vector_register, the_machine}
+use Rattle.isp_wasm.specs.Standing.{all_of, Stands, Holds, Keeps, AreLanes, IsSettled, scalar_register, vector_register, the_machine}
 use Rattle.isp_wasm.specs.Agreement.{BringsTo, Brings, Back, CallsAgree}
 use Rattle.isp_wasm.proofs.Frames.{holds_alike, holds_scalar, there, elsewhere}
 use Rattle.isp_wasm.proofs.Results.{are_got, selects}
@@ -72,7 +72,7 @@ module _ (w : Setting) (ready : IsSettled w) (last n k : ℕ) (call : ℕ → Li
       pub locals_are : t.locals ≡ result_in (result_local w x.result) value s.locals
       pub brings : Brings w x.result register conf value t
       pub out_is : t.out ≡ conf.out
-      pub keeps : Keeps w (came conf None None).arrays t.memory t.size
+      pub keeps : Keeps w (all_of w (came conf None None)) t.memory t.size
 
     abbrev pub Again : Conf → Result → Type 0
     Again = Meets (the_machine w) (w.local Counter) n (suc last) (Stands w (pc + 1)) (suc k)
@@ -82,7 +82,7 @@ module _ (w : Setting) (ready : IsSettled w) (last n k : ℕ) (call : ℕ → Li
     here c1 t stands = record { conf = c1; steps = 0; goes = refl; stands = stands }
 
     scalar_taken : (conf : Conf) (t : State) (a : Class) (d r : Register) → a ≡ class.Scalar → t.locals ≡ (set_local (w.local (place.Scalar d.number)) (conf.scalars r.number) s).locals
-        → conf.scalars r.number < 2 ^ width (elem w (scalar_register d.number)) → t.out ≡ conf.out → Keeps w (came conf None None).arrays t.memory t.size
+        → conf.scalars r.number < 2 ^ width (elem w (scalar_register d.number)) → t.out ≡ conf.out → Keeps w (all_of w (came conf None None)) t.memory t.size
         → Stands w (pc + 1) (record (put_result a conf d r mask (resumed conf (waits c x.result mask) c.waiting)) { out = conf.out }) t
     scalar_taken conf t class.Scalar d r e locals fits out keeps =
         record {
@@ -99,7 +99,7 @@ module _ (w : Setting) (ready : IsSettled w) (last n k : ℕ) (call : ℕ → Li
     scalar_taken conf t class.Mask d r e locals fits out keeps = absurd cc
     scalar_taken conf t class.Array d r e locals fits out keeps = absurd cc
 
-    vector_taken : (conf : Conf) (t : State) (d : ℕ) (r : Register) → t.locals ≡ s.locals → AreLanes w t.globals (vector_register d) (conf.vectors r.number) → t.out ≡ conf.out → Keeps w (came conf None None).arrays t.memory t.size
+    vector_taken : (conf : Conf) (t : State) (d : ℕ) (r : Register) → t.locals ≡ s.locals → AreLanes w t.globals (vector_register d) (conf.vectors r.number) → t.out ≡ conf.out → Keeps w (all_of w (came conf None None)) t.memory t.size
         → Again (record (put_result class.Vector conf (vector_register d) r mask (resumed conf (waits c x.result mask) c.waiting)) { out = conf.out }) (run (suc last) call (vector_result w class.Vector (vector_register d) x.mask) t)
     vector_taken conf t d r locals lanes out keeps =
         let got = are_got w ready (suc last) call (parts w (shape w (vector_register d))) t in
@@ -114,7 +114,7 @@ module _ (w : Setting) (ready : IsSettled w) (last n k : ℕ) (call : ℕ → Li
 
     -- by the class of the register that gets it
     by_class : (conf : Conf) (t : State) (a : Class) (d : ℕ) (r : Register) (v : Option ℕ) → (a ≡ class.Scalar) ⊎ (a ≡ class.Vector)
-        → t.locals ≡ result_in (scalar_result w a (record { class = a; number = d })) v s.locals → BringsTo w a (record { class = a; number = d }) r conf v t → t.out ≡ conf.out → Keeps w (came conf None None).arrays t.memory t.size
+        → t.locals ≡ result_in (scalar_result w a (record { class = a; number = d })) v s.locals → BringsTo w a (record { class = a; number = d }) r conf v t → t.out ≡ conf.out → Keeps w (all_of w (came conf None None)) t.memory t.size
         → Again (record (put_result a conf (record { class = a; number = d }) r mask (resumed conf (waits c x.result mask) c.waiting)) { out = conf.out }) (run (suc last) call (vector_result w a (record { class = a; number = d }) x.mask) t)
     by_class conf t class.Vector d r v is locals brings out keeps = vector_taken conf t d r locals brings.1 out keeps
     by_class conf t class.Scalar d r v is locals brings out keeps =
@@ -123,7 +123,7 @@ module _ (w : Setting) (ready : IsSettled w) (last n k : ℕ) (call : ℕ → Li
     by_class conf t class.Mask d r v is locals brings out keeps = absurd (elim is [ inl e ↦ cc | inr e ↦ cc ])
     by_class conf t class.Array d r v is locals brings out keeps = absurd (elim is [ inl e ↦ cc | inr e ↦ cc ])
 
-    taken : (conf : Conf) (t : State) (d r : Option Register) (v : Option ℕ) → IsResult d → t.locals ≡ result_in (result_local w d) v s.locals → Brings w d r conf v t → t.out ≡ conf.out → Keeps w (came conf None None).arrays t.memory t.size
+    taken : (conf : Conf) (t : State) (d r : Option Register) (v : Option ℕ) → IsResult d → t.locals ≡ result_in (result_local w d) v s.locals → Brings w d r conf v t → t.out ≡ conf.out → Keeps w (all_of w (came conf None None)) t.memory t.size
         → Again (came conf d r) (run (suc last) call (take_result w d x.mask) t)
     taken conf t None None v is locals brings out keeps =
         here (came conf None None) t

@@ -15,9 +15,10 @@ use Rattle.isp_wasm_meaning.specs.Meaning as wasm
 use Rattle.isp_wasm_meaning.specs.Meaning.{State, Result, Fell, Trapped, run, value, loaded, inside, flag, set_local}
 use Rattle.isp_wasm.specs.Places.{Setting, Base, elem, bytes_of}
 use Rattle.isp_wasm.specs.Templates.{address_at}
-use Rattle.isp_wasm.specs.Standing.{Stands, Keeps, IsSettled}
+use Rattle.isp_wasm.specs.Standing.{all_of, Stands, Keeps, IsSettled}
 use Rattle.isp_wasm.specs.Thin.{IsArray}
 use Rattle.isp_wasm.proofs.Regions.{few_bytes, ends_in, load_in, store_in, element_fits_in, keeps_stored_in, keeps_zeroed_in}
+use Rattle.isp_wasm.proofs.Shared.{all_low}
 use Rattle.isp_wasm.proofs.Indices.{outside_is, plain_address}
 
 module _ (w : Setting) (ready : IsSettled w) where
@@ -28,7 +29,7 @@ module _ (w : Setting) (ready : IsSettled w) where
     store = w.home.named a.number
 
     abbrev pub many : ℕ
-    many = w.home.sizes store
+    many = w.sizes store
 
     abbrev pub each_bytes : ℕ
     each_bytes = bytes_of (w.elems store)
@@ -45,9 +46,11 @@ module _ (w : Setting) (ready : IsSettled w) where
     pub size_is : (pc : ℕ) (c : Conf) (s : State) → Stands w pc c s → size w.code w.routine c a ≡ many
     size_is pc c s st =
         ap (λ b. if b then local_size (slice_get w.routine.locals (a.number - passed w.routine)) else c.home.sizes (c.home.named a.number)) el.shared ∙ ap (λ h. h.sizes (h.named a.number)) st.home_is
+        ∙ sym (ready.sizes_are store (let low = el.low in omega (arith, low)))
 
-    pub item_is : (pc : ℕ) (c : Conf) (s : State) (e p : ℕ) → Stands w pc c s → item w.code w.routine c a e p ≡ c.arrays store e
+    pub item_is : (pc : ℕ) (c : Conf) (s : State) (e p : ℕ) → Stands w pc c s → item w.code w.routine c a e p ≡ all_of w c store e
     item_is pc c s e p st = ap (λ b. if b then c.own a.number e p else c.arrays (c.home.named a.number) e) el.shared ∙ ap (λ h. c.arrays (h.named a.number) e) st.home_is
+        ∙ ap (λ (g : Lanes). g e) (sym (all_low w c store (let low = el.low in omega (arith, low))))
 
     pub outside_at : (pc : ℕ) (c : Conf) (s : State) (x : ℕ) → Stands w pc c s → x < 2 ^ 64 → outside w.code w.routine c a x ≡ not (nat_lt x many)
     outside_at pc c s x st fit = ap (λ n. is_outside I64 n x) (size_is pc c s st) ∙ outside_is many x (let le = few in omega arith) fit

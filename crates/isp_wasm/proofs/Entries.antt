@@ -28,13 +28,14 @@ use Rattle.isp_wasm.specs.Places.{Setting, Place, Counter, gang, parts}
 use Rattle.isp_wasm.specs.Rows.{cell}
 use Rattle.isp_wasm.specs.Templates.{each, mask_part, function_code, begin_code, routine_code}
 use Rattle.isp_wasm.specs.Stack.{none_open, has_call, uses_stack, start, bytes_in, waiting_bytes, bottom, opened_memory}
-use Rattle.isp_wasm.specs.Standing.{Holds, Stands, Keeps, IsFull, IsSettled, report_of}
+use Rattle.isp_wasm.specs.Standing.{all_of, shared_of, Holds, Stands, Keeps, IsFull, IsSettled, report_of}
 use Rattle.isp_wasm.specs.Thin.{IsCovered, AllThin}
 use Rattle.isp_wasm.specs.Agreement.{Agrees, CallsAgree, out_of, value_bits}
 use Rattle.isp_wasm.specs.Entry.{entry_code, first, IsPassed, IsCalled, Shows, ReturnsSo, TrapsSo, SameOutcomes, EntriesAgree}
 use Rattle.isp_wasm.proofs.Frames.{put_same, put_other, there, elsewhere}
 use Rattle.isp_wasm.proofs.Rows.{enough, row_constant}
 use Rattle.isp_wasm.proofs.Agreement.{functions_agree}
+use Rattle.isp_wasm.proofs.Shared.{beside_shared}
 use Rattle.isp_wasm.proofs.Opening.{which_array, IsOpen, IsEntered, Starts, starts}
 
 pub digit_zero : (b k : ℕ) → 0 < b → digit b k 0 ≡ 0
@@ -208,8 +209,8 @@ module _ (w : Setting) (ready : IsSettled w) where
       base_holds a (inl (i, e, lt)) = subst (λ n. m (w.local (place.Base n)) ≡ w.begins (w.home.named n)) (sym e) (o.bases i lt ∙ sym (call_is.own_bases i lt))
       base_holds a (inr out) = other (place.Base a) (λ e. cc) (λ i lt e. out i lt cc) (λ i lt e. cc) ∙ same_as_called (place.Base a) (λ j e. cc) (λ e. cc) ∙ call_is.bases a out
 
-      count_holds : (a : ℕ) → ((i : ℕ) × (a ≡ passed w.routine + i) × (i < length w.routine.locals)) ⊎ IsPassed w a → m (w.local (place.Count a)) ≡ w.home.sizes (w.home.named a)
-      count_holds a (inl (i, e, lt)) = subst (λ n. m (w.local (place.Count n)) ≡ w.home.sizes (w.home.named n)) (sym e) (o.counts i lt ∙ sym (call_is.own_counts i lt))
+      count_holds : (a : ℕ) → ((i : ℕ) × (a ≡ passed w.routine + i) × (i < length w.routine.locals)) ⊎ IsPassed w a → m (w.local (place.Count a)) ≡ w.sizes (w.home.named a)
+      count_holds a (inl (i, e, lt)) = subst (λ n. m (w.local (place.Count n)) ≡ w.sizes (w.home.named n)) (sym e) (o.counts i lt ∙ sym (call_is.own_counts i lt))
       count_holds a (inr out) = other (place.Count a) (λ e. cc) (λ i lt e. cc) (λ i lt e. out i lt cc) ∙ same_as_called (place.Count a) (λ j e. cc) (λ e. cc) ∙ call_is.counts a out
 
       holds : Holds w (first w xs).scalars (first w xs).vectors (first w xs).masks m
@@ -249,8 +250,8 @@ module _ (w : Setting) (ready : IsSettled w) where
           whole = size_is ∙ call_is.whole;
           stacked = stacked;
           holds = λ m o. holds m o;
-          keeps = λ room. subst (λ m. Keeps w (first w xs).arrays (opened_memory (gang w) (bottom w) w.routine.locals m) begun.size) (sym memory_is)
-              (subst (λ z. Keeps w (first w xs).arrays (opened_memory (gang w) (bottom w) w.routine.locals s.memory) z) (sym size_is) (call_is.keeps (λ e. subst (λ n. bottom w + bytes_in (gang w) w.routine.locals < n) size_is (room e))));
+          keeps = λ room. subst (λ m. Keeps w (all_of w (first w xs)) (opened_memory (gang w) (bottom w) w.routine.locals m) begun.size) (sym memory_is)
+              (subst (λ z. Keeps w (all_of w (first w xs)) (opened_memory (gang w) (bottom w) w.routine.locals s.memory) z) (sym size_is) (call_is.keeps (λ e. subst (λ n. bottom w + bytes_in (gang w) w.routine.locals < n) size_is (room e))));
         }
 
     counter_at : begun.locals (w.local Counter) ≡ 0
@@ -295,11 +296,11 @@ module _ (w : Setting) (ready : IsSettled w) where
       sizes_are b e h =
           subst (λ z. e < z.sizes b) call_is.home_is (subst (λ t. e < (if t then length (row_bits (rows xs) b) else slice_index (shared_sizes w.routine.locals) (b - length (rows xs)))) (sym (lt-ltb b (length (rows xs)) (some_row (rows xs) b e h))) h)
 
-      shows : (c : Conf) (u : State) → Keeps w c.arrays u.memory u.size → Shows w (rows_now (rows xs) c.arrays) u
+      shows : (c : Conf) (u : State) → Keeps (shared_of w) c.arrays u.memory u.size → Shows w (rows_now (rows xs) c.arrays) u
       shows c u keeps =
           record {
             elements = λ b e h. (let low : e < length (row_bits (rows xs) b) = subst (λ n. e < n) (now_long (rows xs) c.arrays b) h in keeps.elements b e (sizes_are b e low) ∙ sym (now_at (rows xs) c.arrays b e low));
-            beside = keeps.rest;
+            beside = λ a h. keeps.rest a (beside_shared w ready a h);
           }
 
       ends_at : (m : ℕ) (rs : List Row) (x : Option Value) (out : List ℕ) (z : machine.State) → after w.code m (machine.Runs (first w xs)) ≡ z → outcome (rows xs) z ≡ outcomes.Ends rs x out

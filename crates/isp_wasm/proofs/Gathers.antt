@@ -27,7 +27,7 @@ use Rattle.isp_wasm_meaning.specs.Ladder.{Meets}
 use Rattle.isp_wasm.specs.Places as place
 use Rattle.isp_wasm.specs.Places.{Setting, Counter, elem, bytes_of, gang}
 use Rattle.isp_wasm.specs.Templates.{lane_loads, address_at, checked, scalar_code, own_index, run_index, packed_index, rank_expr, set_count, scalar_local, lowest_of}
-use Rattle.isp_wasm.specs.Standing.{Stands, Holds, IsSettled, the_machine, vector_register, scalar_register}
+use Rattle.isp_wasm.specs.Standing.{all_of, Stands, Holds, IsSettled, the_machine, vector_register, scalar_register}
 use Rattle.isp_wasm.specs.Thin.{IsArray, IsVector, IsScalar}
 use Rattle.isp_wasm.proofs.Frames.{holds_scalar, there, elsewhere}
 use Rattle.isp_wasm.proofs.Steps.{falls_on, fails_here}
@@ -38,6 +38,7 @@ use Rattle.isp_wasm.proofs.Scalars.{falls_scalar}
 use Rattle.isp_wasm.proofs.Indices.{element_is, beyond_is, first_is}
 use Rattle.isp_wasm.proofs.LaneLoops.{Sound, Refused, Filled, vectors_at, kept_lane, all_filled}
 use Rattle.isp_wasm.proofs.LaneEnds.{one_test, lanes_end, none_fails, filled_fails}
+use Rattle.isp_wasm.proofs.Shared.{all_low}
 use Rattle.isp_wasm.proofs.Elements.{store, many, few, size_is, item_is, outside_at, load_is, element_fits}
 use Rattle.isp_wasm.proofs.Loads.{there_cut, test_is, got, bad, body, lanes_loaded}
 
@@ -96,14 +97,14 @@ module _ (w : Setting) (ready : IsSettled w) (fuel n k : ℕ) (call : ℕ → Li
         fits p l = vector_fits w c s.locals st.holds i I64 iv p l
 
         by : (p : ℕ) (b : Bool) → c.masks m.number p ≡ b → (c.masks m.number p && not (nat_lt (x p) length)) ≡ false
-            → (if c.masks m.number p then c.arrays (store w ready a here el) (x p) else c.vectors d p) ≡ or_old (each1 (λ b. item w.code w.routine c a (element I64 b) p) (if c.masks m.number p then Some (x p) else None)) (c.vectors d p)
+            → (if c.masks m.number p then all_of w c (store w ready a here el) (x p) else c.vectors d p) ≡ or_old (each1 (λ b. item w.code w.routine c a (element I64 b) p) (if c.masks m.number p then Some (x p) else None)) (c.vectors d p)
         by p true on sound =
             let lt = sound_index (c.masks m.number p) (x p) length sound on in
             let size = few w ready a here el in
-            ap (λ b. if b then c.arrays (store w ready a here el) (x p) else c.vectors d p) on
-            ∙ sym (ap (λ b. or_old (each1 (λ b. item w.code w.routine c a (element I64 b) p) (if b then Some (x p) else None)) (c.vectors d p)) on ∙ item_is w ready a here el pc c s (element I64 (x p)) p st ∙ ap (c.arrays (store w ready a here el)) (element_is (x p) (omega arith)))
+            ap (λ b. if b then all_of w c (store w ready a here el) (x p) else c.vectors d p) on
+            ∙ sym (ap (λ b. or_old (each1 (λ b. item w.code w.routine c a (element I64 b) p) (if b then Some (x p) else None)) (c.vectors d p)) on ∙ item_is w ready a here el pc c s (element I64 (x p)) p st ∙ ap (all_of w c (store w ready a here el)) (element_is (x p) (omega arith)))
         by p false off sound =
-            ap (λ b. if b then c.arrays (store w ready a here el) (x p) else c.vectors d p) off
+            ap (λ b. if b then all_of w c (store w ready a here el) (x p) else c.vectors d p) off
             ∙ sym (ap (λ b. or_old (each1 (λ b. item w.code w.routine c a (element I64 b) p) (if b then Some (x p) else None)) (c.vectors d p)) off)
 
     pub runs : IsScalar w i I64 → slice_get w.routine.code pc ≡ Some (instr.Vector (vector_register d) (vector.LoadRun a i m q)) → Good (pc + 1) c (run fuel call (lane_loads w (vector_register d) a (run_index w i) m q) s)
@@ -124,16 +125,16 @@ module _ (w : Setting) (ready : IsSettled w) (fuel n k : ℕ) (call : ℕ → Li
         x p = (c.scalars i.number + p) % 2 ^ 64
 
         by : (p : ℕ) → p < gang w → (b : Bool) → c.masks m.number p ≡ b → (c.masks m.number p && not (nat_lt (x p) length)) ≡ false
-            → (if c.masks m.number p then c.arrays (store w ready a here el) (x p) else c.vectors d p)
+            → (if c.masks m.number p then all_of w c (store w ready a here el) (x p) else c.vectors d p)
             ≡ or_old (if c.masks m.number p then Some (item w.code w.routine c a (unsigned_abs (number I64 (c.scalars i.number) +ℤ pos p)) p) else None) (c.vectors d p)
         by p l true on sound =
             let lt = sound_index (c.masks m.number p) (x p) length sound on in
-            ap (λ b. if b then c.arrays (store w ready a here el) (x p) else c.vectors d p) on
+            ap (λ b. if b then all_of w c (store w ready a here el) (x p) else c.vectors d p) on
             ∙ sym (ap (λ b. or_old (if b then Some (item w.code w.routine c a (unsigned_abs (number I64 (c.scalars i.number) +ℤ pos p)) p) else None) (c.vectors d p)) on
             ∙ item_is w ready a here el pc c s (unsigned_abs (number I64 (c.scalars i.number) +ℤ pos p)) p st
-            ∙ ap (c.arrays (store w ready a here el)) (first_is length (c.scalars i.number) p (few w ready a here el) fits (let le = narrow w.code.gang in omega arith) lt))
+            ∙ ap (all_of w c (store w ready a here el)) (first_is length (c.scalars i.number) p (few w ready a here el) fits (let le = narrow w.code.gang in omega arith) lt))
         by p l false off sound =
-            ap (λ b. if b then c.arrays (store w ready a here el) (x p) else c.vectors d p) off
+            ap (λ b. if b then all_of w c (store w ready a here el) (x p) else c.vectors d p) off
             ∙ sym (ap (λ b. or_old (if b then Some (item w.code w.routine c a (unsigned_abs (number I64 (c.scalars i.number) +ℤ pos p)) p) else None) (c.vectors d p)) off)
 
     -- in the order of the mask's lanes, which are counted
@@ -164,14 +165,15 @@ module _ (w : Setting) (ready : IsSettled w) (fuel n k : ℕ) (call : ℕ → Li
         y : Map
         y = on set (λ p. c.arrays (c.home.named a.number) (unsigned_abs (number I64 (c.scalars i.number) +ℤ pos (rank set p))))
 
-        by : (p : ℕ) → p < gang w → (b : Bool) → set p ≡ b → (set p && not (nat_lt (x p) length)) ≡ false → (if set p then c.arrays (store w ready a here el) (x p) else c.vectors d p) ≡ over y (c.vectors d) p
+        by : (p : ℕ) → p < gang w → (b : Bool) → set p ≡ b → (set p && not (nat_lt (x p) length)) ≡ false → (if set p then all_of w c (store w ready a here el) (x p) else c.vectors d p) ≡ over y (c.vectors d) p
         by p l true on sound =
             let lt = sound_index (set p) (x p) length sound on in
-            ap (λ b. if b then c.arrays (store w ready a here el) (x p) else c.vectors d p) on
+            ap (λ b. if b then all_of w c (store w ready a here el) (x p) else c.vectors d p) on
             ∙ sym (ap (λ b. or_old (if b then Some (c.arrays (c.home.named a.number) (unsigned_abs (number I64 (c.scalars i.number) +ℤ pos (rank set p)))) else None) (c.vectors d p)) on
-            ∙ ap₂ (λ h e. c.arrays (h.named a.number) e) st.home_is (first_is length (c.scalars i.number) (rank set p) (few w ready a here el) fits (small p l) lt))
+            ∙ ap₂ (λ h e. c.arrays (h.named a.number) e) st.home_is (first_is length (c.scalars i.number) (rank set p) (few w ready a here el) fits (small p l) lt)
+            ∙ ap (λ (g : Lanes). g (x p)) (sym (all_low w c (store w ready a here el) (let low = el.low in omega (arith, low)))))
         by p l false off sound =
-            ap (λ b. if b then c.arrays (store w ready a here el) (x p) else c.vectors d p) off
+            ap (λ b. if b then all_of w c (store w ready a here el) (x p) else c.vectors d p) off
             ∙ sym (ap (λ b. or_old (if b then Some (c.arrays (c.home.named a.number) (unsigned_abs (number I64 (c.scalars i.number) +ℤ pos (rank set p)))) else None) (c.vectors d p)) off)
 
         all : rank set (gang w) ≤ 32
@@ -245,14 +247,14 @@ module _ (w : Setting) (ready : IsSettled w) (fuel n k : ℕ) (call : ℕ → Li
       by true e =
           let lt = ltb-true (c.scalars i.number) (many w ready a (elem w d) el) e in
           let size = few w ready a (elem w d) el in
-          let v = c.arrays (store w ready a (elem w d) el) (c.scalars i.number) in
+          let v = all_of w c (store w ready a (elem w d) el) (c.scalars i.number) in
           subst (Good (pc + 1) c)
           (sym (ap (λ r. then_to r after) (checked_is a i m q (elem w d) el is true e)
-          ∙ load_is w ready a (elem w d) el c.arrays s.memory s.size st.keeps s.locals (scalar_local w i) (c.scalars i.number) (st.holds.bases a.number) (st.holds.scalars_are i.number) fuel call s.out s.globals (w.local (place.Scalar d.number)) lt))
+          ∙ load_is w ready a (elem w d) el (all_of w c) s.memory s.size st.keeps s.locals (scalar_local w i) (c.scalars i.number) (st.holds.bases a.number) (st.holds.scalars_are i.number) fuel call s.out s.globals (w.local (place.Scalar d.number)) lt))
           (falls_scalar w ready fuel n k call pc c s st (instr.Scalar d (scalar.Load a i m q)) d v s has cl
           (ap (λ b. moved (unless w.code w.routine c (failing w.code w.routine c b m) kind.Index q (item w.code w.routine c a (element I64 (c.scalars i.number)) 0)) (set_scalar c d)) (outside_here a i m q (elem w d) el is true e)
-          ∙ ap (λ x. Go (set_scalar c d x)) (item_is w ready a (elem w d) el pc c s (element I64 (c.scalars i.number)) 0 st ∙ ap (c.arrays (store w ready a (elem w d) el)) (element_is (c.scalars i.number) (omega arith))))
-          (element_fits w ready a (elem w d) el c.arrays s.memory s.size st.keeps (c.scalars i.number) lt) (λ p kept. refl) refl st.keeps)
+          ∙ ap (λ x. Go (set_scalar c d x)) (item_is w ready a (elem w d) el pc c s (element I64 (c.scalars i.number)) 0 st ∙ ap (all_of w c (store w ready a (elem w d) el)) (element_is (c.scalars i.number) (omega arith))))
+          (element_fits w ready a (elem w d) el (all_of w c) s.memory s.size st.keeps (c.scalars i.number) lt) (λ p kept. refl) refl st.keeps)
       by false e =
           subst (Good (pc + 1) c) (sym (ap (λ r. then_to r after) (checked_is a i m q (elem w d) el is false e)))
           (faults a i m q (elem w d) el is (instr.Scalar d (scalar.Load a i m q)) ℕ (item w.code w.routine c a (element I64 (c.scalars i.number)) 0) (set_scalar c d) has e refl)

@@ -1,5 +1,5 @@
 -- The functions that others call do what the machine's calls of them do, with any fuel.
-use Rattle.std.proofs.Common.{◌≡◌, ℕ, zero, suc, ◌+◌, ◌-◌, ◌*◌, ◌%◌, ◌^◌, ◌<◌, ◌≤◌, ◌⊎◌, inl, inr, List, [], ◌∷◌, ◌++◌, length, map, Option, Some, None, Bool, true, false, ◌&&◌, refl, sym, ap, ◌∙◌, subst, append_assoc, eq-eqb, arith, mod-eq_of_lt, lit≤}
+use Rattle.std.proofs.Common.{◌≡◌, ℕ, zero, suc, ◌+◌, ◌-◌, ◌*◌, ◌%◌, ◌^◌, ◌<◌, ◌≤◌, ◌⊎◌, inl, inr, List, [], ◌∷◌, ◌++◌, length, map, Option, Some, None, Bool, true, false, ◌&&◌, refl, sym, ap, ap₂, ◌∙◌, subst, append_assoc, eq-eqb, arith, mod-eq_of_lt, lit≤}
 use Rattle.std.specs.Prelude.{slice_get, slice_index, slice_index_or, nat_lt, if◌then◌else◌}
 use Rattle.std.specs.List.{list_any}
 use Rattle.std.proofs.lemmas.Bool.{cases_lt, cases_eq, lt-ltb, le-ltb, cond-true, cond-false}
@@ -30,7 +30,7 @@ use Rattle.isp_code.specs.declared.register.Class.TheVariants as class
 use Rattle.isp_code.specs.declared.register.Register.{Register}
 use Rattle.isp_verify.specs.Accepted.{IsFine}
 use Rattle.isp_wasm_meaning.specs.Syntax.{I8x16, Code, Const128}
-use Rattle.isp_wasm_meaning.specs.Meaning.{State, Result, Fell, Branched, Returned, Trapped, OutOfFuel, called, run, left, then_to, value, lane, flags, count}
+use Rattle.isp_wasm_meaning.specs.Meaning.{loaded, State, Result, Fell, Branched, Returned, Trapped, OutOfFuel, called, run, left, then_to, value, lane, flags, count}
 use Rattle.isp_wasm_meaning.specs.Module.{Function, code_in, unused}
 use Rattle.isp_wasm_meaning.specs.Ladder.{Told}
 use Rattle.isp_wasm.specs.Places as place
@@ -39,7 +39,7 @@ use Rattle.isp_wasm.specs.Rows.{cell, widened}
 use Rattle.isp_wasm.specs.Locals.{row, taken_from, taken_places, own_places, inner_local, local_at}
 use Rattle.isp_wasm.specs.Module.{all_shared, is_plain, all_plain, calls_function, is_called, inner, inner_of, inner_function, inner_functions, function_of, module_of}
 use Rattle.isp_wasm.specs.Stack.{IsBelow, moved_up, start, has_call, waiting_bytes, function_bytes, bytes_if, bytes_in, top}
-use Rattle.isp_wasm.specs.Standing.{Holds, Keeps, Stands, IsFull, IsSettled, bits_by, bits_of, LanesBy, LanesOf, scalar_register, vector_register, the_machine}
+use Rattle.isp_wasm.specs.Standing.{all_of, shared_of, Holds, Keeps, Stands, IsFull, IsSettled, bits_by, bits_of, LanesBy, LanesOf, scalar_register, vector_register, the_machine}
 use Rattle.isp_wasm.specs.Templates.{listed, plus, waiting_calls, part_under, vector_local, mask_local, passed_all, arguments_of, called_number, function_code, begin_code, routine_code}
 use Rattle.isp_wasm.specs.Agreement.{BringsTo, Brings, Back, CallsAgree, ComesBack}
 use Rattle.isp_wasm.proofs.Agreement.{calls_come_back}
@@ -50,7 +50,9 @@ use Rattle.isp_wasm.proofs.Given.{Gives, gives, in_row, past_row, scalar_got, ba
 use Rattle.isp_wasm.proofs.Heads.{first_head}
 use Rattle.isp_wasm.proofs.Numbers.{place_apart}
 use Rattle.isp_wasm.proofs.Passing.{At, first_at, other_at, no_number}
-use Rattle.isp_wasm.proofs.Opened.{AreLaid, IsUnder, inside, past_list, old_size, old_begin, old_elem, past_size, past_begin, disjoint, text_apart, bounded, under_all, keeps_in, keeps_out, named_low, named_past, own_base, own_count, own_low, are_stored}
+use Rattle.isp_wasm.proofs.Opened.{AreLaid, IsUnder, inside, past_list, old_size, old_begin, old_elem, past_size, past_begin, disjoint, text_apart, bounded, under_all, keeps_in, keeps_out, beside_in, named_low, named_past, own_base, own_count, own_low, are_stored}
+use Rattle.isp_wasm.proofs.Shared.{all_low, all_high, beside_shared, forget, loaded_same}
+use Rattle.isp_wasm.proofs.Indices.{in_row as row_low}
 use Rattle.isp_wasm.proofs.Opening.{which_array, IsOpen, IsEntered, Starts, starts}
 use Rattle.isp_wasm.proofs.Plain.{AreStored, all_at, any_at, calls_some, text_low, few_heads, heads_rise, some_code, shared, bytes_low, covered, all_thin}
 use Rattle.isp_wasm.proofs.Rows.{enough}
@@ -60,7 +62,7 @@ use Rattle.isp_wasm.proofs.Vectors.{chosen_over, mask_row}
 pub record IsOf (w : Setting) : Type 0 where
   pub accepted : IsFine w.code
   pub settled : IsSettled w
-  pub laid : AreLaid w
+  pub laid : AreLaid (shared_of w)
   pub stored : (a : Register) → IsThere w.routine class.Array a → w.elems (w.home.named a.number) ≡ elem w a
   pub named_low : (a : ℕ) → a < length (arrays_of w.routine) → w.home.named a < w.home.opened
   pub plain : (pc : ℕ) (k : Call) → slice_get w.routine.code pc ≡ Some (instr.Call k) → all_plain w.code ≡ true
@@ -150,8 +152,19 @@ module _ (w : Setting) (of : IsOf w) (x : Call) (pc : ℕ) (has : slice_get w.ro
     above : top w ≡ at
     above = omega (arith, bytes_are, waiting_are)
 
-    under : IsUnder w at
-    under = subst (IsUnder w) above (of.under pc x has)
+    under_whole : IsUnder w at
+    under_whole = subst (IsUnder w) above (of.under pc x has)
+
+    under : IsUnder (shared_of w) at
+    under = record { arrays = λ b. by b (cases_lt w.home.opened b); texts = under_whole.texts; above = under_whole.above; stacked = under_whole.stacked }
+      where
+        by : (b : ℕ) → (w.home.opened < b) ⊎ (b ≤ w.home.opened) → w.begins b + w.home.sizes b * bytes_of (w.elems b) ≤ at
+        by b (inr le) = subst (λ n. w.begins b + n * bytes_of (w.elems b) ≤ at) (of.settled.sizes_are b le) (under_whole.arrays b)
+        by b (inl gt) =
+            let none = of.settled.closed b (omega (arith, gt)) in
+            let n = bytes_of (w.elems b) in
+            let le = under_whole.arrays b in
+            let end : w.begins b + w.home.sizes b * n ≡ w.begins b + 0 * n = ap (λ k. w.begins b + k * n) none in let more = w.sizes b * n in omega (arith, end, le)
 
     small : suc (bytes_in (gang w) g.locals) < 2 ^ 32
     small = bytes_low w.code g x.function of.accepted fine.found plain_g
@@ -171,7 +184,13 @@ module _ (w : Setting) (of : IsOf w) (x : Call) (pc : ℕ) (has : slice_get w.ro
           bounded = bounded w g x.function names (inner_local (gang w) g) frames at s.memory of.laid (λ e. under) small refl;
           closed = past_size w g x.function names (inner_local (gang w) g) frames at s.memory;
           disjoint = disjoint w g x.function names (inner_local (gang w) g) frames at s.memory of.laid (λ e. under) small refl;
+          sizes_are = λ b le. refl;
+          lanes_apart = λ b gt a h. inr (let start = past_begin w g x.function names (inner_local (gang w) g) frames at s.memory b (omega (arith, gt)) in let none = past_size w g x.function names (inner_local (gang w) g) frames at s.memory b (omega (arith, gt)) in
+              let n = bytes_of (callee.elems b) in let end : callee.begins b + callee.sizes b * n ≡ 0 + 0 * n = ap₂ (λ k m. k + m * n) start none in omega (arith, end));
         }
+
+    shared_now : Keeps (shared_of w) c.arrays s.memory s.size
+    shared_now = forget w of.settled c s.memory s.size st.keeps
 
     below_old : (arrays : ℕ → Lanes) (b e : ℕ) → b < w.home.opened → below c.home.opened arrays b e ≡ arrays b e
     below_old arrays b e low = ap (λ (f : Lanes). f e) (cond-true (nat_lt b c.home.opened) (arrays b) (λ e. 0) (ap (λ (h : Home). nat_lt b h.opened) st.home_is ∙ lt-ltb b w.home.opened low))
@@ -195,9 +214,9 @@ module _ (w : Setting) (of : IsOf w) (x : Call) (pc : ℕ) (has : slice_get w.ro
     higher : waiting_bytes w.code w.waiting ≤ waiting_bytes w.code frames
     higher = omega (arith, waiting_are)
 
-    returned : (arrays others : ℕ → Lanes) (memory : ℕ → ℕ) (size : ℕ) → ((b e : ℕ) → e < w.home.sizes b → others b e ≡ arrays b e) → Keeps callee arrays memory size → Keeps w others memory size
+    returned : (arrays others : ℕ → Lanes) (memory : ℕ → ℕ) (size : ℕ) → ((b e : ℕ) → e < w.home.sizes b → others b e ≡ arrays b e) → Keeps callee arrays memory size → Keeps (shared_of w) others memory size
     returned arrays others memory size same k =
-        keeps_out w g x.function names (inner_local (gang w) g) frames at s.memory of.laid (λ e. under) small refl arrays others memory size same st.keeps.rest
+        keeps_out w g x.function names (inner_local (gang w) g) frames at s.memory of.laid (λ e. under) small refl arrays others memory size same shared_now.rest
         (λ a h. lower w.stack a (waiting_bytes w.code w.waiting) (waiting_bytes w.code frames) higher h) k
 
     -- ---- what is passed
@@ -356,13 +375,24 @@ module _ (w : Setting) (of : IsOf w) (x : Call) (pc : ℕ) (has : slice_get w.ro
 
     counts : (a : ℕ) → NotOwn a → ((q : ℕ) × (slice_get array_numbers a ≡ Some q)) ⊎ (length (param_elems class.Array g.params) ≤ a) → from 0 (count_got w s.locals x.mask) (slice_get array_numbers a) ≡ home.sizes (home.named a)
     counts a out (inl (q, has)) =
-        ap (from 0 (count_got w s.locals x.mask)) has ∙ st.holds.counts q
+        ap (from 0 (count_got w s.locals x.mask)) has ∙ st.holds.counts q ∙ of.settled.sizes_are (w.home.named q) (let low = old_named a q has in omega (arith, low))
         ∙ sym (ap home.sizes (named_in a q has) ∙ old_size w g x.function names (inner_local (gang w) g) frames at s.memory (w.home.named q) (old_named a q has))
     counts a out (inr le) =
         ap (from 0 (count_got w s.locals x.mask)) (no_array a le) ∙ sym (ap home.sizes (past_own a out le) ∙ past_size w g x.function names (inner_local (gang w) g) frames at s.memory home.opened (omega arith))
 
+    all_low_named : (a : ℕ) → a < length (arrays_of g) → home.named a < home.opened
+    all_low_named a lt = by (which_array a (length (param_elems class.Array g.params)) (length g.locals)) (which a)
+      where
+        by : ((i : ℕ) × (a ≡ length (param_elems class.Array g.params) + i) × (i < length g.locals)) ⊎ NotOwn a → ((q : ℕ) × (slice_get array_numbers a ≡ Some q)) ⊎ (length (param_elems class.Array g.params) ≤ a) → home.named a < home.opened
+        by (inl (i, e, low)) h = subst (λ n. home.named n < home.opened) (sym e) (own_low w g x.function names (inner_local (gang w) g) frames at s.memory each_shared i low)
+        by (inr out) (inl (q, has)) = let low = old_named a q has in let is = named_in a q has in omega (arith, low, is)
+        by (inr out) (inr le) =
+            absurd
+            (let long = length-append (param_elems class.Array g.params) (map local_elem g.locals) in let mapped = length-map g.locals local_elem in
+            out (a - length (param_elems class.Array g.params)) (omega (arith, lt, le, long, mapped)) (omega (arith, le)))
+
     are_stored_so : AreStored g home callee.elems
-    are_stored_so = are_stored w g x.function names (inner_local (gang w) g) frames at s.memory each_shared small passes
+    are_stored_so = are_stored w g x.function names (inner_local (gang w) g) frames at s.memory each_shared small passes all_low_named
       where
         passes : (a : Register) → IsThere g class.Array a → a.number < length (param_elems class.Array g.params) → callee.elems (home.named a.number) ≡ elem_of g a
         passes a there lt = by (which a.number)
@@ -374,17 +404,6 @@ module _ (w : Setting) (of : IsOf w) (x : Call) (pc : ℕ) (has : slice_get w.ro
                 ap callee.elems (named_in a.number q has) ∙ old_elem w g x.function names (inner_local (gang w) g) frames at s.memory (w.home.named q) (old_named a.number q has)
                 ∙ of.stored (record { class = class.Array; number = q }) (refl, fits.there) ∙ fits.elem_is
                 ∙ sym (ap (λ c. slice_index_or (types_in (table_of g) c) a.number Truth) there.0 ∙ get_or_append_left (param_elems class.Array g.params) (map local_elem g.locals) Truth a.number lt)
-
-    all_low : (a : ℕ) → a < length (arrays_of g) → home.named a < home.opened
-    all_low a lt = by (which_array a (length (param_elems class.Array g.params)) (length g.locals)) (which a)
-      where
-        by : ((i : ℕ) × (a ≡ length (param_elems class.Array g.params) + i) × (i < length g.locals)) ⊎ NotOwn a → ((q : ℕ) × (slice_get array_numbers a ≡ Some q)) ⊎ (length (param_elems class.Array g.params) ≤ a) → home.named a < home.opened
-        by (inl (i, e, low)) h = subst (λ n. home.named n < home.opened) (sym e) (own_low w g x.function names (inner_local (gang w) g) frames at s.memory each_shared i low)
-        by (inr out) (inl (q, has)) = let low = old_named a q has in let is = named_in a q has in omega (arith, low, is)
-        by (inr out) (inr le) =
-            absurd
-            (let long = length-append (param_elems class.Array g.params) (map local_elem g.locals) in let mapped = length-map g.locals local_elem in
-            out (a - length (param_elems class.Array g.params)) (omega (arith, lt, le, long, mapped)) (omega (arith, le)))
 
     -- ---- before the first instruction
 
@@ -430,6 +449,19 @@ module _ (w : Setting) (of : IsOf w) (x : Call) (pc : ℕ) (has : slice_get w.ro
     head_is : callee.heads (entered.locals (callee.local Counter)) ≡ 0
     head_is = ap callee.heads counter_is ∙ (first_head g.code (length g.code) (some_code w.code g x.function of.accepted fine.found plain_g)).1
 
+    opened_is : home.opened ≡ w.home.opened + length (shared_sizes g.locals)
+    opened_is = refl
+
+    begun_old : (b e : ℕ) → b < w.home.opened → all_of callee begun b e ≡ c.arrays b e
+    begun_old b e lt = ap (λ (g : Lanes). g e) (all_low callee begun b (omega (arith, lt))) ∙ below_old c.arrays b e lt
+
+    begun_new : (b e : ℕ) → w.home.opened ≤ b → all_of callee begun b e ≡ 0
+    begun_new b e le = by (cases_lt home.opened b)
+      where
+        by : (home.opened < b) ⊎ (b ≤ home.opened) → all_of callee begun b e ≡ 0
+        by (inl gt) = ap (λ (g : Lanes). g e) (all_high callee begun b gt)
+        by (inr low) = ap (λ (g : Lanes). g e) (all_low callee begun b low) ∙ below_new c.arrays b e le
+
     is_entered : IsEntered callee settled begun entered
     is_entered =
         record {
@@ -443,7 +475,7 @@ module _ (w : Setting) (of : IsOf w) (x : Call) (pc : ℕ) (has : slice_get w.ro
           whole = st.keeps.whole;
           stacked = λ e. under.stacked;
           holds = λ m o. holds m o;
-          keeps = λ room. keeps_in w g x.function names (inner_local (gang w) g) frames at s.memory of.laid (λ e. under) small refl c.arrays (below c.home.opened c.arrays) s.memory s.size room (below_old c.arrays) (below_new c.arrays) (λ a. refl) st.keeps;
+          keeps = λ room. keeps_in w g x.function names (inner_local (gang w) g) frames at s.memory of.laid (λ e. under) small refl c.arrays (all_of callee begun) s.memory s.size room begun_old begun_new (λ a. refl) shared_now;
         }
 
     is_of : IsOf callee
@@ -461,7 +493,7 @@ module _ (w : Setting) (of : IsOf w) (x : Call) (pc : ℕ) (has : slice_get w.ro
                 disjoint = settled.disjoint;
               };
           stored = are_stored_so.stored_as;
-          named_low = all_low;
+          named_low = all_low_named;
           plain = λ p k h. of.plain pc x has;
           under = λ p k h. under_all w g x.function names (inner_local (gang w) g) frames at s.memory of.laid (λ e. under) small refl under;
         }
@@ -505,6 +537,58 @@ module _ (w : Setting) (of : IsOf w) (x : Call) (pc : ℕ) (has : slice_get w.ro
       brings (GivesVector t) (Some d) None goes back is lanes = absurd back
       brings (GivesVector t) (Some d) (Some y) goes back is lanes = brings_vector t d.class y.class d.number y.number (goes.0).0 (back.0).0 goes.1 back.1 is lanes
 
+    -- what each lane has of its own lies below the arrays of the function, and is as it was
+    module _ (conf : Conf) (t : State) (k : Keeps callee conf.arrays t.memory t.size) where
+      abbrev after_it : Conf
+      after_it = record c { arrays = below c.home.opened conf.arrays }
+
+      sh : Keeps (shared_of w) (below c.home.opened conf.arrays) t.memory t.size
+      sh = returned conf.arrays (below c.home.opened conf.arrays) t.memory t.size (kept conf.arrays) k
+
+      own_byte : (b a : ℕ) → w.home.opened < b → w.begins b ≤ a → a < w.begins b + w.sizes b * bytes_of (w.elems b) → t.memory a ≡ s.memory a
+      own_byte b a gt low high =
+          k.rest a
+          (beside_in w g x.function names (inner_local (gang w) g) frames at s.memory of.laid (λ e. under) small refl a lt (λ r old. apart r old (of.settled.disjoint r b (λ e. omega (arith, e, gt, old)))), low_floor w.stack (waiting_bytes w.code frames) lt)
+        where
+          lt : a < at
+          lt = let le = under_whole.arrays b in omega (arith, high, le)
+
+          low_floor : (o : Option ℕ) (n : ℕ) → a < start o + n → IsBelow (moved_up o n) a
+          low_floor None n h = tt
+          low_floor (Some y) n h = h
+
+          apart : (r : ℕ) → r < w.home.opened → (w.begins r + w.sizes r * bytes_of (w.elems r) ≤ w.begins b) ⊎ (w.begins b + w.sizes b * bytes_of (w.elems b) ≤ w.begins r) → (a < w.begins r) ⊎ (w.begins r + w.home.sizes r * bytes_of (w.elems r) ≤ a)
+          apart r old (inl le) = inr (subst (λ n. w.begins r + n * bytes_of (w.elems r) ≤ a) (of.settled.sizes_are r (omega (arith, old))) (omega (arith, le, low)))
+          apart r old (inr le) = inl (omega (arith, le, high))
+
+      recovered : Keeps w (all_of w after_it) t.memory t.size
+      recovered =
+          record {
+            bytes_fit = sh.bytes_fit;
+            elements = λ b e lt. elements b e lt (cases_lt w.home.opened b);
+            elements_fit = λ b e lt. fits_so b e lt (cases_lt w.home.opened b);
+            room = λ b. subst (λ n. w.begins b + w.sizes b * bytes_of (w.elems b) ≤ n) (st.keeps.whole ∙ sym sh.whole) (st.keeps.room b);
+            small = sh.small;
+            whole = sh.whole;
+            texts = sh.texts;
+            text_room = sh.text_room;
+            rest = λ a h. sh.rest a (beside_shared w of.settled a h);
+          }
+        where
+          own_same : (b e : ℕ) → w.home.opened < b → all_of w c b e ≡ all_of w after_it b e
+          own_same b e gt = ap (λ (g : Lanes). g e) (all_high w c b gt) ∙ sym (ap (λ (g : Lanes). g e) (all_high w after_it b gt))
+
+          elements : (b e : ℕ) → e < w.sizes b → (w.home.opened < b) ⊎ (b ≤ w.home.opened) → loaded (bytes_of (w.elems b)) (w.begins b + e * bytes_of (w.elems b)) t.memory ≡ all_of w after_it b e
+          elements b e lt (inr le) = sh.elements b e (subst (λ n. e < n) (of.settled.sizes_are b le) lt) ∙ sym (ap (λ (g : Lanes). g e) (all_low w after_it b le))
+          elements b e lt (inl gt) =
+              loaded_same (bytes_of (w.elems b)) (w.begins b + e * bytes_of (w.elems b)) t.memory s.memory
+              (λ j l. own_byte b (w.begins b + e * bytes_of (w.elems b) + j) gt (omega arith) (let le = row_low e (w.sizes b) (bytes_of (w.elems b)) lt in omega (arith, le, l)))
+              ∙ st.keeps.elements b e lt ∙ own_same b e gt
+
+          fits_so : (b e : ℕ) → e < w.sizes b → (w.home.opened < b) ⊎ (b ≤ w.home.opened) → all_of w after_it b e < 2 ^ width (w.elems b)
+          fits_so b e lt (inr le) = subst (λ n. n < 2 ^ width (w.elems b)) (sym (ap (λ (g : Lanes). g e) (all_low w after_it b le))) (sh.elements_fit b e (subst (λ n. e < n) (of.settled.sizes_are b le) lt))
+          fits_so b e lt (inl gt) = subst (λ n. n < 2 ^ width (w.elems b)) (own_same b e gt) (st.keeps.elements_fit b e lt)
+
     abbrev pub Comes : ℕ → Conf → Result → Type 0
     Comes f d r = Told (the_machine callee) (ComesBack callee (waits c x.result mask) c.waiting) f d r
 
@@ -519,7 +603,7 @@ module _ (w : Setting) (of : IsOf w) (x : Call) (pc : ℕ) (has : slice_get w.ro
           goes = h.goes;
           brings = brings h.conf v t h.fits g.returns x.result h.register fine.result h.given h.value_is h.lanes_are;
           out_is = h.out_is;
-          keeps = returned h.conf.arrays (below c.home.opened h.conf.arrays) t.memory t.size (kept h.conf.arrays) h.keeps;
+          keeps = recovered h.conf t h.keeps;
         }
     told f d (Trapped None t) h = record { conf = h.conf; steps = h.steps; goes = h.goes; address = h.address; stack_is = h.stack_is; full = h.full }
     told f d (Trapped (Some q) t) h =

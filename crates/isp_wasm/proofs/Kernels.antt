@@ -1,5 +1,5 @@
 -- Accepted code meets what the law of entries asks, where its form is covered.
-use Rattle.std.proofs.Common.{◌≡◌, ℕ, zero, suc, ◌+◌, ◌-◌, ◌*◌, ◌^◌, ◌<◌, ◌≤◌, ◌⊎◌, inl, inr, List, [], ◌∷◌, ◌++◌, length, take, map, Option, Some, None, Bool, true, false, not, ◌&&◌, ◌||◌, refl, sym, ap, ◌∙◌, subst, arith, lit≤}
+use Rattle.std.proofs.Common.{◌≡◌, ℕ, zero, suc, ◌+◌, ◌-◌, ◌*◌, ◌^◌, ◌<◌, ◌≤◌, ◌⊎◌, inl, inr, List, [], ◌∷◌, ◌++◌, length, take, map, Option, Some, None, Bool, true, false, not, ◌&&◌, ◌||◌, refl, sym, ap, ap₂, ◌∙◌, subst, arith, lit≤}
 use Rattle.std.specs.Prelude.{slice_get, slice_index, slice_index_or, nat_lt, ◌==◌, option_map, if◌then◌else◌}
 use Rattle.std.specs.List.{list_any}
 use Rattle.std.proofs.lemmas.Bool.{cases_lt, lt-ltb, le-ltb, cond-true, cond-false, not-true}
@@ -33,10 +33,11 @@ use Rattle.isp_wasm.specs.Locals.{param_places, own_places, local_in}
 use Rattle.isp_wasm.specs.Module.{text_start, all_shared, is_plain, is_covered, kernel_of, function_of, inner_functions, module_of}
 use Rattle.isp_wasm.specs.Kernel.{row_elem, passed, array_end, IsLaidOut, HasRoom, in_call, KernelsAgree}
 use Rattle.isp_wasm.specs.Stack.{IsBelow, moved_up, none_open, has_call, uses_stack, start, bytes_in, bottom, opened_memory}
-use Rattle.isp_wasm.specs.Standing.{IsFull, IsSettled, Keeps}
+use Rattle.isp_wasm.specs.Standing.{all_of, IsFull, IsSettled, Keeps}
 use Rattle.isp_wasm.proofs.Entries.{some_row, entries_agree}
 use Rattle.isp_wasm.proofs.Numbers.{place_apart}
 use Rattle.isp_wasm.proofs.Plain.{placed, AreStored, covered_plain, covered_calls, calls_some, text_low, few_heads, heads_rise, some_code, shared, bytes_low, covered, all_thin}
+use Rattle.isp_wasm.proofs.Shared.{all_low, all_high}
 use Rattle.isp_wasm.proofs.Opened as opened
 use Rattle.isp_wasm.proofs.Opened.{AreLaid, IsUnder}
 use Rattle.isp_wasm.proofs.Opening.{which_array}
@@ -213,22 +214,16 @@ module _ (code : Listing) (h : Routine) (f : ℕ) (accepted : IsFine code) (foun
           bounded = opened.bounded outer h f (λ a. a) local [] from_here s.memory laid_out under few from_stack;
           closed = opened.past_size outer h f (λ a. a) local [] from_here s.memory;
           disjoint = opened.disjoint outer h f (λ a. a) local [] from_here s.memory laid_out under few from_stack;
+          sizes_are = λ b le. refl;
+          lanes_apart = λ b gt a below. inr (let start = opened.past_begin outer h f (λ a. a) local [] from_here s.memory b (omega (arith, gt)) in let none = opened.past_size outer h f (λ a. a) local [] from_here s.memory b (omega (arith, gt)) in
+              let n = bytes_of (w.elems b) in let end : w.begins b + w.sizes b * n ≡ 0 + 0 * n = ap₂ (λ k m. k + m * n) start none in omega (arith, end));
         }
 
     named_low : (a : ℕ) → a < length (param_elems class.Array h.params) → w.home.named a < length (rows xs)
     named_low a lt = let is = opened.named_low outer h f (λ a. a) local [] from_here s.memory a lt in let all = long in omega (arith, is, lt, all)
 
-    stored : AreStored h w.home w.elems
-    stored = opened.are_stored outer h f (λ a. a) local [] from_here s.memory each_shared few passes
-      where
-        passes : (a : Register) → IsThere h class.Array a → a.number < length (param_elems class.Array h.params) → w.elems (w.home.named a.number) ≡ elem_of h a
-        passes a there lt =
-            opened.old_elem outer h f (λ a. a) local [] from_here s.memory (w.home.named a.number) (named_low a.number lt)
-            ∙ ap (row_elem (rows xs)) (opened.named_low outer h f (λ a. a) local [] from_here s.memory a.number lt) ∙ rows_typed h.params xs no_vector signature a.number
-            ∙ sym (ap (λ c. slice_index_or (types_in (table_of h) c) a.number Truth) there.0 ∙ get_or_append_left (param_elems class.Array h.params) (map local_elem h.locals) Truth a.number lt)
-
-    all_low : (a : ℕ) → a < length (arrays_of h) → w.home.named a < w.home.opened
-    all_low a lt = by (which_array a (length (param_elems class.Array h.params)) (length h.locals)) (cases_lt a (length (param_elems class.Array h.params)))
+    all_low_named : (a : ℕ) → a < length (arrays_of h) → w.home.named a < w.home.opened
+    all_low_named a lt = by (which_array a (length (param_elems class.Array h.params)) (length h.locals)) (cases_lt a (length (param_elems class.Array h.params)))
       where
         by : ((i : ℕ) × (a ≡ length (param_elems class.Array h.params) + i) × (i < length h.locals)) ⊎ ((i : ℕ) → i < length h.locals → a ≡ length (param_elems class.Array h.params) + i → ⊥)
             → (a < length (param_elems class.Array h.params)) ⊎ (length (param_elems class.Array h.params) ≤ a) → w.home.named a < w.home.opened
@@ -238,6 +233,15 @@ module _ (code : Listing) (h : Routine) (f : ℕ) (accepted : IsFine code) (foun
             absurd
             (let both = length-append (param_elems class.Array h.params) (map local_elem h.locals) in let mapped = length-map h.locals local_elem in
             out (a - length (param_elems class.Array h.params)) (omega (arith, lt, le, both, mapped)) (omega (arith, le)))
+
+    stored : AreStored h w.home w.elems
+    stored = opened.are_stored outer h f (λ a. a) local [] from_here s.memory each_shared few passes all_low_named
+      where
+        passes : (a : Register) → IsThere h class.Array a → a.number < length (param_elems class.Array h.params) → w.elems (w.home.named a.number) ≡ elem_of h a
+        passes a there lt =
+            opened.old_elem outer h f (λ a. a) local [] from_here s.memory (w.home.named a.number) (named_low a.number lt)
+            ∙ ap (row_elem (rows xs)) (opened.named_low outer h f (λ a. a) local [] from_here s.memory a.number lt) ∙ rows_typed h.params xs no_vector signature a.number
+            ∙ sym (ap (λ c. slice_index_or (types_in (table_of h) c) a.number Truth) there.0 ∙ get_or_append_left (param_elems class.Array h.params) (map local_elem h.locals) Truth a.number lt)
 
     -- ---- memory
 
@@ -249,6 +253,16 @@ module _ (code : Listing) (h : Routine) (f : ℕ) (accepted : IsFine code) (foun
 
     begun_new : (b e : ℕ) → length (rows xs) ≤ b → (first_conf code f h xs).arrays b e ≡ 0
     begun_new b e le = ap (λ (g : ℕ → ℕ). g e) (cond-false (nat_lt b (length (rows xs))) (λ e. slice_index (row_bits (rows xs) b) e) (λ e. 0) (le-ltb b (length (rows xs)) le))
+
+    all_old : (b e : ℕ) → b < length (rows xs) → all_of w (first_conf code f h xs) b e ≡ slice_index (row_bits (rows xs) b) e
+    all_old b e lt = ap (λ (g : ℕ → ℕ). g e) (all_low w (first_conf code f h xs) b (omega (arith, lt))) ∙ begun_old b e lt
+
+    all_new : (b e : ℕ) → length (rows xs) ≤ b → all_of w (first_conf code f h xs) b e ≡ 0
+    all_new b e le = by (cases_lt w.home.opened b)
+      where
+        by : (w.home.opened < b) ⊎ (b ≤ w.home.opened) → all_of w (first_conf code f h xs) b e ≡ 0
+        by (inl gt) = ap (λ (g : ℕ → ℕ). g e) (all_high w (first_conf code f h xs) b gt)
+        by (inr low) = ap (λ (g : ℕ → ℕ). g e) (all_low w (first_conf code f h xs) b low) ∙ begun_new b e le
 
     outer_keeps : Keeps outer (λ b e. slice_index (row_bits (rows xs) b) e) s.memory s.size
     outer_keeps =
@@ -268,11 +282,11 @@ module _ (code : Listing) (h : Routine) (f : ℕ) (accepted : IsFine code) (foun
     from_bottom : from_here ≡ bottom w
     from_bottom = omega arith
 
-    keeps : (none_open h.locals ≡ false → bottom w + bytes_in lanes h.locals < s.size) → Keeps w (first_conf code f h xs).arrays (opened_memory lanes (bottom w) h.locals s.memory) s.size
+    keeps : (none_open h.locals ≡ false → bottom w + bytes_in lanes h.locals < s.size) → Keeps w (all_of w (first_conf code f h xs)) (opened_memory lanes (bottom w) h.locals s.memory) s.size
     keeps fits =
-        subst (λ t. Keeps w (first_conf code f h xs).arrays (opened_memory lanes t h.locals s.memory) s.size) from_bottom
-        (opened.keeps_in outer h f (λ a. a) local [] from_here s.memory laid_out under few from_stack (λ b e. slice_index (row_bits (rows xs) b) e) (first_conf code f h xs).arrays s.memory s.size
-        (λ e. subst (λ t. t + bytes_in lanes h.locals < s.size) (sym from_bottom) (fits e)) begun_old begun_new (λ a. refl) outer_keeps)
+        subst (λ t. Keeps w (all_of w (first_conf code f h xs)) (opened_memory lanes t h.locals s.memory) s.size) from_bottom
+        (opened.keeps_in outer h f (λ a. a) local [] from_here s.memory laid_out under few from_stack (λ b e. slice_index (row_bits (rows xs) b) e) (all_of w (first_conf code f h xs)) s.memory s.size
+        (λ e. subst (λ t. t + bytes_in lanes h.locals < s.size) (sym from_bottom) (fits e)) all_old all_new (λ a. refl) outer_keeps)
 
     -- ---- arguments
 
@@ -362,7 +376,7 @@ module _ (code : Listing) (h : Routine) (f : ℕ) (accepted : IsFine code) (foun
                 disjoint = ready.disjoint;
               };
           stored = stored.stored_as;
-          named_low = all_low;
+          named_low = all_low_named;
           plain = covered_calls code h covers;
           under = λ pc k has. subst (λ t. IsUnder w (t + bytes_in lanes h.locals)) from_bottom (opened.under_all outer h f (λ a. a) local [] from_here s.memory laid_out under few from_stack (under_so (calls_use pc k has)));
         }

@@ -14,7 +14,7 @@ use Rattle.isp_wasm_meaning.specs.Syntax.{Code}
 use Rattle.isp_wasm_meaning.specs.Meaning.{State, Result, Fell, Trapped}
 use Rattle.isp_wasm_meaning.specs.Ladder.{Meets}
 use Rattle.isp_wasm.specs.Places.{Setting, Counter, gang}
-use Rattle.isp_wasm.specs.Standing.{Stands, Keeps, IsSettled, the_machine, kind_number, vector_register}
+use Rattle.isp_wasm.specs.Standing.{all_of, Stands, Keeps, IsSettled, the_machine, kind_number, vector_register}
 use Rattle.isp_wasm.proofs.Steps.{falls_on, fails_here}
 use Rattle.isp_wasm.proofs.Parts.{Kept, Told}
 use Rattle.isp_wasm.proofs.Vectors.{narrow}
@@ -37,7 +37,7 @@ module _ (w : Setting) (ready : IsSettled w) (fuel n k : ℕ) (call : ℕ → Li
 
     -- a lane fails; nothing is written, but perhaps locals
     pub lane_fails : (i : Instr) (A : Type 0) (x : A) (go : A → Conf) → slice_get w.routine.code pc ≡ Some i → act w.code w.routine c i ≡ moved (unless w.code w.routine c (lowest (gang w) worse) kind q x) go
-        → ((p : ℕ) (u : State) → I p u → (u.out ≡ s.out) × Keeps w c.arrays u.memory u.size) → (r : Result) → Told (Refused w fuel call c.masks m bad (kind_number w kind) q body I) r → Good (pc + 1) c r
+        → ((p : ℕ) (u : State) → I p u → (u.out ≡ s.out) × Keeps w (all_of w c) u.memory u.size) → (r : Result) → Told (Refused w fuel call c.masks m bad (kind_number w kind) q body I) r → Good (pc + 1) c r
     lane_fails i A x go has is same r told =
         let f = told.holds in
         let kept = same f.number told.state f.inv in
@@ -47,8 +47,8 @@ module _ (w : Setting) (ready : IsSettled w) (fuel n k : ℕ) (call : ℕ → Li
         kept.0 kept.1 (fault_of w fuel call c.masks m bad (kind_number w kind) q body I f.number)
         (ap (λ p. record { kind = kind_number w kind; start = (place_at w.code q).start; end = (place_at w.code q).end; instance = p }) (mod-eq_of_lt (let le = narrow w.code.gang in let l = f.low in omega arith))))
 
-  filled_keeps : (d : ℕ) (m : Register) (v : ℕ → ℕ) (p : ℕ) (u : State) → Filled w ready fuel call c s d m v p u → (u.out ≡ s.out) × Keeps w c.arrays u.memory u.size
-  filled_keeps d m v p u f = subst (λ u. (u.out ≡ s.out) × Keeps w c.arrays u.memory u.size) (sym f.is) (refl, st.keeps)
+  filled_keeps : (d : ℕ) (m : Register) (v : ℕ → ℕ) (p : ℕ) (u : State) → Filled w ready fuel call c s d m v p u → (u.out ≡ s.out) × Keeps w (all_of w c) u.memory u.size
+  filled_keeps d m v p u f = subst (λ u. (u.out ≡ s.out) × Keeps w (all_of w c) u.memory u.size) (sym f.is) (refl, st.keeps)
 
   pub filled_fails : (d : ℕ) (m : Register) (v : ℕ → ℕ) (bad : Mask) (kind : TrapKind) (q : ℕ) (body : ℕ → Code) (i : Instr) (worse : Mask) (A : Type 0) (x : A) (go : A → Conf)
       → slice_get w.routine.code pc ≡ Some i → act w.code w.routine c i ≡ moved (unless w.code w.routine c (lowest (gang w) worse) kind q x) go

@@ -16,7 +16,7 @@ use Rattle.isp_wasm.specs.Places as place
 use Rattle.isp_wasm.specs.Places.{Setting, Place, Counter, Spare, IsKept, elem, shape_of, size_of, bytes_of, gang}
 use Rattle.isp_wasm.specs.Rows.{as_cell}
 use Rattle.isp_wasm.specs.Templates.{lane_loads, set_lane, is_there, address_at, spare, fault, is_member}
-use Rattle.isp_wasm.specs.Standing.{Stands, Holds, IsSettled, the_machine, vector_register}
+use Rattle.isp_wasm.specs.Standing.{all_of, Stands, Holds, IsSettled, the_machine, vector_register}
 use Rattle.isp_wasm.specs.Thin.{IsArray}
 use Rattle.isp_wasm.proofs.Frames.{there, elsewhere}
 use Rattle.isp_wasm.proofs.Parts.{Kept, Told}
@@ -35,8 +35,8 @@ module _ (w : Setting) (ready : IsSettled w) (fuel n k : ℕ) (call : ℕ → Li
   Good pc = Meets (the_machine w) (w.local Counter) n fuel (Stands w pc) (suc k)
 
   -- the test of an index
-  pub test_is : (a : Register) (l : ℕ → ℕ) (e : Expr) (x : ℕ) → l (w.local (place.Count a.number)) ≡ w.home.sizes (w.home.named a.number) → value l e ≡ x
-      → value l (is_there w a e) ≡ flag (nat_lt x (w.home.sizes (w.home.named a.number)))
+  pub test_is : (a : Register) (l : ℕ → ℕ) (e : Expr) (x : ℕ) → l (w.local (place.Count a.number)) ≡ w.sizes (w.home.named a.number) → value l e ≡ x
+      → value l (is_there w a e) ≡ flag (nat_lt x (w.sizes (w.home.named a.number)))
   test_is a l e x size index = ap₂ (λ u v. flag (nat_lt u v)) index size
 
   -- ---- lanes are loaded
@@ -46,7 +46,7 @@ module _ (w : Setting) (ready : IsSettled w) (fuel n k : ℕ) (call : ℕ → Li
     t = elem w (vector_register d)
 
     abbrev pub got : ℕ → ℕ
-    got p = c.arrays (store w ready a t el) (x p)
+    got p = all_of w c (store w ready a t el) (x p)
 
     abbrev pub bad : Mask
     bad p = not (nat_lt (x p) (many w ready a t el))
@@ -73,10 +73,10 @@ module _ (w : Setting) (ready : IsSettled w) (fuel n k : ℕ) (call : ℕ → Li
                 ∙ ap (λ v. behind (if nat_eq v 0 then run fuel call (fault w 1 q (syntax.Const32 p)) at else run fuel call (Then (Load (bytes_of (elem w a)) (spare w (elem w a)) (address_at w a (index p)) 0) (set_lane w (vector_register d) p (Local (spare w (elem w a))))) at))
                 (test_is a f.locals (index p) (x p) (f.holds.counts a.number) here ∙ ap flag (not-false (nat_lt (x p) (many w ready a t el)) good))
                 ∙ ap (λ r. behind (then_to r (run fuel call (set_lane w (vector_register d) p (Local (spare w (elem w a)))))))
-                (load_is w ready a t el c.arrays s.memory s.size st.keeps f.locals (index p) (x p) (f.holds.bases a.number) here fuel call s.out s.globals (spare w (elem w a)) lt);
+                (load_is w ready a t el (all_of w c) s.memory s.size st.keeps f.locals (index p) (x p) (f.holds.bases a.number) here fuel call s.out s.globals (spare w (elem w a)) lt);
             holds =
                 filled_set w ready fuel call c s d m got p low f.locals (set_local (w.local part) new loaded).locals (value loaded.locals (as_cell t (Local (spare w (elem w a))))) f.holds on
-                (cell_written t loaded.locals (Local (spare w (elem w a))) (got p) (there w ready (Spare (size_of (elem w a)) 0) (got p) at) (element_fits w ready a t el c.arrays s.memory s.size st.keeps (x p) lt))
+                (cell_written t loaded.locals (Local (spare w (elem w a))) (got p) (there w ready (Spare (size_of (elem w a)) 0) (got p) at) (element_fits w ready a t el (all_of w c) s.memory s.size st.keeps (x p) lt))
                 (there w ready part new loaded ∙ ap (λ v. binary (syntax.Replace (shape_of t) (p % count (shape_of t))) v (value loaded.locals (as_cell t (Local (spare w (elem w a)))))) (elsewhere w ready (Spare (size_of (elem w a)) 0) part (got p) at (λ e. cc)))
                 (λ y kept ne. elsewhere w ready part y new loaded ne ∙ elsewhere w ready (Spare (size_of (elem w a)) 0) y (got p) at (λ e. subst IsKept e kept));
           }

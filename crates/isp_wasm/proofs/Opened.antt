@@ -23,7 +23,7 @@ use Rattle.isp_wasm_meaning.proofs.Memory.{bytes_same, cleared_off, zeros_loaded
 use Rattle.isp_wasm.specs.Places.{Setting, Place, gang, text, bytes_of}
 use Rattle.isp_wasm.specs.Module.{text_start, all_shared}
 use Rattle.isp_wasm.specs.Stack.{IsBelow, none_open, start, waiting_bytes, moved_up, floor, bytes_in, shared_starts, shared_elems, with_starts, with_elems, opened_memory}
-use Rattle.isp_wasm.specs.Standing.{Keeps, IsBeside}
+use Rattle.isp_wasm.specs.Standing.{Keeps, IsBeside, shared_of}
 use Rattle.isp_wasm.proofs.Regions.{few_bytes}
 use Rattle.isp_wasm.proofs.Indices.{in_row}
 use Rattle.isp_wasm.proofs.Plain.{placed, all_at, AreStored}
@@ -75,12 +75,16 @@ pub record AreLaid (u : Setting) : Type 0 where
 
 -- all that is in memory lies below an address, but for what may change
 pub record IsUnder (u : Setting) (t : ℕ) : Type 0 where
-  pub arrays : (b : ℕ) → u.begins b + u.home.sizes b * bytes_of (u.elems b) ≤ t
+  pub arrays : (b : ℕ) → u.begins b + u.sizes b * bytes_of (u.elems b) ≤ t
   pub texts : (i : ℕ) → text_start u.code.texts i + length (text u i) ≤ t
   pub above : (a : ℕ) → IsBelow (floor u) a → a < t
   pub stacked : (a : ℕ) × (u.stack ≡ Some a)
 
-module _ (u : Setting) (g : Routine) (f : ℕ) (names : ℕ → ℕ) (local : Place → ℕ) (waiting : List Frame) (t : ℕ) (before : ℕ → ℕ) where
+module _ (v : Setting) (g : Routine) (f : ℕ) (names : ℕ → ℕ) (local : Place → ℕ) (waiting : List Frame) (t : ℕ) (before : ℕ → ℕ) where
+  -- of the machine's stores alone
+  abbrev pub u : Setting
+  u = shared_of v
+
   abbrev pub inside : Setting
   inside =
       placed u.code g local (new_home g f names u.home.sizes u.home.opened) waiting (with_starts u.home.opened u.begins (shared_starts (gang u) t g.locals))
@@ -291,6 +295,15 @@ module _ (u : Setting) (g : Routine) (f : ℕ) (names : ℕ → ℕ) (local : Pl
         room b (inr (inl (j, d, p))) = subst (λ b. last_of b ≤ size) (sym d) (let end = new_high j p in let lt = fits (some_open g.locals j p) in omega (arith, end, lt))
         room b (inr (inr p)) = let is = past_last b p in omega (arith, is)
 
+    -- a byte below its arrays that is beside those of before is beside all
+    pub beside_in : (a : ℕ) → a < t → ((b : ℕ) → b < old → (a < u.begins b) ⊎ (u.begins b + u.home.sizes b * bytes_of (u.elems b) ≤ a)) → (b : ℕ) → (a < inside.begins b) ⊎ (last_of b ≤ a)
+    beside_in a lt h b = by (which b)
+      where
+        by : Which b → (a < inside.begins b) ⊎ (last_of b ≤ a)
+        by (inl p) = subst (λ n. (a < n) ⊎ (last_of b ≤ a)) (sym (old_begin b p)) (subst (λ n. (a < u.begins b) ⊎ (n ≤ a)) (sym (old_last b p)) (h b p))
+        by (inr (inl (j, d, p))) = inl (subst (λ b. a < inside.begins b) (sym d) (let start = new_low j p in omega (arith, lt, start)))
+        by (inr (inr p)) = inr (let is = past_last b p in omega (arith, is))
+
     -- and of arrays that are the same where there were such before, as it ends
     pub keeps_out : (arrays others : ℕ → Lanes) (memory : ℕ → ℕ) (size : ℕ) → ((b e : ℕ) → e < u.home.sizes b → others b e ≡ arrays b e) → ((a : ℕ) → IsBeside u a → before a ≡ u.before a) → ((a : ℕ) → IsBelow (floor u) a → IsBelow (floor inside) a)
         → Keeps inside arrays memory size → Keeps u others memory size
@@ -375,10 +388,12 @@ module _ (u : Setting) (g : Routine) (f : ℕ) (names : ℕ → ℕ) (local : Pl
         own_elem_is = ap inside.elems (named_is i) ∙ new_elem (length (shared_sizes (take i g.locals))) ∙ at.elem_is
 
   -- what is said of all its arrays, where it holds of those that it is passed
-  pub are_stored : all_shared g.locals ≡ true → suc all < 2 ^ 32 → ((a : Register) → IsThere g class.Array a → a.number < passed g → inside.elems (inside.home.named a.number) ≡ elem_of g a) → AreStored g inside.home inside.elems
-  are_stored shared small passes =
+  pub are_stored : all_shared g.locals ≡ true → suc all < 2 ^ 32 → ((a : Register) → IsThere g class.Array a → a.number < passed g → inside.elems (inside.home.named a.number) ≡ elem_of g a)
+      → ((a : ℕ) → a < length (arrays_of g) → inside.home.named a < inside.home.opened) → AreStored g inside.home inside.elems
+  are_stored shared small passes low_named =
       record {
         stored_as = λ a there. stored a there (cases_lt a.number (passed g));
+        named_low = λ a there. low_named a.number there.1;
         size_is = λ a there own. (let le = leb-true (passed g) a.number own in subst (λ n. inside.home.sizes (inside.home.named n) ≡ local_size (slice_get g.locals (a.number - passed g))) (back a le) (own_count shared (a.number - passed g) (low a there le)));
         few = λ a there own. (let le = leb-true (passed g) a.number own in subst (λ t. local_size (slice_get g.locals (a.number - passed g)) * bytes_of t < 2 ^ 32) (elem_at a there le) (own_few shared (a.number - passed g) (low a there le) small));
       }

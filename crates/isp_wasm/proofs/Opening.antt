@@ -14,7 +14,7 @@ use Rattle.isp_wasm_meaning.specs.Syntax.{Clear, Const32, Local as LocalOf}
 use Rattle.isp_wasm_meaning.specs.Meaning.{State, Result, Fell, Trapped, run, inside, set_local, cleared, then_to}
 use Rattle.isp_wasm.specs.Places.{Setting, Place, Counter, Base, Count, Top, gang, bytes_of}
 use Rattle.isp_wasm.specs.Stack.{none_open, copies, local_bytes, bytes_in, bytes_if, function_bytes, waiting_bytes, open_bytes, start, bottom, opened_memory}
-use Rattle.isp_wasm.specs.Standing.{Holds, Keeps, Stands, IsFull, IsSettled}
+use Rattle.isp_wasm.specs.Standing.{all_of, Holds, Keeps, Stands, IsFull, IsSettled}
 use Rattle.isp_wasm.specs.Templates.{arrays_code, begin_code}
 use Rattle.isp_wasm.proofs.Regions.{few_bytes}
 use Rattle.isp_wasm.proofs.Frames.{there, elsewhere}
@@ -210,7 +210,7 @@ module _ (w : Setting) (ready : IsSettled w) where
     pub whole : s.size ≡ w.room
     pub stacked : none_open w.routine.locals ≡ false → (a : ℕ) × (w.stack ≡ Some a)
     pub holds : (m : ℕ → ℕ) → IsOpen w w.routine.locals (passed w.routine) (bottom w) s.locals m → Holds w c.scalars c.vectors c.masks m
-    pub keeps : (none_open w.routine.locals ≡ false → bottom w + bytes_in (gang w) w.routine.locals < s.size) → Keeps w c.arrays (opened_memory (gang w) (bottom w) w.routine.locals s.memory) s.size
+    pub keeps : (none_open w.routine.locals ≡ false → bottom w + bytes_in (gang w) w.routine.locals < s.size) → Keeps w (all_of w c) (opened_memory (gang w) (bottom w) w.routine.locals s.memory) s.size
 
   pub record Starts (c : Conf) (s : State) : Type 0 where
     pub state : State
@@ -237,7 +237,7 @@ module _ (w : Setting) (ready : IsSettled w) where
                   pc_is = e.pc_is;
                   out_is = b.out_is ∙ e.out_is;
                   holds = e.holds b.state.locals b.opened;
-                  keeps = subst (λ m. Keeps w c.arrays m b.state.size) (sym b.memory_is) (subst (λ n. Keeps w c.arrays (opened_memory (gang w) (bottom w) w.routine.locals s.memory) n) (sym b.size_is) (e.keeps b.room));
+                  keeps = subst (λ m. Keeps w (all_of w c) m b.state.size) (sym b.memory_is) (subst (λ n. Keeps w (all_of w c) (opened_memory (gang w) (bottom w) w.routine.locals s.memory) n) (sym b.size_is) (e.keeps b.room));
                 };
             counter = b.opened.others Counter (λ e. cc) (λ i lt e. cc) (λ i lt e. cc);
           })

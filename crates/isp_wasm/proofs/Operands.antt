@@ -63,7 +63,7 @@ module _ (w : Setting) (has : HasArrays w) where
   any_vector x o = record { class_is = o.0; elem_is = refl }
 
   array_as : (a : Register) (t : Elem) → IsThere w.routine class.Array a → elem w a ≡ t → IsArray w a t
-  array_as a t o e = record { shared = has.shared a; elem_is = e; stored_as = has.stored_as a o ∙ e }
+  array_as a t o e = record { shared = has.shared a; elem_is = e; stored_as = has.stored_as a o ∙ e; low = has.named_low a o }
 
   unary_is : (o : UnaryOp) (t : Elem) → IsWanted w.routine (unary_want o) t → IsUnary o t
   unary_is unary.Not t h = h

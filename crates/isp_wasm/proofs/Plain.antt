@@ -113,11 +113,12 @@ module _ (code : Listing) (h : Routine) where
   -- in a call, with its locals numbered so
   abbrev pub placed : (Place → ℕ) → Home → List Frame → (ℕ → ℕ) → (ℕ → Elem) → (ℕ → ℕ) → ℕ → Option ℕ → Setting
   placed local home waiting begins elems before room stack =
-      record (numbered code h) { local = local; home = home; waiting = waiting; begins = begins; elems = elems; before = before; room = room; stack = stack }
+      record (numbered code h) { local = local; home = home; waiting = waiting; begins = begins; sizes = home.sizes; elems = elems; before = before; room = room; stack = stack }
 
 -- each array lies in memory as it is declared, and those that the function opens have the elements that are said
 pub record AreStored (h : Routine) (home : Home) (elems : ℕ → Elem) : Type 0 where
   pub stored_as : (a : Register) → IsThere h class.Array a → elems (home.named a.number) ≡ elem_of h a
+  pub named_low : (a : Register) → IsThere h class.Array a → home.named a.number < home.opened
   pub size_is : (a : Register) → IsThere h class.Array a → is_local h a ≡ true → home.sizes (home.named a.number) ≡ local_size (slice_get h.locals (a.number - length (param_elems class.Array h.params)))
   pub few : (a : Register) → IsThere h class.Array a → is_local h a ≡ true → local_size (slice_get h.locals (a.number - length (param_elems class.Array h.params))) * bytes_of (elem_of h a) < 2 ^ 32
 
@@ -199,7 +200,7 @@ module _ (code : Listing) (h : Routine) (f : ℕ) (accepted : IsFine code) (foun
 
     arrays : AreStored h home elems → HasArrays w
     unfolding w
-    arrays stored = record { shared = none_own; stored_as = stored.stored_as; size_is = stored.size_is; few = stored.few }
+    arrays stored = record { shared = none_own; stored_as = stored.stored_as; named_low = stored.named_low; size_is = stored.size_is; few = stored.few }
 
     pub all_thin : AreStored h home elems → AllThin (placed code h local home waiting begins elems before room stack)
     unfolding w

@@ -43,7 +43,7 @@ module _ (w : Setting) (ready : IsSettled w) where
   -- store number `at`
   module _ (at : ℕ) (t : Elem) (stored_as : w.elems at ≡ t) where
     abbrev pub many_in : ℕ
-    many_in = w.home.sizes at
+    many_in = w.sizes at
 
     abbrev pub each_in : ℕ
     each_in = bytes_of (w.elems at)
@@ -84,7 +84,7 @@ module _ (w : Setting) (ready : IsSettled w) where
         abbrev pub arrays_in : ℕ → Lanes
         arrays_in = put arrays at (put (arrays at) x v)
 
-        new_at : (b e : ℕ) → (b ≡ at) ⊎ (b ≡ at → ⊥) → (e ≡ x) ⊎ (e ≡ x → ⊥) → e < w.home.sizes b
+        new_at : (b e : ℕ) → (b ≡ at) ⊎ (b ≡ at → ⊥) → (e ≡ x) ⊎ (e ≡ x → ⊥) → e < w.sizes b
             → loaded (bytes_of (w.elems b)) (w.begins b + e * bytes_of (w.elems b)) memory_in ≡ arrays_in b e
         new_at b e (inl same) (inl f) l =
             subst (λ b. loaded (bytes_of (w.elems b)) (w.begins b + e * bytes_of (w.elems b)) memory_in ≡ arrays_in b e) (sym same)
@@ -92,7 +92,7 @@ module _ (w : Setting) (ready : IsSettled w) where
             ∙ mod-eq_of_lt (fits_bytes (w.elems at) v (subst (λ u. v < 2 ^ width u) (sym stored_as) fit))
             ∙ sym (ap (λ g. g e) (put_same arrays at (put (arrays at) x v) at refl) ∙ put_same (arrays at) x v e f))
         new_at b e (inl same) (inr ne) l =
-            subst (λ b. e < w.home.sizes b → loaded (bytes_of (w.elems b)) (w.begins b + e * bytes_of (w.elems b)) memory_in ≡ arrays_in b e) (sym same)
+            subst (λ b. e < w.sizes b → loaded (bytes_of (w.elems b)) (w.begins b + e * bytes_of (w.elems b)) memory_in ≡ arrays_in b e) (sym same)
             (λ l. loaded_beside each_in (place_in x) v memory each_in (place_in e) (beside (cases_lt e x)) ∙ keeps.elements at e l
             ∙ sym (ap (λ g. g e) (put_same arrays at (put (arrays at) x v) at refl) ∙ put_other (arrays at) x v e ne))
             l
@@ -107,12 +107,12 @@ module _ (w : Setting) (ready : IsSettled w) where
             loaded_beside each_in (place_in x) v memory (bytes_of (w.elems b)) (w.begins b + e * bytes_of (w.elems b)) (beside (ready.disjoint b at ne))
             ∙ keeps.elements b e l ∙ sym (ap (λ g. g e) (put_other arrays at (put (arrays at) x v) b ne))
           where
-            beside : (w.begins b + w.home.sizes b * bytes_of (w.elems b) ≤ w.begins at) ⊎ (w.begins at + many_in * each_in ≤ w.begins b)
+            beside : (w.begins b + w.sizes b * bytes_of (w.elems b) ≤ w.begins at) ⊎ (w.begins at + many_in * each_in ≤ w.begins b)
                 → (w.begins b + e * bytes_of (w.elems b) + bytes_of (w.elems b) ≤ place_in x) ⊎ (place_in x + each_in ≤ w.begins b + e * bytes_of (w.elems b))
-            beside (inl h) = inl (let le = in_row e (w.home.sizes b) (bytes_of (w.elems b)) l in omega arith)
+            beside (inl h) = inl (let le = in_row e (w.sizes b) (bytes_of (w.elems b)) l in omega arith)
             beside (inr h) = inr (let le = in_row x many_in each_in lt in omega arith)
 
-        fits_at : (b e : ℕ) → (b ≡ at) ⊎ (b ≡ at → ⊥) → (e ≡ x) ⊎ (e ≡ x → ⊥) → e < w.home.sizes b → arrays_in b e < 2 ^ width (w.elems b)
+        fits_at : (b e : ℕ) → (b ≡ at) ⊎ (b ≡ at → ⊥) → (e ≡ x) ⊎ (e ≡ x → ⊥) → e < w.sizes b → arrays_in b e < 2 ^ width (w.elems b)
         fits_at b e (inl same) (inl f) l =
             subst (λ n. n < 2 ^ width (w.elems b)) (sym (ap (λ g. g e) (put_same arrays at (put (arrays at) x v) b same) ∙ put_same (arrays at) x v e f))
             (subst (λ u. v < 2 ^ width u) (sym (ap w.elems same ∙ stored_as)) fit)
@@ -151,9 +151,9 @@ module _ (w : Setting) (ready : IsSettled w) where
       abbrev pub zeroed_in : ℕ → ℕ
       zeroed_in = wasm.cleared (many_in * each_in) (w.begins at) memory
 
-      zero_at : (b e : ℕ) → (b ≡ at) ⊎ (b ≡ at → ⊥) → e < w.home.sizes b → loaded (bytes_of (w.elems b)) (w.begins b + e * bytes_of (w.elems b)) zeroed_in ≡ put arrays at (λ e. 0) b e
+      zero_at : (b e : ℕ) → (b ≡ at) ⊎ (b ≡ at → ⊥) → e < w.sizes b → loaded (bytes_of (w.elems b)) (w.begins b + e * bytes_of (w.elems b)) zeroed_in ≡ put arrays at (λ e. 0) b e
       zero_at b e (inl same) l =
-          subst (λ b. e < w.home.sizes b → loaded (bytes_of (w.elems b)) (w.begins b + e * bytes_of (w.elems b)) zeroed_in ≡ put arrays at (λ e. 0) b e) (sym same)
+          subst (λ b. e < w.sizes b → loaded (bytes_of (w.elems b)) (w.begins b + e * bytes_of (w.elems b)) zeroed_in ≡ put arrays at (λ e. 0) b e) (sym same)
           (λ l. zeros_loaded (many_in * each_in) (w.begins at) memory each_in (place_in e) (omega arith) (let le = in_row e many_in each_in l in omega arith)
           ∙ sym (ap (λ g. g e) (put_same arrays at (λ e. 0) at refl)))
           l
@@ -161,12 +161,12 @@ module _ (w : Setting) (ready : IsSettled w) where
           cleared_beside (many_in * each_in) (w.begins at) memory (bytes_of (w.elems b)) (w.begins b + e * bytes_of (w.elems b)) (beside (ready.disjoint b at ne))
           ∙ keeps.elements b e l ∙ sym (ap (λ g. g e) (put_other arrays at (λ e. 0) b ne))
         where
-          beside : (w.begins b + w.home.sizes b * bytes_of (w.elems b) ≤ w.begins at) ⊎ (w.begins at + many_in * each_in ≤ w.begins b)
+          beside : (w.begins b + w.sizes b * bytes_of (w.elems b) ≤ w.begins at) ⊎ (w.begins at + many_in * each_in ≤ w.begins b)
               → (w.begins b + e * bytes_of (w.elems b) + bytes_of (w.elems b) ≤ w.begins at) ⊎ (w.begins at + many_in * each_in ≤ w.begins b + e * bytes_of (w.elems b))
-          beside (inl h) = inl (let le = in_row e (w.home.sizes b) (bytes_of (w.elems b)) l in omega arith)
+          beside (inl h) = inl (let le = in_row e (w.sizes b) (bytes_of (w.elems b)) l in omega arith)
           beside (inr h) = inr (omega arith)
 
-      zero_fits : (b e : ℕ) → (b ≡ at) ⊎ (b ≡ at → ⊥) → e < w.home.sizes b → put arrays at (λ e. 0) b e < 2 ^ width (w.elems b)
+      zero_fits : (b e : ℕ) → (b ≡ at) ⊎ (b ≡ at → ⊥) → e < w.sizes b → put arrays at (λ e. 0) b e < 2 ^ width (w.elems b)
       zero_fits b e (inl same) l = subst (λ n. n < 2 ^ width (w.elems b)) (sym (ap (λ g. g e) (put_same arrays at (λ e. 0) b same))) (pow_pos (width (w.elems b)))
       zero_fits b e (inr ne) l = subst (λ n. n < 2 ^ width (w.elems b)) (sym (ap (λ g. g e) (put_other arrays at (λ e. 0) b ne))) (keeps.elements_fit b e l)
 

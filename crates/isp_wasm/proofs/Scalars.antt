@@ -37,9 +37,10 @@ use Rattle.isp_wasm_meaning.specs.Ladder.{Jumps, Meets}
 use Rattle.isp_wasm.specs.Places as place
 use Rattle.isp_wasm.specs.Places.{Setting, Counter, Scalar, IsKept, elem, gang, shape, parts}
 use Rattle.isp_wasm.specs.Templates.{scalar_of, scalar_local, vector_local, return_code, jump_to, code_of, lanes_as_bits, lowest_of}
-use Rattle.isp_wasm.specs.Standing.{bits_of, LanesOf, Stands, Holds, Keeps, Leaves, Final, IsSettled, vector_register, the_machine}
+use Rattle.isp_wasm.specs.Standing.{all_of, bits_of, LanesOf, Stands, Holds, Keeps, Leaves, Final, IsSettled, vector_register, the_machine}
 use Rattle.isp_wasm.specs.Thin.{IsHead, IsThinScalar, IsThin}
 use Rattle.isp_wasm.proofs.Frames.{Alike, holds_scalar, there, elsewhere}
+use Rattle.isp_wasm.proofs.Shared.{forget}
 use Rattle.isp_wasm.proofs.Steps.{step_is, falls_on, fails_here}
 use Rattle.isp_wasm.proofs.WordLaws.{constant_is, compare_is, compare_fits, plain_is, op_fits}
 use Rattle.isp_wasm.proofs.Converts.{unary_is, unary_fits, convert_is, convert_fits}
@@ -173,7 +174,7 @@ module _ (w : Setting) (ready : IsSettled w) (fuel n k : ℕ) (call : ℕ → Li
 
   -- a scalar register is written, where only the locals of this instruction have changed
   pub falls_scalar : (i : Instr) (d : Register) (v : ℕ) (t : State) → slice_get w.routine.code pc ≡ Some i → d.class ≡ class.Scalar → act w.code w.routine c i ≡ Go (set_scalar c d v) → v < 2 ^ width (elem w d)
-      → Alike w s.locals t.locals → t.out ≡ s.out → Keeps w c.arrays t.memory t.size → Good (pc + 1) c (Fell (set_local (w.local (Scalar d.number)) v t))
+      → Alike w s.locals t.locals → t.out ≡ s.out → Keeps w (all_of w c) t.memory t.size → Good (pc + 1) c (Fell (set_local (w.local (Scalar d.number)) v t))
   falls_scalar i d v t has cl is fit alike out keeps =
       falls_on w ready fuel n k pc c s i st has (record c { pc = c.pc + 1; scalars = put c.scalars d.number v }) (set_local (w.local (Scalar d.number)) v t) is refl refl refl out
       (holds_scalar w c.scalars c.vectors c.masks s.locals (set_local (w.local (Scalar d.number)) v t).locals d.number v st.holds
@@ -300,7 +301,7 @@ module _ (w : Setting) (ready : IsSettled w) (fuel n k : ℕ) (call : ℕ → Li
         value_is = is;
         lanes_are = lanes;
         out_is = out ∙ st.out_is;
-        keeps = subst (λ m. Keeps w c.arrays m u.size) (sym memory) (subst (λ n. Keeps w c.arrays s.memory n) (sym size) st.keeps);
+        keeps = forget w ready c u.memory u.size (subst (λ m. Keeps w (all_of w c) m u.size) (sym memory) (subst (λ n. Keeps w (all_of w c) s.memory n) (sym size) st.keeps));
       }
 
   pub returns : slice_get w.routine.code pc ≡ Some (instr.Return None) → IsGiven w.routine w.routine.returns None → Leaves w c None s

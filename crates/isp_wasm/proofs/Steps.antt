@@ -11,7 +11,8 @@ use Rattle.isp_code.specs.declared.instr.Instr.{Instr}
 use Rattle.isp_wasm_meaning.specs.Meaning.{Report, State, Result, Fell, Branched, Returned, Trapped, OutOfFuel}
 use Rattle.isp_wasm_meaning.specs.Ladder.{Laws, Meets}
 use Rattle.isp_wasm.specs.Places.{Setting, Counter}
-use Rattle.isp_wasm.specs.Standing.{Stands, Holds, Keeps, Final, Cut, Goes, the_machine, report_of, IsSettled}
+use Rattle.isp_wasm.specs.Standing.{Stands, Holds, Keeps, all_of, Final, Cut, Goes, the_machine, report_of, IsSettled}
+use Rattle.isp_wasm.proofs.Shared.{forget}
 
 module _ (w : Setting) where
   further : (a b : ℕ) (x y : Conf) → Goes w a x y → after w.code (b + a) (machine.Runs x) ≡ after w.code b (machine.Runs y)
@@ -56,7 +57,7 @@ module _ (w : Setting) where
     -- an instruction after which control goes on
     module _ (fuel n k pc : ℕ) (c : Conf) (s : State) (i : Instr) (st : Stands w pc c s) (has : slice_get w.routine.code pc ≡ Some i) where
       pub falls_on : (c1 : Conf) (t : State) → act w.code w.routine c i ≡ Go c1 → c1.home ≡ c.home → c1.waiting ≡ c.waiting → c1.pc ≡ c.pc + 1 → t.out ≡ s.out
-          → Holds w c1.scalars c1.vectors c1.masks t.locals → Keeps w c1.arrays t.memory t.size → Meets (the_machine w) (w.local Counter) n fuel (Stands w (pc + 1)) (suc k) c (Fell t)
+          → Holds w c1.scalars c1.vectors c1.masks t.locals → Keeps w (all_of w c1) t.memory t.size → Meets (the_machine w) (w.local Counter) n fuel (Stands w (pc + 1)) (suc k) c (Fell t)
       falls_on c1 t is home waiting at out holds keeps =
           record {
             conf = record c1 { out = c.out };
@@ -73,7 +74,7 @@ module _ (w : Setting) where
                 };
           }
 
-      pub fails_here : (t : Trap) (u : State) → act w.code w.routine c i ≡ Fail t → u.out ≡ s.out → Keeps w c.arrays u.memory u.size
+      pub fails_here : (t : Trap) (u : State) → act w.code w.routine c i ≡ Fail t → u.out ≡ s.out → Keeps w (all_of w c) u.memory u.size
           → (r : Report) → r ≡ report_of w t → Meets (the_machine w) (w.local Counter) n fuel (Stands w (pc + 1)) (suc k) c (Trapped (Some r) u)
       fails_here t u is out keeps r said =
-          record { conf = c; steps = 1; trap = t; fails = step_is pc c s i (Fail t) st has is; report_is = said; out_is = out ∙ st.out_is; keeps = keeps }
+          record { conf = c; steps = 1; trap = t; fails = step_is pc c s i (Fail t) st has is; report_is = said; out_is = out ∙ st.out_is; keeps = forget w ready c u.memory u.size keeps }

@@ -24,7 +24,7 @@ use Rattle.isp_wasm.specs.Places as place
 use Rattle.isp_wasm.specs.Places.{Setting, Counter, elem, bytes_of, gang}
 use Rattle.isp_wasm.specs.Rows.{lane_at}
 use Rattle.isp_wasm.specs.Templates.{lane_checks, lane_stores, is_there, is_member, address_at, fault, checked, own_index, run_index, packed_index, rank_expr, set_count, scalar_local, vector_local}
-use Rattle.isp_wasm.specs.Standing.{Stands, Holds, Keeps, IsSettled, the_machine, scalar_register}
+use Rattle.isp_wasm.specs.Standing.{all_of, Stands, Holds, Keeps, IsSettled, the_machine, scalar_register}
 use Rattle.isp_wasm.specs.Thin.{IsArray, IsVector, IsScalar}
 use Rattle.isp_wasm.proofs.Frames.{put_same, put_other, holds_scalar, there, elsewhere}
 use Rattle.isp_wasm.proofs.Steps.{falls_on}
@@ -34,6 +34,7 @@ use Rattle.isp_wasm.proofs.MaskWords.{member_is}
 use Rattle.isp_wasm.proofs.Indices.{element_is, beyond_is, first_is}
 use Rattle.isp_wasm.proofs.LaneLoops.{fault_of, Sound, Refused, IsLaneCode, lanes_run}
 use Rattle.isp_wasm.proofs.LaneEnds.{one_test, none_fails, lane_fails}
+use Rattle.isp_wasm.proofs.Shared.{all_low, all_put}
 use Rattle.isp_wasm.proofs.Elements.{store, many, few, size_is, outside_at, store_is, new_memory, keeps_stored, keeps_same}
 use Rattle.isp_wasm.proofs.Loads.{there_cut, test_is}
 use Rattle.isp_wasm.proofs.Gathers.{sound_index, rank_low, rank_is, checked_is, outside_here, faults}
@@ -113,12 +114,12 @@ module _ (w : Setting) (ready : IsSettled w) (fuel n k : ℕ) (call : ℕ → Li
       values = on set (c.vectors y.number)
 
       abbrev pub left_after : ℕ → Lanes
-      left_after p = scatter p places values (c.arrays (store w ready a t el))
+      left_after p = scatter p places values ((all_of w c) (store w ready a t el))
 
       pub record Stored (p : ℕ) (u : State) : Type 0 where
         pub memory : ℕ → ℕ
         pub is : u ≡ record s { memory = memory }
-        pub keeps : Keeps w (put c.arrays (store w ready a t el) (left_after p)) memory s.size
+        pub keeps : Keeps w (put (all_of w c) (store w ready a t el) (left_after p)) memory s.size
 
       abbrev pub store_lane : ℕ → Code
       store_lane p = Store (bytes_of (elem w a)) (address_at w a (index p)) 0 (lane_at (elem w a) (vector_local w y) p)
@@ -129,22 +130,22 @@ module _ (w : Setting) (ready : IsSettled w) (fuel n k : ℕ) (call : ℕ → Li
             memory = f.memory;
             is = f.is;
             keeps =
-                subst (λ g. Keeps w (put c.arrays (store w ready a t el) g) f.memory s.size)
+                subst (λ g. Keeps w (put (all_of w c) (store w ready a t el) g) f.memory s.size)
                 (sym (ap₂ (λ o v. put_at o v (left_after p)) (off_place p off) (ap (λ b. if b then Some (c.vectors y.number p) else None) off))) f.keeps;
           }
 
       twice : (f g : Lanes) (i v : ℕ) → g ≡ put f i v → (r e : ℕ)
-          → put (put c.arrays (store w ready a t el) f) (store w ready a t el) (put (put c.arrays (store w ready a t el) f (store w ready a t el)) i v) r e ≡ put c.arrays (store w ready a t el) g r e
+          → put (put (all_of w c) (store w ready a t el) f) (store w ready a t el) (put (put (all_of w c) (store w ready a t el) f (store w ready a t el)) i v) r e ≡ put (all_of w c) (store w ready a t el) g r e
       twice f g i v is r e = by (cases_eq r (store w ready a t el))
         where
           here : ℕ
           here = store w ready a t el
 
-          by : (r ≡ here) ⊎ (r ≡ here → ⊥) → put (put c.arrays here f) here (put (put c.arrays here f here) i v) r e ≡ put c.arrays here g r e
+          by : (r ≡ here) ⊎ (r ≡ here → ⊥) → put (put (all_of w c) here f) here (put (put (all_of w c) here f here) i v) r e ≡ put (all_of w c) here g r e
           by (inl h) =
-              ap (λ z. z e) (put_same (put c.arrays here f) here (put (put c.arrays here f here) i v) r h) ∙ ap (λ z. put z i v e) (put_same c.arrays here f here refl) ∙ ap (λ z. z e) (sym is)
-              ∙ ap (λ z. z e) (sym (put_same c.arrays here g r h))
-          by (inr ne) = ap (λ z. z e) (put_other (put c.arrays here f) here (put (put c.arrays here f here) i v) r ne ∙ put_other c.arrays here f r ne ∙ sym (put_other c.arrays here g r ne))
+              ap (λ z. z e) (put_same (put (all_of w c) here f) here (put (put (all_of w c) here f here) i v) r h) ∙ ap (λ z. put z i v e) (put_same (all_of w c) here f here refl) ∙ ap (λ z. z e) (sym is)
+              ∙ ap (λ z. z e) (sym (put_same (all_of w c) here g r h))
+          by (inr ne) = ap (λ z. z e) (put_other (put (all_of w c) here f) here (put (put (all_of w c) here f here) i v) r ne ∙ put_other (all_of w c) here f r ne ∙ sym (put_other (all_of w c) here g r ne))
 
       one_store : (p : ℕ) (u : State) → p < gang w → Stored p u → set p ≡ true → Kept (Stored (suc p)) (run fuel call (store_lane p) u)
       one_store p u low f on =
@@ -152,20 +153,20 @@ module _ (w : Setting) (ready : IsSettled w) (fuel n k : ℕ) (call : ℕ → Li
           let lt = sound_index (set p) (x p) (many w ready a t el) (sound p low) on in
           let lane : value s.locals (lane_at (elem w a) (vector_local w y) p) ≡ v =
           subst (λ e. value s.locals (lane_at e (vector_local w y) p) ≡ v) (sym el.elem_is) (vector_lane w c s.locals st.holds y t yv p low) in
-          let kept = keeps_stored w ready a t el (put c.arrays (store w ready a t el) (left_after p)) f.memory s.size f.keeps (x p) v lt (vector_fits w c s.locals st.holds y t yv p low) in
+          let kept = keeps_stored w ready a t el (put (all_of w c) (store w ready a t el) (left_after p)) f.memory s.size f.keeps (x p) v lt (vector_fits w c s.locals st.holds y t yv p low) in
           let next : left_after (suc p) ≡ put (left_after p) (x p) v = ap₂ (λ o u. put_at o u (left_after p)) (on_place p low on) (ap (λ b. if b then Some v else None) on) in
           record {
             state = record s { memory = _ };
             fell =
                 ap (run fuel call (store_lane p)) f.is
-                ∙ store_is w ready a t el (put c.arrays (store w ready a t el) (left_after p)) f.memory s.size f.keeps s.locals (index p) (x p) (st.holds.bases a.number) (index_is p low on) fuel call s.out s.globals
+                ∙ store_is w ready a t el (put (all_of w c) (store w ready a t el) (left_after p)) f.memory s.size f.keeps s.locals (index p) (x p) (st.holds.bases a.number) (index_is p low on) fuel call s.out s.globals
                 (lane_at (elem w a) (vector_local w y) p) v lane lt;
             holds =
                 record {
                   memory = _;
                   is = refl;
-                  keeps = keeps_same w ready (put (put c.arrays (store w ready a t el) (left_after p)) (store w ready a t el) (put (put c.arrays (store w ready a t el) (left_after p) (store w ready a t el)) (x p) v))
-                      (put c.arrays (store w ready a t el) (left_after (suc p))) _ s.size (twice (left_after p) (left_after (suc p)) (x p) v next) kept;
+                  keeps = keeps_same w ready (put (put (all_of w c) (store w ready a t el) (left_after p)) (store w ready a t el) (put (put (all_of w c) (store w ready a t el) (left_after p) (store w ready a t el)) (x p) v))
+                      (put (all_of w c) (store w ready a t el) (left_after (suc p))) _ s.size (twice (left_after p) (left_after (suc p)) (x p) v next) kept;
                 };
           }
 
@@ -181,18 +182,18 @@ module _ (w : Setting) (ready : IsSettled w) (fuel n k : ℕ) (call : ℕ → Li
             fails = λ p u low f on wrong. absurd (let impossible : false ≡ true = wrong in cc);
           }
 
-      same_arrays : (r e : ℕ) → c.arrays r e ≡ put c.arrays (store w ready a t el) (left_after 0) r e
+      same_arrays : (r e : ℕ) → (all_of w c) r e ≡ put (all_of w c) (store w ready a t el) (left_after 0) r e
       same_arrays r e = by (cases_eq r (store w ready a t el))
         where
-          by : (r ≡ store w ready a t el) ⊎ (r ≡ store w ready a t el → ⊥) → c.arrays r e ≡ put c.arrays (store w ready a t el) (left_after 0) r e
-          by (inl h) = ap (λ z. c.arrays z e) h ∙ ap (λ z. z e) (sym (put_same c.arrays (store w ready a t el) (left_after 0) r h))
-          by (inr ne) = ap (λ z. z e) (sym (put_other c.arrays (store w ready a t el) (left_after 0) r ne))
+          by : (r ≡ store w ready a t el) ⊎ (r ≡ store w ready a t el → ⊥) → (all_of w c) r e ≡ put (all_of w c) (store w ready a t el) (left_after 0) r e
+          by (inl h) = ap (λ z. (all_of w c) z e) h ∙ ap (λ z. z e) (sym (put_same (all_of w c) (store w ready a t el) (left_after 0) r h))
+          by (inr ne) = ap (λ z. z e) (sym (put_other (all_of w c) (store w ready a t el) (left_after 0) r ne))
 
       pub stores_run : Kept (Stored (gang w)) (run fuel call (lane_stores w a index y m) s)
       stores_run =
           by
           (lanes_run w fuel call c.masks m Nobody 1 q store_lane Stored store_code s
-          (record { memory = s.memory; is = refl; keeps = keeps_same w ready c.arrays (put c.arrays (store w ready a t el) (left_after 0)) s.memory s.size same_arrays st.keeps }))
+          (record { memory = s.memory; is = refl; keeps = keeps_same w ready (all_of w c) (put (all_of w c) (store w ready a t el) (left_after 0)) s.memory s.size same_arrays st.keeps }))
         where
           by : Kept (Sound w fuel call c.masks m Nobody 1 q store_lane Stored (gang w)) (run fuel call (lane_stores w a index y m) s)
               ⊎ Told (Refused w fuel call c.masks m Nobody 1 q store_lane Stored) (run fuel call (lane_stores w a index y m) s) → Kept (Stored (gang w)) (run fuel call (lane_stores w a index y m) s)
@@ -205,7 +206,7 @@ module _ (w : Setting) (ready : IsSettled w) (fuel n k : ℕ) (call : ℕ → Li
         → act w.code w.routine c i ≡ moved (unless w.code w.routine c (lowest (gang w) worse) kind.Index q c1) (λ z. z)
         → ((p : ℕ) → p < gang w → worse p ≡ (set p && bad p))
         → ((p : ℕ) → p < gang w → set p ≡ true → x p < many w ready a t el → places p ≡ Some (x p)) → ((p : ℕ) → set p ≡ false → places p ≡ None)
-        → ((memory : ℕ → ℕ) → act w.code w.routine c i ≡ Go c1 → Keeps w (put c.arrays (store w ready a t el) (scatter (gang w) places (on set (c.vectors y.number)) (c.arrays (store w ready a t el)))) memory s.size → Good (pc + 1) c (after (record s { memory = memory })))
+        → ((memory : ℕ → ℕ) → act w.code w.routine c i ≡ Go c1 → Keeps w (put (all_of w c) (store w ready a t el) (scatter (gang w) places (on set (c.vectors y.number)) ((all_of w c) (store w ready a t el)))) memory s.size → Good (pc + 1) c (after (record s { memory = memory })))
         → Good (pc + 1) c (then_to (run fuel call (lane_checks w a index m q) s) (λ u. then_to (run fuel call (lane_stores w a index y m) u) after))
     stores_end i worse places c1 after has is same_bad on_place off_place goes = by checks_run
       where
@@ -223,7 +224,7 @@ module _ (w : Setting) (ready : IsSettled w) (fuel n k : ℕ) (call : ℕ → Li
         by (inr told) =
             subst (Good (pc + 1) c) (sym (ap (λ r. then_to r second) told.trapped))
             (lane_fails w ready fuel n k call pc c s st m bad kind.Index q check Same worse same_bad i Conf c1 (λ z. z) has is
-            (λ p u f. subst (λ u. (u.out ≡ s.out) × Keeps w c.arrays u.memory u.size) (sym f) (refl, st.keeps)) (Trapped told.report told.state)
+            (λ p u f. subst (λ u. (u.out ≡ s.out) × Keeps w (all_of w c) u.memory u.size) (sym f) (refl, st.keeps)) (Trapped told.report told.state)
             (record { state = told.state; report = told.report; trapped = refl; holds = told.holds }))
 
   -- ---- the instructions
@@ -239,10 +240,18 @@ module _ (w : Setting) (ready : IsSettled w) (fuel n k : ℕ) (call : ℕ → Li
     abbrev pub arrays_after : Map → ℕ → Lanes
     arrays_after places = put c.arrays (c.home.named a.number) (scatter (gang w) places (on (c.masks m.number) (c.vectors y.number)) (c.arrays (c.home.named a.number)))
 
-    named_so : (places : Map) (memory : ℕ → ℕ) → Keeps w (put c.arrays (store w ready a here el) (scatter (gang w) places (on (c.masks m.number) (c.vectors y.number)) (c.arrays (store w ready a here el)))) memory s.size
-        → Keeps w (arrays_after places) memory s.size
+    named_so : (places : Map) (memory : ℕ → ℕ) → Keeps w (put (all_of w c) (store w ready a here el) (scatter (gang w) places (on (c.masks m.number) (c.vectors y.number)) (all_of w c (store w ready a here el)))) memory s.size
+        → Keeps w (all_of w (record c { arrays = arrays_after places })) memory s.size
     named_so places memory keeps =
-        subst (λ h. Keeps w (put c.arrays (h.named a.number) (scatter (gang w) places (on (c.masks m.number) (c.vectors y.number)) (c.arrays (h.named a.number)))) memory s.size) (sym st.home_is) keeps
+        subst (λ h. Keeps w (all_of w (record c { arrays = put c.arrays (h.named a.number) (scatter (gang w) places (on (c.masks m.number) (c.vectors y.number)) (c.arrays (h.named a.number))) })) memory s.size) (sym st.home_is)
+        (keeps_same w ready (put (all_of w c) at f) (all_of w (record c { arrays = put c.arrays at f })) memory s.size (all_put w c at el.low f)
+        (subst (λ g. Keeps w (put (all_of w c) at (scatter (gang w) places (on (c.masks m.number) (c.vectors y.number)) g)) memory s.size) (all_low w c at (let low = el.low in omega (arith, low))) keeps))
+      where
+        at : ℕ
+        at = store w ready a here el
+
+        f : Lanes
+        f = scatter (gang w) places (on (c.masks m.number) (c.vectors y.number)) (c.arrays at)
 
     pub scatters : IsVector w i I64 → slice_get w.routine.code pc ≡ Some (instr.Scatter a i y m q)
         → Good (pc + 1) c (then_to (run fuel call (lane_checks w a (own_index w i) m q) s) (λ u. then_to (run fuel call (lane_stores w a (own_index w i) y m) u) Fell))
@@ -339,15 +348,18 @@ module _ (w : Setting) (ready : IsSettled w) (fuel n k : ℕ) (call : ℕ → Li
           let lt = ltb-true index (many w ready a t el) e in
           let size = few w ready a t el in
           let fit = scalar_fits w c s.locals st.holds y t ys in
-          let memory = new_memory w ready a t el c.arrays s.memory s.size st.keeps index v lt fit in
-          let keeps = keeps_stored w ready a t el c.arrays s.memory s.size st.keeps index v lt fit in
+          let memory = new_memory w ready a t el (all_of w c) s.memory s.size st.keeps index v lt fit in
+          let keeps = keeps_stored w ready a t el (all_of w c) s.memory s.size st.keeps index v lt fit in
           subst (Good (pc + 1) c)
           (sym (ap (λ r. then_to r after) (checked_is w ready fuel n k call pc c s st a i m q t el is true e)
-          ∙ store_is w ready a t el c.arrays s.memory s.size st.keeps s.locals (scalar_local w i) index (st.holds.bases a.number) (st.holds.scalars_are i.number) fuel call s.out s.globals (scalar_local w y) v (st.holds.scalars_are y.number) lt))
+          ∙ store_is w ready a t el (all_of w c) s.memory s.size st.keeps s.locals (scalar_local w i) index (st.holds.bases a.number) (st.holds.scalars_are i.number) fuel call s.out s.globals (scalar_local w y) v (st.holds.scalars_are y.number) lt))
           (falls_on w ready fuel n k pc c s (instr.Store a i y m q) st has (stored w.code w.routine c a i y) (record s { memory = memory })
           (ap (λ b. moved (unless w.code w.routine c (failing w.code w.routine c b m) kind.Index q (stored w.code w.routine c a i y)) (λ c1. c1)) (outside_here w ready fuel n k call pc c s st a i m q t el is true e)) refl refl refl refl st.holds
-          (subst (λ h. Keeps w (put c.arrays (h.named a.number) (put (c.arrays (h.named a.number)) (element I64 index) v)) memory s.size) (sym st.home_is)
-          (subst (λ e. Keeps w (put c.arrays (store w ready a t el) (put (c.arrays (store w ready a t el)) e v)) memory s.size) (sym (element_is index (omega arith))) keeps)))
+          (subst (λ h. Keeps w (all_of w (record c { arrays = put c.arrays (h.named a.number) (put (c.arrays (h.named a.number)) (element I64 index) v) })) memory s.size) (sym st.home_is)
+          (subst (λ e. Keeps w (all_of w (record c { arrays = put c.arrays (store w ready a t el) (put (c.arrays (store w ready a t el)) e v) })) memory s.size) (sym (element_is index (omega arith)))
+          (keeps_same w ready (put (all_of w c) (store w ready a t el) (put (c.arrays (store w ready a t el)) index v)) (all_of w (record c { arrays = put c.arrays (store w ready a t el) (put (c.arrays (store w ready a t el)) index v) })) memory s.size
+          (all_put w c (store w ready a t el) el.low (put (c.arrays (store w ready a t el)) index v))
+          (subst (λ g. Keeps w (put (all_of w c) (store w ready a t el) (put g index v)) memory s.size) (all_low w c (store w ready a t el) (let low = el.low in omega (arith, low))) keeps)))))
       by false e =
           subst (Good (pc + 1) c) (sym (ap (λ r. then_to r after) (checked_is w ready fuel n k call pc c s st a i m q t el is false e)))
           (faults w ready fuel n k call pc c s st a i m q t el is (instr.Store a i y m q) Conf (stored w.code w.routine c a i y) (λ c1. c1) has e refl)

@@ -22,7 +22,7 @@ use Rattle.isp_code.specs.Machine.{after}
 use Rattle.isp_wasm_meaning.specs.Meaning.{Report, State, Result, Fell, Branched, Returned, Trapped, OutOfFuel, run, left, value}
 use Rattle.isp_wasm.specs.Places.{Setting, Counter, elem}
 use Rattle.isp_wasm.specs.Templates.{called_number, arguments_of, function_code}
-use Rattle.isp_wasm.specs.Standing.{Stands, Keeps, Ends, Fails, Cut, IsFull, IsSettled, bits_of, AreLanes, LanesOf, report_of, scalar_register, the_machine}
+use Rattle.isp_wasm.specs.Standing.{Stands, Keeps, all_of, shared_of, Ends, Fails, Cut, IsFull, IsSettled, bits_of, AreLanes, LanesOf, report_of, scalar_register, the_machine}
 use Rattle.isp_wasm.specs.Thin.{IsCovered, AllThin}
 
 abbrev pub out_of : Result → List ℕ
@@ -41,13 +41,13 @@ module _ (w : Setting) (c : Conf) where
     pub state : State
     pub is : r ≡ Returned (value_bits x) state
     pub out_is : state.out ≡ d.out
-    pub keeps : Keeps w d.arrays state.memory state.size
+    pub keeps : Keeps (shared_of w) d.arrays state.memory state.size
 
   pub record Reports (t : Trap) (d : Conf) (r : Result) : Type 0 where
     pub state : State
     pub is : r ≡ Trapped (Some (report_of w t)) state
     pub out_is : state.out ≡ d.out
-    pub keeps : Keeps w d.arrays state.memory state.size
+    pub keeps : Keeps (shared_of w) d.arrays state.memory state.size
 
   -- the result for each fuel, and the machine's runs
   pub record Agrees (result : ℕ → Result) : Type 0 where
@@ -83,7 +83,7 @@ module _ (w : Setting) where
         (record (with_result conf k.result register (c.masks k.mask.number) (resumed conf (waits c k.result (c.masks k.mask.number)) c.waiting)) { out = conf.out })
     pub brings : Brings k.result register conf v s
     pub out_is : s.out ≡ conf.out
-    pub keeps : Keeps w (below c.home.opened conf.arrays) s.memory s.size
+    pub keeps : Keeps w (all_of w (record c { arrays = below c.home.opened conf.arrays })) s.memory s.size
 
   -- with this fuel the functions that a function calls do what the machine's calls of them do
   abbrev pub CallsAgree : ℕ → (ℕ → List ℕ → State → Result) → Type 0
@@ -110,7 +110,7 @@ pub record ComesBack (w : Setting) (fr : Frame) (rest : List Frame) (c : Conf) (
   pub goes : after w.code steps (machine.Runs c) ≡ machine.Runs
       (record (with_result conf fr.result register fr.under (resumed conf fr rest)) { out = conf.out })
   pub out_is : s.out ≡ conf.out
-  pub keeps : Keeps w conf.arrays s.memory s.size
+  pub keeps : Keeps (shared_of w) conf.arrays s.memory s.size
 
 -- the same of a function that is called
 abbrev pub CallsComeBack : Type 0

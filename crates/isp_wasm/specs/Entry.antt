@@ -20,7 +20,7 @@ use Rattle.isp_wasm_meaning.specs.Syntax.{I8x16, Code, Skip, Then, Set, Const128
 use Rattle.isp_wasm_meaning.specs.Meaning.{Report, State, Result, Returned, Trapped, OutOfFuel, called, loaded}
 use Rattle.isp_wasm.specs.Places.{Setting, Counter, Scalar, Vector, Mask, Base, Count, Depth, Top, elem, gang, parts, bytes_of}
 use Rattle.isp_wasm.specs.Templates.{each, mask_part, routine_code}
-use Rattle.isp_wasm.specs.Standing.{Keeps, IsBeside, IsFull, IsSettled, report_of, scalar_register}
+use Rattle.isp_wasm.specs.Standing.{Keeps, all_of, IsBeside, IsFull, IsSettled, report_of, scalar_register}
 use Rattle.isp_wasm.specs.Stack.{none_open, uses_stack, bytes_in, bottom, opened_memory}
 use Rattle.isp_wasm.specs.Thin.{IsCovered, AllThin}
 use Rattle.isp_wasm.specs.Agreement.{CallsAgree, out_of, value_bits}
@@ -59,9 +59,9 @@ module _ (w : Setting) where
     pub vectors_are : (r j : ℕ) → slice_index arguments (w.local (Vector r j)) ≡ 0
     pub masks_are : (r j : ℕ) → slice_index arguments (w.local (Mask r j)) ≡ 0
     pub bases : (a : ℕ) → IsPassed a → slice_index arguments (w.local (Base a)) ≡ w.begins (w.home.named a)
-    pub counts : (a : ℕ) → IsPassed a → slice_index arguments (w.local (Count a)) ≡ w.home.sizes (w.home.named a)
+    pub counts : (a : ℕ) → IsPassed a → slice_index arguments (w.local (Count a)) ≡ w.sizes (w.home.named a)
     pub own_bases : (i : ℕ) → i < length w.routine.locals → w.begins (w.home.named (passed w.routine + i)) ≡ bottom w + bytes_in (gang w) (take i w.routine.locals)
-    pub own_counts : (i : ℕ) → i < length w.routine.locals → w.home.sizes (w.home.named (passed w.routine + i)) ≡ local_size (slice_get w.routine.locals i)
+    pub own_counts : (i : ℕ) → i < length w.routine.locals → w.sizes (w.home.named (passed w.routine + i)) ≡ local_size (slice_get w.routine.locals i)
     pub depth_is : slice_index arguments (w.local Depth) ≡ 0
     pub top_zero : slice_index arguments (w.local Top) ≡ 0
     pub stack_is : w.stack ≡ stack_in w.routine s
@@ -69,7 +69,7 @@ module _ (w : Setting) where
     pub whole : s.size ≡ w.room
     pub small : s.size ≤ 2 ^ 32
     pub keeps : (none_open w.routine.locals ≡ false → bottom w + bytes_in (gang w) w.routine.locals < s.size)
-        → Keeps w (first xs).arrays (opened_memory (gang w) (bottom w) w.routine.locals s.memory) s.size
+        → Keeps w (all_of w (first xs)) (opened_memory (gang w) (bottom w) w.routine.locals s.memory) s.size
     pub silent : s.out ≡ []
 
   -- the memory has the elements of these arrays, and beside the arrays what it had

@@ -64,6 +64,7 @@ module _ (code : Listing) (xs : List Argument) (at : List ℕ) where
         home = (first_conf code f h xs).home;
         begins = with_starts (length (rows xs)) (slice_index at) (shared_starts (gang_width code.gang) (start (stack_in h s)) h.locals);
         elems = with_elems (length (rows xs)) (row_elem (rows xs)) (shared_elems h.locals);
+        sizes = (first_conf code f h xs).home.sizes;
         before = s.memory;
         room = s.size;
         stack = stack_in h s;

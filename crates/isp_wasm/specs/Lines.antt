@@ -16,8 +16,9 @@ module _ (w : Setting) where
   pub record HasArrays : Type 0 where
     pub shared : (a : Register) → is_per_lane w.routine a ≡ false
     pub stored_as : (a : Register) → IsThere w.routine class.Array a → w.elems (w.home.named a.number) ≡ elem w a
+    pub named_low : (a : Register) → IsThere w.routine class.Array a → w.home.named a.number < w.home.opened
     pub size_is : (a : Register) → IsThere w.routine class.Array a → is_local w.routine a ≡ true
-        → w.home.sizes (w.home.named a.number) ≡ local_size (slice_get w.routine.locals (a.number - passed w.routine))
+        → w.sizes (w.home.named a.number) ≡ local_size (slice_get w.routine.locals (a.number - passed w.routine))
     pub few : (a : Register) → IsThere w.routine class.Array a → is_local w.routine a ≡ true
         → local_size (slice_get w.routine.locals (a.number - passed w.routine)) * bytes_of (elem w a) < 2 ^ 32
 

@@ -105,6 +105,7 @@ module _ (code : Listing) where
           heads = λ k. slice_index_or (heads_of h.code) k (length h.code);
           rung_at = position (heads_of h.code);
           begins = λ b. 0;
+          sizes = λ b. 0;
           elems = λ b. Truth;
           text_at = text_start code.texts;
           before = λ a. 0;

@@ -64,7 +64,7 @@ abbrev pub parts_for : ℕ → wasm.Shape → ℕ
 parts_for lanes s = (lanes + (count s - 1)) / count s
 
 -- A function of some code, as it runs: its arrays, the calls that wait for it, the local of each place; rungs, the first instruction of each, and
--- the rung that begins at an instruction; and where each store begins, with the type of its elements; where each text lies; the memory as it begins, and its bytes;
+-- the rung that begins at an instruction; and where each store begins, how many elements it has, and their type; where each text lies; the memory as it begins, and its bytes;
 -- and from where on arrays lie that functions open, where any may.
 pub record Setting : Type 0 where
   pub code : Listing
@@ -76,6 +76,7 @@ pub record Setting : Type 0 where
   pub heads : ℕ → ℕ
   pub rung_at : ℕ → ℕ
   pub begins : ℕ → ℕ
+  pub sizes : ℕ → ℕ
   pub elems : ℕ → Elem
   pub text_at : ℕ → ℕ
   pub before : ℕ → ℕ

@@ -1,5 +1,5 @@
 -- When a frame and a memory of WebAssembly stand for a configuration of the machine.
-use Rattle.std.specs.Prelude.{◌≡◌, ◌⊎◌, ℕ, suc, ◌+◌, ◌*◌, ◌^◌, ◌<◌, ◌≤◌, length, Option, Some, None, true, slice_get}
+use Rattle.std.specs.Prelude.{◌≡◌, ◌⊎◌, ℕ, suc, ◌+◌, ◌-◌, ◌*◌, ◌/◌, ◌%◌, ◌^◌, ◌<◌, ◌≤◌, length, Option, Some, None, true, slice_get, nat_lt, if◌then◌else◌}
 use Rattle.isp_base.specs.Maps.{Lanes}
 use Rattle.isp_base.specs.Sets as Sets
 use Rattle.isp_base.specs.Values.{width}
@@ -41,26 +41,30 @@ module _ (w : Setting) where
     pub fits : (r : ℕ) → scalars r < 2 ^ width (elem w (scalar_register r))
     pub members : (r p : ℕ) → masks r p ≡ true → p < gang w
     pub bases : (a : ℕ) → l (w.local (Base a)) ≡ w.begins (w.home.named a)
-    pub counts : (a : ℕ) → l (w.local (Count a)) ≡ w.home.sizes (w.home.named a)
+    pub counts : (a : ℕ) → l (w.local (Count a)) ≡ w.sizes (w.home.named a)
     pub depth : l (w.local Depth) ≡ length w.waiting
     pub top_is : l (w.local Top) ≡ top w
 
   -- a byte of no array, nor where the function's arrays may lie
   abbrev pub IsBeside : ℕ → Type 0
-  IsBeside a = ((b : ℕ) → (a < w.begins b) ⊎ (w.begins b + w.home.sizes b * bytes_of (w.elems b) ≤ a)) × IsBelow (floor w) a
+  IsBeside a = ((b : ℕ) → (a < w.begins b) ⊎ (w.begins b + w.sizes b * bytes_of (w.elems b) ≤ a)) × IsBelow (floor w) a
 
   -- The memory of so many bytes: the elements of each store, in its own bytes, little endian; the texts; and what lies beside
   -- the arrays is as it was before the function began.
   pub record Keeps (arrays : ℕ → Lanes) (memory : ℕ → ℕ) (size : ℕ) : Type 0 where
     pub bytes_fit : (a : ℕ) → memory a < 256
-    pub elements : (b e : ℕ) → e < w.home.sizes b → loaded (bytes_of (w.elems b)) (w.begins b + e * bytes_of (w.elems b)) memory ≡ arrays b e
-    pub elements_fit : (b e : ℕ) → e < w.home.sizes b → arrays b e < 2 ^ width (w.elems b)
-    pub room : (b : ℕ) → w.begins b + w.home.sizes b * bytes_of (w.elems b) ≤ size
+    pub elements : (b e : ℕ) → e < w.sizes b → loaded (bytes_of (w.elems b)) (w.begins b + e * bytes_of (w.elems b)) memory ≡ arrays b e
+    pub elements_fit : (b e : ℕ) → e < w.sizes b → arrays b e < 2 ^ width (w.elems b)
+    pub room : (b : ℕ) → w.begins b + w.sizes b * bytes_of (w.elems b) ≤ size
     pub small : size ≤ 2 ^ 32
     pub whole : size ≡ w.room
     pub texts : (t : ℕ) → bytes (length (text w t)) (w.text_at t) memory ≡ text w t
     pub text_room : (t : ℕ) → w.text_at t + length (text w t) ≤ size
     pub rest : (a : ℕ) → IsBeside a → memory a ≡ w.before a
+
+  -- What each store has: those of the machine, and behind them, one for each lane, the arrays of its own.
+  abbrev pub all_of : Conf → ℕ → Lanes
+  all_of c b = if nat_lt b (suc w.home.opened) then c.arrays b else (λ e. c.own ((b - suc w.home.opened) / 32) e ((b - suc w.home.opened) % 32))
 
   pub record Stands (pc : ℕ) (c : Conf) (s : State) : Type 0 where
     pub home_is : c.home ≡ w.home
@@ -68,15 +72,20 @@ module _ (w : Setting) where
     pub pc_is : c.pc ≡ pc
     pub out_is : s.out ≡ c.out
     pub holds : Holds c.scalars c.vectors c.masks s.locals
-    pub keeps : Keeps c.arrays s.memory s.size
+    pub keeps : Keeps (all_of c) s.memory s.size
 
+-- the stores of the machine alone
+abbrev pub shared_of : Setting → Setting
+shared_of w = record w { sizes = w.home.sizes }
+
+module _ (w : Setting) where
   -- the run ended or trapped, and the result says so
   pub record Ends (c : Conf) (x : Option Value) (s : State) : Type 0 where
     pub conf : Conf
     pub steps : ℕ
     pub ends : after w.code steps (machine.Runs c) ≡ machine.Ended x conf
     pub out_is : s.out ≡ conf.out
-    pub keeps : Keeps conf.arrays s.memory s.size
+    pub keeps : Keeps (shared_of w) conf.arrays s.memory s.size
 
   -- what a scalar register that is returned has
   abbrev pub bits_by : Class → Conf → Register → Option ℕ
@@ -111,7 +120,7 @@ module _ (w : Setting) where
     pub value_is : v ≡ bits_of conf register
     pub lanes_are : LanesOf conf register s
     pub out_is : s.out ≡ conf.out
-    pub keeps : Keeps conf.arrays s.memory s.size
+    pub keeps : Keeps (shared_of w) conf.arrays s.memory s.size
 
   abbrev pub kind_number : TrapKind → ℕ
   kind_number Divide = 0
@@ -129,7 +138,7 @@ module _ (w : Setting) where
     pub fails : after w.code steps (machine.Runs c) ≡ machine.Trapped trap conf
     pub report_is : r ≡ report_of trap
     pub out_is : s.out ≡ conf.out
-    pub keeps : Keeps conf.arrays s.memory s.size
+    pub keeps : Keeps (shared_of w) conf.arrays s.memory s.size
 
   -- the machine comes to where all arrays that are open leave no byte of the memory behind them
   pub record IsFull (c : Conf) : Type 0 where
@@ -159,7 +168,7 @@ module _ (w : Setting) where
   -- behind the last rung nothing stands
   pub record StandsBefore (k : ℕ) (c : Conf) (s : State) : Type 0 where
     pub low : k < w.rungs
-    pub stands : Stands (w.heads k) c s
+    pub stands : Stands w (w.heads k) c s
 
   abbrev pub the_machine : Machine
   the_machine = record { Conf = Conf; Goes = Goes; Stands = StandsBefore; Final = Final; Cut = Cut }
@@ -171,8 +180,10 @@ module _ (w : Setting) where
     pub few : w.rungs < 2 ^ 32
     pub heads_up : (k : ℕ) → k < w.rungs → w.heads k < w.heads (suc k)
     pub text_low : (t : ℕ) → (w.text_at t < 2 ^ 32) × (length (text w t) < 2 ^ 32)
-    pub text_apart : (t b : ℕ) → (w.text_at t + length (text w t) ≤ w.begins b) ⊎ (w.begins b + w.home.sizes b * bytes_of (w.elems b) ≤ w.text_at t)
-    pub bounded : (b : ℕ) → w.home.sizes b ≤ 2 ^ 32
+    pub text_apart : (t b : ℕ) → (w.text_at t + length (text w t) ≤ w.begins b) ⊎ (w.begins b + w.sizes b * bytes_of (w.elems b) ≤ w.text_at t)
+    pub bounded : (b : ℕ) → w.sizes b ≤ 2 ^ 32
     pub closed : (b : ℕ) → w.home.opened ≤ b → w.home.sizes b ≡ 0
-    pub disjoint : (a b : ℕ) → (a ≡ b → ⊥) → (w.begins a + w.home.sizes a * bytes_of (w.elems a) ≤ w.begins b) ⊎
-        (w.begins b + w.home.sizes b * bytes_of (w.elems b) ≤ w.begins a)
+    pub disjoint : (a b : ℕ) → (a ≡ b → ⊥) → (w.begins a + w.sizes a * bytes_of (w.elems a) ≤ w.begins b) ⊎
+        (w.begins b + w.sizes b * bytes_of (w.elems b) ≤ w.begins a)
+    pub sizes_are : (b : ℕ) → b ≤ w.home.opened → w.sizes b ≡ w.home.sizes b
+    pub lanes_apart : (b : ℕ) → w.home.opened < b → (a : ℕ) → IsBelow (floor w) a → (a < w.begins b) ⊎ (w.begins b + w.sizes b * bytes_of (w.elems b) ≤ a)

@@ -49,11 +49,12 @@ module _ (w : Setting) where
     pub shared : is_per_lane w.routine a ≡ false
     pub elem_is : elem w a ≡ t
     pub stored_as : w.elems (w.home.named a.number) ≡ t
+    pub low : w.home.named a.number < w.home.opened
 
   -- one that the function opens
   pub record IsOpened (a : Register) : Type 0 where
     pub array : IsArray a (elem w a)
-    pub size_is : w.home.sizes (w.home.named a.number) ≡ local_size (slice_get w.routine.locals (a.number - passed w.routine))
+    pub size_is : w.sizes (w.home.named a.number) ≡ local_size (slice_get w.routine.locals (a.number - passed w.routine))
     pub few : local_size (slice_get w.routine.locals (a.number - passed w.routine)) * bytes_of (elem w a) < 2 ^ 32
 
   -- a rung begins there
