@@ -27,6 +27,7 @@ use Rattle.isp_wasm.proofs.Scalars.{scalars_fall, jumps_to, tests_fall, returns,
 use Rattle.isp_wasm.proofs.Vectors.{copies, converts, unaries, binaries, compares, selects, splats, indices}
 use Rattle.isp_wasm.proofs.Masks.{masks_fall}
 use Rattle.isp_wasm.proofs.Divisions.{divides_scalar, divides_lanes}
+use Rattle.isp_wasm.proofs.Elements.{found, found_shared}
 use Rattle.isp_wasm.proofs.Gathers.{gathers, runs, packed_loads, loads}
 use Rattle.isp_wasm.proofs.Clears.{clears}
 use Rattle.isp_wasm.proofs.Stores.{ends_so, scatters, stores_in_row, packed_stores, stores}
@@ -53,7 +54,7 @@ module _ (w : Setting) (ready : IsSettled w) (covered : IsCovered w) (thin : All
 
   module _ (k : ℕ) (low : k < w.rungs) (pc : ℕ) (c : Conf) (s : State) (st : Stands w pc c s) where
     scalar_at : (d : Register) (i : ScalarInstr) → slice_get w.routine.code pc ≡ Some (instr.Scalar d i) → d.class ≡ class.Scalar → IsThinScalar w (elem w d) i → Good k (pc + 1) c (run fuel call (scalar_code w d i) s)
-    scalar_at d (scalar.Load a i m q) has cl h = loads w ready fuel w.rungs k call pc c s st d a i m q has cl h.1 h.0
+    scalar_at d (scalar.Load a i m q) has cl h = loads w ready fuel w.rungs k call pc c s st d a i m q has cl (found_shared w ready a (elem w d) h.1) h.0
     scalar_at d (scalar.Constant z) has cl h = scalars_fall w ready fuel w.rungs k call pc c s st d (scalar.Constant z) has cl tt h
     scalar_at d (scalar.Copy x) has cl h = scalars_fall w ready fuel w.rungs k call pc c s st d (scalar.Copy x) has cl tt h
     scalar_at d (scalar.Convert x) has cl h = scalars_fall w ready fuel w.rungs k call pc c s st d (scalar.Convert x) has cl tt h
@@ -78,8 +79,8 @@ module _ (w : Setting) (ready : IsSettled w) (covered : IsCovered w) (thin : All
     vector_number d (vector.Select t x y m) has h = selects w ready fuel w.rungs k call pc c s st d t x y m has h
     vector_number d (vector.Splat x m) has h = splats w ready fuel w.rungs k call pc c s st d x m has h
     vector_number d (vector.Index m) has h = indices w ready fuel w.rungs k call pc c s st d m has h
-    vector_number d (vector.Gather a i m q) has h = gathers w ready fuel w.rungs k call pc c s st d a i m q h.0 h.1 has
-    vector_number d (vector.LoadRun a i m q) has h = runs w ready fuel w.rungs k call pc c s st d a i m q h.0 h.1 has
+    vector_number d (vector.Gather a i m q) has h = gathers w ready fuel w.rungs k call pc c s st d a i m q (found w ready a (elem w (vector_register d)) h.0) h.1 has
+    vector_number d (vector.LoadRun a i m q) has h = runs w ready fuel w.rungs k call pc c s st d a i m q (found_shared w ready a (elem w (vector_register d)) h.0) h.1 has
     vector_number d (vector.Scan o x m) has h = scans w ready fuel w.rungs k call pc c s st d o x m h.0 h.1 has
     vector_number d (vector.Exchange e x i m) has h = exchanges w ready fuel w.rungs k call pc c s st d e x i m h.0 h.1 has
     vector_number d (vector.Shuffle x i m) has h = shuffles w ready fuel w.rungs k call pc c s st d x i m h.0 h.1 has
@@ -101,7 +102,7 @@ module _ (w : Setting) (ready : IsSettled w) (covered : IsCovered w) (thin : All
     packed_load_at r a i y m q has h =
         subst
         (λ e. slice_get w.routine.code pc ≡ Some (instr.PackedLoad r a i e m q) → IsArray w a (elem w e) → Good k (pc + 1) c (run fuel call (code_of w (w.rungs - suc k) (instr.PackedLoad r a i e m q)) s))
-        (as_vector y h.3) (λ has el. packed_loads w ready fuel w.rungs k call pc c s st y.number a i m q el r (h.0).class_is (h.0).elem_is h.2 has) has h.1
+        (as_vector y h.3) (λ has el. packed_loads w ready fuel w.rungs k call pc c s st y.number a i m q (found_shared w ready a (elem w (vector_register y.number)) el) el.shared r (h.0).class_is (h.0).elem_is h.2 has) has h.1
 
     -- one instruction
     template : (i : Instr) → slice_get w.routine.code pc ≡ Some i → IsThin w i → Good k (pc + 1) c (run fuel call (code_of w (w.rungs - suc k) i) s)

@@ -25,6 +25,7 @@ use Rattle.isp_wasm_meaning.specs.Syntax.{I8x16, Code, Skip, Then, Set, Const128
 use Rattle.isp_wasm_meaning.specs.Meaning.{State, Result, Fell, Returned, Trapped, run, left, called, then_to, set_local, lane, flags}
 use Rattle.isp_wasm.specs.Places as place
 use Rattle.isp_wasm.specs.Places.{Setting, Place, Counter, gang, parts}
+use Rattle.isp_wasm.specs.Lanes.{store_at}
 use Rattle.isp_wasm.specs.Rows.{cell}
 use Rattle.isp_wasm.specs.Templates.{each, mask_part, function_code, begin_code, routine_code}
 use Rattle.isp_wasm.specs.Stack.{none_open, has_call, uses_stack, start, bytes_in, waiting_bytes, bottom, opened_memory}
@@ -205,12 +206,12 @@ module _ (w : Setting) (ready : IsSettled w) where
           → m (w.local p) ≡ begun.locals (w.local p)
       other p x y z = o.others p x y z
 
-      base_holds : (a : ℕ) → ((i : ℕ) × (a ≡ passed w.routine + i) × (i < length w.routine.locals)) ⊎ IsPassed w a → m (w.local (place.Base a)) ≡ w.begins (w.home.named a)
-      base_holds a (inl (i, e, lt)) = subst (λ n. m (w.local (place.Base n)) ≡ w.begins (w.home.named n)) (sym e) (o.bases i lt ∙ sym (call_is.own_bases i lt))
+      base_holds : (a : ℕ) → ((i : ℕ) × (a ≡ passed w.routine + i) × (i < length w.routine.locals)) ⊎ IsPassed w a → m (w.local (place.Base a)) ≡ w.begins (store_at w a 0)
+      base_holds a (inl (i, e, lt)) = subst (λ n. m (w.local (place.Base n)) ≡ w.begins (store_at w n 0)) (sym e) (o.bases i lt ∙ sym (call_is.own_bases i lt))
       base_holds a (inr out) = other (place.Base a) (λ e. cc) (λ i lt e. out i lt cc) (λ i lt e. cc) ∙ same_as_called (place.Base a) (λ j e. cc) (λ e. cc) ∙ call_is.bases a out
 
-      count_holds : (a : ℕ) → ((i : ℕ) × (a ≡ passed w.routine + i) × (i < length w.routine.locals)) ⊎ IsPassed w a → m (w.local (place.Count a)) ≡ w.sizes (w.home.named a)
-      count_holds a (inl (i, e, lt)) = subst (λ n. m (w.local (place.Count n)) ≡ w.sizes (w.home.named n)) (sym e) (o.counts i lt ∙ sym (call_is.own_counts i lt))
+      count_holds : (a : ℕ) → ((i : ℕ) × (a ≡ passed w.routine + i) × (i < length w.routine.locals)) ⊎ IsPassed w a → m (w.local (place.Count a)) ≡ w.sizes (store_at w a 0)
+      count_holds a (inl (i, e, lt)) = subst (λ n. m (w.local (place.Count n)) ≡ w.sizes (store_at w n 0)) (sym e) (o.counts i lt ∙ sym (call_is.own_counts i lt))
       count_holds a (inr out) = other (place.Count a) (λ e. cc) (λ i lt e. cc) (λ i lt e. out i lt cc) ∙ same_as_called (place.Count a) (λ j e. cc) (λ e. cc) ∙ call_is.counts a out
 
       holds : Holds w (first w xs).scalars (first w xs).vectors (first w xs).masks m

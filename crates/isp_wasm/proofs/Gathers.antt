@@ -14,6 +14,7 @@ use Rattle.isp_base.specs.declared.types.Elem.TheVariants.{I32, I64}
 use Rattle.isp_code.specs.Calls.{place_at}
 use Rattle.isp_code.specs.Conf.{Conf, Go}
 use Rattle.isp_code.specs.Lines.{act, set_scalar, moved, unless, outside, failing, size, item, packed_loaded}
+use Rattle.isp_code.specs.Registers.{is_per_lane}
 use Rattle.isp_code.specs.declared.instr.Instr.{Instr}
 use Rattle.isp_code.specs.declared.instr.Instr.TheVariants as instr
 use Rattle.isp_code.specs.declared.instr.ScalarInstr.TheVariants as scalar
@@ -21,14 +22,15 @@ use Rattle.isp_code.specs.declared.instr.VectorInstr.TheVariants as vector
 use Rattle.isp_code.specs.declared.register.Class.TheVariants as class
 use Rattle.isp_code.specs.declared.register.Register.{Register}
 use Rattle.isp_wasm_meaning.specs.Syntax as syntax
-use Rattle.isp_wasm_meaning.specs.Syntax.{Expr, Code, Load}
+use Rattle.isp_wasm_meaning.specs.Syntax.{Expr, Code, Load, Local}
 use Rattle.isp_wasm_meaning.specs.Meaning.{Report, State, Result, Fell, Trapped, run, value, behind, then_to, flag, flags, set_local}
 use Rattle.isp_wasm_meaning.specs.Ladder.{Meets}
 use Rattle.isp_wasm.specs.Places as place
 use Rattle.isp_wasm.specs.Places.{Setting, Counter, elem, bytes_of, gang}
+use Rattle.isp_wasm.specs.Lanes.{store_at}
 use Rattle.isp_wasm.specs.Templates.{lane_loads, address_at, checked, scalar_code, own_index, run_index, packed_index, rank_expr, set_count, scalar_local, lowest_of}
 use Rattle.isp_wasm.specs.Standing.{all_of, Stands, Holds, IsSettled, the_machine, vector_register, scalar_register}
-use Rattle.isp_wasm.specs.Thin.{IsArray, IsVector, IsScalar}
+use Rattle.isp_wasm.specs.Thin.{IsVector, IsScalar}
 use Rattle.isp_wasm.proofs.Frames.{holds_scalar, there, elsewhere}
 use Rattle.isp_wasm.proofs.Steps.{falls_on, fails_here}
 use Rattle.isp_wasm.proofs.Parts.{Kept, Told}
@@ -38,8 +40,8 @@ use Rattle.isp_wasm.proofs.Scalars.{falls_scalar}
 use Rattle.isp_wasm.proofs.Indices.{element_is, beyond_is, first_is}
 use Rattle.isp_wasm.proofs.LaneLoops.{Sound, Refused, Filled, vectors_at, kept_lane, all_filled}
 use Rattle.isp_wasm.proofs.LaneEnds.{one_test, lanes_end, none_fails, filled_fails}
-use Rattle.isp_wasm.proofs.Shared.{all_low}
-use Rattle.isp_wasm.proofs.Elements.{store, many, few, size_is, item_is, outside_at, load_is, element_fits}
+use Rattle.isp_wasm.proofs.Opening.{some_lanes}
+use Rattle.isp_wasm.proofs.Elements.{IsFound, many, few, size_is, outside_at, load_is, element_fits}
 use Rattle.isp_wasm.proofs.Loads.{there_cut, test_is, got, bad, body, lanes_loaded}
 
 pub sound_index : (b : Bool) (x n : ℕ) → (b && not (nat_lt x n)) ≡ false → b ≡ true → x < n
@@ -71,7 +73,7 @@ module _ (w : Setting) (ready : IsSettled w) (fuel n k : ℕ) (call : ℕ → Li
 
   -- ---- an element a lane
 
-  module _ (d : ℕ) (a i m : Register) (q : ℕ) (el : IsArray w a (elem w (vector_register d))) where
+  module _ (d : ℕ) (a i m : Register) (q : ℕ) (el : IsFound w ready a (elem w (vector_register d))) where
     abbrev pub here : Elem
     here = elem w (vector_register d)
 
@@ -84,7 +86,7 @@ module _ (w : Setting) (ready : IsSettled w) (fuel n k : ℕ) (call : ℕ → Li
         (body w ready fuel n k call pc c s st d a m q el (own_index w i) x) (instr.Vector (vector_register d) (vector.Gather a i m q)) (where_true (outside w.code w.routine c a) (on (c.masks m.number) x))
         (λ p. each1 (λ b. item w.code w.routine c a (element I64 b) p) (on (c.masks m.number) x p)) has refl
         (λ p l. one_test (c.masks m.number p) (outside w.code w.routine c a) (x p) ∙ ap (λ o. c.masks m.number p && o) (outside_at w ready a here el pc c s (x p) st (fits p l)))
-        (λ p l sound. by p (c.masks m.number p) refl sound)
+        (λ p l sound. by p l (c.masks m.number p) refl sound)
         (run fuel call (lane_loads w (vector_register d) a (own_index w i) m q) s)
         (lanes_loaded w ready fuel n k call pc c s st d a m q el (own_index w i) x
         (λ p low on l h. vector_lane w (record c { vectors = vectors_at w ready fuel call c s d m (got w ready fuel n k call pc c s st d a m q el (own_index w i) x) p }) l h i I64 iv p low
@@ -96,15 +98,15 @@ module _ (w : Setting) (ready : IsSettled w) (fuel n k : ℕ) (call : ℕ → Li
         fits : (p : ℕ) → p < gang w → x p < 2 ^ 64
         fits p l = vector_fits w c s.locals st.holds i I64 iv p l
 
-        by : (p : ℕ) (b : Bool) → c.masks m.number p ≡ b → (c.masks m.number p && not (nat_lt (x p) length)) ≡ false
-            → (if c.masks m.number p then all_of w c (store w ready a here el) (x p) else c.vectors d p) ≡ or_old (each1 (λ b. item w.code w.routine c a (element I64 b) p) (if c.masks m.number p then Some (x p) else None)) (c.vectors d p)
-        by p true on sound =
+        by : (p : ℕ) → p < gang w → (b : Bool) → c.masks m.number p ≡ b → (c.masks m.number p && not (nat_lt (x p) length)) ≡ false
+            → (if c.masks m.number p then all_of w c (store_at w a.number p) (x p) else c.vectors d p) ≡ or_old (each1 (λ b. item w.code w.routine c a (element I64 b) p) (if c.masks m.number p then Some (x p) else None)) (c.vectors d p)
+        by p l true on sound =
             let lt = sound_index (c.masks m.number p) (x p) length sound on in
             let size = few w ready a here el in
-            ap (λ b. if b then all_of w c (store w ready a here el) (x p) else c.vectors d p) on
-            ∙ sym (ap (λ b. or_old (each1 (λ b. item w.code w.routine c a (element I64 b) p) (if b then Some (x p) else None)) (c.vectors d p)) on ∙ item_is w ready a here el pc c s (element I64 (x p)) p st ∙ ap (all_of w c (store w ready a here el)) (element_is (x p) (omega arith)))
-        by p false off sound =
-            ap (λ b. if b then all_of w c (store w ready a here el) (x p) else c.vectors d p) off
+            ap (λ b. if b then all_of w c (store_at w a.number p) (x p) else c.vectors d p) on
+            ∙ sym (ap (λ b. or_old (each1 (λ b. item w.code w.routine c a (element I64 b) p) (if b then Some (x p) else None)) (c.vectors d p)) on ∙ el.item_here c st.home_is (element I64 (x p)) p l ∙ ap (all_of w c (store_at w a.number p)) (element_is (x p) (omega arith)))
+        by p l false off sound =
+            ap (λ b. if b then all_of w c (store_at w a.number p) (x p) else c.vectors d p) off
             ∙ sym (ap (λ b. or_old (each1 (λ b. item w.code w.routine c a (element I64 b) p) (if b then Some (x p) else None)) (c.vectors d p)) off)
 
     pub runs : IsScalar w i I64 → slice_get w.routine.code pc ≡ Some (instr.Vector (vector_register d) (vector.LoadRun a i m q)) → Good (pc + 1) c (run fuel call (lane_loads w (vector_register d) a (run_index w i) m q) s)
@@ -125,22 +127,22 @@ module _ (w : Setting) (ready : IsSettled w) (fuel n k : ℕ) (call : ℕ → Li
         x p = (c.scalars i.number + p) % 2 ^ 64
 
         by : (p : ℕ) → p < gang w → (b : Bool) → c.masks m.number p ≡ b → (c.masks m.number p && not (nat_lt (x p) length)) ≡ false
-            → (if c.masks m.number p then all_of w c (store w ready a here el) (x p) else c.vectors d p)
+            → (if c.masks m.number p then all_of w c (store_at w a.number p) (x p) else c.vectors d p)
             ≡ or_old (if c.masks m.number p then Some (item w.code w.routine c a (unsigned_abs (number I64 (c.scalars i.number) +ℤ pos p)) p) else None) (c.vectors d p)
         by p l true on sound =
             let lt = sound_index (c.masks m.number p) (x p) length sound on in
-            ap (λ b. if b then all_of w c (store w ready a here el) (x p) else c.vectors d p) on
+            ap (λ b. if b then all_of w c (store_at w a.number p) (x p) else c.vectors d p) on
             ∙ sym (ap (λ b. or_old (if b then Some (item w.code w.routine c a (unsigned_abs (number I64 (c.scalars i.number) +ℤ pos p)) p) else None) (c.vectors d p)) on
-            ∙ item_is w ready a here el pc c s (unsigned_abs (number I64 (c.scalars i.number) +ℤ pos p)) p st
-            ∙ ap (all_of w c (store w ready a here el)) (first_is length (c.scalars i.number) p (few w ready a here el) fits (let le = narrow w.code.gang in omega arith) lt))
+            ∙ el.item_here c st.home_is (unsigned_abs (number I64 (c.scalars i.number) +ℤ pos p)) p l
+            ∙ ap (all_of w c (store_at w a.number p)) (first_is length (c.scalars i.number) p (few w ready a here el) fits (let le = narrow w.code.gang in omega arith) lt))
         by p l false off sound =
-            ap (λ b. if b then all_of w c (store w ready a here el) (x p) else c.vectors d p) off
+            ap (λ b. if b then all_of w c (store_at w a.number p) (x p) else c.vectors d p) off
             ∙ sym (ap (λ b. or_old (if b then Some (item w.code w.routine c a (unsigned_abs (number I64 (c.scalars i.number) +ℤ pos p)) p) else None) (c.vectors d p)) off)
 
     -- in the order of the mask's lanes, which are counted
-    pub packed_loads : (r : Register) → r.class ≡ class.Scalar → elem w r ≡ I32 → IsScalar w i I64 → slice_get w.routine.code pc ≡ Some (instr.PackedLoad r a i (vector_register d) m q)
+    pub packed_loads : is_per_lane w.routine a ≡ false → (r : Register) → r.class ≡ class.Scalar → elem w r ≡ I32 → IsScalar w i I64 → slice_get w.routine.code pc ≡ Some (instr.PackedLoad r a i (vector_register d) m q)
         → Good (pc + 1) c (then_to (run fuel call (lane_loads w (vector_register d) a (packed_index w i m) m q) s) (run fuel call (set_count w r m)))
-    packed_loads r cl re is has = ends (run fuel call (lane_loads w (vector_register d) a (packed_index w i m) m q) s)
+    packed_loads shared r cl re is has = ends (run fuel call (lane_loads w (vector_register d) a (packed_index w i m) m q) s)
         (lanes_loaded w ready fuel n k call pc c s st d a m q el (packed_index w i m) x
         (λ p low on l h. ap₂ (λ u v. (u + v) % 2 ^ 64) (h.scalars_are i.number) (rank_is w c.scalars (vectors_at w ready fuel call c s d m (got w ready fuel n k call pc c s st d a m q el (packed_index w i m) x) p) c.masks l h m p (let le = narrow w.code.gang in omega arith))))
       where
@@ -165,15 +167,15 @@ module _ (w : Setting) (ready : IsSettled w) (fuel n k : ℕ) (call : ℕ → Li
         y : Map
         y = on set (λ p. c.arrays (c.home.named a.number) (unsigned_abs (number I64 (c.scalars i.number) +ℤ pos (rank set p))))
 
-        by : (p : ℕ) → p < gang w → (b : Bool) → set p ≡ b → (set p && not (nat_lt (x p) length)) ≡ false → (if set p then all_of w c (store w ready a here el) (x p) else c.vectors d p) ≡ over y (c.vectors d) p
+        by : (p : ℕ) → p < gang w → (b : Bool) → set p ≡ b → (set p && not (nat_lt (x p) length)) ≡ false → (if set p then all_of w c (store_at w a.number p) (x p) else c.vectors d p) ≡ over y (c.vectors d) p
         by p l true on sound =
             let lt = sound_index (set p) (x p) length sound on in
-            ap (λ b. if b then all_of w c (store w ready a here el) (x p) else c.vectors d p) on
+            ap (λ b. if b then all_of w c (store_at w a.number p) (x p) else c.vectors d p) on
             ∙ sym (ap (λ b. or_old (if b then Some (c.arrays (c.home.named a.number) (unsigned_abs (number I64 (c.scalars i.number) +ℤ pos (rank set p)))) else None) (c.vectors d p)) on
-            ∙ ap₂ (λ h e. c.arrays (h.named a.number) e) st.home_is (first_is length (c.scalars i.number) (rank set p) (few w ready a here el) fits (small p l) lt)
-            ∙ ap (λ (g : Lanes). g (x p)) (sym (all_low w c (store w ready a here el) (let low = el.low in omega (arith, low)))))
+            ∙ ap (c.arrays (c.home.named a.number)) (first_is length (c.scalars i.number) (rank set p) (few w ready a here el) fits (small p l) lt)
+            ∙ sym (ap (λ b. if b then c.own a.number (x p) p else c.arrays (c.home.named a.number) (x p)) shared) ∙ el.item_here c st.home_is (x p) p l)
         by p l false off sound =
-            ap (λ b. if b then all_of w c (store w ready a here el) (x p) else c.vectors d p) off
+            ap (λ b. if b then all_of w c (store_at w a.number p) (x p) else c.vectors d p) off
             ∙ sym (ap (λ b. or_old (if b then Some (c.arrays (c.home.named a.number) (unsigned_abs (number I64 (c.scalars i.number) +ℤ pos (rank set p)))) else None) (c.vectors d p)) off)
 
         all : rank set (gang w) ≤ 32
@@ -208,7 +210,7 @@ module _ (w : Setting) (ready : IsSettled w) (fuel n k : ℕ) (call : ℕ → Li
 
   -- ---- one element
 
-  module _ (a i m : Register) (q : ℕ) (t : Elem) (el : IsArray w a t) (is : IsScalar w i I64) where
+  module _ (a i m : Register) (q : ℕ) (t : Elem) (el : IsFound w ready a t) (is : IsScalar w i I64) where
     abbrev pub index : ℕ
     index = c.scalars i.number
 
@@ -236,7 +238,7 @@ module _ (w : Setting) (ready : IsSettled w) (fuel n k : ℕ) (call : ℕ → Li
         (does ∙ ap (λ b. moved (unless w.code w.routine c (failing w.code w.routine c b m) kind.Index q v) go) (outside_here false e)) refl st.keeps told_fault
         (ap (λ p. record { kind = 1; start = (place_at w.code q).start; end = (place_at w.code q).end; instance = p }) (lowest_is w c.scalars c.vectors c.masks s.locals st.holds m))
 
-  pub loads : (d a i m : Register) (q : ℕ) → slice_get w.routine.code pc ≡ Some (instr.Scalar d (scalar.Load a i m q)) → d.class ≡ class.Scalar → (el : IsArray w a (elem w d)) → (is : IsScalar w i I64)
+  pub loads : (d a i m : Register) (q : ℕ) → slice_get w.routine.code pc ≡ Some (instr.Scalar d (scalar.Load a i m q)) → d.class ≡ class.Scalar → (el : IsFound w ready a (elem w d)) → (is : IsScalar w i I64)
       → Good (pc + 1) c (run fuel call (scalar_code w d (scalar.Load a i m q)) s)
   loads d a i m q has cl el is = by (nat_lt (c.scalars i.number) (many w ready a (elem w d) el)) refl
     where
@@ -247,14 +249,14 @@ module _ (w : Setting) (ready : IsSettled w) (fuel n k : ℕ) (call : ℕ → Li
       by true e =
           let lt = ltb-true (c.scalars i.number) (many w ready a (elem w d) el) e in
           let size = few w ready a (elem w d) el in
-          let v = all_of w c (store w ready a (elem w d) el) (c.scalars i.number) in
+          let v = all_of w c (store_at w a.number 0) (c.scalars i.number) in
           subst (Good (pc + 1) c)
           (sym (ap (λ r. then_to r after) (checked_is a i m q (elem w d) el is true e)
-          ∙ load_is w ready a (elem w d) el (all_of w c) s.memory s.size st.keeps s.locals (scalar_local w i) (c.scalars i.number) (st.holds.bases a.number) (st.holds.scalars_are i.number) fuel call s.out s.globals (w.local (place.Scalar d.number)) lt))
+          ∙ load_is w ready a (elem w d) el 0 (some_lanes w.code.gang) (all_of w c) s.memory s.size st.keeps s.locals (Local (w.local (place.Base a.number))) (scalar_local w i) (c.scalars i.number) (st.holds.bases a.number) (st.holds.scalars_are i.number) fuel call s.out s.globals (w.local (place.Scalar d.number)) lt))
           (falls_scalar w ready fuel n k call pc c s st (instr.Scalar d (scalar.Load a i m q)) d v s has cl
           (ap (λ b. moved (unless w.code w.routine c (failing w.code w.routine c b m) kind.Index q (item w.code w.routine c a (element I64 (c.scalars i.number)) 0)) (set_scalar c d)) (outside_here a i m q (elem w d) el is true e)
-          ∙ ap (λ x. Go (set_scalar c d x)) (item_is w ready a (elem w d) el pc c s (element I64 (c.scalars i.number)) 0 st ∙ ap (all_of w c (store w ready a (elem w d) el)) (element_is (c.scalars i.number) (omega arith))))
-          (element_fits w ready a (elem w d) el (all_of w c) s.memory s.size st.keeps (c.scalars i.number) lt) (λ p kept. refl) refl st.keeps)
+          ∙ ap (λ x. Go (set_scalar c d x)) (el.item_here c st.home_is (element I64 (c.scalars i.number)) 0 (some_lanes w.code.gang) ∙ ap (all_of w c (store_at w a.number 0)) (element_is (c.scalars i.number) (omega arith))))
+          (element_fits w ready a (elem w d) el 0 (some_lanes w.code.gang) (all_of w c) s.memory s.size st.keeps (c.scalars i.number) lt) (λ p kept. refl) refl st.keeps)
       by false e =
           subst (Good (pc + 1) c) (sym (ap (λ r. then_to r after) (checked_is a i m q (elem w d) el is false e)))
           (faults a i m q (elem w d) el is (instr.Scalar d (scalar.Load a i m q)) ℕ (item w.code w.routine c a (element I64 (c.scalars i.number)) 0) (set_scalar c d) has e refl)

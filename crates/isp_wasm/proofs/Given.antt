@@ -5,9 +5,9 @@ use Rattle.std.proofs.lemmas.Bool.{cases_lt, lt-ltb, le-ltb}
 use Rattle.isp_base.specs.declared.types.Elem.{Elem}
 use Rattle.isp_base.specs.declared.types.Elem.TheVariants.{Bool as Truth}
 use Rattle.isp_code.specs.Calls.{from, numbers, if_number}
-use Rattle.isp_code.specs.Fine.{ArePassed}
+use Rattle.isp_code.specs.Fine.{ArePassed, IsPassed}
 use Rattle.isp_code.specs.Listing.{Routine}
-use Rattle.isp_code.specs.Registers.{class_of, same_class, if_class, param_elems, elem_of, count_of}
+use Rattle.isp_code.specs.Registers.{class_of, same_class, if_class, param_elems, elem_of, count_of, is_per_lane}
 use Rattle.isp_code.specs.declared.function.Param.{Param}
 use Rattle.isp_code.specs.declared.function.ParamKind.{ParamKind}
 use Rattle.isp_code.specs.declared.function.ParamKind.TheVariants as kind
@@ -17,6 +17,7 @@ use Rattle.isp_code.specs.declared.register.Register.{Register}
 use Rattle.isp_wasm_meaning.specs.Syntax.{Expr}
 use Rattle.isp_wasm_meaning.specs.Meaning.{value}
 use Rattle.isp_wasm.specs.Places.{Setting, Place, Counter, Scalar, Vector, Mask, Base, Count, Fresh, Spare, Depth, Top, gang, parts, elem, shape}
+use Rattle.isp_wasm.specs.Lanes.{array_register}
 use Rattle.isp_wasm.specs.Locals.{row, taking, taken_from}
 use Rattle.isp_wasm.specs.Standing.{vector_register}
 use Rattle.isp_wasm.specs.Templates.{listed, part_under, passed_of, passed_all}
@@ -288,6 +289,30 @@ module _ (h : Routine) (c : Class) where
       let same = ((are.0).0).0 in
       fits_once (same_class (class_of p.kind) c) x p.elem (param_elems c ps) xs i r (λ e. same ∙ same_class_is (class_of p.kind) c e) (subst (λ a. x.number < count_of h a) (sym same) ((are.0).0).1) (are.0).1
       (λ i has. passed_fits ps xs are.1 i r has) (subst (λ a. slice_get (if_number (same_class a c) x.number (numbers c xs)) i ≡ Some r) same has)
+
+  kind_shared : (k : ParamKind) (x : Register) → class_of k ≡ class.Array → IsPassed h k x → is_per_lane h x ≡ false
+  kind_shared kind.Scalar x e is = absurd cc
+  kind_shared kind.Vector x e is = absurd cc
+  kind_shared kind.Array x e is = is
+
+  shared_once : (b : Bool) (x : Register) (xs : List Register) (i r : ℕ) → (b ≡ true → is_per_lane h x ≡ false) → (slice_get (numbers class.Array xs) i ≡ Some r → is_per_lane h (array_register r) ≡ false)
+      → ((j : ℕ) → slice_get (numbers class.Array xs) j ≡ Some r → is_per_lane h (array_register r) ≡ false) → slice_get (if_number b x.number (numbers class.Array xs)) i ≡ Some r → is_per_lane h (array_register r) ≡ false
+  shared_once false x xs i r is now more has = now has
+  shared_once true x xs zero r is now more has = let number_is : x.number ≡ r = cc in subst (λ n. is_per_lane h (array_register n) ≡ false) number_is (is refl)
+  shared_once true x xs (suc i) r is now more has = more i has
+
+  -- an array that is passed is one that all lanes share
+  pub passed_shared : (ps : List Param) (xs : List Register) → ArePassed h ps xs → (i r : ℕ) → slice_get (numbers class.Array xs) i ≡ Some r → is_per_lane h (array_register r) ≡ false
+  passed_shared [] [] are i r has = absurd (nothing i has)
+    where
+      nothing : (i : ℕ) → slice_get [] i ≡ Some r → ⊥
+      nothing zero e = cc
+      nothing (suc i) e = cc
+  passed_shared [] (x ∷ xs) are i r has = absurd are
+  passed_shared (p ∷ ps) [] are i r has = absurd are
+  passed_shared (p ∷ ps) (x ∷ xs) are i r has =
+      shared_once (same_class x.class class.Array) x xs i r (λ e. kind_shared p.kind x (sym ((are.0).0).0 ∙ same_class_is x.class class.Array e) (are.0).2) (λ has. passed_shared ps xs are.1 i r has)
+      (λ j has. passed_shared ps xs are.1 j r has) has
 
   long_once : (b : Bool) (n : ℕ) (t : Elem) (rs : List ℕ) (ts : List Elem) → length rs ≡ length ts → length (if_number b n rs) ≡ length (if_class b t ts)
   long_once true n t rs ts e = ap suc e

@@ -1,5 +1,5 @@
 -- The functions that others call do what the machine's calls of them do, with any fuel.
-use Rattle.std.proofs.Common.{◌≡◌, ℕ, zero, suc, ◌+◌, ◌-◌, ◌*◌, ◌%◌, ◌^◌, ◌<◌, ◌≤◌, ◌⊎◌, inl, inr, List, [], ◌∷◌, ◌++◌, length, map, Option, Some, None, Bool, true, false, ◌&&◌, refl, sym, ap, ap₂, ◌∙◌, subst, append_assoc, eq-eqb, arith, mod-eq_of_lt, lit≤}
+use Rattle.std.proofs.Common.{◌≡◌, ℕ, zero, suc, ◌+◌, ◌-◌, ◌*◌, ◌%◌, ◌^◌, ◌<◌, ◌≤◌, ◌⊎◌, inl, inr, List, [], ◌∷◌, ◌++◌, length, map, Option, Some, None, Bool, true, false, ◌&&◌, refl, sym, ap, ◌∙◌, subst, append_assoc, eq-eqb, arith, mod-eq_of_lt, lit≤}
 use Rattle.std.specs.Prelude.{slice_get, slice_index, slice_index_or, nat_lt, if◌then◌else◌}
 use Rattle.std.specs.List.{list_any}
 use Rattle.std.proofs.lemmas.Bool.{cases_lt, cases_eq, lt-ltb, le-ltb, cond-true, cond-false}
@@ -20,7 +20,7 @@ use Rattle.isp_code.specs.Calls.{from, numbers, new_home, shared_sizes, waits, d
 use Rattle.isp_code.specs.Conf.{Home, Frame, Conf}
 use Rattle.isp_code.specs.Fine.{CallFine, IsGiven, IsThere}
 use Rattle.isp_code.specs.Listing.{Listing, Routine}
-use Rattle.isp_code.specs.Registers.{passed, param_elems, arrays_of, local_elem, elem_of, types_in, table_of}
+use Rattle.isp_code.specs.Registers.{passed, param_elems, arrays_of, local_elem, elem_of, types_in, table_of, is_per_lane}
 use Rattle.isp_code.specs.declared.function.Returns.{Returns}
 use Rattle.isp_code.specs.declared.function.Returns.TheVariants.{Nothing, Scalar as GivesScalar, Vector as GivesVector}
 use Rattle.isp_code.specs.declared.instr.Call.{Call}
@@ -37,7 +37,9 @@ use Rattle.isp_wasm.specs.Places as place
 use Rattle.isp_wasm.specs.Places.{Setting, Place, Counter, gang, parts, elem, shape, shape_of, text, bytes_of}
 use Rattle.isp_wasm.specs.Rows.{cell, widened}
 use Rattle.isp_wasm.specs.Locals.{row, taken_from, taken_places, own_places, inner_local, local_at}
-use Rattle.isp_wasm.specs.Module.{all_shared, is_plain, all_plain, calls_function, is_called, inner, inner_of, inner_function, inner_functions, function_of, module_of}
+use Rattle.isp_wasm.specs.Lanes.{array_register, store_at}
+use Rattle.isp_wasm.specs.Lines.{HasArrays}
+use Rattle.isp_wasm.specs.Module.{is_plain, all_plain, calls_function, is_called, inner, inner_of, inner_function, inner_functions, function_of, module_of}
 use Rattle.isp_wasm.specs.Stack.{IsBelow, moved_up, start, has_call, waiting_bytes, function_bytes, bytes_if, bytes_in, top}
 use Rattle.isp_wasm.specs.Standing.{all_of, shared_of, Holds, Keeps, Stands, IsFull, IsSettled, bits_by, bits_of, LanesBy, LanesOf, scalar_register, vector_register, the_machine}
 use Rattle.isp_wasm.specs.Templates.{listed, plus, waiting_calls, part_under, vector_local, mask_local, passed_all, arguments_of, called_number, function_code, begin_code, routine_code}
@@ -46,15 +48,17 @@ use Rattle.isp_wasm.proofs.Agreement.{calls_come_back}
 use Rattle.isp_wasm.proofs.Cells.{select_cells, zero_cells}
 use Rattle.isp_wasm.proofs.Entries.{digit_zero, no_cell}
 use Rattle.isp_wasm.proofs.Frames.{put_same, put_other}
-use Rattle.isp_wasm.proofs.Given.{Gives, gives, in_row, past_row, scalar_got, base_got, count_got, part_got, passed_fits, passed_long}
+use Rattle.isp_wasm.proofs.Given.{Gives, gives, in_row, past_row, scalar_got, base_got, count_got, part_got, passed_fits, passed_shared, passed_long}
 use Rattle.isp_wasm.proofs.Heads.{first_head}
 use Rattle.isp_wasm.proofs.Numbers.{place_apart}
 use Rattle.isp_wasm.proofs.Passing.{At, first_at, other_at, no_number}
-use Rattle.isp_wasm.proofs.Opened.{AreLaid, IsUnder, inside, past_list, old_size, old_begin, old_elem, past_size, past_begin, disjoint, text_apart, bounded, under_all, keeps_in, keeps_out, beside_in, named_low, named_past, own_base, own_count, own_low, are_stored}
-use Rattle.isp_wasm.proofs.Shared.{all_low, all_high, beside_shared, forget, loaded_same}
+use Rattle.isp_wasm.proofs.Copies as copies
+use Rattle.isp_wasm.proofs.Copies.{laid_of, per_lane_at, none_per_lane}
+use Rattle.isp_wasm.proofs.Opened.{AreLaid, IsUnder, inside, past_list, get_low, old_size, old_begin, old_elem, past_size, past_begin, keeps_out, beside_in, named_low, named_past, own_low}
+use Rattle.isp_wasm.proofs.Shared.{all_low, all_high, beside_shared, forget, loaded_same, store_shared}
 use Rattle.isp_wasm.proofs.Indices.{in_row as row_low}
 use Rattle.isp_wasm.proofs.Opening.{which_array, IsOpen, IsEntered, Starts, starts}
-use Rattle.isp_wasm.proofs.Plain.{AreStored, all_at, any_at, calls_some, text_low, few_heads, heads_rise, some_code, shared, bytes_low, covered, all_thin}
+use Rattle.isp_wasm.proofs.Plain.{all_at, any_at, calls_some, text_low, few_heads, heads_rise, some_code, bytes_low, covered, all_thin}
 use Rattle.isp_wasm.proofs.Rows.{enough}
 use Rattle.isp_wasm.proofs.Vectors.{chosen_over, mask_row}
 
@@ -63,8 +67,8 @@ pub record IsOf (w : Setting) : Type 0 where
   pub accepted : IsFine w.code
   pub settled : IsSettled w
   pub laid : AreLaid (shared_of w)
-  pub stored : (a : Register) → IsThere w.routine class.Array a → w.elems (w.home.named a.number) ≡ elem w a
-  pub named_low : (a : ℕ) → a < length (arrays_of w.routine) → w.home.named a < w.home.opened
+  pub stored : (a : Register) → IsThere w.routine class.Array a → is_per_lane w.routine a ≡ false → w.elems (w.home.named a.number) ≡ elem w a
+  pub named_low : (a : ℕ) → a < length (arrays_of w.routine) → is_per_lane w.routine (array_register a) ≡ false → w.home.named a < w.home.opened
   pub plain : (pc : ℕ) (k : Call) → slice_get w.routine.code pc ≡ Some (instr.Call k) → all_plain w.code ≡ true
   pub under : (pc : ℕ) (k : Call) → slice_get w.routine.code pc ≡ Some (instr.Call k) → IsUnder w (top w)
 
@@ -129,7 +133,7 @@ module _ (w : Setting) (of : IsOf w) (x : Call) (pc : ℕ) (has : slice_get w.ro
     at = start w.stack + waiting_bytes w.code frames
 
     abbrev pub callee : Setting
-    callee = inside w g x.function names (inner_local (gang w) g) frames at s.memory
+    callee = copies.whole w g x.function names (inner_local (gang w) g) frames at s.memory
 
     abbrev pub begun : Conf
     begun = calls.called c x g
@@ -169,9 +173,6 @@ module _ (w : Setting) (of : IsOf w) (x : Call) (pc : ℕ) (has : slice_get w.ro
     small : suc (bytes_in (gang w) g.locals) < 2 ^ 32
     small = bytes_low w.code g x.function of.accepted fine.found plain_g
 
-    each_shared : all_shared g.locals ≡ true
-    each_shared = shared w.code g x.function of.accepted fine.found plain_g
-
     settled : IsSettled callee
     settled =
         record {
@@ -180,13 +181,12 @@ module _ (w : Setting) (of : IsOf w) (x : Call) (pc : ℕ) (has : slice_get w.ro
           few = few_heads w.code g x.function of.accepted fine.found plain_g;
           heads_up = heads_rise w.code g x.function of.accepted fine.found plain_g;
           text_low = text_low w.code g x.function of.accepted fine.found plain_g;
-          text_apart = text_apart w g x.function names (inner_local (gang w) g) frames at s.memory of.laid (λ e. under) small refl;
-          bounded = bounded w g x.function names (inner_local (gang w) g) frames at s.memory of.laid (λ e. under) small refl;
+          text_apart = copies.text_apart w g x.function names (inner_local (gang w) g) frames at s.memory of.laid (λ e. under) small refl;
+          bounded = copies.bounded w g x.function names (inner_local (gang w) g) frames at s.memory of.laid (λ e. under) small refl;
           closed = past_size w g x.function names (inner_local (gang w) g) frames at s.memory;
-          disjoint = disjoint w g x.function names (inner_local (gang w) g) frames at s.memory of.laid (λ e. under) small refl;
-          sizes_are = λ b le. refl;
-          lanes_apart = λ b gt a h. inr (let start = past_begin w g x.function names (inner_local (gang w) g) frames at s.memory b (omega (arith, gt)) in let none = past_size w g x.function names (inner_local (gang w) g) frames at s.memory b (omega (arith, gt)) in
-              let n = bytes_of (callee.elems b) in let end : callee.begins b + callee.sizes b * n ≡ 0 + 0 * n = ap₂ (λ k m. k + m * n) start none in omega (arith, end));
+          disjoint = copies.disjoint w g x.function names (inner_local (gang w) g) frames at s.memory of.laid (λ e. under) small refl;
+          sizes_are = λ b le. copies.low_size w g x.function names (inner_local (gang w) g) frames at s.memory b le;
+          lanes_apart = copies.lanes_apart w g x.function names (inner_local (gang w) g) frames at s.memory of.laid (λ e. under) small refl;
         }
 
     shared_now : Keeps (shared_of w) c.arrays s.memory s.size
@@ -214,10 +214,10 @@ module _ (w : Setting) (of : IsOf w) (x : Call) (pc : ℕ) (has : slice_get w.ro
     higher : waiting_bytes w.code w.waiting ≤ waiting_bytes w.code frames
     higher = omega (arith, waiting_are)
 
-    returned : (arrays others : ℕ → Lanes) (memory : ℕ → ℕ) (size : ℕ) → ((b e : ℕ) → e < w.home.sizes b → others b e ≡ arrays b e) → Keeps callee arrays memory size → Keeps (shared_of w) others memory size
+    returned : (arrays others : ℕ → Lanes) (memory : ℕ → ℕ) (size : ℕ) → ((b e : ℕ) → e < w.home.sizes b → others b e ≡ arrays b e) → Keeps (shared_of callee) arrays memory size → Keeps (shared_of w) others memory size
     returned arrays others memory size same k =
-        keeps_out w g x.function names (inner_local (gang w) g) frames at s.memory of.laid (λ e. under) small refl arrays others memory size same shared_now.rest
-        (λ a h. lower w.stack a (waiting_bytes w.code w.waiting) (waiting_bytes w.code frames) higher h) k
+        keeps_out w g x.function names (inner_local (gang w) g) frames at s.memory of.laid (λ e. under) small refl arrays others memory size (λ b. subst (λ n. w.begins b + w.home.sizes b * bytes_of (w.elems b) ≤ n) (shared_now.whole ∙ sym k.whole) (shared_now.room b)) same shared_now.rest
+        (λ a h. lower w.stack a (waiting_bytes w.code w.waiting) (waiting_bytes w.code frames) higher h) (copies.without_lanes w g x.function names (inner_local (gang w) g) frames at s.memory arrays memory size k)
 
     -- ---- what is passed
 
@@ -342,8 +342,11 @@ module _ (w : Setting) (of : IsOf w) (x : Call) (pc : ℕ) (has : slice_get w.ro
     named_in : (a q : ℕ) → slice_get array_numbers a ≡ Some q → home.named a ≡ w.home.named q
     named_in a q has = named_low w g x.function names (inner_local (gang w) g) frames at s.memory a (passed_low a q has) ∙ ap (from 0 w.home.named) has
 
+    shared_in : (a q : ℕ) → slice_get array_numbers a ≡ Some q → is_per_lane w.routine (array_register q) ≡ false
+    shared_in a q has = passed_shared w.routine class.Array g.params x.arguments fine.passed a q has
+
     old_named : (a q : ℕ) → slice_get array_numbers a ≡ Some q → w.home.named q < w.home.opened
-    old_named a q has = of.named_low q (passed_fits w.routine class.Array g.params x.arguments fine.passed a q has).there
+    old_named a q has = of.named_low q (passed_fits w.routine class.Array g.params x.arguments fine.passed a q has).there (shared_in a q has)
 
     which : (a : ℕ) → ((q : ℕ) × (slice_get array_numbers a ≡ Some q)) ⊎ (length (param_elems class.Array g.params) ≤ a)
     which a = by (cases_lt a (length array_numbers))
@@ -366,43 +369,51 @@ module _ (w : Setting) (of : IsOf w) (x : Call) (pc : ℕ) (has : slice_get w.ro
         past (inl lt) = absurd (out (a - length (param_elems class.Array g.params)) (omega (arith, lt, le)) (omega (arith, le)))
         past (inr ge) = ge
 
-    bases : (a : ℕ) → NotOwn a → ((q : ℕ) × (slice_get array_numbers a ≡ Some q)) ⊎ (length (param_elems class.Array g.params) ≤ a) → from 0 (base_got w s.locals x.mask) (slice_get array_numbers a) ≡ callee.begins (home.named a)
+    not_own : (a : ℕ) → NotOwn a → store_at callee a 0 ≡ home.named a
+    not_own a out = copies.shared_store w g x.function names (inner_local (gang w) g) frames at s.memory a 0 (none_per_lane g a out)
+
+    callee_low : (b : ℕ) → b ≤ home.opened → callee.begins b ≡ (inside w g x.function names (inner_local (gang w) g) frames at s.memory).begins b
+    callee_low b le = copies.low_begin w g x.function names (inner_local (gang w) g) frames at s.memory b le
+
+    bases : (a : ℕ) → NotOwn a → ((q : ℕ) × (slice_get array_numbers a ≡ Some q)) ⊎ (length (param_elems class.Array g.params) ≤ a) → from 0 (base_got w s.locals x.mask) (slice_get array_numbers a) ≡ callee.begins (store_at callee a 0)
     bases a out (inl (q, has)) =
-        ap (from 0 (base_got w s.locals x.mask)) has ∙ st.holds.bases q
-        ∙ sym (ap callee.begins (named_in a q has) ∙ old_begin w g x.function names (inner_local (gang w) g) frames at s.memory (w.home.named q) (old_named a q has))
+        ap (from 0 (base_got w s.locals x.mask)) has ∙ st.holds.bases q ∙ ap w.begins (store_shared w q 0 (shared_in a q has))
+        ∙ sym (ap callee.begins (not_own a out ∙ named_in a q has) ∙ callee_low (w.home.named q) (let low = old_named a q has in omega (arith, low)) ∙ old_begin w g x.function names (inner_local (gang w) g) frames at s.memory (w.home.named q) (old_named a q has))
     bases a out (inr le) =
-        ap (from 0 (base_got w s.locals x.mask)) (no_array a le) ∙ sym (ap callee.begins (past_own a out le) ∙ past_begin w g x.function names (inner_local (gang w) g) frames at s.memory home.opened (omega arith))
+        ap (from 0 (base_got w s.locals x.mask)) (no_array a le) ∙ sym (ap callee.begins (not_own a out ∙ past_own a out le) ∙ callee_low home.opened (omega arith) ∙ past_begin w g x.function names (inner_local (gang w) g) frames at s.memory home.opened (omega arith))
 
-    counts : (a : ℕ) → NotOwn a → ((q : ℕ) × (slice_get array_numbers a ≡ Some q)) ⊎ (length (param_elems class.Array g.params) ≤ a) → from 0 (count_got w s.locals x.mask) (slice_get array_numbers a) ≡ home.sizes (home.named a)
+    counts : (a : ℕ) → NotOwn a → ((q : ℕ) × (slice_get array_numbers a ≡ Some q)) ⊎ (length (param_elems class.Array g.params) ≤ a) → from 0 (count_got w s.locals x.mask) (slice_get array_numbers a) ≡ callee.sizes (store_at callee a 0)
     counts a out (inl (q, has)) =
-        ap (from 0 (count_got w s.locals x.mask)) has ∙ st.holds.counts q ∙ of.settled.sizes_are (w.home.named q) (let low = old_named a q has in omega (arith, low))
-        ∙ sym (ap home.sizes (named_in a q has) ∙ old_size w g x.function names (inner_local (gang w) g) frames at s.memory (w.home.named q) (old_named a q has))
+        ap (from 0 (count_got w s.locals x.mask)) has ∙ st.holds.counts q ∙ ap w.sizes (store_shared w q 0 (shared_in a q has)) ∙ of.settled.sizes_are (w.home.named q) (let low = old_named a q has in omega (arith, low))
+        ∙ sym (ap callee.sizes (not_own a out ∙ named_in a q has) ∙ copies.low_size w g x.function names (inner_local (gang w) g) frames at s.memory (w.home.named q) (let low = old_named a q has in omega (arith, low)) ∙ old_size w g x.function names (inner_local (gang w) g) frames at s.memory (w.home.named q) (old_named a q has))
     counts a out (inr le) =
-        ap (from 0 (count_got w s.locals x.mask)) (no_array a le) ∙ sym (ap home.sizes (past_own a out le) ∙ past_size w g x.function names (inner_local (gang w) g) frames at s.memory home.opened (omega arith))
+        ap (from 0 (count_got w s.locals x.mask)) (no_array a le) ∙ sym (ap callee.sizes (not_own a out ∙ past_own a out le) ∙ copies.low_size w g x.function names (inner_local (gang w) g) frames at s.memory home.opened (omega arith) ∙ past_size w g x.function names (inner_local (gang w) g) frames at s.memory home.opened (omega arith))
 
-    all_low_named : (a : ℕ) → a < length (arrays_of g) → home.named a < home.opened
-    all_low_named a lt = by (which_array a (length (param_elems class.Array g.params)) (length g.locals)) (which a)
+    all_low_named : (a : ℕ) → a < length (arrays_of g) → is_per_lane g (array_register a) ≡ false → home.named a < home.opened
+    all_low_named a lt shared = by (which_array a (length (param_elems class.Array g.params)) (length g.locals)) (which a)
       where
         by : ((i : ℕ) × (a ≡ length (param_elems class.Array g.params) + i) × (i < length g.locals)) ⊎ NotOwn a → ((q : ℕ) × (slice_get array_numbers a ≡ Some q)) ⊎ (length (param_elems class.Array g.params) ≤ a) → home.named a < home.opened
-        by (inl (i, e, low)) h = subst (λ n. home.named n < home.opened) (sym e) (own_low w g x.function names (inner_local (gang w) g) frames at s.memory each_shared i low)
+        by (inl (i, e, low)) h =
+            let one = get_low g.locals i low in
+            subst (λ n. home.named n < home.opened) (sym e) (own_low w g x.function names (inner_local (gang w) g) frames at s.memory i one.0 one.1 (sym (per_lane_at g i one.0 one.1) ∙ ap (λ n. is_per_lane g (array_register n)) (sym e) ∙ shared))
         by (inr out) (inl (q, has)) = let low = old_named a q has in let is = named_in a q has in omega (arith, low, is)
         by (inr out) (inr le) =
             absurd
             (let long = length-append (param_elems class.Array g.params) (map local_elem g.locals) in let mapped = length-map g.locals local_elem in
             out (a - length (param_elems class.Array g.params)) (omega (arith, lt, le, long, mapped)) (omega (arith, le)))
 
-    are_stored_so : AreStored g home callee.elems
-    are_stored_so = are_stored w g x.function names (inner_local (gang w) g) frames at s.memory each_shared small passes all_low_named
+    has_arrays : HasArrays callee
+    has_arrays = copies.has_arrays w g x.function names (inner_local (gang w) g) frames at s.memory small passes all_low_named
       where
-        passes : (a : Register) → IsThere g class.Array a → a.number < length (param_elems class.Array g.params) → callee.elems (home.named a.number) ≡ elem_of g a
+        passes : (a : Register) → IsThere g class.Array a → a.number < length (param_elems class.Array g.params) → (inside w g x.function names (inner_local (gang w) g) frames at s.memory).elems (home.named a.number) ≡ elem_of g a
         passes a there lt = by (which a.number)
           where
-            by : ((q : ℕ) × (slice_get array_numbers a.number ≡ Some q)) ⊎ (length (param_elems class.Array g.params) ≤ a.number) → callee.elems (home.named a.number) ≡ elem_of g a
+            by : ((q : ℕ) × (slice_get array_numbers a.number ≡ Some q)) ⊎ (length (param_elems class.Array g.params) ≤ a.number) → (inside w g x.function names (inner_local (gang w) g) frames at s.memory).elems (home.named a.number) ≡ elem_of g a
             by (inr le) = absurd (omega (arith, lt, le))
             by (inl (q, has)) =
                 let fits = passed_fits w.routine class.Array g.params x.arguments fine.passed a.number q has in
-                ap callee.elems (named_in a.number q has) ∙ old_elem w g x.function names (inner_local (gang w) g) frames at s.memory (w.home.named q) (old_named a.number q has)
-                ∙ of.stored (record { class = class.Array; number = q }) (refl, fits.there) ∙ fits.elem_is
+                ap (inside w g x.function names (inner_local (gang w) g) frames at s.memory).elems (named_in a.number q has) ∙ old_elem w g x.function names (inner_local (gang w) g) frames at s.memory (w.home.named q) (old_named a.number q has)
+                ∙ of.stored (record { class = class.Array; number = q }) (refl, fits.there) (shared_in a.number q has) ∙ fits.elem_is
                 ∙ sym (ap (λ c. slice_index_or (types_in (table_of g) c) a.number Truth) there.0 ∙ get_or_append_left (param_elems class.Array g.params) (map local_elem g.locals) Truth a.number lt)
 
     -- ---- before the first instruction
@@ -416,13 +427,13 @@ module _ (w : Setting) (of : IsOf w) (x : Call) (pc : ℕ) (has : slice_get w.ro
       other : (p : Place) → (p ≡ place.Top → ⊥) → ((i : ℕ) → i < length g.locals → p ≡ place.Base (passed g + i) → ⊥) → ((i : ℕ) → i < length g.locals → p ≡ place.Count (passed g + i) → ⊥) → m (callee.local p) ≡ entered.locals (inner_local (gang w) g p)
       other p x y z = o.others p x y z
 
-      base_holds : (a : ℕ) → ((i : ℕ) × (a ≡ passed g + i) × (i < length g.locals)) ⊎ NotOwn a → m (callee.local (place.Base a)) ≡ callee.begins (home.named a)
-      base_holds a (inl (i, e, lt)) = subst (λ n. m (callee.local (place.Base n)) ≡ callee.begins (home.named n)) (sym e) (o.bases i lt ∙ sym (own_base w g x.function names (inner_local (gang w) g) frames at s.memory each_shared i lt))
+      base_holds : (a : ℕ) → ((i : ℕ) × (a ≡ passed g + i) × (i < length g.locals)) ⊎ NotOwn a → m (callee.local (place.Base a)) ≡ callee.begins (store_at callee a 0)
+      base_holds a (inl (i, e, lt)) = subst (λ n. m (callee.local (place.Base n)) ≡ callee.begins (store_at callee n 0)) (sym e) (o.bases i lt ∙ sym (copies.own_base w g x.function names (inner_local (gang w) g) frames at s.memory i lt))
       base_holds a (inr out) =
           other (place.Base a) (λ e. cc) (λ i lt e. out i lt cc) (λ i lt e. cc) ∙ got (place.Base a) (λ e. cc) (λ e. cc) (λ j lt e. cc) ∙ ap (λ n. At places given (place.Base n)) (zero_more a) ∙ all.bases a ∙ bases a out (which a)
 
-      count_holds : (a : ℕ) → ((i : ℕ) × (a ≡ passed g + i) × (i < length g.locals)) ⊎ NotOwn a → m (callee.local (place.Count a)) ≡ home.sizes (home.named a)
-      count_holds a (inl (i, e, lt)) = subst (λ n. m (callee.local (place.Count n)) ≡ home.sizes (home.named n)) (sym e) (o.counts i lt ∙ sym (own_count w g x.function names (inner_local (gang w) g) frames at s.memory each_shared i lt))
+      count_holds : (a : ℕ) → ((i : ℕ) × (a ≡ passed g + i) × (i < length g.locals)) ⊎ NotOwn a → m (callee.local (place.Count a)) ≡ callee.sizes (store_at callee a 0)
+      count_holds a (inl (i, e, lt)) = subst (λ n. m (callee.local (place.Count n)) ≡ callee.sizes (store_at callee n 0)) (sym e) (o.counts i lt ∙ sym (copies.own_count w g x.function names (inner_local (gang w) g) frames at s.memory i lt))
       count_holds a (inr out) =
           other (place.Count a) (λ e. cc) (λ i lt e. cc) (λ i lt e. out i lt cc) ∙ got (place.Count a) (λ e. cc) (λ e. cc) (λ j lt e. cc) ∙ ap (λ n. At places given (place.Count n)) (zero_more a) ∙ all.counts a ∙ counts a out (which a)
 
@@ -475,7 +486,7 @@ module _ (w : Setting) (of : IsOf w) (x : Call) (pc : ℕ) (has : slice_get w.ro
           whole = st.keeps.whole;
           stacked = λ e. under.stacked;
           holds = λ m o. holds m o;
-          keeps = λ room. keeps_in w g x.function names (inner_local (gang w) g) frames at s.memory of.laid (λ e. under) small refl c.arrays (all_of callee begun) s.memory s.size room begun_old begun_new (λ a. refl) shared_now;
+          keeps = λ room. copies.keeps_in w g x.function names (inner_local (gang w) g) frames at s.memory of.laid (λ e. under) small refl c.arrays (all_of callee begun) s.memory s.size room begun_old begun_new (λ a. refl) shared_now;
         }
 
     is_of : IsOf callee
@@ -483,19 +494,11 @@ module _ (w : Setting) (of : IsOf w) (x : Call) (pc : ℕ) (has : slice_get w.ro
         record {
           accepted = of.accepted;
           settled = settled;
-          laid =
-              record {
-                texts_at = refl;
-                closed = past_size w g x.function names (inner_local (gang w) g) frames at s.memory;
-                past = past_begin w g x.function names (inner_local (gang w) g) frames at s.memory;
-                bounded = settled.bounded;
-                text_apart = settled.text_apart;
-                disjoint = settled.disjoint;
-              };
-          stored = are_stored_so.stored_as;
+          laid = laid_of callee settled refl;
+          stored = λ a there e. (has_arrays.shared a there e).stored_as;
           named_low = all_low_named;
           plain = λ p k h. of.plain pc x has;
-          under = λ p k h. under_all w g x.function names (inner_local (gang w) g) frames at s.memory of.laid (λ e. under) small refl under;
+          under = λ p k h. copies.under_all w g x.function names (inner_local (gang w) g) frames at s.memory of.laid (λ e. under) small refl under;
         }
 
     -- ---- what its result says
@@ -538,7 +541,7 @@ module _ (w : Setting) (of : IsOf w) (x : Call) (pc : ℕ) (has : slice_get w.ro
       brings (GivesVector t) (Some d) (Some y) goes back is lanes = brings_vector t d.class y.class d.number y.number (goes.0).0 (back.0).0 goes.1 back.1 is lanes
 
     -- what each lane has of its own lies below the arrays of the function, and is as it was
-    module _ (conf : Conf) (t : State) (k : Keeps callee conf.arrays t.memory t.size) where
+    module _ (conf : Conf) (t : State) (k : Keeps (shared_of callee) conf.arrays t.memory t.size) where
       abbrev after_it : Conf
       after_it = record c { arrays = below c.home.opened conf.arrays }
 
@@ -547,7 +550,7 @@ module _ (w : Setting) (of : IsOf w) (x : Call) (pc : ℕ) (has : slice_get w.ro
 
       own_byte : (b a : ℕ) → w.home.opened < b → w.begins b ≤ a → a < w.begins b + w.sizes b * bytes_of (w.elems b) → t.memory a ≡ s.memory a
       own_byte b a gt low high =
-          k.rest a
+          (copies.without_lanes w g x.function names (inner_local (gang w) g) frames at s.memory conf.arrays t.memory t.size k).rest a
           (beside_in w g x.function names (inner_local (gang w) g) frames at s.memory of.laid (λ e. under) small refl a lt (λ r old. apart r old (of.settled.disjoint r b (λ e. omega (arith, e, gt, old)))), low_floor w.stack (waiting_bytes w.code frames) lt)
         where
           lt : a < at
@@ -627,8 +630,8 @@ module _ (w : Setting) (of : IsOf w) (x : Call) (pc : ℕ) (has : slice_get w.ro
         by (inl b) =
             subst (λ r. Told (the_machine w) (Back w x c) (suc f) begun (left (then_to r (run (suc f) (called functions f) (function_code callee))))) (sym (b.fell (suc f) (called functions f)))
             (told (suc f) begun (left (run (suc f) (called functions f) (function_code callee) b.state))
-            (calls_come_back callee settled (covered w.code g x.function of.accepted fine.found plain_g (inner_local (gang w) g) home frames callee.begins callee.elems s.memory w.room w.stack)
-            (all_thin w.code g x.function of.accepted fine.found plain_g (inner_local (gang w) g) home frames callee.begins callee.elems s.memory w.room w.stack are_stored_so)
+            (calls_come_back callee settled (covered w.code g x.function of.accepted fine.found plain_g (inner_local (gang w) g) home frames callee.begins callee.sizes callee.elems s.memory w.room w.stack)
+            (all_thin w.code g x.function of.accepted fine.found plain_g (inner_local (gang w) g) home frames callee.begins callee.sizes callee.elems s.memory w.room w.stack has_arrays)
             (waits c x.result mask) c.waiting refl (called functions f) (suc f) (λ n e. subst (λ m. CallsAgree callee m (called functions f)) (let same : f ≡ n = omega (arith, e) in same) right) begun b.state
             (subst (λ n. n < callee.rungs) (sym (b.counter ∙ counter_is)) (first_head g.code (length g.code) (some_code w.code g x.function of.accepted fine.found plain_g)).0)
             (subst (λ n. Stands callee n begun b.state) (sym (ap callee.heads b.counter ∙ head_is)) b.stands)))

@@ -1,5 +1,5 @@
 -- Accepted code meets what the law of entries asks, where its form is covered.
-use Rattle.std.proofs.Common.{◌≡◌, ℕ, zero, suc, ◌+◌, ◌-◌, ◌*◌, ◌^◌, ◌<◌, ◌≤◌, ◌⊎◌, inl, inr, List, [], ◌∷◌, ◌++◌, length, take, map, Option, Some, None, Bool, true, false, not, ◌&&◌, ◌||◌, refl, sym, ap, ap₂, ◌∙◌, subst, arith, lit≤}
+use Rattle.std.proofs.Common.{◌≡◌, ℕ, zero, suc, ◌+◌, ◌-◌, ◌*◌, ◌^◌, ◌<◌, ◌≤◌, ◌⊎◌, inl, inr, List, [], ◌∷◌, ◌++◌, length, take, map, Option, Some, None, Bool, true, false, not, ◌&&◌, ◌||◌, refl, sym, ap, ◌∙◌, subst, arith, lit≤}
 use Rattle.std.specs.Prelude.{slice_get, slice_index, slice_index_or, nat_lt, ◌==◌, option_map, if◌then◌else◌}
 use Rattle.std.specs.List.{list_any}
 use Rattle.std.proofs.lemmas.Bool.{cases_lt, lt-ltb, le-ltb, cond-true, cond-false, not-true}
@@ -17,7 +17,7 @@ use Rattle.isp_code.specs.Entries.{parameters_of}
 use Rattle.isp_code.specs.Fine.{IsThere}
 use Rattle.isp_code.specs.Listing.{Listing, Routine}
 use Rattle.isp_code.specs.Machine.{first_conf}
-use Rattle.isp_code.specs.Registers.{param_elems, arrays_of, local_elem, elem_of, types_in, table_of}
+use Rattle.isp_code.specs.Registers.{param_elems, arrays_of, local_elem, elem_of, types_in, table_of, is_per_lane}
 use Rattle.isp_code.specs.declared.instr.Call.{Call}
 use Rattle.isp_code.specs.declared.instr.Instr.TheVariants as instr
 use Rattle.isp_code.specs.declared.register.Class.TheVariants as class
@@ -30,14 +30,18 @@ use Rattle.isp_wasm_meaning.specs.Module.{Function, code_in, unused}
 use Rattle.isp_wasm.specs.Places.{Setting, Place, bytes_of, Counter, Scalar, Vector, Mask, Base, Count, Depth, Top}
 use Rattle.isp_wasm.specs.Entry.{stack_in, entry_code, IsPassed, IsCalled, SameOutcomes}
 use Rattle.isp_wasm.specs.Locals.{param_places, own_places, local_in}
-use Rattle.isp_wasm.specs.Module.{text_start, all_shared, is_plain, is_covered, kernel_of, function_of, inner_functions, module_of}
+use Rattle.isp_wasm.specs.Module.{text_start, is_plain, is_covered, kernel_of, function_of, inner_functions, module_of}
+use Rattle.isp_wasm.specs.Lanes.{array_register, store_at}
+use Rattle.isp_wasm.specs.Lines.{HasArrays}
 use Rattle.isp_wasm.specs.Kernel.{row_elem, passed, array_end, IsLaidOut, HasRoom, in_call, KernelsAgree}
 use Rattle.isp_wasm.specs.Stack.{IsBelow, moved_up, none_open, has_call, uses_stack, start, bytes_in, bottom, opened_memory}
 use Rattle.isp_wasm.specs.Standing.{all_of, IsFull, IsSettled, Keeps}
 use Rattle.isp_wasm.proofs.Entries.{some_row, entries_agree}
 use Rattle.isp_wasm.proofs.Numbers.{place_apart}
-use Rattle.isp_wasm.proofs.Plain.{placed, AreStored, covered_plain, covered_calls, calls_some, text_low, few_heads, heads_rise, some_code, shared, bytes_low, covered, all_thin}
+use Rattle.isp_wasm.proofs.Plain.{placed, covered_plain, covered_calls, calls_some, text_low, few_heads, heads_rise, some_code, bytes_low, covered, all_thin}
 use Rattle.isp_wasm.proofs.Shared.{all_low, all_high}
+use Rattle.isp_wasm.proofs.Copies as copies
+use Rattle.isp_wasm.proofs.Copies.{laid_of, per_lane_at, none_per_lane}
 use Rattle.isp_wasm.proofs.Opened as opened
 use Rattle.isp_wasm.proofs.Opened.{AreLaid, IsUnder}
 use Rattle.isp_wasm.proofs.Opening.{which_array}
@@ -99,7 +103,7 @@ module _ (code : Listing) (h : Routine) (f : ℕ) (accepted : IsFine code) (foun
     -- what there is before it opens its arrays, and from where on those lie
     abbrev outer : Setting
     outer =
-        placed code h local (record { fn = f; named = λ a. a; sizes = λ b. length (row_bits (rows xs) b); opened = length (rows xs) }) [] (slice_index at) (row_elem (rows xs)) s.memory s.size (stack_in h s)
+        placed code h local (record { fn = f; named = λ a. a; sizes = λ b. length (row_bits (rows xs) b); opened = length (rows xs) }) [] (slice_index at) (λ b. length (row_bits (rows xs) b)) (row_elem (rows xs)) s.memory s.size (stack_in h s)
 
     abbrev from_here : ℕ
     from_here = start (stack_in h s)
@@ -112,9 +116,6 @@ module _ (code : Listing) (h : Routine) (f : ℕ) (accepted : IsFine code) (foun
 
     few : suc (bytes_in lanes h.locals) < 2 ^ 32
     few = bytes_low code h f accepted found plain
-
-    each_shared : all_shared h.locals ≡ true
-    each_shared = shared code h f accepted found plain
 
     -- ---- arrays
 
@@ -160,7 +161,6 @@ module _ (code : Listing) (h : Routine) (f : ℕ) (accepted : IsFine code) (foun
         record {
           texts_at = refl;
           closed = λ b le. ap length (row_past (rows xs) b le);
-          past = λ b le. begins_past b (let each : length at ≡ length (rows xs) = laid.each in omega (arith, le, each));
           bounded = few_elements;
           text_apart = text_apart;
           disjoint = apart;
@@ -210,34 +210,35 @@ module _ (code : Listing) (h : Routine) (f : ℕ) (accepted : IsFine code) (foun
           few = few_heads code h f accepted found plain;
           heads_up = heads_rise code h f accepted found plain;
           text_low = text_low code h f accepted found plain;
-          text_apart = opened.text_apart outer h f (λ a. a) local [] from_here s.memory laid_out under few from_stack;
-          bounded = opened.bounded outer h f (λ a. a) local [] from_here s.memory laid_out under few from_stack;
+          text_apart = copies.text_apart outer h f (λ a. a) local [] from_here s.memory laid_out under few from_stack;
+          bounded = copies.bounded outer h f (λ a. a) local [] from_here s.memory laid_out under few from_stack;
           closed = opened.past_size outer h f (λ a. a) local [] from_here s.memory;
-          disjoint = opened.disjoint outer h f (λ a. a) local [] from_here s.memory laid_out under few from_stack;
-          sizes_are = λ b le. refl;
-          lanes_apart = λ b gt a below. inr (let start = opened.past_begin outer h f (λ a. a) local [] from_here s.memory b (omega (arith, gt)) in let none = opened.past_size outer h f (λ a. a) local [] from_here s.memory b (omega (arith, gt)) in
-              let n = bytes_of (w.elems b) in let end : w.begins b + w.sizes b * n ≡ 0 + 0 * n = ap₂ (λ k m. k + m * n) start none in omega (arith, end));
+          disjoint = copies.disjoint outer h f (λ a. a) local [] from_here s.memory laid_out under few from_stack;
+          sizes_are = λ b le. copies.low_size outer h f (λ a. a) local [] from_here s.memory b le;
+          lanes_apart = copies.lanes_apart outer h f (λ a. a) local [] from_here s.memory laid_out under few from_stack;
         }
 
     named_low : (a : ℕ) → a < length (param_elems class.Array h.params) → w.home.named a < length (rows xs)
     named_low a lt = let is = opened.named_low outer h f (λ a. a) local [] from_here s.memory a lt in let all = long in omega (arith, is, lt, all)
 
-    all_low_named : (a : ℕ) → a < length (arrays_of h) → w.home.named a < w.home.opened
-    all_low_named a lt = by (which_array a (length (param_elems class.Array h.params)) (length h.locals)) (cases_lt a (length (param_elems class.Array h.params)))
+    all_low_named : (a : ℕ) → a < length (arrays_of h) → is_per_lane h (array_register a) ≡ false → w.home.named a < w.home.opened
+    all_low_named a lt shared = by (which_array a (length (param_elems class.Array h.params)) (length h.locals)) (cases_lt a (length (param_elems class.Array h.params)))
       where
         by : ((i : ℕ) × (a ≡ length (param_elems class.Array h.params) + i) × (i < length h.locals)) ⊎ ((i : ℕ) → i < length h.locals → a ≡ length (param_elems class.Array h.params) + i → ⊥)
             → (a < length (param_elems class.Array h.params)) ⊎ (length (param_elems class.Array h.params) ≤ a) → w.home.named a < w.home.opened
-        by (inl (i, e, low)) h2 = subst (λ n. w.home.named n < w.home.opened) (sym e) (opened.own_low outer h f (λ a. a) local [] from_here s.memory each_shared i low)
+        by (inl (i, e, low)) h2 =
+            let one = opened.get_low h.locals i low in
+            subst (λ n. w.home.named n < w.home.opened) (sym e) (opened.own_low outer h f (λ a. a) local [] from_here s.memory i one.0 one.1 (sym (per_lane_at h i one.0 one.1) ∙ ap (λ n. is_per_lane h (array_register n)) (sym e) ∙ shared))
         by (inr out) (inl low) = let is = named_low a low in omega (arith, is)
         by (inr out) (inr le) =
             absurd
             (let both = length-append (param_elems class.Array h.params) (map local_elem h.locals) in let mapped = length-map h.locals local_elem in
             out (a - length (param_elems class.Array h.params)) (omega (arith, lt, le, both, mapped)) (omega (arith, le)))
 
-    stored : AreStored h w.home w.elems
-    stored = opened.are_stored outer h f (λ a. a) local [] from_here s.memory each_shared few passes all_low_named
+    has_arrays : HasArrays w
+    has_arrays = copies.has_arrays outer h f (λ a. a) local [] from_here s.memory few passes all_low_named
       where
-        passes : (a : Register) → IsThere h class.Array a → a.number < length (param_elems class.Array h.params) → w.elems (w.home.named a.number) ≡ elem_of h a
+        passes : (a : Register) → IsThere h class.Array a → a.number < length (param_elems class.Array h.params) → (opened.inside outer h f (λ a. a) local [] from_here s.memory).elems (w.home.named a.number) ≡ elem_of h a
         passes a there lt =
             opened.old_elem outer h f (λ a. a) local [] from_here s.memory (w.home.named a.number) (named_low a.number lt)
             ∙ ap (row_elem (rows xs)) (opened.named_low outer h f (λ a. a) local [] from_here s.memory a.number lt) ∙ rows_typed h.params xs no_vector signature a.number
@@ -285,7 +286,7 @@ module _ (code : Listing) (h : Routine) (f : ℕ) (accepted : IsFine code) (foun
     keeps : (none_open h.locals ≡ false → bottom w + bytes_in lanes h.locals < s.size) → Keeps w (all_of w (first_conf code f h xs)) (opened_memory lanes (bottom w) h.locals s.memory) s.size
     keeps fits =
         subst (λ t. Keeps w (all_of w (first_conf code f h xs)) (opened_memory lanes t h.locals s.memory) s.size) from_bottom
-        (opened.keeps_in outer h f (λ a. a) local [] from_here s.memory laid_out under few from_stack (λ b e. slice_index (row_bits (rows xs) b) e) (all_of w (first_conf code f h xs)) s.memory s.size
+        (copies.keeps_in outer h f (λ a. a) local [] from_here s.memory laid_out under few from_stack (λ b e. slice_index (row_bits (rows xs) b) e) (all_of w (first_conf code f h xs)) s.memory s.size
         (λ e. subst (λ t. t + bytes_in lanes h.locals < s.size) (sym from_bottom) (fits e)) all_old all_new (λ a. refl) outer_keeps)
 
     -- ---- arguments
@@ -304,22 +305,25 @@ module _ (code : Listing) (h : Routine) (f : ℕ) (accepted : IsFine code) (foun
         past (inl lt) = absurd (out (a - length (param_elems class.Array h.params)) (omega (arith, lt, le)) (omega (arith, le)))
         past (inr ge) = ge
 
-    base_of : (a : ℕ) → IsPassed w a → slice_index at a ≡ w.begins (w.home.named a)
+    not_own : (a : ℕ) → IsPassed w a → store_at w a 0 ≡ w.home.named a
+    not_own a out = copies.shared_store outer h f (λ a. a) local [] from_here s.memory a 0 (none_per_lane h a out)
+
+    base_of : (a : ℕ) → IsPassed w a → slice_index at a ≡ w.begins (store_at w a 0)
     base_of a out = by (cases_lt a (length (param_elems class.Array h.params)))
       where
-        by : (a < length (param_elems class.Array h.params)) ⊎ (length (param_elems class.Array h.params) ≤ a) → slice_index at a ≡ w.begins (w.home.named a)
-        by (inl lt) = sym (opened.old_begin outer h f (λ a. a) local [] from_here s.memory (w.home.named a) (named_low a lt) ∙ ap (slice_index at) (opened.named_low outer h f (λ a. a) local [] from_here s.memory a lt))
+        by : (a < length (param_elems class.Array h.params)) ⊎ (length (param_elems class.Array h.params) ≤ a) → slice_index at a ≡ w.begins (store_at w a 0)
+        by (inl lt) = sym (ap w.begins (not_own a out) ∙ copies.low_begin outer h f (λ a. a) local [] from_here s.memory (w.home.named a) (let low = named_low a lt in omega (arith, low)) ∙ opened.old_begin outer h f (λ a. a) local [] from_here s.memory (w.home.named a) (named_low a lt) ∙ ap (slice_index at) (opened.named_low outer h f (λ a. a) local [] from_here s.memory a lt))
         by (inr le) =
-            begins_past a (subst (λ n. n ≤ a) (sym (laid.each ∙ long)) le) ∙ sym (ap w.begins (past_all a out le) ∙ opened.past_begin outer h f (λ a. a) local [] from_here s.memory w.home.opened (omega arith))
+            begins_past a (subst (λ n. n ≤ a) (sym (laid.each ∙ long)) le) ∙ sym (ap w.begins (not_own a out ∙ past_all a out le) ∙ copies.low_begin outer h f (λ a. a) local [] from_here s.memory w.home.opened (omega arith) ∙ opened.past_begin outer h f (λ a. a) local [] from_here s.memory w.home.opened (omega arith))
 
-    count_of : (a : ℕ) → IsPassed w a → length (row_bits (rows xs) a) ≡ w.home.sizes (w.home.named a)
+    count_of : (a : ℕ) → IsPassed w a → length (row_bits (rows xs) a) ≡ w.sizes (store_at w a 0)
     count_of a out = by (cases_lt a (length (param_elems class.Array h.params)))
       where
-        by : (a < length (param_elems class.Array h.params)) ⊎ (length (param_elems class.Array h.params) ≤ a) → length (row_bits (rows xs) a) ≡ w.home.sizes (w.home.named a)
+        by : (a < length (param_elems class.Array h.params)) ⊎ (length (param_elems class.Array h.params) ≤ a) → length (row_bits (rows xs) a) ≡ w.sizes (store_at w a 0)
         by (inl lt) =
-            sym (opened.old_size outer h f (λ a. a) local [] from_here s.memory (w.home.named a) (named_low a lt) ∙ ap (λ n. length (row_bits (rows xs) n)) (opened.named_low outer h f (λ a. a) local [] from_here s.memory a lt))
+            sym (ap w.sizes (not_own a out) ∙ copies.low_size outer h f (λ a. a) local [] from_here s.memory (w.home.named a) (let low = named_low a lt in omega (arith, low)) ∙ opened.old_size outer h f (λ a. a) local [] from_here s.memory (w.home.named a) (named_low a lt) ∙ ap (λ n. length (row_bits (rows xs) n)) (opened.named_low outer h f (λ a. a) local [] from_here s.memory a lt))
         by (inr le) =
-            ap length (row_past (rows xs) a (subst (λ n. n ≤ a) (sym long) le)) ∙ sym (ap w.home.sizes (past_all a out le) ∙ opened.past_size outer h f (λ a. a) local [] from_here s.memory w.home.opened (omega arith))
+            ap length (row_past (rows xs) a (subst (λ n. n ≤ a) (sym long) le)) ∙ sym (ap w.sizes (not_own a out ∙ past_all a out le) ∙ copies.low_size outer h f (λ a. a) local [] from_here s.memory w.home.opened (omega arith) ∙ opened.past_size outer h f (λ a. a) local [] from_here s.memory w.home.opened (omega arith))
 
     call_is : IsCalled w xs (passed xs at) s
     call_is =
@@ -336,8 +340,8 @@ module _ (code : Listing) (h : Routine) (f : ℕ) (accepted : IsFine code) (foun
           masks_are = λ r j. places.others (Mask r j) tt;
           bases = λ a out. ap (λ n. At (param_places h ++ own_places (gang_width code.gang) h) (passed xs at) (Base n)) (sym (counted a)) ∙ places.bases a ∙ base_of a out;
           counts = λ a out. ap (λ n. At (param_places h ++ own_places (gang_width code.gang) h) (passed xs at) (Count n)) (sym (counted a)) ∙ places.counts a ∙ count_of a out;
-          own_bases = λ i lt. opened.own_base outer h f (λ a. a) local [] from_here s.memory each_shared i lt ∙ ap (λ t. t + bytes_in lanes (take i h.locals)) from_bottom;
-          own_counts = λ i lt. opened.own_count outer h f (λ a. a) local [] from_here s.memory each_shared i lt;
+          own_bases = λ i lt. copies.own_base outer h f (λ a. a) local [] from_here s.memory i lt ∙ ap (λ t. t + bytes_in lanes (take i h.locals)) from_bottom;
+          own_counts = λ i lt. copies.own_count outer h f (λ a. a) local [] from_here s.memory i lt;
           depth_is = places.others Depth tt;
           top_zero = places.others Top tt;
           stack_is = refl;
@@ -366,19 +370,11 @@ module _ (code : Listing) (h : Routine) (f : ℕ) (accepted : IsFine code) (foun
         record {
           accepted = accepted;
           settled = ready;
-          laid =
-              record {
-                texts_at = refl;
-                closed = opened.past_size outer h f (λ a. a) local [] from_here s.memory;
-                past = opened.past_begin outer h f (λ a. a) local [] from_here s.memory;
-                bounded = ready.bounded;
-                text_apart = ready.text_apart;
-                disjoint = ready.disjoint;
-              };
-          stored = stored.stored_as;
+          laid = laid_of w ready refl;
+          stored = λ a there e. (has_arrays.shared a there e).stored_as;
           named_low = all_low_named;
           plain = covered_calls code h covers;
-          under = λ pc k has. subst (λ t. IsUnder w (t + bytes_in lanes h.locals)) from_bottom (opened.under_all outer h f (λ a. a) local [] from_here s.memory laid_out under few from_stack (under_so (calls_use pc k has)));
+          under = λ pc k has. subst (λ t. IsUnder w (t + bytes_in lanes h.locals)) from_bottom (copies.under_all outer h f (λ a. a) local [] from_here s.memory laid_out under few from_stack (under_so (calls_use pc k has)));
         }
 
     -- the run does not come to where there is no room
@@ -391,8 +387,8 @@ module _ (code : Listing) (h : Routine) (f : ℕ) (accepted : IsFine code) (foun
 
     same_outcomes : SameOutcomes w xs (λ n. called (code_in (module_of code)) n f (passed xs at) s)
     same_outcomes =
-        entries_agree w ready (covered code h f accepted found plain local (first_conf code f h xs).home [] w.begins w.elems s.memory s.size (stack_in h s))
-        (all_thin code h f accepted found plain local (first_conf code f h xs).home [] w.begins w.elems s.memory s.size (stack_in h s) stored)
+        entries_agree w ready (covered code h f accepted found plain local (first_conf code f h xs).home [] w.begins w.sizes w.elems s.memory s.size (stack_in h s))
+        (all_thin code h f accepted found plain local (first_conf code f h xs).home [] w.begins w.sizes w.elems s.memory s.size (stack_in h s) has_arrays)
         (code_in (module_of code)) f code_is (λ n. calls_agree n w of) xs (passed xs at) s call_is (some_stack (uses_stack h) refl)
 
 pub kernels_agree : KernelsAgree

@@ -20,6 +20,7 @@ mod Elements
 mod Loads
 mod LaneEnds
 mod Gathers
+mod Owned
 mod Stores
 mod Clears
 mod Divisions
@@ -41,6 +42,7 @@ mod TextPlaces
 mod Shares
 mod Opening
 mod Opened
+mod Copies
 mod Plain
 mod Inner
 mod Kernels

@@ -1,9 +1,9 @@
 -- The stores of a function that begins: those of before, and then its own, behind the address where the stack is.
-use Rattle.std.proofs.Common.{◌≡◌, ℕ, zero, suc, ◌+◌, ◌-◌, ◌*◌, ◌^◌, ◌<◌, ◌≤◌, ◌⊎◌, inl, inr, List, [], ◌∷◌, ◌++◌, length, take, map, Option, Some, None, true, false, not, refl, sym, ap, ap₂, ◌∙◌, subst, arith}
+use Rattle.std.proofs.Common.{◌≡◌, ℕ, zero, suc, ◌+◌, ◌-◌, ◌*◌, ◌^◌, ◌<◌, ◌≤◌, ◌⊎◌, inl, inr, List, [], ◌∷◌, ◌++◌, length, take, map, Option, Some, None, false, refl, sym, ap, ap₂, ◌∙◌, subst, arith}
 use Rattle.std.specs.Prelude.{slice_get, slice_index, slice_index_or, nat_lt, option_map}
-use Rattle.std.proofs.lemmas.Bool.{cases_lt, lt-ltb, le-ltb, cond-true, cond-false, not-true, cases_order, leb-true}
+use Rattle.std.proofs.lemmas.Bool.{cases_lt, lt-ltb, le-ltb, cond-true, cond-false, cases_order}
 use Rattle.std.proofs.lemmas.Option.{slice_get-map, get_or_from_slice_get}
-use Rattle.std.proofs.lemmas.List.{get_or_past, length-append, length-map}
+use Rattle.std.proofs.lemmas.List.{get_or_past}
 use Rattle.std.proofs.lemmas.Nat.{mul-le, pow_pos}
 use Rattle.std.proofs.Math.ListN.{get_or}
 use Rattle.isp_base.specs.Maps.{Lanes}
@@ -11,23 +11,19 @@ use Rattle.isp_base.specs.Values.{width}
 use Rattle.isp_base.specs.declared.types.Elem.TheVariants.{Bool as Truth}
 use Rattle.isp_code.specs.Calls.{shared_sizes, new_home}
 use Rattle.isp_code.specs.Conf.{Frame}
-use Rattle.isp_code.specs.Lines.{local_size}
 use Rattle.isp_code.specs.Listing.{Routine}
-use Rattle.isp_code.specs.Fine.{IsThere}
-use Rattle.isp_code.specs.Registers.{is_per_instance, passed, param_elems, local_elem, arrays_of, elem_of, types_in, table_of}
-use Rattle.isp_code.specs.declared.register.Class.TheVariants as class
-use Rattle.isp_code.specs.declared.register.Register.{Register}
+use Rattle.isp_code.specs.Registers.{is_per_instance, passed, local_elem, arrays_of}
 use Rattle.isp_code.specs.declared.function.Local.{Local}
 use Rattle.isp_wasm_meaning.specs.Meaning.{loaded, bytes}
 use Rattle.isp_wasm_meaning.proofs.Memory.{bytes_same, cleared_off, zeros_loaded, cleared_beside, cleared_stay}
 use Rattle.isp_wasm.specs.Places.{Setting, Place, gang, text, bytes_of}
-use Rattle.isp_wasm.specs.Module.{text_start, all_shared}
+use Rattle.isp_wasm.specs.Module.{text_start}
 use Rattle.isp_wasm.specs.Stack.{IsBelow, none_open, start, waiting_bytes, moved_up, floor, bytes_in, shared_starts, shared_elems, with_starts, with_elems, opened_memory}
 use Rattle.isp_wasm.specs.Standing.{Keeps, IsBeside, shared_of}
 use Rattle.isp_wasm.proofs.Regions.{few_bytes}
 use Rattle.isp_wasm.proofs.Indices.{in_row}
-use Rattle.isp_wasm.proofs.Plain.{placed, all_at, AreStored}
-use Rattle.isp_wasm.proofs.Shares.{IsAt, is_at, end_of, within, apart, part_low, one_copy, starts_long, taken_all}
+use Rattle.isp_wasm.proofs.Plain.{placed}
+use Rattle.isp_wasm.proofs.Shares.{IsAt, is_at, end_of, within, apart, starts_long, taken_all}
 
 -- ---- the memory
 
@@ -40,7 +36,7 @@ module _ (lanes t : ℕ) where
   loaded_off [] memory m b h = refl
   loaded_off (l ∷ ls) memory m b h = cleared_beside (suc (bytes_in lanes (l ∷ ls))) t memory m b (inl (h refl))
 
-  loaded_zero : (ls : List Local) (memory : ℕ → ℕ) (m b : ℕ) → none_open ls ≡ false → t ≤ b → b + m ≤ t + bytes_in lanes ls → loaded m b (opened_memory lanes t ls memory) ≡ 0
+  pub loaded_zero : (ls : List Local) (memory : ℕ → ℕ) (m b : ℕ) → none_open ls ≡ false → t ≤ b → b + m ≤ t + bytes_in lanes ls → loaded m b (opened_memory lanes t ls memory) ≡ 0
   loaded_zero [] memory m b e low high = absurd cc
   loaded_zero (l ∷ ls) memory m b e low high = zeros_loaded (suc (bytes_in lanes (l ∷ ls))) t memory m b low (omega (arith, high))
 
@@ -68,7 +64,6 @@ get_low (x ∷ xs) (suc k) h = get_low xs k (omega (arith, h))
 pub record AreLaid (u : Setting) : Type 0 where
   pub texts_at : u.text_at ≡ text_start u.code.texts
   pub closed : (b : ℕ) → u.home.opened ≤ b → u.home.sizes b ≡ 0
-  pub past : (b : ℕ) → u.home.opened ≤ b → u.begins b ≡ 0
   pub bounded : (b : ℕ) → u.home.sizes b ≤ 2 ^ 32
   pub text_apart : (t b : ℕ) → (text_start u.code.texts t + length (text u t) ≤ u.begins b) ⊎ (u.begins b + u.home.sizes b * bytes_of (u.elems b) ≤ text_start u.code.texts t)
   pub disjoint : (a b : ℕ) → (a ≡ b → ⊥) → (u.begins a + u.home.sizes a * bytes_of (u.elems a) ≤ u.begins b) ⊎ (u.begins b + u.home.sizes b * bytes_of (u.elems b) ≤ u.begins a)
@@ -87,7 +82,7 @@ module _ (v : Setting) (g : Routine) (f : ℕ) (names : ℕ → ℕ) (local : Pl
 
   abbrev pub inside : Setting
   inside =
-      placed u.code g local (new_home g f names u.home.sizes u.home.opened) waiting (with_starts u.home.opened u.begins (shared_starts (gang u) t g.locals))
+      placed u.code g local (new_home g f names u.home.sizes u.home.opened) waiting (with_starts u.home.opened u.begins (shared_starts (gang u) t g.locals)) (new_home g f names u.home.sizes u.home.opened).sizes
       (with_elems u.home.opened u.elems (shared_elems g.locals)) before u.room u.stack
 
   abbrev pub old : ℕ
@@ -113,7 +108,7 @@ module _ (v : Setting) (g : Routine) (f : ℕ) (names : ℕ → ℕ) (local : Pl
   pub old_elem : (b : ℕ) → b < old → inside.elems b ≡ u.elems b
   old_elem b lt = cond-true (nat_lt b old) (u.elems b) (slice_index_or (shared_elems g.locals) (b - old) Truth) (lt-ltb b old lt)
 
-  old_last : (b : ℕ) → b < old → last_of b ≡ u.begins b + u.home.sizes b * bytes_of (u.elems b)
+  pub old_last : (b : ℕ) → b < old → last_of b ≡ u.begins b + u.home.sizes b * bytes_of (u.elems b)
   old_last b lt = ap₂ (λ x y. x + y) (old_begin b lt) (ap₂ (λ x y. x * bytes_of y) (old_size b lt) (old_elem b lt))
 
   -- ---- a new one
@@ -132,10 +127,10 @@ module _ (v : Setting) (g : Routine) (f : ℕ) (names : ℕ → ℕ) (local : Pl
   new_elem k =
       cond-false (nat_lt (old + k) old) (u.elems (old + k)) (slice_index_or (shared_elems g.locals) (old + k - old) Truth) (le-ltb (old + k) old (omega arith)) ∙ ap (λ n. slice_index_or (shared_elems g.locals) n Truth) (behind k)
 
-  new_last : (k : ℕ) → last_of (old + k) ≡ end_of (gang u) t g.locals k
+  pub new_last : (k : ℕ) → last_of (old + k) ≡ end_of (gang u) t g.locals k
   new_last k = ap₂ (λ x y. x + y) (new_begin k) (ap₂ (λ x y. x * bytes_of y) (new_size k) (new_elem k))
 
-  new_low : (k : ℕ) → k < more → t ≤ inside.begins (old + k)
+  pub new_low : (k : ℕ) → k < more → t ≤ inside.begins (old + k)
   new_low k lt = subst (λ n. t ≤ n) (sym (new_begin k)) (within (gang u) t g.locals k lt).low
 
   new_high : (k : ℕ) → k < more → last_of (old + k) ≤ t + all
@@ -152,15 +147,15 @@ module _ (v : Setting) (g : Routine) (f : ℕ) (names : ℕ → ℕ) (local : Pl
       cond-false (nat_lt b old) (u.begins b) (slice_index (shared_starts (gang u) t g.locals) (b - old)) (le-ltb b old (omega (arith, le)))
       ∙ get_or_past (shared_starts (gang u) t g.locals) (b - old) 0 (let long = starts_long (gang u) t g.locals in omega (arith, le, long))
 
-  past_last : (b : ℕ) → old + more ≤ b → last_of b ≡ 0
+  pub past_last : (b : ℕ) → old + more ≤ b → last_of b ≡ 0
   past_last b le = ap₂ (λ x y. x + y * bytes_of (inside.elems b)) (past_begin b le) (past_size b le) ∙ (let n = bytes_of (inside.elems b) in let same : 0 + 0 * n ≡ 0 = omega arith in same)
 
   -- ---- which one it is
 
-  abbrev Which : ℕ → Type 0
+  abbrev pub Which : ℕ → Type 0
   Which b = (b < old) ⊎ (((k : ℕ) × (b ≡ old + k) × (k < more)) ⊎ (old + more ≤ b))
 
-  which : (b : ℕ) → Which b
+  pub which : (b : ℕ) → Which b
   which b = by (cases_lt b old) (cases_lt b (old + more))
     where
       by : (b < old) ⊎ (old ≤ b) → (b < old + more) ⊎ (old + more ≤ b) → Which b
@@ -232,7 +227,7 @@ module _ (v : Setting) (g : Routine) (f : ℕ) (names : ℕ → ℕ) (local : Pl
     below_start None a n x e h = absurd cc
     below_start (Some y) a n x e h = h
 
-    low_byte : IsUnder u t → (a : ℕ) → IsBelow (floor inside) a → a < t
+    pub low_byte : IsUnder u t → (a : ℕ) → IsBelow (floor inside) a → a < t
     low_byte h a below = let lt = below_start u.stack a (waiting_bytes u.code waiting) (h.stacked).0 (h.stacked).1 below in omega (arith, lt, from_stack)
 
     -- all lies below where the next array does
@@ -305,14 +300,14 @@ module _ (v : Setting) (g : Routine) (f : ℕ) (names : ℕ → ℕ) (local : Pl
         by (inr (inr p)) = inr (let is = past_last b p in omega (arith, is))
 
     -- and of arrays that are the same where there were such before, as it ends
-    pub keeps_out : (arrays others : ℕ → Lanes) (memory : ℕ → ℕ) (size : ℕ) → ((b e : ℕ) → e < u.home.sizes b → others b e ≡ arrays b e) → ((a : ℕ) → IsBeside u a → before a ≡ u.before a) → ((a : ℕ) → IsBelow (floor u) a → IsBelow (floor inside) a)
+    pub keeps_out : (arrays others : ℕ → Lanes) (memory : ℕ → ℕ) (size : ℕ) → ((b : ℕ) → u.begins b + u.home.sizes b * bytes_of (u.elems b) ≤ size) → ((b e : ℕ) → e < u.home.sizes b → others b e ≡ arrays b e) → ((a : ℕ) → IsBeside u a → before a ≡ u.before a) → ((a : ℕ) → IsBelow (floor u) a → IsBelow (floor inside) a)
         → Keeps inside arrays memory size → Keeps u others memory size
-    keeps_out arrays others memory size same first lower k =
+    keeps_out arrays others memory size ends same first lower k =
         record {
           bytes_fit = k.bytes_fit;
           elements = λ b e lt. elements b e lt (cases_lt b old);
           elements_fit = λ b e lt. subst (λ n. n < 2 ^ width (u.elems b)) (sym (same b e lt)) (elements_fit b e lt (cases_lt b old));
-          room = λ b. room b (cases_lt b old);
+          room = ends;
           small = k.small;
           whole = k.whole;
           texts = λ i. subst (λ f. bytes (length (text u i)) (f i) memory ≡ text u i) (sym laid.texts_at) (k.texts i);
@@ -328,12 +323,6 @@ module _ (v : Setting) (g : Routine) (f : ℕ) (names : ℕ → ℕ) (local : Pl
         elements_fit : (b e : ℕ) → e < u.home.sizes b → (b < old) ⊎ (old ≤ b) → arrays b e < 2 ^ width (u.elems b)
         elements_fit b e lt (inl p) = subst (λ x. arrays b e < 2 ^ width x) (old_elem b p) (k.elements_fit b e (subst (λ n. e < n) (sym (old_size b p)) lt))
         elements_fit b e lt (inr p) = absurd (let nothing = laid.closed b p in omega (arith, lt, nothing))
-
-        room : (b : ℕ) → (b < old) ⊎ (old ≤ b) → u.begins b + u.home.sizes b * bytes_of (u.elems b) ≤ size
-        room b (inl p) = subst (λ n. n ≤ size) (old_last b p) (k.room b)
-        room b (inr p) =
-            let n = bytes_of (u.elems b) in
-            let end : u.begins b + u.home.sizes b * n ≡ 0 + 0 * n = ap₂ (λ x y. x + y * n) (laid.past b p) (laid.closed b p) in omega (arith, end)
 
         inner : (a b : ℕ) → (a < u.begins b) ⊎ (u.begins b + u.home.sizes b * bytes_of (u.elems b) ≤ a) → IsBelow (floor u) a → Which b → (a < inside.begins b) ⊎ (last_of b ≤ a)
         inner a b h below (inl p) = subst (λ n. (a < n) ⊎ (last_of b ≤ a)) (sym (old_begin b p)) (subst (λ n. (a < u.begins b) ⊎ (n ≤ a)) (sym (old_last b p)) h)
@@ -355,61 +344,22 @@ module _ (v : Setting) (g : Routine) (f : ℕ) (names : ℕ → ℕ) (local : Pl
       cond-false (nat_lt a (passed g)) (names a) (old + length (shared_sizes (take (a - passed g) g.locals))) (le-ltb a (passed g) (omega (arith, le)))
       ∙ ap (λ ls. old + length (shared_sizes ls)) (taken_all g.locals (a - passed g) (omega (arith, le)))
 
-  module _ (shared : all_shared g.locals ≡ true) (i : ℕ) (low : i < length g.locals) where
-    one : (l : Local) × (slice_get g.locals i ≡ Some l)
-    one = get_low g.locals i low
+  -- how one that the function opens is declared
+  pub declared_at : (i : ℕ) (l : Local) → slice_get g.locals i ≡ Some l → slice_index_or (arrays_of g) (passed g + i) Truth ≡ l.elem
+  declared_at i l has = get_or_from_slice_get (arrays_of g) (passed g + i) l.elem Truth (past_list _ (map local_elem g.locals) i ∙ slice_get-map local_elem g.locals i ∙ ap (option_map local_elem) has)
 
-    at : IsAt (gang u) t g.locals i one.0
-    at = is_at (gang u) t g.locals i one.0 one.1 (not-true (is_per_instance (one.0).sharing) (all_at (λ l. not (is_per_instance l.sharing)) g.locals i one.0 shared one.1))
+  module _ (i : ℕ) (l : Local) (has : slice_get g.locals i ≡ Some l) (shared : is_per_instance l.sharing ≡ false) where
+    at : IsAt (gang u) t g.locals i l
+    at = is_at (gang u) t g.locals i l has shared
 
     pub own_base : inside.begins (inside.home.named (passed g + i)) ≡ t + bytes_in (gang u) (take i g.locals)
     own_base = ap inside.begins (named_is i) ∙ new_begin (length (shared_sizes (take i g.locals))) ∙ at.start_is
 
-    pub own_count : inside.home.sizes (inside.home.named (passed g + i)) ≡ local_size (slice_get g.locals i)
-    own_count = ap inside.home.sizes (named_is i) ∙ new_size (length (shared_sizes (take i g.locals))) ∙ at.size_is ∙ sym (ap local_size one.1)
+    pub own_count : inside.home.sizes (inside.home.named (passed g + i)) ≡ l.size
+    own_count = ap inside.home.sizes (named_is i) ∙ new_size (length (shared_sizes (take i g.locals))) ∙ at.size_is
 
-    pub own_elem : inside.elems (inside.home.named (passed g + i)) ≡ slice_index_or (arrays_of g) (passed g + i) Truth
-    own_elem =
-        ap inside.elems (named_is i) ∙ new_elem (length (shared_sizes (take i g.locals))) ∙ at.elem_is
-        ∙ sym (get_or_from_slice_get (arrays_of g) (passed g + i) (one.0).elem Truth (past_list _ (map local_elem g.locals) i ∙ slice_get-map local_elem g.locals i ∙ ap (option_map local_elem) one.1))
+    pub own_elem : inside.elems (inside.home.named (passed g + i)) ≡ l.elem
+    own_elem = ap inside.elems (named_is i) ∙ new_elem (length (shared_sizes (take i g.locals))) ∙ at.elem_is
 
     pub own_low : inside.home.named (passed g + i) < old + more
     own_low = subst (λ n. n < old + more) (sym (named_is i)) (let low = at.number_low in omega (arith, low))
-
-    own_few : suc all < 2 ^ 32 → local_size (slice_get g.locals i) * bytes_of (slice_index_or (arrays_of g) (passed g + i) Truth) < 2 ^ 32
-    own_few small =
-        let elem : slice_index_or (arrays_of g) (passed g + i) Truth ≡ (one.0).elem = sym own_elem ∙ own_elem_is in
-        let size : local_size (slice_get g.locals i) ≡ (one.0).size = ap local_size one.1 in
-        let le = one_copy (gang u) one.0 (not-true (is_per_instance (one.0).sharing) (all_at (λ l. not (is_per_instance l.sharing)) g.locals i one.0 shared one.1)) in
-        let part = part_low (gang u) g.locals i one.0 one.1 in
-        subst (λ n. n < 2 ^ 32) (sym (ap₂ (λ x y. x * bytes_of y) size elem)) (omega (arith, le, part, small))
-      where
-        own_elem_is : inside.elems (inside.home.named (passed g + i)) ≡ (one.0).elem
-        own_elem_is = ap inside.elems (named_is i) ∙ new_elem (length (shared_sizes (take i g.locals))) ∙ at.elem_is
-
-  -- what is said of all its arrays, where it holds of those that it is passed
-  pub are_stored : all_shared g.locals ≡ true → suc all < 2 ^ 32 → ((a : Register) → IsThere g class.Array a → a.number < passed g → inside.elems (inside.home.named a.number) ≡ elem_of g a)
-      → ((a : ℕ) → a < length (arrays_of g) → inside.home.named a < inside.home.opened) → AreStored g inside.home inside.elems
-  are_stored shared small passes low_named =
-      record {
-        stored_as = λ a there. stored a there (cases_lt a.number (passed g));
-        named_low = λ a there. low_named a.number there.1;
-        size_is = λ a there own. (let le = leb-true (passed g) a.number own in subst (λ n. inside.home.sizes (inside.home.named n) ≡ local_size (slice_get g.locals (a.number - passed g))) (back a le) (own_count shared (a.number - passed g) (low a there le)));
-        few = λ a there own. (let le = leb-true (passed g) a.number own in subst (λ t. local_size (slice_get g.locals (a.number - passed g)) * bytes_of t < 2 ^ 32) (elem_at a there le) (own_few shared (a.number - passed g) (low a there le) small));
-      }
-    where
-      back : (a : Register) → passed g ≤ a.number → passed g + (a.number - passed g) ≡ a.number
-      back a le = omega (arith, le)
-
-      low : (a : Register) → IsThere g class.Array a → passed g ≤ a.number → a.number - passed g < length g.locals
-      low a there le =
-          let long = length-append (param_elems class.Array g.params) (map local_elem g.locals) in
-          let mapped = length-map g.locals local_elem in
-          let lt = there.1 in omega (arith, le, long, mapped, lt)
-
-      elem_at : (a : Register) → IsThere g class.Array a → passed g ≤ a.number → slice_index_or (arrays_of g) (passed g + (a.number - passed g)) Truth ≡ elem_of g a
-      elem_at a there le = ap (λ n. slice_index_or (arrays_of g) n Truth) (back a le) ∙ sym (ap (λ c. slice_index_or (types_in (table_of g) c) a.number Truth) there.0)
-
-      stored : (a : Register) → IsThere g class.Array a → (a.number < passed g) ⊎ (passed g ≤ a.number) → inside.elems (inside.home.named a.number) ≡ elem_of g a
-      stored a there (inl lt) = passes a there lt
-      stored a there (inr le) = ap (λ n. inside.elems (inside.home.named n)) (sym (back a le)) ∙ own_elem shared (a.number - passed g) (low a there le) ∙ elem_at a there le

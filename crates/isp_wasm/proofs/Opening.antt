@@ -21,13 +21,13 @@ use Rattle.isp_wasm.proofs.Frames.{there, elsewhere}
 
 -- ---- bytes of an array
 
-some_lanes : (g : Gang) → 1 ≤ gang_width g
+pub some_lanes : (g : Gang) → 1 ≤ gang_width g
 some_lanes W4 = omega arith
 some_lanes W8 = omega arith
 some_lanes W16 = omega arith
 some_lanes W32 = omega arith
 
-some_copies : (lanes : ℕ) (b : Bool) → 1 ≤ lanes → 1 ≤ copies lanes b
+pub some_copies : (lanes : ℕ) (b : Bool) → 1 ≤ lanes → 1 ≤ copies lanes b
 some_copies lanes true h = h
 some_copies lanes false h = omega arith
 

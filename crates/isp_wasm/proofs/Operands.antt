@@ -1,11 +1,12 @@
 -- Operands that are as the table asks are those that templates ask for.
-use Rattle.std.proofs.Common.{◌≡◌, ◌≢◌, List, [], ◌∷◌, refl, sym, ◌∙◌, subst}
+use Rattle.std.proofs.Common.{◌≡◌, ◌≢◌, ◌⊎◌, inl, inr, List, [], ◌∷◌, Bool, true, false, refl, sym, ◌∙◌, subst}
 use Rattle.isp_base.specs.declared.operators.UnaryOp.{UnaryOp}
 use Rattle.isp_base.specs.declared.operators.UnaryOp.TheVariants as unary
 use Rattle.isp_base.specs.declared.types.Elem.{Elem}
 use Rattle.isp_base.specs.declared.types.Elem.TheVariants.{Bool as Truth, I8, U8, I16, U16, I32, U32, I64, U64}
 use Rattle.isp_code.specs.Fine.{AllFine, OperandFine, IsThere, IsWanted}
 use Rattle.isp_code.specs.Operands.{operands, scalar_operands, vector_operands, mask_operands, divided, unary_want}
+use Rattle.isp_code.specs.Registers.{is_per_lane, is_local}
 use Rattle.isp_code.specs.declared.instr.Instr.{Instr}
 use Rattle.isp_code.specs.declared.instr.Instr.TheVariants as instr
 use Rattle.isp_code.specs.declared.instr.JumpTest.TheVariants as jump
@@ -23,7 +24,7 @@ use Rattle.isp_code.specs.declared.register.Class.{Class}
 use Rattle.isp_code.specs.declared.register.Class.TheVariants as class
 use Rattle.isp_code.specs.declared.register.Register.{Register}
 use Rattle.isp_wasm.specs.Places.{Setting, elem}
-use Rattle.isp_wasm.specs.Thin.{IsInteger, IsUnary, IsScalar, IsVector, IsArray, IsThin, IsThinScalar, IsThinVector, IsThinMask, IsThinDivision}
+use Rattle.isp_wasm.specs.Thin.{IsInteger, IsUnary, IsScalar, IsVector, IsArray, IsOwn, IsEither, IsOpened, IsThin, IsThinScalar, IsThinVector, IsThinMask, IsThinDivision}
 use Rattle.isp_wasm.specs.Lines.{HasArrays, HasTemplate, FineIsThin}
 
 pub integer : (t : Elem) → t ≢ Truth → IsInteger t
@@ -62,8 +63,22 @@ module _ (w : Setting) (has : HasArrays w) where
   any_vector : (x : Register) → IsThere w.routine class.Vector x → IsVector w x (elem w x)
   any_vector x o = record { class_is = o.0; elem_is = refl }
 
-  array_as : (a : Register) (t : Elem) → IsThere w.routine class.Array a → elem w a ≡ t → IsArray w a t
-  array_as a t o e = record { shared = has.shared a; elem_is = e; stored_as = has.stored_as a o ∙ e; low = has.named_low a o }
+  array_as : (a : Register) (t : Elem) → IsThere w.routine class.Array a → is_per_lane w.routine a ≡ false → elem w a ≡ t → IsArray w a t
+  array_as a t o shared e = subst (IsArray w a) e (has.shared a o shared)
+
+  either_as : (a : Register) (t : Elem) → IsThere w.routine class.Array a → elem w a ≡ t → IsEither w a t
+  either_as a t o e = by (is_per_lane w.routine a) refl
+    where
+      by : (b : Bool) → is_per_lane w.routine a ≡ b → IsEither w a t
+      by true own = inr (subst (IsOwn w a) e (has.own a o own))
+      by false shared = inl (array_as a t o shared e)
+
+  opened_as : (a : Register) → IsThere w.routine class.Array a → is_local w.routine a ≡ true → IsOpened w a ⊎ IsOwn w a (elem w a)
+  opened_as a o local = by (is_per_lane w.routine a) refl
+    where
+      by : (b : Bool) → is_per_lane w.routine a ≡ b → IsOpened w a ⊎ IsOwn w a (elem w a)
+      by true own = inr (has.own a o own)
+      by false shared = inl (has.opened a o shared local)
 
   unary_is : (o : UnaryOp) (t : Elem) → IsWanted w.routine (unary_want o) t → IsUnary o t
   unary_is unary.Not t h = h
@@ -80,7 +95,7 @@ module _ (w : Setting) (has : HasArrays w) where
   scalars d (scalar.Compare o x y) f = (((f.0).0).0, ((f.0).1, any_scalar x ((f.1).0).0, scalar_like y x ((f.1).1).0))
   scalars d (scalar.Select c x y) f = (((f.0).0).0, (scalar_of c Truth (f.1).0, scalar_like x d ((f.1).1).0, scalar_like y d (((f.1).1).1).0))
   scalars d (scalar.First k) f = (((f.0).0).0, (f.0).1)
-  scalars d (scalar.Load a i k q) f = (((f.0).0).0, (scalar_of i I64 ((f.1).1).0, array_as a (elem w d) ((f.1).0).0 ((f.1).0).2))
+  scalars d (scalar.Load a i k q) f = (((f.0).0).0, (scalar_of i I64 ((f.1).1).0, array_as a (elem w d) ((f.1).0).0 ((f.1).0).1 ((f.1).0).2))
   scalars d (scalar.Extract x i k) f = (((f.0).0).0, (vector_like x d (f.1).0, scalar_of i I32 ((f.1).1).0))
   scalars d (scalar.Reduce reduction.Add x k) f = (((f.0).0).0, (any_vector x ((f.1).0).0, (integer (elem w x) (((f.1).0).1).0, sym (((f.1).0).1).1)))
   scalars d (scalar.Reduce reduction.Min x k) f =
@@ -100,8 +115,8 @@ module _ (w : Setting) (has : HasArrays w) where
   vectors d (vector.Select c x y k) f = (((f.0).0).0, (vector_of c Truth (f.1).0, vector_like x d ((f.1).1).0, vector_like y d (((f.1).1).1).0))
   vectors d (vector.Splat x k) f = (((f.0).0).0, scalar_like x d (f.1).0)
   vectors d (vector.Index k) f = (((f.0).0).0, (f.0).1)
-  vectors d (vector.Gather a i k q) f = (((f.0).0).0, (array_as a (elem w d) ((f.1).0).0 ((f.1).0).2, vector_of i I64 ((f.1).1).0))
-  vectors d (vector.LoadRun a i k q) f = (((f.0).0).0, (array_as a (elem w d) ((f.1).0).0 ((f.1).0).2, scalar_of i I64 ((f.1).1).0))
+  vectors d (vector.Gather a i k q) f = (((f.0).0).0, (either_as a (elem w d) ((f.1).0).0 ((f.1).0).2, vector_of i I64 ((f.1).1).0))
+  vectors d (vector.LoadRun a i k q) f = (((f.0).0).0, (array_as a (elem w d) ((f.1).0).0 ((f.1).0).1 ((f.1).0).2, scalar_of i I64 ((f.1).1).0))
   vectors d (vector.Scan o x k) f = (((f.0).0).0, (integer (elem w d) (f.0).1, vector_like x d (f.1).0))
   vectors d (vector.Exchange e x i k) f = (((f.0).0).0, (vector_like x d (f.1).0, scalar_of i I32 ((f.1).1).0))
   vectors d (vector.Shuffle x i k) f = (((f.0).0).0, (vector_like x d (f.1).0, vector_of i I32 ((f.1).1).0))
@@ -128,13 +143,13 @@ module _ (w : Setting) (has : HasArrays w) where
   thin (instr.Vector d i) t f = vectors d i f
   thin (instr.Mask d i) t f = masks d i f
   thin (instr.Divide o d x y k q) t f = quotient d.class d x y (MaskRegister k ∷ Place q ∷ []) refl f
-  thin (instr.Store a i y k q) t f = (scalar_of i I64 (f.1).0, array_as a (elem w a) (f.0).0 refl, scalar_like y a ((f.1).1).0)
-  thin (instr.Scatter a i y k q) t f = (array_as a (elem w y) (f.0).0 (sym (((f.1).1).0).1), vector_of i I64 (f.1).0, any_vector y (((f.1).1).0).0)
-  thin (instr.StoreRun a i y k q) t f = (array_as a (elem w y) (f.0).0 (sym (((f.1).1).0).1), scalar_of i I64 (f.1).0, any_vector y (((f.1).1).0).0)
+  thin (instr.Store a i y k q) t f = (scalar_of i I64 (f.1).0, array_as a (elem w a) (f.0).0 (f.0).1 refl, scalar_like y a ((f.1).1).0)
+  thin (instr.Scatter a i y k q) t f = (either_as a (elem w y) (f.0).0 (sym (((f.1).1).0).1), vector_of i I64 (f.1).0, any_vector y (((f.1).1).0).0)
+  thin (instr.StoreRun a i y k q) t f = (array_as a (elem w y) (f.0).0 (f.0).1 (sym (((f.1).1).0).1), scalar_of i I64 (f.1).0, any_vector y (((f.1).1).0).0)
   thin (instr.PackedStore d a i y k q) t f =
-      (scalar_of d I32 f.0, array_as a (elem w y) ((f.1).0).0 (sym ((((f.1).1).1).0).1), scalar_of i I64 ((f.1).1).0, any_vector y ((((f.1).1).1).0).0)
+      (scalar_of d I32 f.0, array_as a (elem w y) ((f.1).0).0 ((f.1).0).1 (sym ((((f.1).1).1).0).1), scalar_of i I64 ((f.1).1).0, any_vector y ((((f.1).1).1).0).0)
   thin (instr.PackedLoad d a i y k q) t f =
-      (scalar_of d I32 f.0, array_as a (elem w y) ((f.1).0).0 (sym ((((f.1).1).1).0).1), scalar_of i I64 ((f.1).1).0, (((((f.1).1).1).0).0).0)
+      (scalar_of d I32 f.0, array_as a (elem w y) ((f.1).0).0 ((f.1).0).1 (sym ((((f.1).1).1).0).1), scalar_of i I64 ((f.1).1).0, (((((f.1).1).1).0).0).0)
   thin (instr.Jump to) t f = t
   thin (instr.JumpIf jump.False x to) t f = (scalar_of x Truth f.0, t)
   thin (instr.JumpIf jump.True x to) t f = (scalar_of x Truth f.0, t)
@@ -144,7 +159,7 @@ module _ (w : Setting) (has : HasArrays w) where
   thin (instr.Say n) t f = tt
   thin (instr.Fail x q) t f = tt
   thin (instr.Return x) t f = f.0
-  thin (instr.Clear a k) t f = record { array = array_as a (elem w a) (f.0).0 refl; size_is = has.size_is a (f.0).0 (f.0).1; few = has.few a (f.0).0 (f.0).1 }
+  thin (instr.Clear a k) t f = opened_as a (f.0).0 (f.0).1
   thin (instr.PrintScalar x) t f = any_scalar x (f.0).0
   thin (instr.PrintVector x k) t f = any_vector x (f.0).0
   thin (instr.Call c) t f = t

@@ -1,30 +1,25 @@
 -- What accepted code says of a function whose form is covered, whoever calls it.
-use Rattle.std.proofs.Common.{◌≡◌, ℕ, zero, suc, ◌+◌, ◌-◌, ◌*◌, ◌^◌, ◌<◌, ◌≤◌, ◌⊎◌, inl, inr, List, [], ◌∷◌, length, Option, Some, None, Bool, true, false, not, ◌&&◌, ◌||◌, refl, sym, ap, ◌∙◌, subst, eq-eqb, arith}
-use Rattle.std.specs.Prelude.{slice_get, slice_index_or, nat_lt, nat_le}
+use Rattle.std.proofs.Common.{◌≡◌, ℕ, zero, suc, ◌+◌, ◌^◌, ◌<◌, ◌≤◌, ◌⊎◌, inl, inr, List, [], ◌∷◌, length, Option, Some, None, Bool, true, false, not, ◌&&◌, ◌||◌, refl, sym, ap, ◌∙◌, subst, eq-eqb, arith}
+use Rattle.std.specs.Prelude.{slice_get, slice_index_or, nat_lt}
 use Rattle.std.specs.List.{list_all, list_any}
-use Rattle.std.proofs.lemmas.Bool.{cases_lt, ltb-true, not-true}
+use Rattle.std.proofs.lemmas.Bool.{cases_lt, ltb-true}
 use Rattle.std.proofs.lemmas.Option.{slice_get_past, slice_get-get_or}
 use Rattle.std.proofs.lemmas.List.{get_or_past}
 use Rattle.std.proofs.Math.ListN.{get_or}
 use Rattle.isp_base.specs.declared.types.Elem.{Elem}
 use Rattle.isp_code.specs.Conf.{Home, Frame}
-use Rattle.isp_code.specs.Fine.{AllFine, CallsFine, IsThere}
+use Rattle.isp_code.specs.Fine.{AllFine, CallsFine}
 use Rattle.isp_code.specs.Listing.{Listing, Routine}
 use Rattle.isp_code.specs.Operands.{operands}
-use Rattle.isp_code.specs.Lines.{local_size}
-use Rattle.isp_code.specs.Registers.{is_own, is_per_instance, is_per_lane, is_local, param_elems, elem_of}
-use Rattle.isp_code.specs.declared.function.Local.{Local}
 use Rattle.isp_code.specs.declared.instr.Call.{Call}
 use Rattle.isp_code.specs.declared.instr.Instr.{Instr}
 use Rattle.isp_code.specs.declared.instr.Instr.TheVariants as instr
-use Rattle.isp_code.specs.declared.register.Class.TheVariants as class
-use Rattle.isp_code.specs.declared.register.Register.{Register}
 use Rattle.isp_verify.specs.Accepted.{IsFine}
 use Rattle.isp_verify.specs.Faults.{stays, last}
 use Rattle.isp_base.specs.Types.{gang_width}
-use Rattle.isp_wasm.specs.Places.{Setting, Place, bytes_of}
+use Rattle.isp_wasm.specs.Places.{Setting, Place}
 use Rattle.isp_wasm.specs.Lines.{HasArrays, HasTemplate}
-use Rattle.isp_wasm.specs.Module.{goes_to, is_head, heads_of, joined, text_start, all_shared, is_plain, all_plain, is_covered, numbered}
+use Rattle.isp_wasm.specs.Module.{goes_to, is_head, heads_of, joined, text_start, is_plain, all_plain, is_covered, numbered}
 use Rattle.isp_wasm.specs.Stack.{is_call, has_call, bytes_in}
 use Rattle.isp_wasm.specs.Thin.{IsHead, IsCovered, IsLast, AllThin}
 use Rattle.isp_wasm.proofs.Operands.{fine_is_thin}
@@ -111,30 +106,16 @@ module _ (w : Setting) (heads : (pc to : ℕ) (i : Instr) → slice_get w.routin
 
 module _ (code : Listing) (h : Routine) where
   -- in a call, with its locals numbered so
-  abbrev pub placed : (Place → ℕ) → Home → List Frame → (ℕ → ℕ) → (ℕ → Elem) → (ℕ → ℕ) → ℕ → Option ℕ → Setting
-  placed local home waiting begins elems before room stack =
-      record (numbered code h) { local = local; home = home; waiting = waiting; begins = begins; sizes = home.sizes; elems = elems; before = before; room = room; stack = stack }
-
--- each array lies in memory as it is declared, and those that the function opens have the elements that are said
-pub record AreStored (h : Routine) (home : Home) (elems : ℕ → Elem) : Type 0 where
-  pub stored_as : (a : Register) → IsThere h class.Array a → elems (home.named a.number) ≡ elem_of h a
-  pub named_low : (a : Register) → IsThere h class.Array a → home.named a.number < home.opened
-  pub size_is : (a : Register) → IsThere h class.Array a → is_local h a ≡ true → home.sizes (home.named a.number) ≡ local_size (slice_get h.locals (a.number - length (param_elems class.Array h.params)))
-  pub few : (a : Register) → IsThere h class.Array a → is_local h a ≡ true → local_size (slice_get h.locals (a.number - length (param_elems class.Array h.params))) * bytes_of (elem_of h a) < 2 ^ 32
+  abbrev pub placed : (Place → ℕ) → Home → List Frame → (ℕ → ℕ) → (ℕ → ℕ) → (ℕ → Elem) → (ℕ → ℕ) → ℕ → Option ℕ → Setting
+  placed local home waiting begins sizes elems before room stack =
+      record (numbered code h) { local = local; home = home; waiting = waiting; begins = begins; sizes = sizes; elems = elems; before = before; room = room; stack = stack }
 
 module _ (code : Listing) (h : Routine) (f : ℕ) (accepted : IsFine code) (found : slice_get code.routines f ≡ Some h) (plain : is_plain code h ≡ true) where
-  -- each array that it opens is one that all lanes share
-  pub shared : all_shared h.locals ≡ true
-  shared = both_first (all_shared h.locals) (nat_lt (suc (bytes_in (gang_width code.gang) h.locals)) (2 ^ 32) && (nat_lt (length h.code) (2 ^ 32) && nat_lt (length (joined code.texts)) (2 ^ 32))) plain
-
-  rooms : nat_lt (suc (bytes_in (gang_width code.gang) h.locals)) (2 ^ 32) && (nat_lt (length h.code) (2 ^ 32) && nat_lt (length (joined code.texts)) (2 ^ 32)) ≡ true
-  rooms = both_second (all_shared h.locals) (nat_lt (suc (bytes_in (gang_width code.gang) h.locals)) (2 ^ 32) && (nat_lt (length h.code) (2 ^ 32) && nat_lt (length (joined code.texts)) (2 ^ 32))) plain
-
   pub bytes_low : suc (bytes_in (gang_width code.gang) h.locals) < 2 ^ 32
-  bytes_low = ltb-true (suc (bytes_in (gang_width code.gang) h.locals)) (2 ^ 32) (both_first (nat_lt (suc (bytes_in (gang_width code.gang) h.locals)) (2 ^ 32)) (nat_lt (length h.code) (2 ^ 32) && nat_lt (length (joined code.texts)) (2 ^ 32)) rooms)
+  bytes_low = ltb-true (suc (bytes_in (gang_width code.gang) h.locals)) (2 ^ 32) (both_first (nat_lt (suc (bytes_in (gang_width code.gang) h.locals)) (2 ^ 32)) (nat_lt (length h.code) (2 ^ 32) && nat_lt (length (joined code.texts)) (2 ^ 32)) plain)
 
   sizes_fit : (nat_lt (length h.code) (2 ^ 32) && nat_lt (length (joined code.texts)) (2 ^ 32)) ≡ true
-  sizes_fit = both_second (nat_lt (suc (bytes_in (gang_width code.gang) h.locals)) (2 ^ 32)) (nat_lt (length h.code) (2 ^ 32) && nat_lt (length (joined code.texts)) (2 ^ 32)) rooms
+  sizes_fit = both_second (nat_lt (suc (bytes_in (gang_width code.gang) h.locals)) (2 ^ 32)) (nat_lt (length h.code) (2 ^ 32) && nat_lt (length (joined code.texts)) (2 ^ 32)) plain
 
   pub code_low : length h.code < 2 ^ 32
   code_low = ltb-true (length h.code) (2 ^ 32) (both_first (nat_lt (length h.code) (2 ^ 32)) (nat_lt (length (joined code.texts)) (2 ^ 32)) sizes_fit)
@@ -161,23 +142,9 @@ module _ (code : Listing) (h : Routine) (f : ℕ) (accepted : IsFine code) (foun
       by (inl lt) = lt
       by (inr le) = absurd (let gone : slice_get h.code (last h) ≡ None = slice_get_past h.code (last h) (omega (arith, le)) in let impossible : false ≡ true = ap stays (sym gone) ∙ stays_last in cc)
 
-  shared_at : (n : ℕ) → is_own (slice_get h.locals n) ≡ false
-  shared_at n = by (slice_get h.locals n) refl
-    where
-      by : (o : Option Local) → slice_get h.locals n ≡ o → is_own o ≡ false
-      by None e = refl
-      by (Some l) e = not-true (is_per_instance l.sharing) (all_at (λ l. not (is_per_instance l.sharing)) h.locals n l shared e)
-
-  pub none_own : (a : Register) → is_per_lane h a ≡ false
-  none_own a = unowned (nat_le (length (param_elems class.Array h.params)) a.number) (is_own (slice_get h.locals (a.number - length (param_elems class.Array h.params)))) (shared_at (a.number - length (param_elems class.Array h.params)))
-    where
-      unowned : (b o : Bool) → o ≡ false → (b && o) ≡ false
-      unowned true o e = e
-      unowned false o e = refl
-
-  module _ (local : Place → ℕ) (home : Home) (waiting : List Frame) (begins : ℕ → ℕ) (elems : ℕ → Elem) (before : ℕ → ℕ) (room : ℕ) (stack : Option ℕ) where
+  module _ (local : Place → ℕ) (home : Home) (waiting : List Frame) (begins sizes : ℕ → ℕ) (elems : ℕ → Elem) (before : ℕ → ℕ) (room : ℕ) (stack : Option ℕ) where
     w : Setting
-    w = placed code h local home waiting begins elems before room stack
+    w = placed code h local home waiting begins sizes elems before room stack
 
     heads_end : w.heads w.rungs ≡ length h.code
     unfolding w
@@ -187,7 +154,7 @@ module _ (code : Listing) (h : Routine) (f : ℕ) (accepted : IsFine code) (foun
     unfolding w
     head_at to is lt = let found = inside h.code (length h.code) 0 (length h.code) to is (omega arith) (omega arith) in record { low = found.low; here = found.here }
 
-    pub covered : IsCovered (placed code h local home waiting begins elems before room stack)
+    pub covered : IsCovered (placed code h local home waiting begins sizes elems before room stack)
     unfolding w
     covered =
         record {
@@ -198,14 +165,10 @@ module _ (code : Listing) (h : Routine) (f : ℕ) (accepted : IsFine code) (foun
         absurd_past : (pc : ℕ) → pc < length h.code → slice_get h.code pc ≡ None → ⊥
         absurd_past pc lt none = let some = slice_get-get_or h.code pc (instr.Jump 0) lt in let impossible : None ≡ Some (get_or h.code pc (instr.Jump 0)) = sym none ∙ some in cc
 
-    arrays : AreStored h home elems → HasArrays w
+    pub all_thin : HasArrays (placed code h local home waiting begins sizes elems before room stack) → AllThin (placed code h local home waiting begins sizes elems before room stack)
     unfolding w
-    arrays stored = record { shared = none_own; stored_as = stored.stored_as; named_low = stored.named_low; size_is = stored.size_is; few = stored.few }
-
-    pub all_thin : AreStored h home elems → AllThin (placed code h local home waiting begins elems before room stack)
-    unfolding w
-    all_thin stored pc i has =
+    all_thin arrays pc i has =
         let line = accepted.lines f h found pc i has in
-        fine_is_thin w (arrays stored) i
+        fine_is_thin w arrays i
         (template w (λ pc to i has goes lt. head_at to (target_is h.code to pc i has goes) lt) pc i has line.0 line.1)
         line.0

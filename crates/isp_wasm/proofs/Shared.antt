@@ -1,13 +1,15 @@
 -- The stores of the machine, and those that are arrays of each lane's own.
-use Rattle.std.proofs.Common.{◌≡◌, ℕ, suc, ◌+◌, ◌-◌, ◌*◌, ◌/◌, ◌%◌, ◌^◌, ◌<◌, ◌≤◌, ◌⊎◌, inl, inr, sym, ap, ◌∙◌, subst, arith}
-use Rattle.std.specs.Prelude.{nat_lt}
+use Rattle.std.proofs.Common.{◌≡◌, ℕ, suc, ◌+◌, ◌-◌, ◌*◌, ◌/◌, ◌%◌, ◌^◌, ◌<◌, ◌≤◌, ◌⊎◌, inl, inr, true, false, sym, ap, ap₂, ◌∙◌, subst, arith}
+use Rattle.std.specs.Prelude.{nat_lt, if◌then◌else◌}
 use Rattle.std.proofs.lemmas.Bool.{cases_eq, cases_lt, lt-ltb, le-ltb, cond-true, cond-false}
 use Rattle.isp_base.specs.Maps.{Lanes, put}
 use Rattle.isp_base.specs.Values.{width}
 use Rattle.isp_code.specs.Conf.{Conf}
+use Rattle.isp_code.specs.Registers.{is_per_lane}
 use Rattle.isp_wasm_meaning.specs.Meaning.{loaded}
 use Rattle.isp_wasm_meaning.proofs.Digits.{packed-same}
 use Rattle.isp_wasm.specs.Places.{Setting, bytes_of}
+use Rattle.isp_wasm.specs.Lanes.{array_register, store_at}
 use Rattle.isp_wasm.specs.Standing.{Keeps, IsBeside, IsSettled, all_of, shared_of}
 use Rattle.isp_wasm.proofs.Frames.{put_same, put_other}
 
@@ -20,6 +22,22 @@ module _ (w : Setting) where
 
   pub all_high : (c : Conf) (b : ℕ) → w.home.opened < b → all_of w c b ≡ (λ e. c.own ((b - suc w.home.opened) / 32) e ((b - suc w.home.opened) % 32))
   all_high c b lt = cond-false (nat_lt b (suc w.home.opened)) (c.arrays b) (λ e. c.own ((b - suc w.home.opened) / 32) e ((b - suc w.home.opened) % 32)) (le-ltb b (suc w.home.opened) (omega (arith, lt)))
+
+  -- array a in lane p, where all lanes share it, and where each has its own
+  pub store_shared : (a p : ℕ) → is_per_lane w.routine (array_register a) ≡ false → store_at w a p ≡ w.home.named a
+  store_shared a p e = ap (λ b. if b then suc (w.home.opened + (32 * a + p)) else w.home.named a) e
+
+  pub store_own : (a p : ℕ) → is_per_lane w.routine (array_register a) ≡ true → store_at w a p ≡ suc (w.home.opened + (32 * a + p))
+  store_own a p e = ap (λ b. if b then suc (w.home.opened + (32 * a + p)) else w.home.named a) e
+
+  pub lane_number : (a p : ℕ) → p < 32 → (suc (w.home.opened + (32 * a + p)) - suc w.home.opened ≡ 32 * a + p) × ((32 * a + p) / 32 ≡ a) × ((32 * a + p) % 32 ≡ p)
+  lane_number a p lt = ((let n = w.home.opened in let m = 32 * a + p in let same : suc (n + m) - suc n ≡ m = omega arith in same), omega (arith, lt), omega (arith, lt))
+
+  pub lane_value : (c : Conf) (a e p : ℕ) → p < 32 → all_of w c (suc (w.home.opened + (32 * a + p))) e ≡ c.own a e p
+  lane_value c a e p lt =
+      let is = lane_number a p lt in
+      ap (λ (g : Lanes). g e) (all_high c (suc (w.home.opened + (32 * a + p))) (let m = 32 * a + p in omega arith))
+      ∙ ap (λ n. c.own (n / 32) e (n % 32)) is.0 ∙ ap₂ (λ x y. c.own x e y) is.1 is.2
 
   -- a store of the machine is set
   pub all_put : (c : Conf) (b : ℕ) → b < w.home.opened → (f : Lanes) (r e : ℕ) → put (all_of w c) b f r e ≡ all_of w (record c { arrays = put c.arrays b f }) r e
@@ -34,7 +52,7 @@ module _ (w : Setting) where
       by (inr ne) (inl gt) = ap (λ (g : Lanes). g e) (put_other (all_of w c) b f r ne ∙ all_high c r gt) ∙ sym (ap (λ (g : Lanes). g e) (all_high d r gt))
 
 module _ (w : Setting) (ready : IsSettled w) where
-  none_there : (b : ℕ) → w.home.opened ≤ b → w.begins b + w.home.sizes b * bytes_of (w.elems b) ≡ w.begins b
+  pub none_there : (b : ℕ) → w.home.opened ≤ b → w.begins b + w.home.sizes b * bytes_of (w.elems b) ≡ w.begins b
   none_there b le = ap (λ n. w.begins b + n * bytes_of (w.elems b)) (ready.closed b le) ∙ (let n = bytes_of (w.elems b) in let x = w.begins b in let same : x + 0 * n ≡ x = omega arith in same)
 
   same_end : (b : ℕ) → b ≤ w.home.opened → w.begins b + w.sizes b * bytes_of (w.elems b) ≡ w.begins b + w.home.sizes b * bytes_of (w.elems b)

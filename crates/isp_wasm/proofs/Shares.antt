@@ -1,5 +1,5 @@
 -- The arrays that a function opens and that all lanes share: where each begins, and that they lie one behind the other.
-use Rattle.std.proofs.Common.{◌≡◌, ℕ, zero, suc, ◌+◌, ◌*◌, ◌<◌, ◌≤◌, List, [], ◌∷◌, length, take, Some, Bool, true, false, refl, sym, ap, ◌∙◌, subst, arith}
+use Rattle.std.proofs.Common.{◌≡◌, ℕ, zero, suc, ◌+◌, ◌*◌, ◌<◌, ◌≤◌, List, [], ◌∷◌, length, take, Some, Bool, true, false, refl, sym, ap, ap₂, ◌∙◌, subst, arith}
 use Rattle.std.specs.Prelude.{slice_get, slice_index, slice_index_or}
 use Rattle.isp_base.specs.declared.types.Elem.TheVariants.{Bool as Truth}
 use Rattle.isp_code.specs.Calls.{if_shared, shared_sizes}
@@ -7,6 +7,12 @@ use Rattle.isp_code.specs.Registers.{is_per_instance}
 use Rattle.isp_code.specs.declared.function.Local.{Local}
 use Rattle.isp_wasm.specs.Places.{bytes_of}
 use Rattle.isp_wasm.specs.Stack.{copies, local_bytes, bytes_in, if_shared_elem, shared_starts, shared_elems}
+
+pub taken_all : (ls : List Local) (n : ℕ) → length ls ≤ n → take n ls ≡ ls
+taken_all [] zero le = refl
+taken_all [] (suc n) le = refl
+taken_all (x ∷ ls) zero le = absurd (omega (arith, le))
+taken_all (x ∷ ls) (suc n) le = ap (λ z. x ∷ z) (taken_all ls n (omega (arith, le)))
 
 module _ (lanes : ℕ) where
   -- ---- array i, if all lanes share it
@@ -97,6 +103,54 @@ module _ (lanes : ℕ) where
   pub one_copy : (l : Local) → is_per_instance l.sharing ≡ false → l.size * bytes_of l.elem ≤ local_bytes lanes l
   one_copy l e = subst (λ b. l.size * bytes_of l.elem ≤ copies lanes b * (l.size * bytes_of l.elem)) (sym e) (let n = l.size * bytes_of l.elem in let le : n ≤ 1 * n = omega arith in le)
 
+  -- one lies behind all of those before it, and before all of those behind it
+  pub part_before : (ls : List Local) (i : ℕ) (l : Local) (j : ℕ) → slice_get ls i ≡ Some l → i < j → bytes_in lanes (take i ls) + local_bytes lanes l ≤ bytes_in lanes (take j ls)
+  part_before [] i l j e up = absurd cc
+  part_before (x ∷ ls) i l zero e up = absurd (omega (arith, up))
+  part_before (x ∷ ls) zero l (suc j) e up = let same : x ≡ l = cc in subst (λ z. bytes_in lanes (take zero (x ∷ ls)) + local_bytes lanes z ≤ bytes_in lanes (take (suc j) (x ∷ ls))) same (let m = bytes_in lanes (take j ls) in let n = local_bytes lanes x in let le : 0 + n ≤ n + m = omega arith in le)
+  part_before (x ∷ ls) (suc i) l (suc j) e up =
+      let le = part_before ls i l j e (omega (arith, up)) in
+      let n = local_bytes lanes x in
+      let all : n + bytes_in lanes (take i ls) + local_bytes lanes l ≤ n + bytes_in lanes (take j ls) = omega (arith, le) in all
+
+  pub part_within : (ls : List Local) (i : ℕ) (l : Local) → slice_get ls i ≡ Some l → bytes_in lanes (take i ls) + local_bytes lanes l ≤ bytes_in lanes ls
+  part_within ls i l e =
+      subst (λ zs. bytes_in lanes (take i ls) + local_bytes lanes l ≤ bytes_in lanes zs) (taken_all ls (suc (i + length ls)) (omega arith)) (part_before ls i l (suc (i + length ls)) e (omega arith))
+
+  -- which array a store is
+  pub record IsShared (t : ℕ) (ls : List Local) (k : ℕ) : Type 0 where
+    pub number : ℕ
+    pub local : Local
+    pub has : slice_get ls number ≡ Some local
+    pub shared : is_per_instance local.sharing ≡ false
+    pub start_is : start_of t ls k ≡ t + bytes_in lanes (take number ls)
+    pub end_low : end_of t ls k ≤ t + bytes_in lanes (take number ls) + local_bytes lanes local
+
+  -- the number of an array by that of its store
+  which_next : (x : Local) (ls : List Local) (b : Bool) (k : ℕ) → is_per_instance x.sharing ≡ b → k < length (if_shared b x.size (shared_sizes ls))
+      → ((j : ℕ) → j < length (shared_sizes ls) → (i : ℕ) × (l : Local) × (slice_get ls i ≡ Some l) × (is_per_instance l.sharing ≡ false) × (length (shared_sizes (take i ls)) ≡ j))
+      → (i : ℕ) × (l : Local) × (slice_get (x ∷ ls) i ≡ Some l) × (is_per_instance l.sharing ≡ false) × (length (shared_sizes (take i (x ∷ ls))) ≡ k)
+  which_next x ls true k e lt more =
+      let h = more k lt in (suc h.0, h.1, h.2, h.3, ap (λ b. length (if_shared b x.size (shared_sizes (take h.0 ls)))) e ∙ h.4)
+  which_next x ls false zero e lt more = (zero, x, refl, e, refl)
+  which_next x ls false (suc k) e lt more =
+      let h = more k (omega (arith, lt)) in (suc h.0, h.1, h.2, h.3, ap (λ b. length (if_shared b x.size (shared_sizes (take h.0 ls)))) e ∙ ap suc h.4)
+
+  which_local : (ls : List Local) (k : ℕ) → k < length (shared_sizes ls) → (i : ℕ) × (l : Local) × (slice_get ls i ≡ Some l) × (is_per_instance l.sharing ≡ false) × (length (shared_sizes (take i ls)) ≡ k)
+  which_local [] k lt = absurd (omega (arith, lt))
+  which_local (x ∷ ls) k lt = which_next x ls (is_per_instance x.sharing) k refl lt (λ j l. which_local ls j l)
+
+  pub is_shared : (t : ℕ) (ls : List Local) (k : ℕ) → k < length (shared_sizes ls) → IsShared t ls k
+  is_shared t ls k lt =
+      let h = which_local ls k lt in
+      let at = is_at t ls h.0 h.1 h.2 h.3 in
+      let start : start_of t ls k ≡ t + bytes_in lanes (take h.0 ls) = ap (start_of t ls) (sym h.4) ∙ at.start_is in
+      let size : slice_index (shared_sizes ls) k ≡ (h.1).size = ap (slice_index (shared_sizes ls)) (sym h.4) ∙ at.size_is in
+      let elem : slice_index_or (shared_elems ls) k Truth ≡ (h.1).elem = ap (λ n. slice_index_or (shared_elems ls) n Truth) (sym h.4) ∙ at.elem_is in
+      let end : end_of t ls k ≡ t + bytes_in lanes (take h.0 ls) + (h.1).size * bytes_of (h.1).elem = ap₂ (λ x y. x + y) start (ap₂ (λ x y. x * bytes_of y) size elem) in
+      let le = one_copy h.1 h.3 in
+      record { number = h.0; local = h.1; has = h.2; shared = h.3; start_is = start; end_low = subst (λ n. n ≤ t + bytes_in lanes (take h.0 ls) + local_bytes lanes h.1) (sym end) (omega (arith, le)) }
+
   -- ---- how many there are
 
   long_next : (t : ℕ) (x : Local) (ls : List Local) (b : Bool) → ((u : ℕ) → length (shared_starts lanes u ls) ≡ length (shared_sizes ls)) → length (starts_if b t x ls) ≡ length (if_shared b x.size (shared_sizes ls))
@@ -106,9 +160,3 @@ module _ (lanes : ℕ) where
   pub starts_long : (t : ℕ) (ls : List Local) → length (shared_starts lanes t ls) ≡ length (shared_sizes ls)
   starts_long t [] = refl
   starts_long t (x ∷ ls) = long_next t x ls (is_per_instance x.sharing) (λ u. starts_long u ls)
-
-pub taken_all : (ls : List Local) (n : ℕ) → length ls ≤ n → take n ls ≡ ls
-taken_all [] zero le = refl
-taken_all [] (suc n) le = refl
-taken_all (x ∷ ls) zero le = absurd (omega (arith, le))
-taken_all (x ∷ ls) (suc n) le = ap (λ z. x ∷ z) (taken_all ls n (omega (arith, le)))

@@ -13,6 +13,7 @@ use Rattle.isp_base.specs.Values.{wrap}
 use Rattle.isp_base.specs.declared.operators.UnaryOp.{UnaryOp}
 use Rattle.isp_base.specs.declared.operators.UnaryOp.TheVariants as unary
 use Rattle.isp_code.specs.Fine.{AllFine, CallFine, CallsFine, IsThere, IsWanted, IsGiven}
+use Rattle.isp_code.specs.Registers.{is_per_lane}
 use Rattle.isp_code.specs.declared.instr.Call.{Call}
 use Rattle.isp_code.specs.Operands.{operands, scalar_operands, vector_operands, mask_operands, divided, unary_want, result_operands, any_register}
 use Rattle.isp_code.specs.declared.function.Returns.{Returns}
@@ -50,13 +51,13 @@ use Rattle.isp_wasm_meaning.specs.Module.{ValueType, V128, Function}
 use Rattle.isp_wasm_meaning.specs.Module as valued
 use Rattle.isp_wasm_meaning.specs.Syntax as wasm
 use Rattle.isp_wasm_meaning.specs.Syntax.{Size, Shape, I8x16, I16x8, I32x4, I64x2, Add, Sub, Mul, And, Or, Xor, Eq, Ne, LtU, LtS, Eqz, Ctz, Wrap, ExtendU, Splat, Extract, Bitmask, Of, BitsOf, CompareLanes, Bits, Replace}
-use Rattle.isp_wasm_meaning.specs.Syntax.{Expr, Const32, Const64, Const128, Local, One, Two, Select, Code, Skip, Then, Set, Load, Store, Divide, If, Br, Return, SetGlobal}
+use Rattle.isp_wasm_meaning.specs.Syntax.{Expr, Const32, Const64, Const128, Local, One, Two, Select, Code, Skip, Then, Set, Load, Store, Divide, If, Br, Return, SetGlobal, Clear}
 use Rattle.isp_wasm_meaning.specs.Valid.{is_type, sized, held, has_type, of_type, global_type, changes, is_label, gives, is_valid}
 use Rattle.isp_wasm.specs.Places.{Setting, gang, parts, parts_for, elem, shape, shape_of, size_of, bytes_of, Counter, Scalar as ScalarAt, Vector as VectorAt, Mask as MaskAt, Base, Count, Fresh, Spare, Depth, Top}
 use Rattle.isp_wasm.specs.Words.{constant, below, whole_expr, plain_expr, unary_expr, compare_expr, convert_expr}
 use Rattle.isp_wasm.specs.Rows.{as_cell, lane_at, widened, by_lane, ones, compare_row, present}
 use Rattle.isp_wasm.specs.Templates.{each, scalar_local, vector_local, mask_local, set_lanes, set_mask, is_member, lanes_as_bits, lowest_of, lane_or, lane_or_zero, picked, first_value, folded, modulo, plus, exchange_expr, of_both, scan_expr, reduce_expr, scalar_code, vector_of, vector_code, mask_under}
-use Rattle.isp_wasm.specs.Templates.{best_step, best_of, fault, address_at, is_there, spare, lane_loop, set_lane, lane_loads, lane_checks, lane_stores, own_index, run_index, rank_expr, packed_index, set_count, checked}
+use Rattle.isp_wasm.specs.Templates.{best_step, best_of, fault, element_from, address_at, opened_bytes, base_if, base_at, lane_address, clear_if, is_there, spare, lane_loop, set_lane, lane_loads, lane_checks, lane_stores, own_index, run_index, rank_expr, packed_index, set_count, checked}
 use Rattle.isp_wasm.specs.Templates.{mask_bits, mask_of, numbers_part, range_count, quotients, code_of, magnitude_expr, division_of, turns_sign, quotient_to, jump_to, return_code, call_code, print_value, print_byte, print_comma, print_item, print_list}
 use Rattle.isp_wasm.proofs.Typed.{both, same, one, two, select, bitselect, number, unary_typed, compare_typed, plain_typed, whole_typed, below_typed, convert_typed, zero_typed, negated, magnitude_typed, low, lane_typed, cell_typed, source, widened_typed, part_low, unary_row_typed, compare_row_typed, plain_row_typed, present_typed, narrowed_typed, by_lane_typed}
 
@@ -265,16 +266,33 @@ module _ (w : Setting) (local : ℕ → Option ValueType) (functions : List Func
   pub fault_valid : (d kind q : ℕ) (p : Expr) → T p valued.I32 → C d (fault w kind q p)
   fault_valid d kind q p h = h
 
-  pub address_typed : (a : Register) → IsA a → (x : Expr) → T x valued.I64 → T (address_at w a x) valued.I32
-  address_typed a is x h =
-      two local (Of wasm.I32 Add) (Local (w.local (Base a.number))) (Two (Of wasm.I32 Mul) (One Wrap x) (Const32 (bytes_of (elem w a)))) refl (local_typed (w.local (Base a.number)) valued.I32 (typed.bases a is))
+  pub element_typed : (from : Expr) → T from valued.I32 → (a : Register) (x : Expr) → T x valued.I64 → T (element_from w from a x) valued.I32
+  element_typed from is a x h =
+      two local (Of wasm.I32 Add) from (Two (Of wasm.I32 Mul) (One Wrap x) (Const32 (bytes_of (elem w a)))) refl is
       (two local (Of wasm.I32 Mul) (One Wrap x) (Const32 (bytes_of (elem w a))) refl (one local Wrap x refl h) refl)
+
+  pub address_typed : (a : Register) → IsA a → (x : Expr) → T x valued.I64 → T (address_at w a x) valued.I32
+  address_typed a is x h = element_typed (Local (w.local (Base a.number))) (local_typed (w.local (Base a.number)) valued.I32 (typed.bases a is)) a x h
+
+  pub base_typed : (b : Bool) (a : Register) → IsA a → (p : ℕ) → T (base_if w b a p) valued.I32
+  base_typed true a is p =
+      two local (Of wasm.I32 Add) (Local (w.local (Base a.number))) (Const32 (p * opened_bytes w a)) refl (local_typed (w.local (Base a.number)) valued.I32 (typed.bases a is)) refl
+  base_typed false a is p = local_typed (w.local (Base a.number)) valued.I32 (typed.bases a is)
+
+  pub lane_address_typed : (a : Register) → IsA a → (p : ℕ) (x : Expr) → T x valued.I64 → T (lane_address w a p x) valued.I32
+  lane_address_typed a is p x h = element_typed (base_at w a p) (base_typed (is_per_lane w.routine a) a is p) a x h
 
   pub there_typed : (a : Register) → IsA a → (x : Expr) → T x valued.I64 → T (is_there w a x) valued.I32
   there_typed a is x h = two local (wasm.Compare wasm.I64 LtU) x (Local (w.local (Count a.number))) refl h (local_typed (w.local (Count a.number)) valued.I64 (typed.counts a is))
 
   pub lane_loop_valid : (d : ℕ) (k : Register) (body : ℕ → Code) → IsM k → ((p : ℕ) → p < gang w → C (suc d) (body p)) → C d (lane_loop w k body)
   lane_loop_valid d k body ks h = each_valid d (gang w) (λ p. If (is_member w k p) (body p) Skip) (λ p q. if_valid d (is_member w k p) (body p) Skip (member_typed k ks p q) (h p q) refl)
+
+  pub clear_valid : (d : ℕ) (b : Bool) (a k : Register) → IsA a → IsM k → C d (clear_if w b a k)
+  clear_valid d false a k is ks = both (has_type local (Local (w.local (Base a.number))) valued.I32) true (local_typed (w.local (Base a.number)) valued.I32 (typed.bases a is)) refl
+  clear_valid d true a k is ks =
+      lane_loop_valid d k (λ p. Clear (base_at w a p) (Const32 (opened_bytes w a))) ks
+      (λ p l. both (has_type local (base_at w a p) valued.I32) true (base_typed (is_per_lane w.routine a) a is p) refl)
 
   pub set_lane_valid : (d : ℕ) (x : Register) → IsV x → (p : ℕ) → p < gang w → (e : Expr) → V e (elem w x) → C d (set_lane w x p e)
   set_lane_valid d x xs p q e h =
@@ -285,10 +303,10 @@ module _ (w : Setting) (local : ℕ → Option ValueType) (functions : List Func
 
   pub loads_valid : (d : ℕ) (x a : Register) (index : ℕ → Expr) (k : Register) (q : ℕ) → IsV x → IsA a → elem w a ≡ elem w x → IsM k → ((p : ℕ) → p < gang w → T (index p) valued.I64) → C d (lane_loads w x a index k q)
   loads_valid d x a index k q xs as' same ks h =
-      lane_loop_valid d k (λ p. If (is_there w a (index p)) (Then (Load (bytes_of (elem w a)) (spare w (elem w a)) (address_at w a (index p)) 0) (set_lane w x p (Local (spare w (elem w a))))) (fault w 1 q (Const32 p))) ks
-      (λ p l. if_valid (suc d) (is_there w a (index p)) (Then (Load (bytes_of (elem w a)) (spare w (elem w a)) (address_at w a (index p)) 0) (set_lane w x p (Local (spare w (elem w a))))) (fault w 1 q (Const32 p)) (there_typed a as' (index p) (h p l))
-      (then_valid (suc (suc d)) (Load (bytes_of (elem w a)) (spare w (elem w a)) (address_at w a (index p)) 0) (set_lane w x p (Local (spare w (elem w a))))
-      (load_valid (suc (suc d)) (elem w a) (spare w (elem w a)) (address_at w a (index p)) (typed.spares (size_of (elem w a))) (address_typed a as' (index p) (h p l)))
+      lane_loop_valid d k (λ p. If (is_there w a (index p)) (Then (Load (bytes_of (elem w a)) (spare w (elem w a)) (lane_address w a p (index p)) 0) (set_lane w x p (Local (spare w (elem w a))))) (fault w 1 q (Const32 p))) ks
+      (λ p l. if_valid (suc d) (is_there w a (index p)) (Then (Load (bytes_of (elem w a)) (spare w (elem w a)) (lane_address w a p (index p)) 0) (set_lane w x p (Local (spare w (elem w a))))) (fault w 1 q (Const32 p)) (there_typed a as' (index p) (h p l))
+      (then_valid (suc (suc d)) (Load (bytes_of (elem w a)) (spare w (elem w a)) (lane_address w a p (index p)) 0) (set_lane w x p (Local (spare w (elem w a))))
+      (load_valid (suc (suc d)) (elem w a) (spare w (elem w a)) (lane_address w a p (index p)) (typed.spares (size_of (elem w a))) (lane_address_typed a as' p (index p) (h p l)))
       (set_lane_valid (suc (suc d)) x xs p l (Local (spare w (elem w a))) (subst (V (Local (spare w (elem w a)))) same (local_typed (spare w (elem w a)) (sized (size_of (elem w a))) (typed.spares (size_of (elem w a)))))))
       refl)
 
@@ -298,8 +316,8 @@ module _ (w : Setting) (local : ℕ → Option ValueType) (functions : List Func
 
   pub stores_valid : (d : ℕ) (a : Register) (index : ℕ → Expr) (y k : Register) → IsA a → IsV y → elem w y ≡ elem w a → IsM k → ((p : ℕ) → p < gang w → T (index p) valued.I64) → C d (lane_stores w a index y k)
   stores_valid d a index y k as' ys same ks h =
-      lane_loop_valid d k (λ p. Store (bytes_of (elem w a)) (address_at w a (index p)) 0 (lane_at (elem w a) (vector_local w y) p)) ks
-      (λ p l. store_valid (suc d) (elem w a) (address_at w a (index p)) (lane_at (elem w a) (vector_local w y) p) (address_typed a as' (index p) (h p l)) (lane_of y ys (elem w a) same p l))
+      lane_loop_valid d k (λ p. Store (bytes_of (elem w a)) (lane_address w a p (index p)) 0 (lane_at (elem w a) (vector_local w y) p)) ks
+      (λ p l. store_valid (suc d) (elem w a) (lane_address w a p (index p)) (lane_at (elem w a) (vector_local w y) p) (lane_address_typed a as' p (index p) (h p l)) (lane_of y ys (elem w a) same p l))
 
   pub own_typed : (i : Register) → IsV i → elem w i ≡ I64 → (p : ℕ) → p < gang w → T (own_index w i p) valued.I64
   own_typed i is same p q = lane_of i is I64 same p q
@@ -722,8 +740,7 @@ module _ (w : Setting) (local : ℕ → Option ValueType) (functions : List Func
   line_valid g n k h (instr.Say t) called f fits = refl
   line_valid g n k h (instr.Fail x q) called f fits = if_valid n (lanes_as_bits w x) (fault w 2 q (lowest_of w x)) Skip (bits_typed x f.0) (lowest_typed x f.0) refl
   line_valid g n k h (instr.Return x) called f fits = gives_valid w.routine.returns x g f.0 n
-  line_valid g n k h (instr.Clear a m) called f fits =
-      both (has_type local (Local (w.local (Base a.number))) valued.I32) true (local_typed (w.local (Base a.number)) valued.I32 (typed.bases a (f.0).0)) refl
+  line_valid g n k h (instr.Clear a m) called f fits = clear_valid n (is_per_lane w.routine a) a m (f.0).0 (f.1).0
   line_valid g n k h (instr.PrintScalar x) called f fits = print_valid n (elem w x) (scalar_local w x) (scalar_typed x (f.0).0 (elem w x) refl)
   line_valid g n k h (instr.PrintVector x m) called f fits = list_valid n x m (f.0).0 (f.1).0
   line_valid g n k h (instr.Call c) called f fits = called c refl fits (mask_of_call c c.result f)

@@ -19,6 +19,7 @@ use Rattle.isp_verify.specs.Faults.{gives_vector}
 use Rattle.isp_wasm_meaning.specs.Syntax.{I8x16, Code, Skip, Then, Set, Const128, GetGlobal}
 use Rattle.isp_wasm_meaning.specs.Meaning.{Report, State, Result, Returned, Trapped, OutOfFuel, called, loaded}
 use Rattle.isp_wasm.specs.Places.{Setting, Counter, Scalar, Vector, Mask, Base, Count, Depth, Top, elem, gang, parts, bytes_of}
+use Rattle.isp_wasm.specs.Lanes.{store_at}
 use Rattle.isp_wasm.specs.Templates.{each, mask_part, routine_code}
 use Rattle.isp_wasm.specs.Standing.{Keeps, all_of, IsBeside, IsFull, IsSettled, report_of, scalar_register}
 use Rattle.isp_wasm.specs.Stack.{none_open, uses_stack, bytes_in, bottom, opened_memory}
@@ -58,10 +59,10 @@ module _ (w : Setting) where
     pub fits : (r : ℕ) → slice_index (values xs) r < 2 ^ width (elem w (scalar_register r))
     pub vectors_are : (r j : ℕ) → slice_index arguments (w.local (Vector r j)) ≡ 0
     pub masks_are : (r j : ℕ) → slice_index arguments (w.local (Mask r j)) ≡ 0
-    pub bases : (a : ℕ) → IsPassed a → slice_index arguments (w.local (Base a)) ≡ w.begins (w.home.named a)
-    pub counts : (a : ℕ) → IsPassed a → slice_index arguments (w.local (Count a)) ≡ w.sizes (w.home.named a)
-    pub own_bases : (i : ℕ) → i < length w.routine.locals → w.begins (w.home.named (passed w.routine + i)) ≡ bottom w + bytes_in (gang w) (take i w.routine.locals)
-    pub own_counts : (i : ℕ) → i < length w.routine.locals → w.sizes (w.home.named (passed w.routine + i)) ≡ local_size (slice_get w.routine.locals i)
+    pub bases : (a : ℕ) → IsPassed a → slice_index arguments (w.local (Base a)) ≡ w.begins (store_at w a 0)
+    pub counts : (a : ℕ) → IsPassed a → slice_index arguments (w.local (Count a)) ≡ w.sizes (store_at w a 0)
+    pub own_bases : (i : ℕ) → i < length w.routine.locals → w.begins (store_at w (passed w.routine + i) 0) ≡ bottom w + bytes_in (gang w) (take i w.routine.locals)
+    pub own_counts : (i : ℕ) → i < length w.routine.locals → w.sizes (store_at w (passed w.routine + i) 0) ≡ local_size (slice_get w.routine.locals i)
     pub depth_is : slice_index arguments (w.local Depth) ≡ 0
     pub top_zero : slice_index arguments (w.local Top) ≡ 0
     pub stack_is : w.stack ≡ stack_in w.routine s

@@ -21,6 +21,7 @@ use Rattle.isp_wasm_meaning.specs.Module.{HasMemory, code_in}
 use Rattle.isp_wasm_meaning.specs.Valid.{is_valid_function}
 use Rattle.isp_wasm.specs.Places.{Setting, bytes_of}
 use Rattle.isp_wasm.specs.Entry.{stack_in, SameOutcomes}
+use Rattle.isp_wasm.specs.Lanes.{with_lanes, own_start, own_size, own_elem}
 use Rattle.isp_wasm.specs.Stack.{uses_stack, open_bytes, start, shared_starts, shared_elems, with_starts, with_elems}
 use Rattle.isp_wasm.specs.Module.{is_covered, numbered, module_of}
 
@@ -62,9 +63,14 @@ module _ (code : Listing) (xs : List Argument) (at : List ℕ) where
   in_call f h s =
       record (numbered code h) {
         home = (first_conf code f h xs).home;
-        begins = with_starts (length (rows xs)) (slice_index at) (shared_starts (gang_width code.gang) (start (stack_in h s)) h.locals);
-        elems = with_elems (length (rows xs)) (row_elem (rows xs)) (shared_elems h.locals);
-        sizes = (first_conf code f h xs).home.sizes;
+        begins =
+            with_lanes (first_conf code f h xs).home.opened
+            (with_starts (length (rows xs)) (slice_index at) (shared_starts (gang_width code.gang) (start (stack_in h s)) h.locals))
+            (own_start (gang_width code.gang) (start (stack_in h s)) h);
+        elems =
+            with_lanes (first_conf code f h xs).home.opened (with_elems (length (rows xs)) (row_elem (rows xs)) (shared_elems h.locals))
+            (own_elem (gang_width code.gang) h);
+        sizes = with_lanes (first_conf code f h xs).home.opened (first_conf code f h xs).home.sizes (own_size (gang_width code.gang) h);
         before = s.memory;
         room = s.size;
         stack = stack_in h s;

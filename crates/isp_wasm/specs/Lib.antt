@@ -1,5 +1,6 @@
 pub mod Places
 pub mod Stack
+pub mod Lanes
 pub mod Words
 pub mod Rows
 pub mod Templates

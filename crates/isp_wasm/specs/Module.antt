@@ -5,9 +5,8 @@ use Rattle.isp_base.specs.Types.{gang_width}
 use Rattle.isp_base.specs.declared.types.Elem.{Elem}
 use Rattle.isp_base.specs.declared.types.Elem.TheVariants.{Bool as Truth}
 use Rattle.isp_code.specs.Listing.{Listing, Routine}
-use Rattle.isp_code.specs.Registers.{elem_of, is_per_instance}
+use Rattle.isp_code.specs.Registers.{elem_of}
 use Rattle.isp_code.specs.Entries.{result_of}
-use Rattle.isp_code.specs.declared.function.Local.{Local}
 use Rattle.isp_code.specs.declared.function.Returns.{Returns}
 use Rattle.isp_code.specs.declared.function.Returns.TheVariants.{Nothing, Scalar as GivesScalar, Vector as GivesVector}
 use Rattle.isp_code.specs.declared.instr.Instr.{Instr}
@@ -53,15 +52,10 @@ text_start (x ∷ xs) (suc t) = length x + text_start xs t
 
 -- ---- what is covered
 
--- no array of which each lane has its own
-abbrev pub all_shared : List Local → Bool
-all_shared = list_all (λ l. not (is_per_instance l.sharing))
-
--- a function; numbers of instructions, of bytes of text and of those of the arrays that it opens have 32 bits
+-- a function whose numbers have 32 bits: of instructions, of bytes of text and of those of the arrays that it opens
 abbrev pub is_plain : Listing → Routine → Bool
 is_plain code h =
-    all_shared h.locals
-    && (nat_lt (suc (bytes_in (gang_width code.gang) h.locals)) (2 ^ 32) && (nat_lt (length h.code) (2 ^ 32) && nat_lt (length (joined code.texts)) (2 ^ 32)))
+    nat_lt (suc (bytes_in (gang_width code.gang) h.locals)) (2 ^ 32) && (nat_lt (length h.code) (2 ^ 32) && nat_lt (length (joined code.texts)) (2 ^ 32))
 
 abbrev pub all_plain : Listing → Bool
 all_plain code = list_all (is_plain code) code.routines

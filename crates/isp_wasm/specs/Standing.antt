@@ -19,6 +19,7 @@ use Rattle.isp_wasm_meaning.specs.Syntax.{I8x16}
 use Rattle.isp_wasm_meaning.specs.Meaning.{Report, State, Result, Returned, Trapped, lane, flags, count, loaded, bytes}
 use Rattle.isp_wasm_meaning.specs.Ladder.{Machine}
 use Rattle.isp_wasm.specs.Places.{Setting, Place, Scalar, Vector, Mask, Base, Count, Depth, Top, elem, shape, gang, text, bytes_of}
+use Rattle.isp_wasm.specs.Lanes.{store_at}
 use Rattle.isp_wasm.specs.Rows.{cell}
 use Rattle.isp_wasm.specs.Stack.{IsBelow, open_bytes, top, floor}
 
@@ -30,7 +31,7 @@ vector_register r = record { class = class.Vector; number = r }
 
 module _ (w : Setting) where
   -- The locals: a scalar is its bits; a vector's lanes in the gang are its lanes; a mask's lanes are all ones or zeros, also
-  -- past the gang; where each array begins, and its number of elements; how many calls wait; and
+  -- past the gang; where each array begins, in lane 0 where each lane has its own, and its number of elements; how many calls wait; and
   -- where the next array lies.
   pub record Holds (scalars : ℕ → ℕ) (vectors : ℕ → Lanes) (masks : ℕ → Sets.Mask) (l : ℕ → ℕ) : Type 0 where
     pub scalars_are : (r : ℕ) → l (w.local (Scalar r)) ≡ scalars r
@@ -40,8 +41,8 @@ module _ (w : Setting) where
     pub masks_are : (r j k : ℕ) → k < 16 → lane I8x16 k (l (w.local (Mask r j))) ≡ flags 8 (masks r (j * 16 + k))
     pub fits : (r : ℕ) → scalars r < 2 ^ width (elem w (scalar_register r))
     pub members : (r p : ℕ) → masks r p ≡ true → p < gang w
-    pub bases : (a : ℕ) → l (w.local (Base a)) ≡ w.begins (w.home.named a)
-    pub counts : (a : ℕ) → l (w.local (Count a)) ≡ w.sizes (w.home.named a)
+    pub bases : (a : ℕ) → l (w.local (Base a)) ≡ w.begins (store_at w a 0)
+    pub counts : (a : ℕ) → l (w.local (Count a)) ≡ w.sizes (store_at w a 0)
     pub depth : l (w.local Depth) ≡ length w.waiting
     pub top_is : l (w.local Top) ≡ top w
 

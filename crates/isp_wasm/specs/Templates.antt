@@ -1,5 +1,5 @@
 -- The WebAssembly of each instruction.
-use Rattle.std.specs.Prelude.{ℕ, List, [], ◌∷◌, ◌++◌, length, zero, suc, ◌+◌, ◌-◌, ◌*◌, ◌/◌, ◌%◌, ◌^◌, Option, Some, None, if◌then◌else◌, slice_get, nat_lt}
+use Rattle.std.specs.Prelude.{ℕ, List, [], ◌∷◌, ◌++◌, length, zero, suc, ◌+◌, ◌-◌, ◌*◌, ◌/◌, ◌%◌, ◌^◌, Option, Some, None, Bool, true, false, if◌then◌else◌, slice_get, nat_lt}
 use Rattle.isp_base.specs.Depths.{most_calls}
 use Rattle.isp_base.specs.Ranks.{widened as sum_type}
 use Rattle.isp_base.specs.Sets as Sets
@@ -9,7 +9,7 @@ use Rattle.isp_base.specs.declared.types.Elem.{Elem}
 use Rattle.isp_base.specs.declared.types.Elem.TheVariants.{Bool as Truth, I8, I16, I32, I64, U64}
 use Rattle.isp_code.specs.Calls.{place_at}
 use Rattle.isp_code.specs.Lines.{local_size}
-use Rattle.isp_code.specs.Registers.{passed}
+use Rattle.isp_code.specs.Registers.{passed, is_per_lane}
 use Rattle.isp_code.specs.declared.function.Local.{Local as Opened}
 use Rattle.isp_code.specs.declared.instr.Call.{Call}
 use Rattle.isp_code.specs.declared.instr.Division.{Division}
@@ -194,9 +194,31 @@ module _ (w : Setting) where
 
   -- ---- memory
 
-  -- where an element of an array begins, and whether there is one
+  -- the element of an index, where an array begins there
+  abbrev pub element_from : Expr → Register → Expr → Expr
+  element_from base a x = Two (Of wasm.I32 Add) base (Two (Of wasm.I32 Mul) (One Wrap x) (Const32 (bytes_of (elem w a))))
+
+  -- where an element of an array begins
   abbrev pub address_at : Register → Expr → Expr
-  address_at a x = Two (Of wasm.I32 Add) (Local (w.local (Base a.number))) (Two (Of wasm.I32 Mul) (One Wrap x) (Const32 (bytes_of (elem w a))))
+  address_at a x = element_from (Local (w.local (Base a.number))) a x
+
+  -- the bytes of an array that the function opens, or of one lane's own
+  abbrev pub opened_bytes : Register → ℕ
+  opened_bytes a = local_size (slice_get w.routine.locals (a.number - passed w.routine)) * bytes_of (elem w a)
+
+  -- where an array begins, as a lane finds it: where each lane has its own, behind those of lower lanes
+  abbrev pub base_if : Bool → Register → ℕ → Expr
+  base_if true a p = Two (Of wasm.I32 Add) (Local (w.local (Base a.number))) (Const32 (p * opened_bytes a))
+  base_if false a p = Local (w.local (Base a.number))
+
+  abbrev pub base_at : Register → ℕ → Expr
+  base_at a p = base_if (is_per_lane w.routine a) a p
+
+  -- where an element begins, as a lane finds it
+  abbrev pub lane_address : Register → ℕ → Expr → Expr
+  lane_address a p x = element_from (base_at a p) a x
+
+  -- whether there is one
 
   abbrev pub is_there : Register → Expr → Expr
   is_there a x = Two (wasm.Compare wasm.I64 LtU) x (Local (w.local (Count a.number)))
@@ -217,7 +239,7 @@ module _ (w : Setting) where
   abbrev pub lane_loads : Register → Register → (ℕ → Expr) → Register → ℕ → Code
   lane_loads d a index k q =
       lane_loop k
-      (λ p. If (is_there a (index p)) (Then (Load (bytes_of (elem w a)) (spare (elem w a)) (address_at a (index p)) 0)
+      (λ p. If (is_there a (index p)) (Then (Load (bytes_of (elem w a)) (spare (elem w a)) (lane_address a p (index p)) 0)
       (set_lane d p (Local (spare (elem w a))))) (fault 1 q (Const32 p)))
 
   -- first all lanes are checked, then they are stored, the lowest first
@@ -225,7 +247,7 @@ module _ (w : Setting) where
   lane_checks a index k q = lane_loop k (λ p. If (is_there a (index p)) Skip (fault 1 q (Const32 p)))
 
   abbrev pub lane_stores : Register → (ℕ → Expr) → Register → Register → Code
-  lane_stores a index y k = lane_loop k (λ p. Store (bytes_of (elem w a)) (address_at a (index p)) 0 (lane_at (elem w a) (vector_local y) p))
+  lane_stores a index y k = lane_loop k (λ p. Store (bytes_of (elem w a)) (lane_address a p (index p)) 0 (lane_at (elem w a) (vector_local y) p))
 
   -- the index of a lane: its own, that of a run of elements, and that of those in the order of a mask's lanes
   abbrev pub own_index : Register → ℕ → Expr
@@ -243,6 +265,11 @@ module _ (w : Setting) where
 
   abbrev pub set_count : Register → Register → Code
   set_count d k = Set (w.local (Scalar d.number)) (One Wrap (rank_expr k (gang w)))
+
+  -- an array that all lanes share is zeroed whole, the lanes' own in a mask
+  abbrev pub clear_if : Bool → Register → Register → Code
+  clear_if true a k = lane_loop k (λ p. Clear (base_at a p) (Const32 (opened_bytes a)))
+  clear_if false a k = Clear (Local (w.local (Base a.number))) (Const32 (opened_bytes a))
 
   -- an index past an array traps
   abbrev pub checked : Register → Register → Register → ℕ → Code
@@ -467,7 +494,7 @@ module _ (w : Setting) where
   code_of depth (instr.Fail x q) = If (lanes_as_bits x) (fault 2 q (lowest_of x)) Skip
   code_of depth (instr.Return None) = Return None
   code_of depth (instr.Return (Some x)) = return_code x.class x
-  code_of depth (instr.Clear a k) = Clear (Local (w.local (Base a.number))) (Const32 (local_size (slice_get w.routine.locals (a.number - passed w.routine)) * bytes_of (elem w a)))
+  code_of depth (instr.Clear a k) = clear_if (is_per_lane w.routine a) a k
 
   abbrev pub code_at : ℕ → Option Instr → Code
   code_at depth None = Return None

@@ -1,5 +1,5 @@
 -- Which code is covered: the forms of instructions that are translated, with what the verifier says of their operands.
-use Rattle.std.specs.Prelude.{◌≡◌, ℕ, suc, ◌+◌, ◌-◌, ◌*◌, ◌^◌, ◌<◌, Option, Some, None, false, slice_get}
+use Rattle.std.specs.Prelude.{◌≡◌, ◌⊎◌, ℕ, suc, ◌+◌, ◌-◌, ◌*◌, ◌^◌, ◌<◌, Option, Some, None, true, false, slice_get}
 use Rattle.isp_base.specs.declared.operators.UnaryOp.{UnaryOp}
 use Rattle.isp_base.specs.declared.operators.UnaryOp.TheVariants as unary
 use Rattle.isp_base.specs.declared.types.Elem.{Elem}
@@ -22,7 +22,8 @@ use Rattle.isp_code.specs.declared.instr.VectorInstr.TheVariants as vector
 use Rattle.isp_code.specs.declared.register.Class.{Class}
 use Rattle.isp_code.specs.declared.register.Class.TheVariants as class
 use Rattle.isp_code.specs.declared.register.Register.{Register}
-use Rattle.isp_wasm.specs.Places.{Setting, elem, bytes_of}
+use Rattle.isp_wasm.specs.Places.{Setting, gang, elem, bytes_of}
+use Rattle.isp_wasm.specs.Lanes.{store_at}
 
 -- not a bool
 abbrev pub IsInteger : Elem → Type 0
@@ -51,7 +52,20 @@ module _ (w : Setting) where
     pub stored_as : w.elems (w.home.named a.number) ≡ t
     pub low : w.home.named a.number < w.home.opened
 
-  -- one that the function opens
+  -- an array of which each lane has its own, one behind the other
+  pub record IsOwn (a : Register) (t : Elem) : Type 0 where
+    pub own : is_per_lane w.routine a ≡ true
+    pub elem_is : elem w a ≡ t
+    pub stored_as : (p : ℕ) → p < gang w → w.elems (store_at w a.number p) ≡ t
+    pub size_is : (p : ℕ) → p < gang w → w.sizes (store_at w a.number p) ≡ local_size (slice_get w.routine.locals (a.number - passed w.routine))
+    pub start_is : (p : ℕ) → p < gang w
+        → w.begins (store_at w a.number p) ≡ w.begins (store_at w a.number 0) + p * (local_size (slice_get w.routine.locals (a.number - passed w.routine)) * bytes_of (elem w a))
+    pub few : local_size (slice_get w.routine.locals (a.number - passed w.routine)) * bytes_of (elem w a) < 2 ^ 32
+
+  abbrev pub IsEither : Register → Elem → Type 0
+  IsEither a t = IsArray a t ⊎ IsOwn a t
+
+  -- one that all lanes share and the function opens
   pub record IsOpened (a : Register) : Type 0 where
     pub array : IsArray a (elem w a)
     pub size_is : w.sizes (w.home.named a.number) ≡ local_size (slice_get w.routine.locals (a.number - passed w.routine))
@@ -93,7 +107,7 @@ module _ (w : Setting) where
   IsThinVector t (vector.Select c x y k) = IsVector c Truth × IsVector x t × IsVector y t
   IsThinVector t (vector.Splat x k) = IsScalar x t
   IsThinVector t (vector.Index k) = t ≡ I32
-  IsThinVector t (vector.Gather a i k q) = IsArray a t × IsVector i I64
+  IsThinVector t (vector.Gather a i k q) = IsEither a t × IsVector i I64
   IsThinVector t (vector.LoadRun a i k q) = IsArray a t × IsScalar i I64
   IsThinVector t (vector.Scan o x k) = IsInteger t × IsVector x t
   IsThinVector t (vector.Exchange e x i k) = IsVector x t × IsScalar i I32
@@ -119,7 +133,7 @@ module _ (w : Setting) where
   IsThin (instr.Mask d i) = IsThinMask i
   IsThin (instr.Store a i y k q) = IsScalar i I64 × IsArray a (elem w a) × IsScalar y (elem w a)
   IsThin (instr.Divide o d x y k q) = IsThinDivision d.class (elem w d) x y
-  IsThin (instr.Scatter a i y k q) = IsArray a (elem w y) × IsVector i I64 × IsVector y (elem w y)
+  IsThin (instr.Scatter a i y k q) = IsEither a (elem w y) × IsVector i I64 × IsVector y (elem w y)
   IsThin (instr.StoreRun a i y k q) = IsArray a (elem w y) × IsScalar i I64 × IsVector y (elem w y)
   IsThin (instr.PackedStore d a i y k q) = IsScalar d I32 × IsArray a (elem w y) × IsScalar i I64 × IsVector y (elem w y)
   IsThin (instr.PackedLoad d a i y k q) = IsScalar d I32 × IsArray a (elem w y) × IsScalar i I64 × (y.class ≡ class.Vector)
@@ -135,7 +149,7 @@ module _ (w : Setting) where
   IsThin (instr.PrintVector x k) = IsVector x (elem w x)
   IsThin (instr.Call k) = CallFine w.code w.routine k
   IsThin (instr.Return x) = IsGiven w.routine w.routine.returns x
-  IsThin (instr.Clear a k) = IsOpened a
+  IsThin (instr.Clear a k) = IsOpened a ⊎ IsOwn a (elem w a)
 
   -- where control does not go on to the next instruction
   abbrev pub IsLast : Option Instr → Type 0

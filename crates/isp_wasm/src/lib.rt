@@ -27,7 +27,7 @@ pub fn entries_agree()
 {}
 
 /// An instruction whose operands are as the table of the machine asks, as they are in accepted code, is covered where its
-/// form has a template, no array is a lane's own, and jumps are to rungs.
+/// form has a template, each array lies in memory as it is declared, and jumps are to rungs.
 pub fn fine_is_thin()
     ensures { FineIsThin }
 {}
