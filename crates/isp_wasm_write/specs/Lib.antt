@@ -1,5 +1,6 @@
 pub mod Limits
 pub mod Lines
+pub mod Opened
 pub mod Operands
 pub mod Places
 pub mod Settings

@@ -1,13 +1,15 @@
 //! Arrays that a function opens: where they lie, and their bytes as zeros.
 ghost use Rattle.std.specs.Prelude.{◌≡◌, ◌++◌, ◌∷◌, [], ◌-◌, slice_get, Some, IfSome, OnOk, IfOk};
 ghost use Rattle.isp_code.specs.Lines.{local_size};
-ghost use Rattle.isp_code.specs.Registers.{passed};
+ghost use Rattle.isp_code.specs.Registers.{passed, is_per_instance, is_per_lane};
 ghost use Rattle.isp_code.specs.declared.instr.Instr.TheVariants as instrs;
 ghost use Rattle.isp_wasm_meaning.specs.Syntax as wasm;
 ghost use Rattle.isp_wasm.specs.Places as places;
 ghost use Rattle.isp_wasm.specs.Stack.{local_bytes, bytes_in};
 ghost use Rattle.isp_wasm.specs.Templates as templates;
-ghost use Rattle.isp_wasm_binary.specs.Instructions.{code_bytes};
+ghost use Rattle.isp_wasm.specs.Templates.{each};
+ghost use Rattle.isp_wasm_binary.specs.Instructions.{code_bytes, expr_bytes};
+ghost use Rattle.isp_wasm_write.specs.Opened as opened;
 ghost use Rattle.isp_wasm_write.specs.Settings.{setting};
 
 use crate::kernel::{Kernel, Place};
@@ -21,6 +23,13 @@ fn small(number: Option<u32>) -> Result<u32, Refusal>
     ensures { IfOk result (λ n. number ≡ Some n) }
 {
     number.ok_or(Refusal::NoLocal)
+}
+
+// Whether each lane has its own of an array.
+fn is_per_instance(local: &Local) -> bool
+    ensures { result ≡ is_per_instance local.now.sharing }
+{
+    matches!(local.sharing, Sharing::PerInstance)
 }
 
 // The bytes of an array; each lane may have its own.
@@ -109,7 +118,120 @@ impl<'a> Kernel<'a> {
         }
     }
 
-    /// Appends `clear` of an array that all lanes share.
+    // How many bytes it has, in one lane where each has its own.
+    fn opened_bytes(&self, array: Register) -> Option<u32>
+        ensures { IfSome result (λ n. n ≡ templates.opened_bytes (setting self.now) array) }
+    {
+        self.opened_size(array)
+            .checked_mul(bytes_of(self.elem(array)))
+    }
+
+    // Whether each lane has its own of an array.
+    fn is_own(&self, array: Register) -> bool
+        ensures { result ≡ is_per_lane self.now.routine array }
+    {
+        let first = self.passed();
+        let number = (array.number as usize).saturating_sub(first);
+        let own = match self.function().locals.get(number) {
+            Some(local) => is_per_instance(local),
+            None => false,
+        };
+        first <= array.number as usize && own
+    }
+
+    // Appends where an array begins, in a lane where each has its own.
+    fn base_if(&self, out: &mut Bytes, own: bool, array: Register, lane: u8) -> Result<(), Refusal>
+        ensures { OnOk result (out.new ≡ out.old ++ expr_bytes (templates.base_if (setting self.now) own array lane)) }
+    {
+        self.get(out, Place::Base(array.number))?;
+        if !own {
+            return Ok(());
+        }
+        let bytes = small(self.opened_bytes(array))?;
+        out.const32(small(u32::from(lane).checked_mul(bytes))?)?;
+        Ok(out.binary(Binary::Of(Size::I32, Whole::Add))?)
+    }
+
+    /// Appends where an array begins, as a lane finds it. Where each lane has its own, the copy of lane 1 is behind that of lane 0.
+    pub fn base_at(&self, out: &mut Bytes, array: Register, lane: u8) -> Result<(), Refusal>
+        ensures { OnOk result (out.new ≡ out.old ++ expr_bytes (templates.base_at (setting self.now) array lane)) }
+    {
+        self.base_if(out, self.is_own(array), array, lane)
+    }
+
+    // Appends that all bytes of an array that lanes share are zeros.
+    fn shared_zeroed(&self, out: &mut Bytes, array: Register) -> Result<(), Refusal>
+        ensures { OnOk result (out.new ≡ out.old ++ code_bytes (wasm.Clear (wasm.Local ((setting self.now).local (places.Base array.number))) (wasm.Const32 (templates.opened_bytes (setting self.now) array)))) }
+    {
+        let bytes = small(self.opened_bytes(array))?;
+        self.get(out, Place::Base(array.number))?;
+        out.const32(0)?;
+        out.const32(bytes)?;
+        Ok(out.fill()?)
+    }
+
+    // The same of a lane's own.
+    fn lane_zeroed(&self, out: &mut Bytes, array: Register, lane: u8) -> Result<(), Refusal>
+        ensures { OnOk result (out.new ≡ out.old ++ code_bytes (wasm.Clear (templates.base_at (setting self.now) array lane) (wasm.Const32 (templates.opened_bytes (setting self.now) array)))) }
+    {
+        let bytes = small(self.opened_bytes(array))?;
+        self.base_at(out, array, lane)?;
+        out.const32(0)?;
+        out.const32(bytes)?;
+        Ok(out.fill()?)
+    }
+
+    // Where a mask has the lane.
+    fn member_zeroed(
+        &self,
+        out: &mut Bytes,
+        array: Register,
+        mask: Register,
+        lane: u8,
+    ) -> Result<(), Refusal>
+        ensures { OnOk result (out.new ≡ out.old ++ code_bytes (opened.member_zeroed (setting self.now) array mask lane)) }
+    {
+        self.is_member(out, mask, lane)?;
+        out.begin_if()?;
+        self.lane_zeroed(out, array, lane)?;
+        Ok(out.end()?)
+    }
+
+    // Of so many lanes, one after the other.
+    #[tactic(auto, using(crate::proofs::Each::one_more))]
+    fn members_zeroed(
+        &self,
+        out: &mut Bytes,
+        array: Register,
+        mask: Register,
+        lanes: u8,
+    ) -> Result<(), Refusal>
+        ensures { OnOk result (out.new ≡ out.old ++ code_bytes (each lanes (opened.member_zeroed (setting self.now) array mask))) }
+    {
+        for lane in 0..lanes {
+            self.member_zeroed(out, array, mask, lane)?;
+        }
+        Ok(())
+    }
+
+    // Appends `clear` of an array that lanes share, or have each their own of.
+    fn clear_if(
+        &self,
+        out: &mut Bytes,
+        own: bool,
+        array: Register,
+        mask: Register,
+    ) -> Result<(), Refusal>
+        ensures { OnOk result (out.new ≡ out.old ++ code_bytes (templates.clear_if (setting self.now) own array mask)) }
+    {
+        if own {
+            self.members_zeroed(out, array, mask, self.width() as u8)
+        } else {
+            self.shared_zeroed(out, array)
+        }
+    }
+
+    /// Appends `clear`: an array that all lanes share is zeroed whole, one of which each lane has its own in the lanes of a mask.
     pub fn clear_line(
         &self,
         out: &mut Bytes,
@@ -118,12 +240,6 @@ impl<'a> Kernel<'a> {
     ) -> Result<(), Refusal>
         ensures { OnOk result (out.new ≡ out.old ++ code_bytes (templates.code_of (setting self.now) 0 (instrs.Clear array mask))) }
     {
-        let size = bytes_of(self.elem(array));
-        let bytes = small(self.opened_size(array).checked_mul(size))?;
-        self.get(out, Place::Base(array.number))?;
-        out.const32(0)?;
-        out.const32(bytes)?;
-        out.fill()?;
-        Ok(())
+        self.clear_if(out, self.is_own(array), array, mask)
     }
 }
