@@ -27,7 +27,7 @@ TAKEN = {
     "ispx.rows": [
         "and run", "a value in place of an array, by its parameter", "no entry, and what is exported", "count: output, answer and counts",
         "trace: with lanes, in a window", "the C file of a source", "the prototypes of the exported functions",
-        "the WebAssembly module of a source", "no module where a function calls one with a varying local array", "a command that is none"],
+        "the WebAssembly module of a source", "no module where a function calls one with 4 GB of arrays", "a command that is none"],
 }
 
 

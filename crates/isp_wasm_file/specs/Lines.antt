@@ -11,7 +11,7 @@ reason_text Memory = codes "memory was refused."
 reason_text NoLocal = codes "a register has no local. Fix: none, for this is a fault of isp: report it."
 reason_text TooLong = codes "a part of it would have 4 GB. Fix: put the functions into several files."
 reason_text (NotCovered f) =
-    codes "a varying local array, in it or, where it calls one, in any function; or 4 GB of arrays or texts. Fix: a uniform array with a part for each instance, t[8 * programIndex + k]."
+    codes "4 GB of local arrays, in it or, where it calls one, in any function; or of texts. Fix: smaller arrays, or fewer."
 reason_text (TooManyParameters f) = codes "more than 1,000 parameters, of which an array is two. Fix: put values into an array."
 reason_text (TooManyLocals f) = codes "more than 50,000 locals. Fix: take a smaller gang, or make a function of a part."
 

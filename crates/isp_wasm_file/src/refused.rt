@@ -56,7 +56,7 @@ fn reason(refusal: Refusal) -> &'static str
             "a part of it would have 4 GB. Fix: put the functions into several files."
         }
         Refusal::NotCovered(_) => {
-            "a varying local array, in it or, where it calls one, in any function; or 4 GB of arrays or texts. Fix: a uniform array with a part for each instance, t[8 * programIndex + k]."
+            "4 GB of local arrays, in it or, where it calls one, in any function; or of texts. Fix: smaller arrays, or fewer."
         }
         Refusal::TooManyParameters(_) => {
             "more than 1,000 parameters, of which an array is two. Fix: put values into an array."

@@ -11,7 +11,7 @@ ghost use Rattle.isp_wasm_write.specs.Limits as limits;
 ghost use Rattle.isp_wasm_module.specs.Refused.{named, exported_refusal, inner_refusal, function_refusal, module_refusal};
 
 use crate::functions::{function_of, routine_count};
-use crate::opened::{all_shared, is_small};
+use crate::opened::is_small;
 use crate::refusal::Refusal;
 use isp_code::{Code, Function, Instr};
 use isp_verify::{Registers, Verified};
@@ -35,12 +35,11 @@ fn text_length(code: &Code) -> u128
     total
 }
 
-// Whether lanes share all arrays that a function opens, and its numbers have 32 bits.
+// Whether the numbers of a function have 32 bits.
 fn is_plain(code: &Code, function: &Function) -> bool
     ensures { result ≡ kernels.is_plain code.now (routine_of function.now) }
 {
-    all_shared(&function.locals)
-        && is_small(code.gang().width() as u32, &function.locals)
+    is_small(code.gang().width() as u32, &function.locals)
         && function.code.len() < INSTRUCTIONS
         && text_length(code) < TEXTS
 }

@@ -1,7 +1,5 @@
-//! Arrays that a function opens: whether lanes share them, and how many bytes they have.
-ghost use Rattle.std.specs.Prelude.{◌≡◌, ◌≤◌, ◌<◌, ◌^◌, ◌*◌, not, nat_lt, suc};
-ghost use Rattle.isp_code.specs.Registers.{is_per_instance};
-ghost use Rattle.isp_wasm.specs.Module as kernels;
+//! Arrays that a function opens: how many bytes they have.
+ghost use Rattle.std.specs.Prelude.{◌≡◌, ◌≤◌, ◌<◌, ◌^◌, ◌*◌, nat_lt, suc};
 ghost use Rattle.isp_wasm.specs.Places as places;
 ghost use Rattle.isp_wasm.specs.Stack as stack;
 
@@ -10,25 +8,6 @@ use isp_code::{Local, Sharing};
 
 /// How many bytes have a number of 32 bits.
 const BYTES: u128 = 1 << 32;
-
-// Whether all lanes share an array.
-fn is_shared(local: &Local) -> bool
-    ensures { result ≡ not (is_per_instance local.now.sharing) }
-{
-    matches!(local.sharing, Sharing::Shared)
-}
-
-/// Whether all lanes share all of them.
-pub(crate) fn all_shared(locals: &[Local]) -> bool
-    ensures { result ≡ kernels.all_shared locals.now }
-{
-    for local in locals {
-        if !is_shared(local) {
-            return false;
-        }
-    }
-    true
-}
 
 // The bytes of an array.
 fn copy_bytes(local: &Local) -> u64

@@ -14,8 +14,7 @@ pub enum Refusal {
     NoLocal,
     /// A part of the module would have 4,294,967,296 bytes, or the code as many functions.
     TooLong,
-    /// It is exported and not covered: it, or any function where it calls one, opens an array of which each lane has its own, or its numbers have more
-    /// than 32 bits.
+    /// It is exported and not covered: of it, or of any function where it calls one, the arrays, the instructions or the texts have more than 32 bits.
     NotCovered(usize),
     /// It takes more than 1,000 parameters; an array is two.
     TooManyParameters(usize),

@@ -136,7 +136,7 @@ fn lane_index(
 fn address(kernel: &Kernel, out: &mut Bytes, elements: &Elements, number: u8) -> Result<(), Refusal>
     ensures { OnOk result (out.new ≡ out.old ++ expr_bytes (loops.address (setting kernel.now) elements.now number)) }
 {
-    kernel.get(out, Place::Base(elements.array.number))?;
+    kernel.base_at(out, elements.array, number)?;
     lane_index(kernel, out, elements, number)?;
     out.unary(Unary::Wrap)?;
     out.const32(bytes_of(kernel.elem(elements.array)))?;

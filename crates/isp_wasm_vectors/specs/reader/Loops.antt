@@ -36,7 +36,7 @@ module _ (w : Setting) where
   index_expr e = index_of e.index e.mask
 
   abbrev pub address : Elements → ℕ → Expr
-  address e p = templates.address_at w e.array (index_expr e p)
+  address e p = templates.lane_address w e.array p (index_expr e p)
 
   abbrev pub is_there : Elements → ℕ → Expr
   is_there e p = templates.is_there w e.array (index_expr e p)
