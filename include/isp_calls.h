@@ -414,6 +414,10 @@ ISP_FUNCTION void *ispm_passed(int type, void *d, void *x, const ispm_mask *k)
 #define ISP_LOWEST(k) ispm_lowest(&k)
 #define ISP_PUT(d, x, k) ispm_VCOPY(d##_type, &d, &x, &k)
 
+/* a free line keeps its lanes too: a call takes longer than that */
+#undef ISP_FREE
+#define ISP_FREE(line) line
+
 /* a call that may trap */
 #define ISP_OR_TRAP(call) \
     ISP_STEP if (call != ISP_ENDED) \

@@ -2,7 +2,8 @@
  *
  * The first part is what a caller of an exported function needs. The second part, behind ISP_GANG, has a macro for each
  * line of docs/MACHINE.md, by the name of its word in capitals, of vectors with V in front, and with the operands in the
- * order of that page. C11 with the vector extensions that gcc and clang share.
+ * order of that page. A word with F in front is a free line: it may write lanes that its mask has not, since nobody reads
+ * them again. SKIP() stands for a line that writes what nobody reads. C11 with the vector extensions that gcc and clang share.
  *
  * Nothing of this file is proved. It is tested against what programs mean (tools/native-test).
  */
@@ -245,10 +246,18 @@ ISP_INLINE ispm_v_int8_t ispm_lanes(ispm_mask k)
 /* the lanes of a mask, and 0 in the others */
 #define ISP_ON(x, k) ((x) & ISP_WIDE(x, k))
 
-/* writes the lanes of a mask, and keeps the others */
+/* A free line is that of the word without F, where ispm_free is 1. */
+enum { ispm_free = 0 };
+#define ISP_FREE(line) \
+    do { \
+        enum { ispm_free = 1 }; \
+        line; \
+    } while (0)
+
+/* writes the lanes of a mask, and keeps the others; a free line writes all */
 #define ISP_BLEND(d, x, k) \
     do { \
-        const ISP_TYPE(d) ispm_new = (ISP_TYPE(d))(x), ispm_wide = ISP_WIDE(d, k); \
+        const ISP_TYPE(d) ispm_new = (ISP_TYPE(d))(x), ispm_wide = ispm_free ? ~(ISP_TYPE(d)){0} : ISP_WIDE(d, k); \
         (d) = (ispm_new & ispm_wide) | ((d) & ~ispm_wide); \
     } while (0)
 #define ISP_PUT(d, x, k) \
@@ -258,7 +267,8 @@ ISP_INLINE ispm_v_int8_t ispm_lanes(ispm_mask k)
     } while (0)
 
 /* ---- small indices: beside each vector v stands v_low, of int32, and v_small, which says that each lane of v is that of v_low. What converts to int64 keeps both,
- * any other line that writes v ends it. So an index that was made of 32 bits is used in 32 bits, and the compiler drops what nothing uses. */
+ * or as a free line makes it so anew; any other line that writes v ends it. So an index that was made of 32 bits is used in 32 bits, and the compiler drops what nothing
+ * uses. */
 
 #if defined ISP_CALLS && ISP_CALLS
 #define ISP_SMALL_KEPT(v, known)
@@ -278,9 +288,10 @@ ISP_INLINE ispm_v_int8_t ispm_lanes(ispm_mask k)
         default: true)
 #define ISP_SMALL_TOO(d, x, k) \
     do { \
-        if (ISP_FITS(x) && _Generic((d), ispm_v_int64_t: true, default: false)) \
+        if (ISP_FITS(x) && _Generic((d), ispm_v_int64_t: true, default: false)) { \
             ISP_BLEND(d##_low, __builtin_convertvector(x, ispm_v_int32_t), k); \
-        else \
+            d##_small |= ispm_free; \
+        } else \
             ISP_NOT_SMALL(d); \
     } while (0)
 #define ISP_LOW(v) v##_low
@@ -904,6 +915,50 @@ ISP_STORED(8, __m512i, _mm512_mask_storeu_epi64)
         ispm_x[ISP_LANE(i)] = (y); \
         ISP_PUT(d, ispm_x, k); \
     } while (0)
+
+/* ==== free lines of vectors, and one that is left out; it counts as a step */
+
+#define FVCOPY(...) ISP_FREE(VCOPY(__VA_ARGS__))
+#define FVCONV(...) ISP_FREE(VCONV(__VA_ARGS__))
+#define FVADD(...) ISP_FREE(VADD(__VA_ARGS__))
+#define FVSUB(...) ISP_FREE(VSUB(__VA_ARGS__))
+#define FVMUL(...) ISP_FREE(VMUL(__VA_ARGS__))
+#define FVAND(...) ISP_FREE(VAND(__VA_ARGS__))
+#define FVOR(...) ISP_FREE(VOR(__VA_ARGS__))
+#define FVXOR(...) ISP_FREE(VXOR(__VA_ARGS__))
+#define FVSHL(...) ISP_FREE(VSHL(__VA_ARGS__))
+#define FVSHR(...) ISP_FREE(VSHR(__VA_ARGS__))
+#define FVMIN(...) ISP_FREE(VMIN(__VA_ARGS__))
+#define FVMAX(...) ISP_FREE(VMAX(__VA_ARGS__))
+#define FVNEG(...) ISP_FREE(VNEG(__VA_ARGS__))
+#define FVINV(...) ISP_FREE(VINV(__VA_ARGS__))
+#define FVABS(...) ISP_FREE(VABS(__VA_ARGS__))
+#define FVLNOT(...) ISP_FREE(VLNOT(__VA_ARGS__))
+#define FVEQ(...) ISP_FREE(VEQ(__VA_ARGS__))
+#define FVNE(...) ISP_FREE(VNE(__VA_ARGS__))
+#define FVLT(...) ISP_FREE(VLT(__VA_ARGS__))
+#define FVLE(...) ISP_FREE(VLE(__VA_ARGS__))
+#define FVGT(...) ISP_FREE(VGT(__VA_ARGS__))
+#define FVGE(...) ISP_FREE(VGE(__VA_ARGS__))
+#define FVSEL(...) ISP_FREE(VSEL(__VA_ARGS__))
+#define FSPLAT(...) ISP_FREE(SPLAT(__VA_ARGS__))
+#define FINDEX(...) ISP_FREE(INDEX(__VA_ARGS__))
+#define FVDIV(...) ISP_FREE(VDIV(__VA_ARGS__))
+#define FVREM(...) ISP_FREE(VREM(__VA_ARGS__))
+#define FGATHER(...) ISP_FREE(GATHER(__VA_ARGS__))
+#define FVLOAD(...) ISP_FREE(VLOAD(__VA_ARGS__))
+#define FPLOAD(...) ISP_FREE(PLOAD(__VA_ARGS__))
+#define FSADD(...) ISP_FREE(SADD(__VA_ARGS__))
+#define FSAND(...) ISP_FREE(SAND(__VA_ARGS__))
+#define FSOR(...) ISP_FREE(SOR(__VA_ARGS__))
+#define FBCAST(...) ISP_FREE(BCAST(__VA_ARGS__))
+#define FROT(...) ISP_FREE(ROT(__VA_ARGS__))
+#define FSHF(...) ISP_FREE(SHF(__VA_ARGS__))
+#define FSHUF(...) ISP_FREE(SHUF(__VA_ARGS__))
+#define FSHUF2(...) ISP_FREE(SHUF2(__VA_ARGS__))
+#define FINS(...) ISP_FREE(INS(__VA_ARGS__))
+
+#define SKIP() ISP_STEP (void)0
 
 /* ==== output, assert, calls and returns */
 

@@ -162,9 +162,9 @@ class Rounds(Code):
         """Adds a result: a function of the round that gives the values."""
         self.asked.append((t, values))
 
-    def stored(self, t, register):
+    def stored(self, t, register, mask="m0"):
         array, place = self.out(t)
-        self.line(f"vstore {array} {place} {register} m0 p0", f"add {place} {place} {self.step}")
+        self.line(f"vstore {array} {place} {register} {mask} p0", f"add {place} {place} {self.step}")
 
     def stored_one(self, t, register):
         array, place = self.out(t)
@@ -177,12 +177,18 @@ class Rounds(Code):
             self.line(f"conv {self.results[t][2]} {self.v['c']} m0")
         return self.results[t]
 
-    def lanes(self, t, word, rest, value):
+    def lanes(self, t, word, rest, value, place=""):
         """An instruction that writes lanes of t under m1: `value` of a round and a lane. The others keep 1 0 1 0 .."""
         d, _, kept = self.result(t)
-        self.line(f"copy {d} {kept} m0", f"{word} {d} {rest} {self.m}")
-        self.stored(t, d)
-        self.wants(t, lambda r: [value(r, p) if self.on(r, p) else self.row("c", r)[p] for p in range(self.gang)])
+        self.either(t, [f"copy {d} {kept} m0", f"{word} {d} {rest} {self.m}{place}"], d, value, lambda r, p: self.row("c", r)[p])
+
+    def either(self, t, lines, d, value, kept):
+        """Lines of which the last writes lanes of d under m1: once all lanes are read, where the others have what they had, and once those of m1 alone."""
+        for mask in ("m0", self.m):
+            self.line(*lines)
+            self.stored(t, d, mask)
+            off = kept if mask == "m0" else lambda r, p: 0
+            self.wants(t, lambda r, off=off: [value(r, p) if self.on(r, p) else off(r, p) for p in range(self.gang)])
 
     def one_value(self, t, line, value):
         """An instruction that writes a scalar of t."""
@@ -255,9 +261,8 @@ def plain_lines(c, t):
         c.one_value(t, f"{word} D {s['x']}", lambda r, op=op: wrap(t, op(x(r, 0))))
     for word, op in DIVISIONS.items():
         d = c.result(t)[0]
-        c.line(f"copy {d} {v['d']} m0", f"{word} {d} {v['x']} {v['n']} {c.m} p0")
-        c.stored(t, d)
-        c.wants(t, lambda r, op=op: [wrap(t, op(x(r, p), n(r, p))) if c.on(r, p) else c.row("d", r)[p] for p in range(c.gang)])
+        divided = [f"copy {d} {v['d']} m0", f"{word} {d} {v['x']} {v['n']} {c.m} p0"]
+        c.either(t, divided, d, lambda r, p, op=op: wrap(t, op(x(r, p), n(r, p))), lambda r, p: c.row("d", r)[p])
         c.one_value(t, f"{word} D {s['x']} {s['n']} m0 p0", lambda r, op=op: wrap(t, op(x(r, 0), n(r, 0))))
     for z in (least(t), greatest(t)):
         c.one_value(t, f"const D {z}", lambda r, z=z: z)
@@ -356,8 +361,7 @@ def memory_lines(c, t):
             found[e(r, p)] = c.row("x", r)[p]
         return found
 
-    c.lanes(t, "gather", f"{c.places['x']} {v['e']}", lambda r, p: c.row("x", 0)[e(r, p)])
-    c.body[-3] += " p0"
+    c.lanes(t, "gather", f"{c.places['x']} {v['e']}", lambda r, p: c.row("x", 0)[e(r, p)], " p0")
     c.line(f"clear {shared} m0", f"scatter {shared} {v['e']} {v['x']} {c.m} p0")
     shown(shared)
     c.wants(t, scattered)
@@ -372,12 +376,15 @@ def memory_lines(c, t):
     c.line(f"mrange {inner} {c.zero} {low}", f"mandn {inner} {c.m} {inner}", f"clear {shared} m0", f"vstore {shared} {front} {v['x']} {inner} p0")
     shown(shared)
     c.wants(t, lambda r: [c.row("x", r)[q + 2] if q + 2 < g and c.on(r, q + 2) else 0 for q in range(g)])
-    c.line(f"vstore {shared} {c.zero} {v['y']} m0 p0", f"copy {back} {v['d']} m0", f"vload {back} {shared} {front} {inner} p0")
-    c.stored(t, back)
-    c.wants(t, lambda r: [c.row("y", r)[p - 2] if p >= 2 and c.on(r, p) else c.row("d", r)[p] for p in range(g)])
-    c.line(f"mrange {inner} {c.zero} {high}", f"mand {inner} {c.m} {inner}", f"copy {back} {v['d']} m0", f"vload {back} {shared} {tail} {inner} p0")
-    c.stored(t, back)
-    c.wants(t, lambda r: [c.row("y", r)[p + 1] if p + 1 < g and c.on(r, p) else c.row("d", r)[p] for p in range(g)])
+    c.line(f"vstore {shared} {c.zero} {v['y']} m0 p0")
+    for mask in ("m0", inner):
+        off = lambda r, p, mask=mask: c.row("d", r)[p] if mask == "m0" else 0
+        c.line(f"mrange {inner} {c.zero} {low}", f"mandn {inner} {c.m} {inner}", f"copy {back} {v['d']} m0", f"vload {back} {shared} {front} {inner} p0")
+        c.stored(t, back, mask)
+        c.wants(t, lambda r, off=off: [c.row("y", r)[p - 2] if p >= 2 and c.on(r, p) else off(r, p) for p in range(g)])
+        c.line(f"mrange {inner} {c.zero} {high}", f"mand {inner} {c.m} {inner}", f"copy {back} {v['d']} m0", f"vload {back} {shared} {tail} {inner} p0")
+        c.stored(t, back, mask)
+        c.wants(t, lambda r, off=off: [c.row("y", r)[p + 1] if p + 1 < g and c.on(r, p) else off(r, p) for p in range(g)])
     c.line(f"clear {shared} m0", f"vstore {shared} {c.zero} {v['x']} {c.m} p0")
     shown(shared)
     c.wants(t, lambda r: [c.row("x", r)[p] if c.on(r, p) else 0 for p in range(g)])
@@ -388,9 +395,8 @@ def memory_lines(c, t):
         c.wants("i32", lambda r: [len(c.members(r))])
         shown(shared)
         c.wants(t, lambda r: [c.row("x", r)[p] for p in c.members(r)] + [0] * (g - len(c.members(r))))
-        c.line(f"copy {back} {v['d']} m0", f"pload {count} {c.places['y']} {c.at} {back} {c.m} p0")
-        c.stored(t, back)
-        c.wants(t, lambda r: [c.row("y", r)[c.members(r).index(p)] if c.on(r, p) else c.row("d", r)[p] for p in range(g)])
+        packed = [f"copy {back} {v['d']} m0", f"pload {count} {c.places['y']} {c.at} {back} {c.m} p0"]
+        c.either(t, packed, back, lambda r, p: c.row("y", r)[c.members(r).index(p)], lambda r, p: c.row("d", r)[p])
         c.stored_one("i32", count)
         c.wants("i32", lambda r: [len(c.members(r))])
 
@@ -541,7 +547,7 @@ class Indexed(Code):
             "far": [(z + 1) % self.size for row in self.befores for z in row],
         }
         places = {name: self.array(name, kinds[name], list(row)) for name, row in flat.items()}
-        names = "gathered", "mixed", "moved", "kept", "front", "back"
+        names = "gathered", "mixed", "moved", "kept", "front", "back", "free"
         outs = {name: self.out(t, name) for name in names}
         self.locals = [f"loc u {t} {self.size}"]
         shared = f"a{len(self.params)}"
@@ -558,6 +564,7 @@ class Indexed(Code):
         self.line(f"conv {two} {v['before']} m0", f"conv {two} {v['e']} {m}", f"gather {d} {places['a']} {two} m0 p0", f"vstore {outs['mixed']} {at} {d} m0 p0")
         self.line(f"conv {moved} {v['before']} m0", f"add {moved} {moved} {one} {m}", f"gather {d} {places['a']} {moved} m0 p0", f"vstore {outs['moved']} {at} {d} m0 p0")
         self.line(f"conv {kept} {v['e']} {m}", f"gather {d} {places['a']} {kept} m0 p0", f"vstore {outs['kept']} {at} {d} m0 p0", f"copy {kept} {v['far']} m0")
+        self.line(f"gather {d} {places['a']} {i} {m} p0", f"vstore {outs['free']} {at} {d} {m} p0")
         self.line(f"clear {shared} m0", f"scatter {shared} {i} {v['x']} {m} p0")
         for name, place in (("front", zero), ("back", more)):
             self.line(f"vload {d} {shared} {place} m0 p0", f"vstore {outs[name]} {at} {d} m0 p0")
@@ -565,11 +572,12 @@ class Indexed(Code):
         return self.text()
 
     def wanted(self):
-        a, found = self.elements, {name: [] for name in ("gathered", "mixed", "moved", "kept", "front", "back")}
+        a, found = self.elements, {name: [] for name in ("gathered", "mixed", "moved", "kept", "front", "back", "free")}
         kept = [0] * self.gang
         for (row, mask), before, given in zip(self.rounds, self.befores, self.given):
             lanes = range(self.gang)
             found["gathered"] += [a[row[p]] if mask[p] else given[p] for p in lanes]
+            found["free"] += [a[row[p]] if mask[p] else 0 for p in lanes]
             found["mixed"] += [a[row[p] if mask[p] else before[p]] for p in lanes]
             found["moved"] += [a[before[p] + mask[p]] for p in lanes]
             found["kept"] += [a[row[p] if mask[p] else kept[p]] for p in lanes]
@@ -797,6 +805,81 @@ def passed():
         yield f"lines: passed lanes at {gang}", c.text(before=inner), "f", c.values, wanted
 
 
+# ---- what nobody reads again
+
+# the words of the writes of `freed` in the C file, in order: those that need not keep the lanes that are off have an F in front
+FREED = """
+    FVLOAD FVLOAD FVLOAD FVLOAD FVCOPY VADD FVCOPY VSUB FVXOR FVOR SKIP FVCOPY SKIP SKIP
+    FVADD FVCOPY VCOPY FVCOPY VMIN FVCOPY VNEG FVCOPY VINV FVCOPY VSUB
+""".split()
+
+
+class Freed(Code):
+    """Writes under a mask m, whose other lanes are read again or not. `more` is a second mask, `wide` has the lanes of both, `narrow` those that are in both."""
+
+    def __init__(self, gang, flags):
+        super().__init__(gang, None)
+        self.flags, self.outs = flags, {}
+        self.xs, self.ys = [100 * p + 7 for p in range(gang)], [(-1) ** p * (3 * p + 1) for p in range(gang)]
+        arrays = self.array("x", "i32", self.xs), self.array("y", "i32", self.ys)
+        arrays += self.array("k", "b", [flag & 1 for flag in flags]), self.array("l", "b", [flag >> 1 for flag in flags])
+        self.zero, self.total = self.constant("i64", 0), self.scalar("i64")
+        self.v, self.w, k, l = self.vector("i32"), self.vector("i32"), self.vector("b"), self.vector("b")
+        self.m, self.more, self.wide, self.narrow = (self.mask() for _ in range(4))
+        self.line(*(f"vload {register} {array} {self.zero} m0 p0" for register, array in zip((self.v, self.w, k, l), arrays)))
+        self.line(f"mtest {self.m} {k} m0", f"mtest {self.more} {l} m0", f"mor {self.wide} {self.m} {self.more}", f"mand {self.narrow} {self.m} {self.more}")
+
+    def stored(self, d, mask, has, value):
+        """Stores lanes of d. Where `has` is true of the flag of a lane there stands the value of its x and its y, told whether it is in m, else 0."""
+        lanes = zip(self.flags, self.xs, self.ys)
+        name = f"out{len(self.outs)}"
+        self.outs[name] = [value(flag & 1, x, y) if has(flag) else 0 for flag, x, y in lanes]
+        self.line(f"vstore {self.array(name, 'i32', [0] * self.gang)} {self.zero} {d} {mask} p0")
+
+    def summed(self, line, has, value):
+        """Stores the sum of the lanes that `has` is true of, which the line gives."""
+        name = f"out{len(self.outs)}"
+        self.outs[name] = [sum(value(flag & 1, x, y) for flag, x, y in zip(self.flags, self.xs, self.ys) if has(flag))]
+        self.line(line, f"store {self.array(name, 'i64', [0])} {self.zero} {self.total} m0 p0")
+
+
+def freed():
+    """What is written under a mask is read by a wider one, by the same that has grown, by the same, by a narrower one, and not at all; by a line that is read by a wider
+    one; over a jump, by a sum, by a call, and in the next round of a loop."""
+    inner = ["func g inner s i64", "par v i32 x", "s i64", "m 1", "radd s0 v0 m0", "ret s0", "end"]
+    everyone, some, first, both = lambda flag: True, lambda flag: flag > 0, lambda flag: flag & 1, lambda flag: flag == 3
+    for gang in GANGS:
+        for flags in ([1] * gang, [p % 4 for p in range(gang)], [(0, 2, 3)[p % 3] for p in range(gang)], [2 * (p % 2) for p in range(gang)]):
+            c = Freed(gang, flags)
+            v, w, m, d, e, grown = c.v, c.w, c.m, c.vector("i32"), c.vector("i32"), c.mask()
+            c.line(f"copy {d} {v} m0", f"add {d} {v} {w} {m}")
+            c.stored(d, c.wide, some, lambda on, x, y: x + y if on else x)
+            c.line(f"mcopy {grown} {m}", f"copy {d} {v} m0", f"sub {d} {v} {w} {grown}", f"mor {grown} {grown} {c.more}")
+            c.stored(d, grown, some, lambda on, x, y: x - y if on else x)
+            c.line(f"xor {d} {v} {w} {m}")
+            c.stored(d, m, first, lambda on, x, y: x ^ y)
+            c.line(f"or {d} {v} {w} {m}")
+            c.stored(d, c.narrow, both, lambda on, x, y: x | y)
+            c.line(f"mul {d} {v} {w} {m}", f"copy {d} {w} m0", f"add {e} {v} {w} {m}", f"mul {e} {e} {e} {m}")
+            c.stored(d, "m0", everyone, lambda on, x, y: y)
+            c.line(f"add {e} {v} {w} {m}", f"copy {d} {w} m0", f"copy {d} {e} {m}")
+            c.stored(d, c.wide, some, lambda on, x, y: x + y if on else y)
+            c.line(f"copy {d} {v} m0", f"joff {m} @none", f"min {d} {v} {w} {m}", "none:")
+            c.stored(d, "m0", everyone, lambda on, x, y: min(x, y) if on else x)
+            c.line(f"copy {d} {v} m0", f"neg {d} {v} {m}")
+            c.summed(f"radd {c.total} {d} m0", everyone, lambda on, x, y: -x if on else x)
+            c.line(f"copy {d} {v} m0", f"inv {d} {v} {m}")
+            c.summed(f"call f0 {c.total} {c.wide} p0 {d}", some, lambda on, x, y: -x - 1 if on else x)
+            again = c.scalar("b")
+            c.line(f"copy {d} {v} m0", "round:")
+            c.stored(d, c.wide, some, lambda on, x, y: x - y if on else x)
+            c.line(f"sub {d} {v} {w} {m}", f"lnot {again} {again}", f"jnz {again} @round")
+            wanted = truths({**c.values, **c.outs}, types_of(c))
+            # the loop is gone through twice, the call is of two, and the min is passed over where m is empty
+            steps = sum(not line.endswith(":") for line in c.body) + 4 + 2 + 1 - (not any(map(first, flags)))
+            yield f"lines: lanes that are read again at {gang}", c.text(before=inner), "f", c.values, {"end": "ends", "writes": "", "arrays": wanted, "result": None, "steps": steps}
+
+
 # ---- the table of instructions
 
 
@@ -850,6 +933,39 @@ def untried(page, texts):
         yield from (f"gang {gang}: the table has no `{one}`" for one in sorted(found - wanted))
 
 
+def words_of(text):
+    """The words of the lines of a C file, in order."""
+    return re.findall(r"^L\d+: (\w+)\(", text, re.M)
+
+
+def free_words(header):
+    """The words that can stand in a free line: those that the header gives a word with F in front."""
+    return re.findall(r"^#define F(\w+)\(\.\.\.\) ISP_FREE\(\1\(", header, re.M)
+
+
+def unfree(header, texts):
+    """The words of writes that stand in no C file of a gang as they are, or in none with F in front; and C files of `freed` that have other words."""
+    words = free_words(header)
+    for gang in GANGS:
+        found = {word for text in texts.values() if text and text.startswith(f"#define ISP_GANG {gang}\n") for word in words_of(text)}
+        wanted = {"SKIP", *words, *(f"F{word}" for word in words)}
+        yield from (f"gang {gang}: no C file has `{word}`" for word in sorted(wanted - found))
+    for name, code, *_ in freed():
+        found = [word for word in words_of(texts[code] or "") if word == "SKIP" or word.removeprefix("F") in words]
+        if found != FREED:
+            yield f"{name}: {' '.join(found)}"
+
+
+def miscounted(header, name, told, text):
+    """What differs in the C file of a kernel from what is told of its writes: `taken, 14 full, 6 free, 4 useless, 2 select`. Calls have no free line."""
+    words, found = free_words(header), words_of(text)
+    full, free, useless, select = map(int, re.fullmatch(r"taken, (\d+) full, (\d+) free, (\d+) useless, (\d+) select", told).groups())
+    calls, kept = found.count("VCALL"), sum(word in words for word in found)
+    freed_here = sum(word.removeprefix("F") in words for word in found) - kept
+    if found.count("SKIP") != useless or freed_here + kept + calls != full + free + select or not kept <= select <= kept + calls:
+        yield f"{name}: {told}; {freed_here} are free, {kept} kept, {found.count('SKIP')} left out, {calls} calls"
+
+
 def tests():
     dice = random.Random(1)
     yield from rounds("operators", plain_lines, dice)
@@ -866,3 +982,4 @@ def tests():
     yield from voids()
     yield from jumps()
     yield from passed()
+    yield from freed()

@@ -27,7 +27,7 @@ use Rattle.isp_typed.specs.Typed.{Program, TFunction}
 use Rattle.isp_meaning.specs.Entries.{IsEntry, IsExport}
 use Rattle.isp_machine.specs.declared.stop.Stop.{Stop}
 use Rattle.isp_machine.specs.declared.stop.Stop.TheVariants as stop
-use Rattle.isp_native.specs.Text.{c_text}
+use Rattle.isp_native.specs.Text.{IsCText}
 use Rattle.isp_packed.proofs.Fits.{ok_same, unpacked_fits}
 use Rattle.isp_packed.specs.Packing.{IsPackable, longest, packed_answer}
 use Rattle.isp_packed.specs.Unpacking.{unpacked_of}
@@ -342,4 +342,4 @@ from_source_to_c one none gang source room text first wrote old new r x =
     let is : IsCodeText (gang_width gang) source (take first.used text) = compiled_text (gang_width gang) source room text first wrote in
     let file : IsCFile (take first.used text) (take r.used new) = c_file (take first.used text) old new r x in
     let same : file.listing ≡ is.code = same_code one none (take first.used text) is.code is.loads file.listing file.loaded in
-    (is.code, compiled gang source (take first.used text) is, file.file_is ∙ ap c_text same)
+    (is.code, compiled gang source (take first.used text) is, subst (λ c. IsCText c (take r.used new)) same file.file_is)

@@ -12,7 +12,7 @@ use Rattle.isp_meaning.specs.Entries.{IsExport}
 use Rattle.isp_packed.specs.Packing.{packed_answer}
 use Rattle.isp_packed.specs.Unpacking.{unpacked_of}
 use Rattle.isp_code.specs.Listing.{Listing}
-use Rattle.isp_native.specs.Text.{c_text}
+use Rattle.isp_native.specs.Text.{IsCText}
 use Rattle.isp_runs.specs.Compilation.{IsCompilation}
 use Rattle.isp_front.specs.Front.{IsSource}
 use Rattle.isp_engine.specs.declared.failure.Failure.TheVariants.{BudgetUsed, Memory, Trapped}
@@ -64,4 +64,4 @@ FromSourceToC =
     → Compiles (gang_width gang) source room text first 0
     → (old new : List ℕ) (r : Report)
     → Translates (take first.used text) old new r 0
-    → (code : Listing) × IsCompilation gang source code × (take r.used new ≡ c_text code)
+    → (code : Listing) × IsCompilation gang source code × IsCText code (take r.used new)

@@ -3,7 +3,7 @@ use Rattle.std.specs.Prelude.{◌≡◌, ℕ, List, codes, Result, Ok, Err, IsUt
 use Rattle.isp_code.specs.Listing.{Listing}
 use Rattle.isp_runs.specs.Loading.{IsLoaded}
 use Rattle.isp_engine.specs.declared.failure.Failure.TheVariants.{CannotRead}
-use Rattle.isp_native.specs.Text.{c_text}
+use Rattle.isp_native.specs.Text.{IsCText}
 use Rattle.isp_c.specs.Rooms.{Answers}
 use Rattle.isp_c.specs.Running.{NoLoad}
 use Rattle.isp_c.specs.declared.refusal.Refusal.{Refusal}
@@ -14,7 +14,7 @@ use Rattle.isp_c.specs.declared.report.Report.{Report}
 pub record IsCFile (code file : List ℕ) : Type 0 where
   pub listing : Listing
   pub loaded : IsLoaded code listing
-  pub file_is : file ≡ c_text listing
+  pub file_is : IsCText listing file
 
 -- why there is none
 abbrev pub NoCFile : List ℕ → Refusal → Type 0

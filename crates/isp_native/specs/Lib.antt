@@ -1,4 +1,5 @@
 pub mod Words
-pub mod Rows
+pub mod Lines
+pub mod Forms
 pub mod Text
 pub mod reader

@@ -2,14 +2,19 @@
 ghost use Rattle.std.specs.Prelude.{◌≡◌, ◌++◌, ◌<◌, ◌+◌, ◌^◌, length, codes, OnOk, IfOk};
 ghost use Rattle.isp_code.specs.Listing.{routine_of};
 ghost use Rattle.isp_code.specs.Registers.{class_of};
+ghost use Rattle.isp_native.specs.Forms.{form_line, rows_in};
 ghost use Rattle.isp_native.specs.Text as says;
 ghost use Rattle.isp_native.specs.Text.{below, numbered};
+ghost use Rattle.isp_native.specs.declared.form.Form.TheVariants.{Free};
+ghost use Rattle.std.specs.Fmt.{decimal};
 
 use crate::counts::Counts;
+use crate::form::Form;
 use crate::page::Page;
 use crate::words;
 use isp_base::Elem;
 use isp_code::{Class, Function, Instr, Local, Param, ParamKind, Returns, Sharing};
+use isp_lanes_read::Tables;
 use std::alloc::AllocError;
 
 impl Page {
@@ -22,12 +27,17 @@ impl Page {
     }
 
     /// A function with its body.
-    pub(crate) fn defined(&mut self, number: usize, function: &Function) -> Result<(), AllocError>
-        ensures { OnOk result (self.new ≡ self.old ++ says.defined number (routine_of function.now)) }
+    pub(crate) fn defined(
+        &mut self,
+        number: usize,
+        function: &Function,
+        tables: Option<&Tables>,
+    ) -> Result<(), AllocError>
+        ensures { OnOk result (self.new ≡ self.old ++ says.defined (rows_in tables.entry) number (routine_of function.now)) }
     {
         self.begun(number, function)?;
         self.text("START\n")?;
-        self.code(&function.code)?;
+        self.code(number, &function.code, tables)?;
         self.text("END\n")
     }
 
@@ -167,22 +177,42 @@ impl Page {
         Ok(())
     }
 
-    fn code(&mut self, code: &[Instr]) -> Result<(), AllocError>
-        ensures { OnOk result (self.new ≡ self.old ++ numbered says.code_line 0 code.now) }
+    // The code of function `f`.
+    fn code(&mut self, f: usize, code: &[Instr], tables: Option<&Tables>) -> Result<(), AllocError>
+        ensures { OnOk result (self.new ≡ self.old ++ numbered (says.code_line (rows_in tables.entry) f) 0 code.now) }
     {
         for (number, instr) in code.iter().enumerate() {
-            self.line_of(number, instr)?;
+            self.line_of(number, instr, Form::at(tables, f, number, instr))?;
         }
         Ok(())
     }
 
-    fn line_of(&mut self, number: usize, instr: &Instr) -> Result<(), AllocError>
-        ensures { OnOk result (self.new ≡ self.old ++ says.code_line number instr.now) }
+    fn line_of(&mut self, number: usize, instr: &Instr, form: Form) -> Result<(), AllocError>
+        ensures { OnOk result (self.new ≡ self.old ++ ((codes "L" ++ decimal number) ++ (codes ": " ++ (form_line form instr.now ++ codes "\n")))) }
     {
         self.number("L", number as u64)?;
         self.text(": ")?;
-        self.instr(instr)?;
+        self.formed(instr, form)?;
         self.text("\n")
+    }
+
+    // An instruction in its form.
+    fn formed(&mut self, instr: &Instr, form: Form) -> Result<(), AllocError>
+        ensures { OnOk result (self.new ≡ self.old ++ form_line form instr.now) }
+    {
+        match form {
+            Form::Kept => self.instr(instr),
+            Form::Free => self.free(instr),
+            Form::Useless => self.text("SKIP();"),
+        }
+    }
+
+    // An instruction with its free word.
+    fn free(&mut self, instr: &Instr) -> Result<(), AllocError>
+        ensures { OnOk result (self.new ≡ self.old ++ form_line Free instr.now) }
+    {
+        self.text("F")?;
+        self.instr(instr)
     }
 }
 

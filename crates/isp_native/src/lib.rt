@@ -3,13 +3,15 @@
 
 mod counts;
 mod entries;
+mod form;
 mod functions;
+mod line;
+mod lines;
 mod page;
-mod row;
-mod rows;
 mod words;
 mod writer;
 
 pub use counts::Counts;
-pub use row::Tail;
+pub use form::Form;
+pub use line::Tail;
 pub use writer::{header, write};

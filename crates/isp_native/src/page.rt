@@ -3,10 +3,10 @@ ghost use Rattle.std.specs.Prelude.{◌≡◌, ◌++◌, ◌∷◌, [], ◌<◌,
 ghost use Rattle.std.specs.Char.{digit_char};
 ghost use Rattle.std.specs.Fmt.{decimal, signed_decimal};
 ghost use Rattle.std.specs.List.{flat_map};
-ghost use Rattle.isp_native.specs.Rows as rows;
+ghost use Rattle.isp_native.specs.Lines as lines;
 ghost use Rattle.isp_native.specs.Words.{byte_text, register_word};
 
-use crate::row::Tail;
+use crate::line::Tail;
 use crate::words;
 use isp_code::Register;
 use itoa::Buffer;
@@ -77,7 +77,7 @@ impl Page {
 
     /// A register behind others.
     pub(crate) fn behind(&mut self, register: Register) -> Result<(), AllocError>
-        ensures { OnOk result (self.new ≡ self.old ++ rows.behind register) }
+        ensures { OnOk result (self.new ≡ self.old ++ lines.behind register) }
     {
         self.text(", ")?;
         self.register(register)
@@ -85,7 +85,7 @@ impl Page {
 
     /// Registers behind others.
     pub(crate) fn all_behind(&mut self, registers: &[Register]) -> Result<(), AllocError>
-        ensures { OnOk result (self.new ≡ self.old ++ flat_map rows.behind registers.now) }
+        ensures { OnOk result (self.new ≡ self.old ++ flat_map lines.behind registers.now) }
     {
         for register in registers {
             self.behind(*register)?;
@@ -95,7 +95,7 @@ impl Page {
 
     /// What ends the operands.
     pub(crate) fn tail(&mut self, tail: Tail) -> Result<(), AllocError>
-        ensures { OnOk result (self.new ≡ self.old ++ rows.tail_text tail) }
+        ensures { OnOk result (self.new ≡ self.old ++ lines.tail_text tail) }
     {
         match tail {
             Tail::Nothing => Ok(()),

@@ -1,25 +1,62 @@
 //! The C file, and the prototypes of its exported functions.
-ghost use Rattle.std.specs.Prelude.{◌≡◌, ◌++◌, map, string_bytes, IfOk, OnOk};
+ghost use Rattle.std.specs.Prelude.{◌≡◌, ◌++◌, map, option_map, string_bytes, IfOk, OnOk};
 ghost use Rattle.std.specs.List.{flat_map};
 ghost use Rattle.isp_code.specs.Listing.{routine_of};
+ghost use Rattle.isp_lanes_read.specs.Rows.{rows_of};
+ghost use Rattle.isp_native.specs.Forms.{AreRightIfAny, rows_in};
 ghost use Rattle.isp_native.specs.Text as says;
-ghost use Rattle.isp_native.specs.Text.{c_text, header_text, numbered};
+ghost use Rattle.isp_native.specs.Text.{IsCText, c_text, header_text, numbered};
 
 use crate::page::Page;
 use isp_base::Span;
 use isp_code::{Code, Function};
+use isp_lanes_read::{Tables, check, find};
 use std::alloc::{AllocError, Global};
 
-/// The C file of code: a line for each instruction, in their order, over `include/isp_machine.h`.
+// No tables are looked for where a function has more instructions, since that takes long.
+const MOST_LINES: usize = 4096;
+
+/// The C file of code: a line for each instruction, in their order, over `include/isp_machine.h`. Where nobody reads
+/// the lanes again that an instruction has to keep, its line has the free word, and where nobody reads what it writes, the
+/// line does nothing: as tables of `isp_lanes_read` say that its check has taken. Fails only where memory is refused.
 pub fn write(alloc: Global, code: &Code) -> Result<String, AllocError>
-    ensures { IfOk result (λ s. string_bytes s ≡ c_text code.now) }
+    ensures { IfOk result (λ s. IsCText code.now (string_bytes s)) }
+{
+    match tables_of(alloc, code)? {
+        Some(tables) => written(alloc, code, Some(&tables)),
+        None => written(alloc, code, None),
+    }
+}
+
+// Tables that the check takes; none where it takes none, and of large code.
+fn tables_of(alloc: Global, code: &Code) -> Result<Option<Tables>, AllocError>
+    ensures { IfOk result (λ t. AreRightIfAny code.now (option_map rows_of t)) }
+{
+    if is_large(code) {
+        return Ok(None);
+    }
+    let tables = find(alloc, code)?;
+    if check(code, &tables) {
+        Ok(Some(tables))
+    } else {
+        Ok(None)
+    }
+}
+
+fn is_large(code: &Code) -> bool {
+    code.functions().iter().any(|f| f.code.len() > MOST_LINES)
+}
+
+// The C file of code, by tables or without.
+fn written(alloc: Global, code: &Code, tables: Option<&Tables>) -> Result<String, AllocError>
+    ensures { IfOk result (λ s. string_bytes s ≡ c_text code.now (rows_in tables.entry)) }
 {
     let mut page = Page::new(alloc);
     page.first(code.gang().width() as u64)?;
     page.places(code.places())?;
     page.texts(code)?;
     page.all_declared(code.functions())?;
-    page.all_defined(code.functions())?;
+    page.all_defined(code.functions(), tables)?;
     page.entries(code.functions())?;
     Ok(page.into_text())
 }
@@ -87,11 +124,15 @@ impl Page {
         Ok(())
     }
 
-    fn all_defined(&mut self, functions: &[Function]) -> Result<(), AllocError>
-        ensures { OnOk result (self.new ≡ self.old ++ numbered says.defined 0 (map routine_of functions.now)) }
+    fn all_defined(
+        &mut self,
+        functions: &[Function],
+        tables: Option<&Tables>,
+    ) -> Result<(), AllocError>
+        ensures { OnOk result (self.new ≡ self.old ++ numbered (says.defined (rows_in tables.entry)) 0 (map routine_of functions.now)) }
     {
         for (number, function) in functions.iter().enumerate() {
-            self.defined(number, function)?;
+            self.defined(number, function, tables)?;
         }
         Ok(())
     }

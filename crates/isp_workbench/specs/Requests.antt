@@ -35,7 +35,7 @@ use Rattle.isp_wasm_module.specs.Refused.{explains, module_refusal}
 use Rattle.isp_wasm_module.specs.declared.refusal.Refusal.{Refusal}
 use Rattle.isp_wasm_module.specs.declared.refusal.Refusal.TheVariants as no_module
 use Rattle.isp_workbench.specs.Runs.{CountShows, ShowEnds, Shows, TraceShows}
-use Rattle.isp_workbench.specs.Texts.{GivesCode, GivesNone, c_page}
+use Rattle.isp_workbench.specs.Texts.{GivesCode, GivesNone, IsCPage}
 
 -- ---- how a request ends
 
@@ -83,7 +83,8 @@ HasNoCode holds gang file f = Unread holds file f ⊎ ((text : List ℕ) × hold
 
 abbrev pub WroteC : Holds → CRequest → Option (List ℕ) → Option (List ℕ) → Bool → Result ⊤ Failure → Type 0
 WroteC holds q old new failed end =
-    ((code : Listing) × HasCode holds q.gang q.file.now code × Writes (c_page q.is_header code) old new failed end) ⊎ Stops (HasNoCode holds q.gang q.file.now) old new failed end
+    ((code : Listing) × (page : List ℕ) × HasCode holds q.gang q.file.now code × IsCPage q.is_header code page × Writes page old new failed end)
+    ⊎ Stops (HasNoCode holds q.gang q.file.now) old new failed end
 
 -- ---- wasm
 

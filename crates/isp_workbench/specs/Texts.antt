@@ -2,11 +2,11 @@
 --     GivesCode, GivesNone    the code that a text gives, or why it gives none
 --     ChecksText              a source is checked, as `isp check` does
 --     RunsTexts               an entry of a source is run from a text of arguments, as `isp run` does
---     c_page                  the C file of code, or its prototypes
-use Rattle.std.specs.Prelude.{◌⊎◌, ℕ, List, Bool, true, false, Option, Some, None, Result, ⊤}
+--     IsCPage                 the C file of code, or its prototypes
+use Rattle.std.specs.Prelude.{◌≡◌, ◌⊎◌, ℕ, List, Bool, true, false, Option, Some, None, Result, ⊤}
 use Rattle.isp_base.specs.declared.types.Gang.{Gang}
 use Rattle.isp_code.specs.Listing.{Listing}
-use Rattle.isp_native.specs.Text.{c_text, header_text}
+use Rattle.isp_native.specs.Text.{IsCText, header_text}
 use Rattle.isp_typed.specs.Typed.{Program}
 use Rattle.isp_verdicts.specs.Verdicts.{Checks}
 use Rattle.isp_engine.specs.declared.failure.Failure.{Failure}
@@ -48,6 +48,6 @@ abbrev pub RunsTexts : Job → Option (List ℕ) → Option (List ℕ) → Bool 
 RunsTexts job old new failed end = RanText job old new failed end ⊎ Stops (GivesNone (Some job.gang) job.source.text.now) old new failed end
 
 -- prototypes, or the whole file
-abbrev pub c_page : Bool → Listing → List ℕ
-c_page true code = header_text code
-c_page false code = c_text code
+abbrev pub IsCPage : Bool → Listing → List ℕ → Type 0
+IsCPage true code page = page ≡ header_text code
+IsCPage false code page = IsCText code page

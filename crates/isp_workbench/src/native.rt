@@ -1,7 +1,7 @@
 //! Code as a C file.
 ghost use Rattle.std.specs.Prelude.{◌≡◌, false, string_bytes, IfOk, IfErr};
 ghost use Rattle.isp_workbench.specs.Requests.{HasCode, HasNoCode, WroteC};
-ghost use Rattle.isp_workbench.specs.Texts.{GivesCode, GivesNone, c_page};
+ghost use Rattle.isp_workbench.specs.Texts.{GivesCode, GivesNone, IsCPage};
 
 use isp_base::Gang;
 use isp_engine::{Failure, Image, Sink, SourceFiles, compile, load_code, read_file, write_text};
@@ -55,7 +55,7 @@ pub(crate) fn image_of(
 }
 
 fn page_of(alloc: Global, image: &Image, is_header: bool) -> Result<String, AllocError>
-    ensures { IfOk result (λ s. string_bytes s ≡ c_page is_header image.now) }
+    ensures { IfOk result (λ s. IsCPage is_header image.now (string_bytes s)) }
 {
     if is_header {
         header(alloc, image.code())

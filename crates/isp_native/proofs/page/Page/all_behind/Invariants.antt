@@ -1,6 +1,6 @@
 use Rattle.std.proofs.Common.{◌≡◌, ◌++◌, drop}
 use Rattle.std.specs.List.{flat_map}
-use Rattle.isp_native.specs.Rows.{behind}
+use Rattle.isp_native.specs.Lines.{behind}
 use Rattle.isp_native.proofs.page.Page.all_behind.Given as goal
 
 -- what is written, and what the rest will add

@@ -1,6 +1,6 @@
 use Rattle.std.proofs.Common.{◌≡◌, ◌++◌, drop}
 use Rattle.std.specs.List.{flat_map}
-use Rattle.isp_native.specs.Rows.{passed}
+use Rattle.isp_native.specs.Lines.{passed}
 use Rattle.isp_native.proofs.page.Page.all_passed.Given as goal
 
 -- what is written, and what the rest will add

@@ -12,8 +12,8 @@ use Rattle.isp_code.specs.declared.instr.ScalarInstr.TheVariants as scalar
 use Rattle.isp_code.specs.declared.instr.VectorInstr.{VectorInstr}
 use Rattle.isp_code.specs.declared.instr.VectorInstr.TheVariants as vector
 use Rattle.isp_code.specs.declared.register.Register.{Register}
-use Rattle.isp_native.specs.declared.row.Tail.{Tail}
-use Rattle.isp_native.specs.declared.row.Tail.TheVariants.{Nothing, Place, Label, Number}
+use Rattle.isp_native.specs.declared.line.Tail.{Tail}
+use Rattle.isp_native.specs.declared.line.Tail.TheVariants.{Nothing, Place, Label, Number}
 use Rattle.isp_native.specs.Words.{capital, register_word, unary_word, plain_word, compare_word, division_word, mask_word, jump_word, reduction_word, scan_word, exchange_word, call_word}
 
 abbrev pub lanes : List ℕ → List ℕ

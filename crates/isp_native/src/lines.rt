@@ -1,12 +1,12 @@
 //! How each instruction is written: one line for each.
 ghost use Rattle.std.specs.Prelude.{◌≡◌, ◌++◌, IsTrue, OnOk};
 ghost use Rattle.std.specs.List.{flat_map};
-ghost use Rattle.isp_native.specs.Rows as rows;
+ghost use Rattle.isp_native.specs.Lines as lines;
 ghost use Rattle.isp_native.specs.reader.Kinds.{is_access, is_across};
-ghost use Rattle.isp_native.specs.declared.row.Tail.TheVariants.{Nothing, Place};
+ghost use Rattle.isp_native.specs.declared.line.Tail.TheVariants.{Nothing, Place};
 
+use crate::line::Tail;
 use crate::page::Page;
-use crate::row::Tail;
 use crate::words;
 use isp_code::{Call, Instr, MaskInstr, Register, ScalarInstr, VectorInstr};
 use std::alloc::AllocError;
@@ -14,7 +14,7 @@ use std::alloc::AllocError;
 impl Page {
     /// The line of an instruction.
     pub(crate) fn instr(&mut self, instr: &Instr) -> Result<(), AllocError>
-        ensures { OnOk result (self.new ≡ self.old ++ rows.instr_line instr.now) }
+        ensures { OnOk result (self.new ≡ self.old ++ lines.instr_line instr.now) }
     {
         match instr {
             Instr::Scalar { result, instr } => self.scalar(*result, instr),
@@ -62,7 +62,7 @@ impl Page {
     // What stores, and what stores or loads lanes one behind the other.
     fn access(&mut self, instr: &Instr) -> Result<(), AllocError>
         requires { IsTrue (is_access instr.now) }
-        ensures { OnOk result (self.new ≡ self.old ++ rows.instr_line instr.now) }
+        ensures { OnOk result (self.new ≡ self.old ++ lines.instr_line instr.now) }
     {
         match instr {
             Instr::Store {
@@ -107,7 +107,7 @@ impl Page {
     }
 
     fn scalar(&mut self, d: Register, instr: &ScalarInstr) -> Result<(), AllocError>
-        ensures { OnOk result (self.new ≡ self.old ++ rows.scalar_line d instr.now) }
+        ensures { OnOk result (self.new ≡ self.old ++ lines.scalar_line d instr.now) }
     {
         match *instr {
             ScalarInstr::Constant(n) => self.line("CONST", d, &[], Tail::Number(n)),
@@ -142,7 +142,7 @@ impl Page {
     }
 
     fn vector(&mut self, d: Register, instr: &VectorInstr) -> Result<(), AllocError>
-        ensures { OnOk result (self.new ≡ self.old ++ rows.vector_line d instr.now) }
+        ensures { OnOk result (self.new ≡ self.old ++ lines.vector_line d instr.now) }
     {
         match *instr {
             VectorInstr::Copy { value, mask } => self.bare("VCOPY", d, &[value, mask]),
@@ -177,7 +177,7 @@ impl Page {
     // What comes from an array, or from other lanes.
     fn across(&mut self, d: Register, instr: VectorInstr) -> Result<(), AllocError>
         requires { IsTrue (is_across instr) }
-        ensures { OnOk result (self.new ≡ self.old ++ rows.vector_line d instr) }
+        ensures { OnOk result (self.new ≡ self.old ++ lines.vector_line d instr) }
     {
         match instr {
             VectorInstr::Gather {
@@ -223,7 +223,7 @@ impl Page {
     }
 
     fn mask(&mut self, d: Register, instr: &MaskInstr) -> Result<(), AllocError>
-        ensures { OnOk result (self.new ≡ self.old ++ rows.mask_line d instr.now) }
+        ensures { OnOk result (self.new ≡ self.old ++ lines.mask_line d instr.now) }
     {
         match *instr {
             MaskInstr::Copy(x) => self.bare("MCOPY", d, &[x]),
@@ -239,21 +239,21 @@ impl Page {
     }
 
     fn jump(&mut self, target: u32) -> Result<(), AllocError>
-        ensures { OnOk result (self.new ≡ self.old ++ rows.jump_line target) }
+        ensures { OnOk result (self.new ≡ self.old ++ lines.jump_line target) }
     {
         self.number("JMP(L", u64::from(target))?;
         self.text(");")
     }
 
     fn say(&mut self, text: u32) -> Result<(), AllocError>
-        ensures { OnOk result (self.new ≡ self.old ++ rows.say_line text) }
+        ensures { OnOk result (self.new ≡ self.old ++ lines.say_line text) }
     {
         self.number("SAY(t", u64::from(text))?;
         self.text(");")
     }
 
     fn back(&mut self, register: Option<Register>) -> Result<(), AllocError>
-        ensures { OnOk result (self.new ≡ self.old ++ rows.return_line register) }
+        ensures { OnOk result (self.new ≡ self.old ++ lines.return_line register) }
     {
         match register {
             None => self.text("LEAVE();"),
@@ -263,7 +263,7 @@ impl Page {
 
     // A word of lanes and its registers.
     fn lanes(&mut self, word: &str, first: Register, more: &[Register]) -> Result<(), AllocError>
-        ensures { OnOk result (self.new ≡ self.old ++ rows.line (rows.lanes word.now) first more.now Nothing) }
+        ensures { OnOk result (self.new ≡ self.old ++ lines.line (lines.lanes word.now) first more.now Nothing) }
     {
         self.text("V")?;
         self.bare(word, first, more)
@@ -271,7 +271,7 @@ impl Page {
 
     // A word and its registers.
     fn bare(&mut self, word: &str, first: Register, more: &[Register]) -> Result<(), AllocError>
-        ensures { OnOk result (self.new ≡ self.old ++ rows.line word.now first more.now Nothing) }
+        ensures { OnOk result (self.new ≡ self.old ++ lines.line word.now first more.now Nothing) }
     {
         self.line(word, first, more, Tail::Nothing)
     }
@@ -284,7 +284,7 @@ impl Page {
         more: &[Register],
         place: u32,
     ) -> Result<(), AllocError>
-        ensures { OnOk result (self.new ≡ self.old ++ rows.line word.now first more.now (Place place)) }
+        ensures { OnOk result (self.new ≡ self.old ++ lines.line word.now first more.now (Place place)) }
     {
         self.line(word, first, more, Tail::Place(place))
     }
@@ -297,7 +297,7 @@ impl Page {
         more: &[Register],
         tail: Tail,
     ) -> Result<(), AllocError>
-        ensures { OnOk result (self.new ≡ self.old ++ rows.line word.now first more.now tail) }
+        ensures { OnOk result (self.new ≡ self.old ++ lines.line word.now first more.now tail) }
     {
         self.open(word, first)?;
         self.all_behind(more)?;
@@ -306,7 +306,7 @@ impl Page {
     }
 
     fn open(&mut self, word: &str, first: Register) -> Result<(), AllocError>
-        ensures { OnOk result (self.new ≡ self.old ++ rows.opened word.now first) }
+        ensures { OnOk result (self.new ≡ self.old ++ lines.opened word.now first) }
     {
         self.text(word)?;
         self.text("(")?;
@@ -314,7 +314,7 @@ impl Page {
     }
 
     fn call(&mut self, call: &Call) -> Result<(), AllocError>
-        ensures { OnOk result (self.new ≡ self.old ++ rows.call_line call.now) }
+        ensures { OnOk result (self.new ≡ self.old ++ lines.call_line call.now) }
     {
         self.called(call.result, call.function)?;
         self.behind(call.mask)?;
@@ -324,7 +324,7 @@ impl Page {
     }
 
     fn called(&mut self, result_to: Option<Register>, function: u32) -> Result<(), AllocError>
-        ensures { OnOk result (self.new ≡ self.old ++ rows.called result_to function) }
+        ensures { OnOk result (self.new ≡ self.old ++ lines.called result_to function) }
     {
         self.text(words::call_word(result_to))?;
         self.number("(f", u64::from(function))?;
@@ -335,7 +335,7 @@ impl Page {
     }
 
     fn all_passed(&mut self, registers: &[Register]) -> Result<(), AllocError>
-        ensures { OnOk result (self.new ≡ self.old ++ flat_map rows.passed registers.now) }
+        ensures { OnOk result (self.new ≡ self.old ++ flat_map lines.passed registers.now) }
     {
         for register in registers {
             self.passed(*register)?;
@@ -344,7 +344,7 @@ impl Page {
     }
 
     fn passed(&mut self, register: Register) -> Result<(), AllocError>
-        ensures { OnOk result (self.new ≡ self.old ++ rows.passed register) }
+        ensures { OnOk result (self.new ≡ self.old ++ lines.passed register) }
     {
         self.text(", ")?;
         self.text(words::capital(register.class))?;
