@@ -1,12 +1,12 @@
 -- Pieces that are written one behind the other.
-use Rattle.std.specs.Prelude.{◌≡◌, ℕ, ◌+◌, List, [], ◌∷◌, ◌++◌, Option, Some, codes}
+use Rattle.std.specs.Prelude.{◌≡◌, ℕ, ◌+◌, List, [], ◌∷◌, ◌++◌, Some, codes}
 use Rattle.std.specs.Fmt.{decimal}
 use Rattle.std.specs.List.{flat_map, slice_get}
 use Rattle.std.proofs.Common.{refl, ◌∙◌, append_assoc, drop, drop-cons, add-one}
 use Rattle.std.proofs.lemmas.Option.{slice_get_within, get_or_from_slice_get}
 use Rattle.isp_base.specs.Types.{gang_width}
 use Rattle.isp_code.specs.Listing.{Listing, Routine}
-use Rattle.isp_lanes_read.specs.Rows.{Rows}
+use Rattle.isp_native.specs.Forms.{Forms}
 use Rattle.isp_native.specs.Text.{numbered, head_text, place_line, text_line, declared, defined, entry, entry_param, entry_result, entry_text, given, prototype, result_word, c_text}
 
 three : (o a b c : List ℕ) → (o ++ (a ++ b)) ++ c ≡ o ++ (a ++ (b ++ c))
@@ -37,11 +37,11 @@ six : (a b c d e f : List ℕ) → ((((a ++ b) ++ c) ++ d) ++ e) ++ f ≡ a ++ (
 six a b c d e f = simp (append_assoc)
 
 -- the C file, by its parts
-pub listing_written : (c : Listing) (rows : Option Rows) (n : ℕ) (p q r s t u : List ℕ) → n ≡ gang_width c.gang → p ≡ head_text n → q ≡ p ++ numbered place_line 0 c.places
-    → r ≡ q ++ numbered text_line 0 c.texts → s ≡ r ++ numbered declared 0 c.routines → t ≡ s ++ numbered (defined rows) 0 c.routines
-    → u ≡ t ++ numbered entry 0 c.routines → u ≡ c_text c rows
-listing_written c rows n p q r s t u h i j k l m o =
-    o ∙ (rw (m, l, k, j, i, h) (six (head_text (gang_width c.gang)) (numbered place_line 0 c.places) (numbered text_line 0 c.texts) (numbered declared 0 c.routines) (numbered (defined rows) 0 c.routines) (numbered entry 0 c.routines)))
+pub listing_written : (c : Listing) (forms : Forms) (n : ℕ) (p q r s t u : List ℕ) → n ≡ gang_width c.gang → p ≡ head_text n → q ≡ p ++ numbered place_line 0 c.places
+    → r ≡ q ++ numbered text_line 0 c.texts → s ≡ r ++ numbered declared 0 c.routines → t ≡ s ++ numbered (defined forms) 0 c.routines
+    → u ≡ t ++ numbered entry 0 c.routines → u ≡ c_text c forms
+listing_written c forms n p q r s t u h i j k l m o =
+    o ∙ (rw (m, l, k, j, i, h) (six (head_text (gang_width c.gang)) (numbered place_line 0 c.places) (numbered text_line 0 c.texts) (numbered declared 0 c.routines) (numbered (defined forms) 0 c.routines) (numbered entry 0 c.routines)))
 
 -- a list from a number on begins with what has the number
 pub from_number : {A : Type 0} (xs : List A) (n : ℕ) (x : A) → slice_get xs n ≡ Some x → drop n xs ≡ x ∷ drop (n + 1) xs

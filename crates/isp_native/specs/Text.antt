@@ -1,5 +1,5 @@
 -- The C file of code, and the prototypes of its exported functions. Each line ends with a line feed.
-use Rattle.std.specs.Prelude.{◌≡◌, ℕ, zero, suc, ◌≤◌, Bool, true, false, List, [], ◌∷◌, ◌++◌, Option, codes}
+use Rattle.std.specs.Prelude.{◌≡◌, ◌⊎◌, ℕ, zero, suc, ◌≤◌, Bool, true, false, List, [], ◌∷◌, ◌++◌, codes}
 use Rattle.std.specs.Fmt.{decimal}
 use Rattle.std.specs.List.{flat_map}
 use Rattle.isp_base.specs.Types.{gang_width}
@@ -17,8 +17,7 @@ use Rattle.isp_code.specs.declared.function.Sharing.{Sharing}
 use Rattle.isp_code.specs.declared.function.Sharing.TheVariants.{Shared, PerInstance}
 use Rattle.isp_code.specs.declared.instr.Instr.{Instr}
 use Rattle.isp_native.specs.declared.counts.Counts.{Counts}
-use Rattle.isp_lanes_read.specs.Rows.{Rows}
-use Rattle.isp_native.specs.Forms.{AreRightIfAny, form_at, form_line}
+use Rattle.isp_native.specs.Forms.{AreRight, Forms, all_kept, form_line}
 use Rattle.isp_native.specs.Words.{byte_text, c_type, capital, small}
 
 -- the texts of a list one behind the other, each with its number, from a number on; and of the numbers below one
@@ -100,9 +99,9 @@ register_line w r n t = (w ++ c_type t) ++ (r ++ (decimal n ++ codes ")\n"))
 abbrev pub mask_line : ℕ → List ℕ
 mask_line n = codes "MASK(m" ++ (decimal n ++ codes ")\n")
 
--- `L3: VADD(v0, v1, v2, m0);`: each instruction is one line, behind its number, in the form that the rows of its function tell
-abbrev pub code_line : Option Rows → ℕ → ℕ → Instr → List ℕ
-code_line rows f n i = (codes "L" ++ decimal n) ++ (codes ": " ++ (form_line (form_at rows f n i) i ++ codes "\n"))
+-- `L3: VADD(v0, v1, v2, m0);`: each instruction is one line, behind its number, in its form
+abbrev pub code_line : Forms → ℕ → ℕ → Instr → List ℕ
+code_line forms f n i = (codes "L" ++ decimal n) ++ (codes ": " ++ (form_line (forms f n i) i ++ codes "\n"))
 
 abbrev pub registers_text : Counts → Routine → List ℕ
 registers_text c h =
@@ -115,8 +114,8 @@ abbrev pub begun : ℕ → Routine → List ℕ
 begun f h =
     heading f h ++ (codes "BEGIN\n" ++ (params_text (codes "TAKE(") nobody h.params ++ registers_text (with_all nobody h.params) h))
 
-abbrev pub defined : Option Rows → ℕ → Routine → List ℕ
-defined rows f h = begun f h ++ (codes "START\n" ++ (numbered (code_line rows f) 0 h.code ++ codes "END\n"))
+abbrev pub defined : Forms → ℕ → Routine → List ℕ
+defined forms f h = begun f h ++ (codes "START\n" ++ (numbered (code_line forms f) 0 h.code ++ codes "END\n"))
 
 -- ---- exported functions: `kernel_` before the name, `p_` and `n_` before that of a parameter
 
@@ -158,14 +157,14 @@ entry f h = if_exported h.exported (entry_text f h)
 
 -- ---- the C file, and the prototypes
 
--- of code, and of rows of tables where there are any
-abbrev pub c_text : Listing → Option Rows → List ℕ
-c_text c rows =
-    head_text (gang_width c.gang) ++ (numbered place_line 0 c.places ++ (numbered text_line 0 c.texts ++ (numbered declared 0 c.routines ++ (numbered (defined rows) 0 c.routines ++ numbered entry 0 c.routines))))
+-- of code whose instructions have these forms
+abbrev pub c_text : Listing → Forms → List ℕ
+c_text c forms =
+    head_text (gang_width c.gang) ++ (numbered place_line 0 c.places ++ (numbered text_line 0 c.texts ++ (numbered declared 0 c.routines ++ (numbered (defined forms) 0 c.routines ++ numbered entry 0 c.routines))))
 
--- a text is the C file of code, by rows that are right for it or without
+-- a text is a C file of code: each instruction is kept, or in a form that is right for it
 abbrev pub IsCText : Listing → List ℕ → Type 0
-IsCText c text = (rows : Option Rows) × AreRightIfAny c rows × (text ≡ c_text c rows)
+IsCText c text = (text ≡ c_text c all_kept) ⊎ ((forms : Forms) × AreRight c forms × (text ≡ c_text c forms))
 
 abbrev pub prototype_line : Routine → List ℕ
 prototype_line h = if_exported h.exported (prototype h ++ codes ";\n")

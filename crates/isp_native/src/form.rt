@@ -2,7 +2,7 @@
 ghost use Rattle.std.specs.Prelude.{◌≡◌, ◌+◌, ◌<◌};
 ghost use Rattle.isp_lanes_read.specs.Free.{is_call};
 ghost use Rattle.isp_lanes_read.specs.Rows.{row_at, rows_of};
-ghost use Rattle.isp_native.specs.Forms.{form_at, form_by, rows_in};
+ghost use Rattle.isp_native.specs.reader.Forms.{form_by, forms_by};
 
 use isp_code::Instr;
 use isp_lanes_read::Tables;
@@ -22,7 +22,7 @@ impl Form {
     /// The form of instruction `pc` of function `f`; without tables it is kept.
     pub(crate) fn at(tables: Option<&Tables>, f: usize, pc: usize, instr: &Instr) -> Form
         requires { pc < 18446744073709551615 }
-        ensures { result ≡ form_at (rows_in tables.entry) f pc instr.now }
+        ensures { result ≡ forms_by tables.entry f pc instr.now }
     {
         match tables {
             Some(tables) => Form::told(tables, f, pc, instr),

@@ -2,7 +2,8 @@
 ghost use Rattle.std.specs.Prelude.{◌≡◌, ◌++◌, ◌<◌, ◌+◌, ◌^◌, length, codes, OnOk, IfOk};
 ghost use Rattle.isp_code.specs.Listing.{routine_of};
 ghost use Rattle.isp_code.specs.Registers.{class_of};
-ghost use Rattle.isp_native.specs.Forms.{form_line, rows_in};
+ghost use Rattle.isp_native.specs.Forms.{form_line};
+ghost use Rattle.isp_native.specs.reader.Forms.{forms_by};
 ghost use Rattle.isp_native.specs.Text as says;
 ghost use Rattle.isp_native.specs.Text.{below, numbered};
 ghost use Rattle.isp_native.specs.declared.form.Form.TheVariants.{Free};
@@ -33,7 +34,7 @@ impl Page {
         function: &Function,
         tables: Option<&Tables>,
     ) -> Result<(), AllocError>
-        ensures { OnOk result (self.new ≡ self.old ++ says.defined (rows_in tables.entry) number (routine_of function.now)) }
+        ensures { OnOk result (self.new ≡ self.old ++ says.defined (forms_by tables.entry) number (routine_of function.now)) }
     {
         self.begun(number, function)?;
         self.text("START\n")?;
@@ -179,7 +180,7 @@ impl Page {
 
     // The code of function `f`.
     fn code(&mut self, f: usize, code: &[Instr], tables: Option<&Tables>) -> Result<(), AllocError>
-        ensures { OnOk result (self.new ≡ self.old ++ numbered (says.code_line (rows_in tables.entry) f) 0 code.now) }
+        ensures { OnOk result (self.new ≡ self.old ++ numbered (says.code_line (forms_by tables.entry) f) 0 code.now) }
     {
         for (number, instr) in code.iter().enumerate() {
             self.line_of(number, instr, Form::at(tables, f, number, instr))?;

@@ -3,7 +3,7 @@ ghost use Rattle.std.specs.Prelude.{◌≡◌, ◌++◌, map, option_map, string
 ghost use Rattle.std.specs.List.{flat_map};
 ghost use Rattle.isp_code.specs.Listing.{routine_of};
 ghost use Rattle.isp_lanes_read.specs.Rows.{rows_of};
-ghost use Rattle.isp_native.specs.Forms.{AreRightIfAny, rows_in};
+ghost use Rattle.isp_native.specs.reader.Forms.{HaveLawsIfAny, forms_by};
 ghost use Rattle.isp_native.specs.Text as says;
 ghost use Rattle.isp_native.specs.Text.{IsCText, c_text, header_text, numbered};
 
@@ -14,7 +14,7 @@ use isp_lanes_read::{Tables, check, find};
 use std::alloc::{AllocError, Global};
 
 // No tables are looked for where a function has more instructions, since that takes long.
-const MOST_LINES: usize = 4096;
+const MOST_LINES: usize = 1024;
 
 /// The C file of code: a line for each instruction, in their order, over `include/isp_machine.h`. Where nobody reads
 /// the lanes again that an instruction has to keep, its line has the free word, and where nobody reads what it writes, the
@@ -30,7 +30,7 @@ pub fn write(alloc: Global, code: &Code) -> Result<String, AllocError>
 
 // Tables that the check takes; none where it takes none, and of large code.
 fn tables_of(alloc: Global, code: &Code) -> Result<Option<Tables>, AllocError>
-    ensures { IfOk result (λ t. AreRightIfAny code.now (option_map rows_of t)) }
+    ensures { IfOk result (λ t. HaveLawsIfAny code.now (option_map rows_of t)) }
 {
     if is_large(code) {
         return Ok(None);
@@ -49,7 +49,7 @@ fn is_large(code: &Code) -> bool {
 
 // The C file of code, by tables or without.
 fn written(alloc: Global, code: &Code, tables: Option<&Tables>) -> Result<String, AllocError>
-    ensures { IfOk result (λ s. string_bytes s ≡ c_text code.now (rows_in tables.entry)) }
+    ensures { IfOk result (λ s. string_bytes s ≡ c_text code.now (forms_by tables.entry)) }
 {
     let mut page = Page::new(alloc);
     page.first(code.gang().width() as u64)?;
@@ -129,7 +129,7 @@ impl Page {
         functions: &[Function],
         tables: Option<&Tables>,
     ) -> Result<(), AllocError>
-        ensures { OnOk result (self.new ≡ self.old ++ numbered (says.defined (rows_in tables.entry)) 0 (map routine_of functions.now)) }
+        ensures { OnOk result (self.new ≡ self.old ++ numbered (says.defined (forms_by tables.entry)) 0 (map routine_of functions.now)) }
     {
         for (number, function) in functions.iter().enumerate() {
             self.defined(number, function, tables)?;
