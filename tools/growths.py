@@ -1,4 +1,4 @@
-"""Each growth of memory of a program refused: requests of crates/isp_tests_cases, answered by the built programs. Used by tools/edges.
+"""Each growth of memory of a program refused: requests of crates/isp_tests_requests, answered by the built programs. Used by tools/edges.
 
 A request is made with its first growth refused, then with its second, until it asks for fewer; and once more so with all behind it refused,
 too. Under each refusal the program must answer 7 and the line of memory, and have written a beginning of what the request writes; or just what
@@ -11,7 +11,7 @@ import subprocess
 import tempfile
 
 ROOT = pathlib.Path(__file__).resolve().parents[1]
-REQUESTS = ROOT / "crates/isp_tests_cases/data/requests"
+REQUESTS = ROOT / "crates/isp_tests_requests/data"
 SECONDS = 60
 # as many growths as any request has, to read its words
 LEAST = 60

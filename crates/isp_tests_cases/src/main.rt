@@ -1,7 +1,6 @@
 //! What must come out, as data: the words name files, and the folder of a file says what its rows are.
 //!
 //! - In no folder of these, records of programs, which are judged, evaluated, compiled and run (src/cases.rt);
-//! - `requests/`, records of requests to the programs `isp` and `ispx` (src/requests.rt);
 //! - `texts/`, texts of code, which are read and written again (src/texts.rt);
 //! - `files/`, files of arrays and images, which are read (src/files.rt);
 //! - `lanes/`, a kernel in each, of whose code tables are found (src/lanes.rt).
@@ -15,7 +14,6 @@ mod cases;
 mod files;
 mod found;
 mod lanes;
-mod requests;
 mod texts;
 mod tried;
 mod ways;
@@ -28,16 +26,14 @@ use tried::Tried;
 #[derive(Clone, Copy, PartialEq)]
 enum Kind {
     Cases,
-    Requests,
     Texts,
     Files,
     Lanes,
 }
 
 /// The kinds, and what each has.
-const KINDS: [(Kind, &str); 5] = [
+const KINDS: [(Kind, &str); 4] = [
     (Kind::Cases, "cases"),
-    (Kind::Requests, "requests"),
     (Kind::Texts, "texts"),
     (Kind::Files, "files"),
     (Kind::Lanes, "kernels"),
@@ -66,7 +62,6 @@ fn all_of(rt: &HostRuntime, words: &[String], kind: Kind) -> io::Result<Tried> {
 
 fn kind_of(word: &str) -> Kind {
     match folder_of(word) {
-        "requests" => Kind::Requests,
         "texts" => Kind::Texts,
         "files" => Kind::Files,
         "lanes" => Kind::Lanes,
@@ -88,7 +83,6 @@ fn folder_of(word: &str) -> &str {
 fn follow(alloc: Global, kind: Kind, text: &str, tried: &mut Tried) -> Result<(), AllocError> {
     match kind {
         Kind::Cases => cases::follow(alloc, text, tried),
-        Kind::Requests => requests::follow(alloc, text, tried),
         Kind::Texts => texts::follow(alloc, text, tried),
         Kind::Files => files::follow(alloc, text, tried),
         Kind::Lanes => lanes::follow(alloc, text, tried),

@@ -1,5 +1,5 @@
 //! One request, line by line.
-use crate::requests::fakes::{Page, Shelf};
+use crate::fakes::{Page, Shelf};
 use hex::decode;
 use isp_tests_support::{Marked, number, parted, spelt_out};
 use std::alloc::{AllocError, Global};
