@@ -1,33 +1,18 @@
 -- What is done of texts that were read, in the words of isp_engine.
---     GivesCode, GivesNone    the code that a text gives, or why it gives none
---     ChecksText              a source is checked, as `isp check` does
---     RunsTexts               an entry of a source is run from a text of arguments, as `isp run` does
---     IsCPage                 the C file of code, or its prototypes
-use Rattle.std.specs.Prelude.{◌≡◌, ◌⊎◌, ℕ, List, Bool, true, false, Option, Some, None, Result, ⊤}
+--     ChecksText    a source is checked, as `isp check` does
+--     RunsTexts     an entry of a source is run from a text of arguments, as `isp run` does
+use Rattle.std.specs.Prelude.{◌⊎◌, ℕ, List, Bool, Option, Some, Result, ⊤}
 use Rattle.isp_base.specs.declared.types.Gang.{Gang}
 use Rattle.isp_code.specs.Listing.{Listing}
-use Rattle.isp_native.specs.Text.{IsCText, header_text}
+use Rattle.isp_code_commands.specs.Texts.{GivesNone}
 use Rattle.isp_typed.specs.Typed.{Program}
 use Rattle.isp_verdicts.specs.Verdicts.{Checks}
 use Rattle.isp_engine.specs.declared.failure.Failure.{Failure}
-use Rattle.isp_engine.specs.declared.failure.Failure.TheVariants.{Source, Code, Memory}
 use Rattle.isp_engine.specs.Commands.{Ran}
-use Rattle.isp_front.specs.Front.{IsFaulty, IsSource}
+use Rattle.isp_front.specs.Front.{IsSource}
 use Rattle.isp_runs.specs.Compilation.{IsCompilation}
-use Rattle.isp_runs.specs.Loading.{IsLoaded, IsNotLoaded}
 use Rattle.isp_engine.specs.Stories.{Stops, Writes}
 use Rattle.isp_workbench.specs.declared.done.Job.{Job}
-
--- of a source for a gang what it is compiled to, or where there is no gang the code whose text it is
-abbrev pub GivesCode : Option Gang → List ℕ → Listing → Type 0
-GivesCode (Some gang) text code = IsCompilation gang text code
-GivesCode None text code = IsLoaded text code
-
-abbrev pub GivesNone : Option Gang → List ℕ → Failure → Type 0
-GivesNone gang text Memory = Unit {0}
-GivesNone (Some gang) text (Source f) = IsFaulty gang text f
-GivesNone None text (Code f) = IsNotLoaded text f
-GivesNone gang text f = ⊥
 
 -- what is said of the exported functions of a source
 pub record JudgedText (gang : Gang) (text bytes : List ℕ) : Type 0 where
@@ -46,8 +31,3 @@ pub record RanText (job : Job) (old new : Option (List ℕ)) (failed : Bool) (en
 
 abbrev pub RunsTexts : Job → Option (List ℕ) → Option (List ℕ) → Bool → Result ⊤ Failure → Type 0
 RunsTexts job old new failed end = RanText job old new failed end ⊎ Stops (GivesNone (Some job.gang) job.source.text.now) old new failed end
-
--- prototypes, or the whole file
-abbrev pub IsCPage : Bool → Listing → List ℕ → Type 0
-IsCPage true code page = page ≡ header_text code
-IsCPage false code page = IsCText code page

@@ -5,11 +5,9 @@ ghost use Rattle.isp_engine.specs.Told.{Told};
 ghost use Rattle.isp_workbench.specs.Requests.{Answered, Commands, WordsRefused};
 
 use crate::explain::explain;
-use crate::native::c_file;
-use crate::runs::{count, trace};
-use crate::wasm::wasm;
 use clap::Error;
 use clap::error::ErrorKind;
+use isp_code_commands::{c_file, count, trace, wasm_file};
 use isp_engine::{Failure, Sink, SourceFiles, tell_end, write_text};
 use isp_run_command::{run, show};
 use isp_run_words::DataFiles;
@@ -62,7 +60,7 @@ fn answer<F: SourceFiles + DataFiles, O: Sink, E: Sink>(
         Request::Count(wanted) => tell_end(count(alloc, wanted, files, out), err),
         Request::Trace(wanted) => tell_end(trace(alloc, wanted, files, out), err),
         Request::C(wanted) => tell_end(c_file(alloc, wanted, files, out), err),
-        Request::Wasm(wanted) => wasm(alloc, wanted, files, out, err),
+        Request::Wasm(wanted) => wasm_file(alloc, wanted, files, out, err),
     }
 }
 

@@ -1,7 +1,8 @@
 //! What `isp check` and `isp run` do, of texts that were read.
 ghost use Rattle.std.specs.Prelude.{◌≡◌, false, string_bytes, Some, IfOk, IfErr};
+ghost use Rattle.isp_code_commands.specs.Texts.{GivesNone};
 ghost use Rattle.isp_engine.specs.Commands.{Ran, end_of_ending};
-ghost use Rattle.isp_workbench.specs.Texts.{ChecksText, GivesNone, JudgedText, RunsTexts};
+ghost use Rattle.isp_workbench.specs.Texts.{ChecksText, JudgedText, RunsTexts};
 
 use isp_base::Gang;
 use isp_engine::{Ending, Failure, Image, Sink, compile, front, run_to, write_text};

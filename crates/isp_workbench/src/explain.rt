@@ -1,12 +1,13 @@
 //! `ispx explain`: what `isp check` or `isp run` does, and what goes wrong in a way that helps.
 ghost use Rattle.std.specs.Prelude.{◌≡◌, false, None};
+ghost use Rattle.isp_code_commands.specs.Requests.{AnsweredBy};
 ghost use Rattle.isp_engine.specs.Commands.{RunEnds, exit_status, job_of_run};
 ghost use Rattle.isp_engine.specs.Failures.{status_of};
-ghost use Rattle.isp_workbench.specs.Requests.{AnsweredBy, ExplainedCall, as_run as of_explain};
+ghost use Rattle.isp_workbench.specs.Requests.{ExplainedCall, as_run as of_explain};
 ghost use Rattle.isp_workbench.specs.Texts.{ChecksText, RunsTexts};
 
 use crate::done::{Job, check, run};
-use crate::texts::read_both;
+use isp_code_commands::read_both;
 use isp_command_line::RunRequest;
 use isp_engine::{Failure, Sink, SourceFiles, read_file, tell_line};
 use isp_explained::{Asked, Given, entry_story, notes, plain_fault, source_story, trap_story};

@@ -4,9 +4,5 @@
 mod commands;
 mod done;
 mod explain;
-mod native;
-mod runs;
-mod texts;
-mod wasm;
 
 pub use commands::command;

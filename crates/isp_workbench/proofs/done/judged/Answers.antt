@@ -1,6 +1,6 @@
 use Rattle.std.proofs.lemmas.Result.{err_from_is_err_and}
 use Rattle.isp_typed.specs.Views.{program_of}
-use Rattle.isp_workbench.proofs.Stories.{none_compiled}
+use Rattle.isp_code_commands.proofs.Stories.{none_compiled}
 use Rattle.isp_workbench.proofs.done.judged.Goals as goal
 
 pub returns-in_err-checked-clause-err : goal.returns-in_err-checked-clause-err

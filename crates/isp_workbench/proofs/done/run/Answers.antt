@@ -1,6 +1,6 @@
 use Rattle.std.proofs.Common.{inl, inr, sym}
 use Rattle.std.proofs.lemmas.Result.{err_from_is_err_and}
-use Rattle.isp_workbench.proofs.Stories.{none_compiled}
+use Rattle.isp_code_commands.proofs.Stories.{none_compiled}
 use Rattle.isp_output.proofs.Written.{adds_nil}
 use Rattle.isp_workbench.proofs.done.run.Goals as goal
 

@@ -1,6 +1,6 @@
 use Rattle.std.proofs.Common.{subst}
 use Rattle.isp_engine.specs.Commands.{RunEnds, job_of_run}
-use Rattle.isp_workbench.specs.Requests.{AnsweredBy}
+use Rattle.isp_code_commands.specs.Requests.{AnsweredBy}
 use Rattle.isp_workbench.proofs.explain.explain.Goals as goal
 
 pub returns-in-None : goal.returns-in-None

@@ -1,7 +1,0 @@
-use Rattle.std.proofs.Common.{rules}
-use Rattle.isp_workbench.proofs.runs.counted.Goals as goal
-
-pub returns-clause-ok : goal.returns-clause-ok
-returns-clause-ok c =
-    let b = c.in_ok-signature.ensures.ok in
-    record { arguments = c.in_ok-signature.bound.arguments.items; binds = b.0; counted = c.in_ok-run.run'; runs = c.in_ok-run.ensures; page_is = search rules; ends = c.end_of.ensures }

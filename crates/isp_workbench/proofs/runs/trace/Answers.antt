@@ -1,5 +1,0 @@
-use Rattle.std.proofs.Common.{inl}
-use Rattle.isp_workbench.proofs.runs.trace.Goals as goal
-
-pub returns : goal.returns
-returns g c = inl (record { code = c.in_ok-image.image; json = c.as_str.result.now; given = rw c.as_str.ensures.value c.in_ok-image.ensures.ok; shown = c.trace_image.ensures })
