@@ -61,35 +61,47 @@ pub(crate) fn upward(alloc: Global, case: &Case<'_>) -> Result<String, AllocErro
 
 /// What they come to from the last down, each from the arrays that the one before left.
 pub(crate) fn downward(alloc: Global, case: &Case<'_>) -> Result<String, AllocError> {
-    let Some((checked, bound)) = begun(alloc, case) else {
-        return String::from_str(alloc, "refused");
+    match begun(alloc, case) {
+        Some((checked, bound)) => left_downward(alloc, case, &checked, bound.arguments),
+        None => String::from_str(alloc, "refused"),
+    }
+}
+
+fn left_downward(
+    alloc: Global,
+    case: &Case<'_>,
+    checked: &Checked,
+    mut arguments: Vec<Argument>,
+) -> Result<String, AllocError> {
+    let Some(bits) = run_downward(alloc, case, checked, arguments.as_mut_slice()) else {
+        return String::from_str(alloc, "an instance that does not end");
     };
-    let Some(function) = checked.entry(case.entry) else {
-        return String::from_str(alloc, "no entry");
-    };
+    let arrays = arrays_of(alloc, arguments)?;
+    let result = value(checked, case.entry, bits);
+    ended(alloc, checked, case.entry, arrays.as_slice(), result)
+}
+
+// What instance 0 gives at last, where each ends. The arrays are as the instances leave them.
+fn run_downward(
+    alloc: Global,
+    case: &Case<'_>,
+    checked: &Checked,
+    arguments: &mut [Argument],
+) -> Option<u64> {
+    let function = checked.entry(case.entry)?;
     let program = checked.program();
-    let mut arguments = bound.arguments;
     let mut marks = Arrays::new(alloc);
     let mut given = 0;
     for instance in (0..program.gang.width()).rev() {
-        let run = run_alone(
-            program,
-            function,
-            arguments.as_slice(),
-            case.turns,
-            instance,
-            marks,
-        )?;
+        let run = run_alone(program, function, arguments, case.turns, instance, marks).ok()?;
         let Ending::Gave(bits) = run.ending else {
-            return format!(in alloc; "no end of instance {instance}");
+            return None;
         };
         given = bits;
-        store(arguments.as_mut_slice(), &run.arrays);
+        store(arguments, &run.arrays);
         marks = run.arrays;
     }
-    let arrays = arrays_of(alloc, arguments)?;
-    let result = value(&checked, case.entry, given);
-    ended(alloc, &checked, case.entry, arrays.as_slice(), result)
+    Some(given)
 }
 
 // What a run stored goes into the arrays.

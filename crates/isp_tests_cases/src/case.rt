@@ -3,10 +3,11 @@ use crate::alone::{downward, upward};
 use crate::found::Found;
 use crate::tried::Tried;
 use crate::ways::{
-    accepted, compiled, evaluated, executed, goes_on, is_read_back, left, lines_with, sent, worked,
+    accepted, compiled, evaluated, executed, goes_on, is_read_back, is_sent, left, lines_with,
+    worked,
 };
 use isp_base::Gang;
-use isp_engine::compile;
+use isp_engine::{Image, compile};
 use isp_tests_support::{Marked, number, parted, spelt_out};
 use std::alloc::{AllocError, Global};
 
@@ -275,14 +276,7 @@ impl<'a> Case<'a> {
     fn compare(&mut self, word: &str, rest: &str, tried: &mut Tried) -> Result<(), AllocError> {
         tried.begin();
         let wanted = self.wanted(word, rest)?;
-        let found = evaluated(self.alloc, self)?;
-        if !found.is(&wanted) {
-            tried.differ(format!(in self.alloc; "{}: {found}, not {wanted}", self.name)?)?;
-        }
-        if wanted.has_run() {
-            self.run_code(&found, &wanted, tried)?;
-            self.run_alone(&wanted, tried)?;
-        }
+        self.compare_with(&wanted, tried)?;
         self.ending = wanted.ending;
         self.output = String::new(self.alloc);
         self.work = None;
@@ -290,20 +284,41 @@ impl<'a> Case<'a> {
         Ok(())
     }
 
+    fn compare_with(&self, wanted: &Found, tried: &mut Tried) -> Result<(), AllocError> {
+        let found = evaluated(self.alloc, self)?;
+        if !found.is(wanted) {
+            tried.differ(format!(in self.alloc; "{}: {found}, not {wanted}", self.name)?)?;
+        }
+        if wanted.has_run() {
+            self.run_code(found.arrays.as_str(), wanted, tried)?;
+            self.run_alone(wanted, tried)?;
+        }
+        Ok(())
+    }
+
     // Where the instances end one by one, they leave what the gang leaves, in both orders.
     fn run_alone(&self, wanted: &Found, tried: &mut Tried) -> Result<(), AllocError> {
         let found = upward(self.alloc, self)?;
-        if !found.as_str().starts_with("ends ") {
-            return Ok(());
-        }
-        let other = downward(self.alloc, self)?;
-        if found != wanted.ending || other != wanted.ending {
-            tried.differ(format!(in self.alloc;
-                "{}: one by one {found}, and from the last down {other}, not {wanted}",
-                self.name
-            )?)?;
+        if found.as_str().starts_with("ends ") {
+            self.compare_orders(found.as_str(), wanted, tried)?;
         }
         Ok(())
+    }
+
+    fn compare_orders(
+        &self,
+        found: &str,
+        wanted: &Found,
+        tried: &mut Tried,
+    ) -> Result<(), AllocError> {
+        let other = downward(self.alloc, self)?;
+        if found == wanted.ending.as_str() && other == wanted.ending {
+            return Ok(());
+        }
+        tried.differ(format!(in self.alloc;
+            "{}: one by one {found}, and from the last down {other}, not {wanted}",
+            self.name
+        )?)
     }
 
     // What the instances must come to one by one: what a line says, or as the gang did.
@@ -346,35 +361,66 @@ impl<'a> Case<'a> {
         Ok(())
     }
 
-    // Tries the code of a case: its text, its report, what goes out while it runs, and the arrays that it leaves at a trap, which are the evaluator's.
-    fn run_code(
+    // Tries the code of a case. `arrays` are those that the evaluator leaves at a trap.
+    fn run_code(&self, arrays: &str, wanted: &Found, tried: &mut Tried) -> Result<(), AllocError> {
+        match compile(self.alloc, self.marked.source.as_str(), self.gang) {
+            Ok(image) => self.judge_code(&image, arrays, wanted, tried),
+            Err(_fault) => self.say("no code", tried),
+        }
+    }
+
+    // Adds what differs.
+    fn say(&self, what: &str, tried: &mut Tried) -> Result<(), AllocError> {
+        tried.differ(format!(in self.alloc; "{}: {what}", self.name)?)
+    }
+
+    // Tries code: its text, its report, what goes out while it runs, and the arrays that it leaves at a trap.
+    fn judge_code(
         &self,
-        evaluated: &Found,
+        image: &Image,
+        arrays: &str,
         wanted: &Found,
         tried: &mut Tried,
     ) -> Result<(), AllocError> {
-        let name = self.name;
-        let Ok(image) = compile(self.alloc, self.marked.source.as_str(), self.gang) else {
-            return tried.differ(format!(in self.alloc; "{name}: no code")?);
-        };
-        if !is_read_back(self.alloc, &image) {
-            tried.differ(format!(in self.alloc;
-                "{name}: the text of its code is read as other code"
-            )?)?;
+        if !is_read_back(self.alloc, image) {
+            self.say("the text of its code is read as other code", tried)?;
         }
-        let Some(found) = executed(self.alloc, self, &image, wanted)? else {
-            return tried.differ(format!(in self.alloc; "{name}: the code does not run")?);
-        };
-        if !found.begins(wanted) {
-            tried.differ(format!(in self.alloc; "{name}: as code {found}, not {wanted}")?)?;
+        self.compare_report(image, wanted, tried)?;
+        if !is_sent(self.alloc, self, image, wanted) {
+            self.say("other bytes go out", tried)?;
         }
-        let out = sent(self.alloc, self, &image, wanted);
-        if !out.is_some_and(|bytes| wanted.sends(bytes.as_slice())) {
-            tried.differ(format!(in self.alloc; "{name}: other bytes go out, not {wanted}")?)?;
-        }
-        if wanted.is_trap() && left(self.alloc, self, &image, wanted)? != evaluated.arrays {
-            tried.differ(format!(in self.alloc; "{name}: the code leaves other arrays")?)?;
+        if wanted.is_trap() {
+            self.compare_left(image, arrays, wanted, tried)?;
         }
         Ok(())
+    }
+
+    fn compare_left(
+        &self,
+        image: &Image,
+        arrays: &str,
+        wanted: &Found,
+        tried: &mut Tried,
+    ) -> Result<(), AllocError> {
+        let found = left(self.alloc, self, image, wanted)?;
+        if found.as_str() == arrays {
+            return Ok(());
+        }
+        self.say("the code leaves other arrays", tried)
+    }
+
+    fn compare_report(
+        &self,
+        image: &Image,
+        wanted: &Found,
+        tried: &mut Tried,
+    ) -> Result<(), AllocError> {
+        let Some(found) = executed(self.alloc, self, image, wanted)? else {
+            return self.say("the code does not run", tried);
+        };
+        if found.begins(wanted) {
+            return Ok(());
+        }
+        tried.differ(format!(in self.alloc; "{}: as code {found}, not {wanted}", self.name)?)
     }
 }

@@ -145,25 +145,13 @@ pub(crate) fn executed(
     }
 }
 
-/// What goes out while the code of a case runs, or nothing where its entry or its arguments are refused.
-pub(crate) fn sent(
-    alloc: Global,
-    case: &Case<'_>,
-    image: &Image,
-    wanted: &Found,
-) -> Option<Vec<u8>> {
+/// Whether what goes out while the code of a case runs is what is wanted; not where its entry or its arguments are refused.
+pub(crate) fn is_sent(alloc: Global, case: &Case<'_>, image: &Image, wanted: &Found) -> bool {
     let mut out = Kept::new(alloc);
     let json = case.arguments.as_str();
-    run_to(
-        alloc,
-        image,
-        case.entry,
-        json,
-        budget(case, wanted),
-        &mut out,
-    )
-    .ok()?;
-    Some(out.bytes)
+    let budget = budget(case, wanted);
+    let ran = run_to(alloc, image, case.entry, json, budget, &mut out);
+    ran.is_ok() && wanted.sends(out.bytes.as_slice())
 }
 
 /// The arrays that the code of a case leaves, as an answer without a result; empty where its entry or its arguments are refused.

@@ -1,8 +1,7 @@
-//! Code texts.
+//! Code texts, without the first line, which names the gang.
 
 /// The kernel of docs/TOUR.md.
-pub const SHARE: &str = "isp 1 gang 4
-place 109 121
+pub const SHARE: &str = "place 109 121
 place 101 105
 func share export void
 par a i32 a
@@ -30,8 +29,7 @@ end
 ";
 
 /// Of `foreach (i = 0 ... n) { a[i] += 1; }`, in a function `bump` of the parameters a and n.
-pub const BUMP: &str = "isp 1 gang 4
-place 87 91
+pub const BUMP: &str = "place 87 91
 func bump export void
 par a i32 a
 par s i32 n
@@ -65,7 +63,7 @@ ret -
 end
 ";
 
-/// Of examples/mandelbrot.ispc, without the first line, which names the gang. It is the same for each.
+/// Of examples/mandelbrot.ispc. It is the same for each gang.
 pub const MANDELBROT: &str = "place 883 903
 func mandelbrot export void
 par s i32 left

@@ -1,5 +1,6 @@
 //! Memory refused to a counted run, at each growth: the same run then gives its arrays, its output and its counts.
-use super::runs::{Given, bound, verified};
+use super::runs::verified;
+use crate::given::bound;
 use isp_machine::StartFault;
 use isp_tests_support::{Hoard, Tried, sweep};
 use isp_traces::{Counted, count_run, counts_line};
@@ -34,7 +35,7 @@ ret v1
 end
 ";
 
-const GIVEN: [Given<'static>; 1] = [Given::Array(&[10, 20, 30, 40])];
+const GIVEN: &str = "i32[]:10,20,30,40";
 
 const LEFT: [u64; 4] = [20, 40, 60, 80];
 
@@ -78,13 +79,14 @@ fn attempted(
     hoard: &mut Hoard,
     bytes: usize,
 ) -> Result<Tried, Fail> {
-    let first = bound(alloc, &GIVEN)?;
+    let first = bound(alloc, GIVEN).ok_or("no arguments")?;
     hoard.beside(bytes)?;
     let answer = count_run(alloc, code, "f", first, 1_000);
     hoard.ample();
     match told(alloc, code, answer)? {
         Tried::Refused => {
-            let answer = count_run(alloc, code, "f", bound(alloc, &GIVEN)?, 1_000);
+            let again = bound(alloc, GIVEN).ok_or("no arguments")?;
+            let answer = count_run(alloc, code, "f", again, 1_000);
             Ok(told(alloc, code, answer)?.retried())
         }
         tried => Ok(tried),
@@ -94,7 +96,7 @@ fn attempted(
 #[test]
 fn memory_refused(rt: HostRuntime) -> Result<(), Fail> {
     let alloc = rt.alloc();
-    let code = verified(alloc, CODE)?;
+    let code = verified(&rt, alloc, CODE);
     sweep(alloc, "count_run", |hoard, bytes| {
         attempted(alloc, &code, hoard, bytes)
     })

@@ -1,78 +1,66 @@
 //! What is counted and traced of a run of code text.
+use super::kernels::{BUMP, MANDELBROT, SHARE};
+use crate::given::bound;
 use isp_asm::read;
-use isp_base::{Argument, Array, Bound, Elem, Value, low_bits};
+use isp_tests_support::{number, parted};
 use isp_traces::{Window, count_run, counts_line, trace_run};
 use isp_verify::{Verified, verify};
 use std::alloc::Global;
-use std::test::Fail;
+use std::process::Abort;
 
-/// An argument of a run: the bits of a value or of an array's elements, of int32.
+/// A run, as a line says it: a kernel, how many lanes its gang has, how many instructions are run at most, and the arguments.
 #[derive(Clone, Copy)]
-pub enum Given<'a> {
-    Value(u64),
-    Array(&'a [u64]),
+pub(super) struct Run<'a> {
+    kernel: &'a str,
+    gang: &'a str,
+    budget: u64,
+    given: &'a str,
 }
 
-/// What is run: code text, its exported function, and the arguments.
-#[derive(Clone, Copy)]
-pub struct Case<'a> {
-    pub code: &'a str,
-    pub entry: &'a str,
-    pub given: &'a [Given<'a>],
-}
-
-fn array(alloc: Global, items: &[u64]) -> Result<Array, Fail> {
-    let mut array = Array::empty(alloc, Elem::I32);
-    for bits in items {
-        let low = low_bits(array.elem(), *bits);
-        array.push(low)?;
+/// The run that a line says.
+pub(super) fn run_of<'a>(rt: &impl Abort, line: &'a str) -> Run<'a> {
+    let (kernel, rest) = parted(line, ' ');
+    let (gang, rest) = parted(rest, ' ');
+    let (budget, given) = parted(rest, ' ');
+    Run {
+        kernel,
+        gang,
+        budget: number(budget).expect(rt, "no budget"),
+        given,
     }
-    Ok(array)
 }
 
-/// Arguments as they are bound.
-pub fn bound(alloc: Global, given: &[Given]) -> Result<Bound, Fail> {
-    let mut arguments = Vec::new(alloc);
-    for it in given {
-        let argument = match it {
-            Given::Value(bits) => Argument::Value(Value {
-                elem: Elem::I32,
-                bits: *bits,
-            }),
-            Given::Array(items) => Argument::Array(array(alloc, items)?),
-        };
-        arguments.push(argument)?;
+fn kernel(name: &str) -> &'static str {
+    match name {
+        "share" => SHARE,
+        "bump" => BUMP,
+        _ => MANDELBROT,
     }
-    Ok(Bound { arguments })
 }
 
 /// Code text that is read and accepted.
-pub fn verified(alloc: Global, text: &str) -> Result<Verified, Fail> {
-    let Ok(code) = read(alloc, text) else {
-        return Err(Fail::from("no code"));
-    };
-    match verify(alloc, code) {
-        Ok(verified) => Ok(verified),
-        Err((_code, _fault)) => Err(Fail::from("refused code")),
-    }
+pub(super) fn verified(rt: &impl Abort, alloc: Global, text: &str) -> Verified {
+    let code = read(alloc, text).expect(rt, "no code text");
+    verify(alloc, code).ok().expect(rt, "the code is refused")
+}
+
+fn code(rt: &impl Abort, alloc: Global, run: Run<'_>) -> Verified {
+    let text = format!(in alloc; "isp 1 gang {}\n{}", run.gang, kernel(run.kernel));
+    verified(rt, alloc, text.expect(rt, "memory").as_str())
 }
 
 /// The counts of a run as a line of JSON.
-pub fn counts(alloc: Global, case: Case, budget: u64) -> Result<Vec<u8>, Fail> {
-    let code = verified(alloc, case.code)?;
-    let bound = bound(alloc, case.given)?;
-    match count_run(alloc, &code, case.entry, bound, budget) {
-        Ok(counted) => Ok(counts_line(alloc, &code, &counted.counts)?),
-        Err(_fault) => Err(Fail::from("no run")),
-    }
+pub(super) fn counts(rt: &impl Abort, alloc: Global, run: Run<'_>) -> Vec<u8> {
+    let code = code(rt, alloc, run);
+    let bound = bound(alloc, run.given).expect(rt, "no arguments");
+    let counted = count_run(alloc, &code, run.kernel, bound, run.budget).expect(rt, "no run");
+    counts_line(alloc, &code, &counted.counts).expect(rt, "memory")
 }
 
 /// The lines of the steps of a window.
-pub fn lines(alloc: Global, case: Case, window: Window, budget: u64) -> Result<Vec<u8>, Fail> {
-    let code = verified(alloc, case.code)?;
-    let bound = bound(alloc, case.given)?;
-    match trace_run(alloc, &code, case.entry, bound, window, budget) {
-        Ok(traced) => Ok(traced.text),
-        Err(_fault) => Err(Fail::from("no run")),
-    }
+pub(super) fn lines(rt: &impl Abort, alloc: Global, run: Run<'_>, window: Window) -> Vec<u8> {
+    let code = code(rt, alloc, run);
+    let bound = bound(alloc, run.given).expect(rt, "no arguments");
+    let traced = trace_run(alloc, &code, run.kernel, bound, window, run.budget);
+    traced.expect(rt, "no run").text
 }
