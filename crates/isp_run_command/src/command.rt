@@ -1,10 +1,8 @@
 //! `ispx run`: an entry of a source is run with what words and files give.
-ghost use Rattle.std.specs.Prelude.{◌≡◌, Result, false, IfErr, IfOk, ⊤};
+ghost use Rattle.std.specs.Prelude.{◌≡◌, false, IfErr, IfOk};
 ghost use Rattle.isp_machine.specs.declared.stop.Stop.TheVariants.{Ended};
 ghost use Rattle.isp_run_command.specs.Running.{IsReady, NotShown, RunAnswered, RunsText, Showed};
 ghost use Rattle.isp_run_data.specs.Writing.{IsUnwritten};
-ghost use Rattle.isp_run_stops.specs.Stopping.{end_status};
-ghost use Rattle.isp_run_stops.specs.declared.stop.RunStop.{RunStop};
 ghost use Rattle.isp_typed.specs.Views.{program_of};
 
 use crate::steps::{Call, Page, called, checked, image, report, shown_page, source_text};
@@ -33,25 +31,13 @@ pub fn run<F: SourceFiles + DataFiles, O: Sink, E: Sink>(
         return say(alloc, request, "", &Err(stop), err);
     }
     match source_text(alloc, request, files) {
-        Ok(text) => run_text(alloc, request, text.as_str(), files, out, err),
+        Ok(source) => {
+            let text = source.as_str();
+            let end = done(alloc, request, text, files, out);
+            say(alloc, request, text, &end, err)
+        }
         Err(stop) => say(alloc, request, "", &Err(stop), err),
     }
-}
-
-fn run_text<F: SourceFiles + DataFiles, O: Sink, E: Sink>(
-    alloc: Global,
-    request: &RunWords<'_>,
-    text: &str,
-    files: &F,
-    out: &mut O,
-    err: &mut E,
-) -> u8
-    requires { O.has_failed out.old ≡ false }
-    ensures { (end : Result ⊤ RunStop) × (result ≡ end_status end)
-        × RunsText (F.has_bytes files.now) request.now text.now (O.written out.old) (O.written out.new) (O.has_failed out.new) end }
-{
-    let end = done(alloc, request, text, files, out);
-    say(alloc, request, text, &end, err)
 }
 
 fn done<'a, F: DataFiles, O: Sink>(

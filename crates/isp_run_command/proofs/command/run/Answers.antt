@@ -9,9 +9,8 @@ returns-in-Some g c =
 
 pub returns-in-Ok : goal.returns-in-Ok
 returns-in-Ok g c =
-    let e = c.run_text.ensures in
-    let source = subst (λ b. g.F.SourceFiles.holds c.args.files.now c.args.request.now.source.now (Some b)) (sym c.as_str.ensures.value) c.in-Ok.ensures.ok in
-    (e.0, e.1, inl (c.as_str.result.now, source, e.2))
+    let source = subst (λ b. g.F.SourceFiles.holds c.args.files.now c.args.request.now.source.now (Some b)) (sym c.as_str-text.ensures.value) c.in-Ok.ensures.ok in
+    (c.done-end.result, c.say-in-Ok.ensures, inl (c.as_str-text.result.now, source, c.done-end.ensures))
 
 pub returns-in-Err : goal.returns-in-Err
 returns-in-Err g c = (Err c.in-Err.stop, c.say-in-Err.ensures, inr (_, refl, c.in-Err.ensures.err, (sym (adds_nil _), c.requires)))
