@@ -27,7 +27,7 @@ extern "C" {
 #endif
 
 /* The stack that is enough for any call, in bytes. Measured (examples/c/stack.c): what compiles, isp_compile and isp_command but for `exec`,
- * takes up to 800 KiB; `exec` 48 KiB; isp_run, isp_native and isp_trace 16 KiB. */
+ * takes up to 800 KiB; `exec` 48 KiB; isp_run, isp_native, isp_wasm and isp_trace 16 KiB. */
 #define ISP_STACK (1024 * 1024)
 
 /* What every call gives back. Up to 9 they are the statuses of the program `isp` (README.md); docs/FAULTS.md has each
@@ -41,7 +41,8 @@ enum isp_status {
     ISP_ARGUMENTS = 5, /* the entry or the arguments are refused: why.number 50, or 72 to 76 with why.parameter and why.element */
     ISP_TEXT = 6,      /* a text is no UTF-8; of isp_command: a file cannot be read */
     ISP_MEMORY = 7,    /* memory was refused */
-    ISP_CODE = 8,      /* the code text is refused: why.number 60 to 63 with why.line, 40 to 45 with why.function and why.instruction */
+    ISP_CODE = 8,      /* the code text is refused: why.number 60 to 63 with why.line, 40 to 45 with why.function and why.instruction; of
+                        * isp_wasm also with why.number 0: no module is made of the code, and `line` says why */
     ISP_DEPENDENT = 9, /* of isp_solo: the entry is not independent, or two instances clash */
     ISP_ROOM = 10      /* a room is too small: `used` says how many bytes are wanted. Nothing has changed: call again */
 };
@@ -68,12 +69,12 @@ struct isp_why {
     size_t element;       /* of that parameter, from 0 */
 };
 
-/* What isp_compile, isp_run, isp_native and isp_trace say of themselves. They write all of it, whatever it held. */
+/* What isp_compile, isp_run, isp_native, isp_wasm and isp_trace say of themselves. They write all of it, whatever it held. */
 struct isp_report {
     size_t used;          /* bytes that were written to the room; with ISP_ROOM, how many are wanted */
     uint64_t result;      /* what the entry returned: its bits, zero above its width; 0 where it returns nothing */
     struct isp_why why;
-    char line[128];       /* the line of standard error, with its line feed, and zeros behind it; "" with ISP_OK */
+    char line[128];       /* the line of standard error, with its line feed, and zeros behind it; "" with ISP_OK. Of a longer one the first 127 bytes */
 };
 
 /* A text: where its bytes begin, and how many there are. */
@@ -118,6 +119,14 @@ uint8_t isp_run(const char *code, size_t code_size, const struct isp_job *job, v
  *
  * ISP_OK, or ISP_TEXT, ISP_MEMORY, ISP_CODE, ISP_ROOM: then `file` is as it was. */
 uint8_t isp_native(const char *code, size_t code_size, char *file, size_t room, struct isp_report *report);
+
+/* Reads code text, and writes its module of WebAssembly at the front of `file`, which has room for `room` bytes: what `ispx wasm` writes,
+ * with the code text in a section `isp` behind it. An engine runs its functions (js/isp.js, docs/EMBEDDING.md). report->used is its length;
+ * the bytes behind it stay.
+ *
+ * ISP_OK, or ISP_TEXT, ISP_MEMORY, ISP_CODE, ISP_ROOM: then `file` is as it was. With ISP_CODE and report->why.number 0 the code is sound,
+ * and no module is made of it: report->line says of which function and why, as `isp: no module: blend: a varying local array, ..`. */
+uint8_t isp_wasm(const char *code, size_t code_size, char *file, size_t room, struct isp_report *report);
 
 /* Which steps of a run have a line: `count` of them from number `from` on, where the first has number 0. Where `lanes` is not 0 a line
  * shows the vector that its step wrote. */

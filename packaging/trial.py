@@ -72,6 +72,15 @@ isp.compile(source, gang=16, native=True).twice(a=numbers, count=20)
 print(list(numbers) == list(range(0, 40, 2)))
 '
 """
+AS_MODULE = """
+python3 -c '
+import isp, subprocess
+source = "export void twice(uniform int a[], uniform int count) { foreach (i = 0 ... count) a[i] = 2 * a[i]; }"
+with open("twice.ispc", "w") as file: file.write(source)
+written = subprocess.run(["ispx", "wasm", "--gang", "16", "twice.ispc"], capture_output=True, check=True).stdout
+print(len(written) > 1000, isp.compile(source, gang=16, wasm=True).module == written)
+'
+"""
 NUMPY = """
 python3 -c '
 import numpy, isp
@@ -107,6 +116,7 @@ EVERYWHERE = [
     ("a kernel from JavaScript", JAVASCRIPT, "50 150 255\n"),
     ("Python", PYTHON, "True True\n"),
     ("Python, native", NATIVE, "True\n"),
+    ("a module from Python", AS_MODULE, "True True\n"),
     ("man", MAN, None),
     ("completion in bash", BASH, "check\n16\n--budget\nkernel.ispc\n"),
 ]

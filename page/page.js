@@ -44,6 +44,11 @@ class Machine {
         return this.asked({ trace });
     }
 
+    // Runs a function of code as a module of WebAssembly. Answers { status, out, err, time, bytes } too, without bytes where no module is made.
+    kernel(kernel) {
+        return this.asked({ kernel });
+    }
+
     async asked(what) {
         for (let ready; ready !== this.ready; await ready) {
             ready = this.ready;
@@ -163,15 +168,57 @@ async function run() {
     if (mine !== running) {
         return;
     }
-    running = 0;
-    $("stop").disabled = true;
     if (!done) {
         clear("Stopped.");
     } else if (done.error) {
         clear(`The page could not run this: ${done.error}. The program isp can.`);
     } else {
         show(done, performance.now() - started);
+        await asModule(done, files, () => mine === running);
     }
+    if (mine === running) {
+        running = 0;
+        $("stop").disabled = true;
+    }
+}
+
+// ---- the kernel as WebAssembly, where the machine has ended or trapped: a module has no budget, and does the same
+
+async function asModule(done, files, isWanted) {
+    if (tab !== "run" || (done.status !== 0 && done.status !== 3)) {
+        return;
+    }
+    const entry = $("entry").value, text = $("arguments").value;
+    const made = await machine.command(["asm", "--gang", $("gang").value, "source"], files);
+    if (!isWanted() || !made || made.error) {
+        return;
+    }
+    const ran = await machine.kernel({ code: new TextDecoder().decode(made.out), entry, text });
+    if (isWanted() && ran) {
+        showModule(ran, done, entry);
+    }
+}
+
+function showModule(ran, done, entry) {
+    const text = (bytes) => new TextDecoder().decode(bytes);
+    if (ran.error || !ran.bytes?.length) {
+        $("module").textContent = `Not as WebAssembly: ${ran.error || lineOf(text(ran.err))}`;
+    } else {
+        const same = ran.status === done.status && ran.out === text(done.out) && ran.err === text(done.err);
+        const link = document.createElement("a");
+        link.href = URL.createObjectURL(new Blob([ran.bytes], { type: "application/wasm" }));
+        link.download = `${entry}.wasm`;
+        link.textContent = `save its ${ran.bytes.length} bytes`;
+        const time = ran.time.toFixed(ran.time < 10 ? 1 : 0);
+        $("module").replaceChildren(`As WebAssembly: ${time} ms, ${same ? "and the same" : `but not the same: ${ran.err || ran.out.slice(0, SHOWN)}`}; `, link, ".");
+    }
+    $("module").hidden = false;
+}
+
+// A line of the library without its head. One that has been cut has no end.
+function lineOf(line) {
+    const told = line.replace(/^isp: /, "");
+    return told.endsWith("\n") ? told.trim() : `${told.trim()} ..`;
 }
 
 function clear(state) {
@@ -179,7 +226,7 @@ function clear(state) {
     $("state").textContent = state;
     $("out").textContent = "";
     $("out").className = tab === "asm" ? "code" : "";
-    $("fault").hidden = $("picture").hidden = $("steps").hidden = true;
+    $("fault").hidden = $("picture").hidden = $("steps").hidden = $("module").hidden = true;
     $("window").hidden = tab !== "trace";
     mark(null);
 }

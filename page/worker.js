@@ -1,4 +1,5 @@
-// Does commands of isp and traces runs, each by a new instance of the module, and so over memory of its own.
+// Does commands of isp, traces runs, and runs kernels as modules of WebAssembly, each by a new instance of the library, and so over memory of
+// its own. page/build puts js/isp.js behind it, for `load` and `Trap`.
 "use strict";
 
 const OUT = 8 << 20, ERR = 64 << 10;
@@ -13,12 +14,18 @@ onmessage = async ({ data }) => {
     }
     try {
         const instance = await WebAssembly.instantiate(await module, {});
-        const done = data.trace ? traced(instance.exports, data.trace) : command(instance.exports, data.words, data.files);
-        postMessage({ id: data.id, ...done });
+        postMessage({ id: data.id, ...(await done(instance.exports, data)) });
     } catch (error) {
         postMessage({ id: data.id, error: String(error) });
     }
 };
+
+function done(isp, { words, files, trace, kernel }) {
+    if (trace) {
+        return traced(isp, trace);
+    }
+    return kernel ? asModule(isp, kernel) : command(isp, words, files);
+}
 
 // What `isp_command` of include/isp.h does with these words and files: its status, and what it wrote.
 function command(isp, words, files) {
@@ -58,9 +65,61 @@ function traced(isp, { code, entry, packed, budget, from, count, lanes }) {
     if (done.status === 10) {
         done = call(done.used);
     }
-    const line = new Uint8Array(isp.memory.buffer, Number(report) + REPORT - LINE, LINE), err = line.slice(0, line.indexOf(0));
-    return { status: done.status, out: new Uint8Array(isp.memory.buffer, Number(done.place), done.status ? 0 : done.used).slice(), err };
+    return { status: done.status, out: new Uint8Array(isp.memory.buffer, Number(done.place), done.status ? 0 : done.used).slice(), err: lineOf(isp, report) };
 }
+
+// What a report says of a refusal.
+function lineOf(isp, report) {
+    const line = new Uint8Array(isp.memory.buffer, Number(report) + REPORT - LINE, LINE);
+    return line.slice(0, line.indexOf(0));
+}
+
+// ---- kernels as WebAssembly
+
+// The module that `isp_wasm` makes of code: its status, and the bytes or the line of a refusal.
+function moduleOf(isp, code) {
+    const text = new TextEncoder().encode(code), codeAt = placed(isp, text), report = room(isp, REPORT);
+    const call = (size) => {
+        const place = room(isp, size);
+        const status = isp.isp_wasm(codeAt, BigInt(text.length), place, BigInt(size), report);
+        return { status, place, used: Number(new DataView(isp.memory.buffer, Number(report), 8).getBigUint64(0, true)) };
+    };
+    let made = call(OUT);
+    if (made.status === 10) {
+        made = call(made.used);
+    }
+    return { status: made.status, bytes: new Uint8Array(isp.memory.buffer, Number(made.place), made.status ? 0 : made.used).slice(), err: lineOf(isp, report) };
+}
+
+// Runs a function of code as a module, from arguments in JSON: what `isp run` writes, how long the call took, and the module's bytes.
+async function asModule(isp, { code, entry, text }) {
+    const made = moduleOf(isp, code);
+    if (made.status) {
+        return made;
+    }
+    const kernels = await load(made.bytes), { parameters, result } = kernels.signature(entry);
+    const given = JSON.parse(text, (_, value, { source }) => typeof value === "number" ? BigInt(source) : value);
+    const arrays = parameters.filter((it) => it.isArray).map(({ name, type }) => [name, kernels.array(type, given[name])]);
+    const started = performance.now();
+    try {
+        const ran = kernels.call(entry, { ...given, ...Object.fromEntries(arrays) }), time = performance.now() - started;
+        // (an answer has them in the order of their names)
+        const told = arrays.map(([name, { type, values }]) => `"${name}":[${Array.from(values, (it) => jsonOf(type, it))}]`).sort();
+        return { status: 0, out: `${ran.output}{"arrays":{${told}},"result":${jsonOf(result, ran.result)}}\n`, err: "", time, bytes: made.bytes };
+    } catch (error) {
+        if (!(error instanceof Trap)) {
+            throw error;
+        }
+        const { kind, begin, end, instance, output } = error, time = performance.now() - started;
+        return { status: 3, out: output, err: `isp: trap ${kind} at ${begin}..${end}, instance ${instance}\n`, time, bytes: made.bytes };
+    }
+}
+
+function jsonOf(type, value) {
+    return type === null ? "null" : String(type === "bool" ? Boolean(value) : value);
+}
+
+// ---- memory
 
 // Puts bytes into memory.
 function placed(isp, bytes) {

@@ -192,6 +192,36 @@ static void translating(void)
     WANT(isp_native("\xe9", 1, file, sizeof file, &report) == ISP_TEXT && strcmp(report.line, "isp: cannot read code\n") == 0);
 }
 
+static void making_modules(void)
+{
+    static char file[65536];
+    kernel("export void f(uniform int a[]) { a[programIndex] = a[programIndex] + 1; }");
+    size_t size = strlen(code);
+    memset(file, '#', sizeof file);
+    WANT(isp_wasm(code, size, file, sizeof file, &report) == ISP_OK && report.line[0] == 0 && report.why.number == 0);
+    size_t wanted = report.used;
+    WANT(wanted > size + 100 && untouched(file + wanted, sizeof file - wanted));
+    /* a module, and the code text behind the name of its section */
+    WANT(memcmp(file, "\0asm\1\0\0\0", 8) == 0 && memcmp(file + wanted - size - 4, "\3isp", 4) == 0 && memcmp(file + wanted - size, code, size) == 0);
+    memset(file, '#', sizeof file);
+    WANT(isp_wasm(code, size, file, wanted, &report) == ISP_OK && untouched(file + wanted, 100));
+    memset(file, '#', sizeof file);
+    WANT(isp_wasm(code, size, file, wanted - 1, &report) == ISP_ROOM && report.used == wanted && untouched(file, sizeof file));
+    WANT(strcmp(report.line, "isp: no room\n") == 0);
+    WANT(isp_wasm(code, size - 1, file, sizeof file, &report) == ISP_CODE && report.why.number == 60 && untouched(file, sizeof file));
+    WANT(isp_wasm("\xe9", 1, file, sizeof file, &report) == ISP_TEXT && strcmp(report.line, "isp: cannot read code\n") == 0);
+
+    /* no module: the whole line, and 127 bytes of a longer one */
+    const char *locals = "isp 2 gang 32\nfunc f export void\nm 25000\nret -\nend\n";
+    WANT(isp_wasm(locals, strlen(locals), file, sizeof file, &report) == ISP_CODE && report.why.number == 0 && report.used == 0);
+    WANT(strcmp(report.line, "isp: no module: f: more than 50,000 locals. Fix: take a smaller gang, or make a function of a part.\n") == 0);
+    const char *opens = "isp 1 gang 4\nfunc hidden inner void\nm 1\nret -\nend\nfunc opens export void\nloc p i32 4\nm 1\nclear a0 m0\nret -\nend\n";
+    WANT(isp_wasm(opens, strlen(opens), file, sizeof file, &report) == ISP_CODE && report.why.number == 0 && report.used == 0);
+    WANT(strncmp(report.line, "isp: no module: opens: a varying local array, in it or, where it calls one, in any function; or ", 96) == 0);
+    WANT(strlen(report.line) == 127 && untouched(file, sizeof file));
+    WANT(isp_wasm(opens, strlen(opens), NULL, 0, &report) == ISP_CODE && report.why.number == 0);
+}
+
 static void stepping(void)
 {
     kernel("export void f(uniform int a[]) { a[programIndex] = a[programIndex] + 1; }");
@@ -299,6 +329,7 @@ static void without_bytes(void)
     WANT(isp_compile(NULL, 0, 5, NULL, 0, &report) == ISP_WORDS);
     WANT(isp_run(NULL, 0, &job, NULL, 0, NULL, 0, &report) == ISP_CODE && report.why.number == 60 && report.why.line == 1);
     WANT(isp_native(NULL, 0, NULL, 0, &report) == ISP_CODE && report.why.number == 60);
+    WANT(isp_wasm(NULL, 0, NULL, 0, &report) == ISP_CODE && report.why.number == 60);
     kernel("export void f() { print(\"x\"); }");
     size_t size = strlen(code);
     WANT(isp_run(code, size, &job, NULL, 0, NULL, 0, &report) == ISP_ARGUMENTS && report.why.number == 50);
@@ -306,6 +337,7 @@ static void without_bytes(void)
     WANT(isp_run(code, size, &job, NULL, 0, NULL, 0, &report) == ISP_ROOM && report.used == 1);
     WANT(isp_run(code, size, &job, NULL, 0, output, sizeof output, &report) == ISP_OK && output[0] == 'x');
     WANT(isp_native(code, size, NULL, 0, &report) == ISP_ROOM && report.used > 100);
+    WANT(isp_wasm(code, size, NULL, 0, &report) == ISP_ROOM && report.used > 100);
     struct isp_trace all = {job, 0, 1000, 1};
     WANT(isp_trace(code, size, &all, NULL, 0, NULL, 0, &report) == ISP_ROOM && report.used > 10);
 
@@ -365,6 +397,9 @@ static void without_memory(void)
     WANT(strcmp(report.line, "isp: memory\n") == 0 && report.used == 0 && untouched(output, sizeof output));
     memset(code, '#', sizeof code);
     WANT(isp_compile(source, strlen(source), 4, code, sizeof code, &report) == ISP_MEMORY && untouched(code, sizeof code));
+    const char *empty = "isp 1 gang 4\n";
+    WANT(isp_native(empty, strlen(empty), code, sizeof code, &report) == ISP_MEMORY && untouched(code, sizeof code));
+    WANT(isp_wasm(empty, strlen(empty), code, sizeof code, &report) == ISP_MEMORY && report.used == 0 && untouched(code, sizeof code));
     struct isp_streams to = {code, sizeof code, output, sizeof output, {1, 1}};
     WANT(isp_check(isp_string(source), 4, &to) == ISP_MEMORY && to.used.out == 0 && untouched(code, sizeof code));
     WANT(untouched(output + to.used.err, sizeof output - to.used.err));
@@ -418,6 +453,7 @@ int main(int count, char **words)
         each_trap();
         reading();
         translating();
+        making_modules();
         stepping();
         commanding();
         by_value();

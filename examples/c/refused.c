@@ -78,8 +78,9 @@ struct left {
     uint64_t result;
 };
 
-static char code[ROOM];
-static size_t code_size;
+/* the code of `source`, and of `alone` */
+static char code[ROOM], plain[ROOM];
+static size_t code_size, plain_size;
 
 static void report_of(struct left *left, uint8_t status, const struct isp_report *report)
 {
@@ -107,6 +108,21 @@ static void translates(struct left *left)
 {
     struct isp_report report;
     uint8_t status = isp_native(code, code_size, left->room, ROOM, &report);
+    report_of(left, status, &report);
+}
+
+static void makes_module(struct left *left)
+{
+    struct isp_report report;
+    uint8_t status = isp_wasm(plain, plain_size, left->room, ROOM, &report);
+    report_of(left, status, &report);
+}
+
+/* of code that has an array of each lane's own no module is made */
+static void makes_none(struct left *left)
+{
+    struct isp_report report;
+    uint8_t status = isp_wasm(code, code_size, left->room, ROOM, &report);
     report_of(left, status, &report);
 }
 
@@ -173,6 +189,7 @@ static const struct call {
 } calls[] = {
     {"isp_compile", compiles, ISP_OK, 0},        {"isp_run", runs, ISP_OK, 0},
     {"isp_native", translates, ISP_OK, 0},       {"isp_trace", traces, ISP_OK, 0},
+    {"isp_wasm", makes_module, ISP_OK, 0},       {"isp_wasm of none", makes_none, ISP_CODE, 0},
     {"isp_command run", command_run, ISP_OK, 1}, {"isp_command check", command_check, ISP_OK, 1},
     {"isp_command asm", command_asm, ISP_OK, 1}, {"isp_command exec", command_exec, ISP_OK, 1},
     {"isp_command solo", command_solo, ISP_OK, 1}, {"isp_command --help", command_help, ISP_WORDS, 1},
@@ -232,6 +249,11 @@ static void sweep(const struct call *call)
 int main(void)
 {
     struct isp_report report;
+    if (isp_compile(alone, sizeof alone - 1, 8, plain, sizeof plain, &report) != ISP_OK) {
+        fputs(report.line, stdout);
+        return 1;
+    }
+    plain_size = report.used;
     if (isp_compile(source, sizeof source - 1, 8, code, sizeof code, &report) != ISP_OK) {
         fputs(report.line, stdout);
         return 1;

@@ -51,11 +51,11 @@ static size_t taken(void (*make)(void *), void *given)
 
 /* ---- the calls */
 
-static const char *const names[] = {"isp_compile", "isp_run", "isp_native", "isp_trace", "isp_command check", "isp_command run", "isp_command solo",
+static const char *const names[] = {"isp_compile", "isp_run", "isp_native", "isp_wasm", "isp_trace", "isp_command check", "isp_command run", "isp_command solo",
                                     "isp_command exec"};
-enum call { COMPILE, RUN, NATIVE, TRACE, CHECK, JSON, SOLO, EXEC, CALLS };
+enum call { COMPILE, RUN, NATIVE, WASM, TRACE, CHECK, JSON, SOLO, EXEC, CALLS };
 /* what isp.h says that each takes at most, in KiB */
-static const size_t said[CALLS] = {800, 16, 16, 16, 800, 800, 800, 48};
+static const size_t said[CALLS] = {800, 16, 16, 16, 16, 800, 800, 800, 48};
 
 /* what is called, and what came of it */
 struct trial {
@@ -103,6 +103,9 @@ static void make(void *given)
         break;
     case NATIVE:
         trial->status = isp_native(trial->source, trial->size, room, ROOM, &trial->report);
+        break;
+    case WASM:
+        trial->status = isp_wasm(trial->source, trial->size, room, ROOM, &trial->report);
         break;
     case TRACE:
         trial->status = isp_trace(trial->source, trial->size, &steps, packed, 8, room, ROOM, &trial->report);
@@ -203,6 +206,8 @@ static void deepest(const struct form *form)
     status = call(SOLO, 32, text, strlen(text), "{}");
     want(status == ISP_OK || status == ISP_BUDGET || status == ISP_TRAP || status == ISP_DEPENDENT, "isp solo", form->open);
     want(call(NATIVE, 32, kept, size, "") == ISP_OK, "isp_native", form->open);
+    status = call(WASM, 32, kept, size, "");
+    want(status == ISP_OK || status == ISP_CODE, "isp_wasm", form->open);
     status = call(EXEC, 32, kept, size, "{}");
     want(status == ISP_OK || status == ISP_BUDGET || status == ISP_TRAP, "isp exec", form->open);
     free(kept);
@@ -228,6 +233,7 @@ static void running(void)
     size_t size = code_size;
     memcpy(kept, code, size);
     want(call(RUN, 32, kept, size, "") == ISP_OK, "isp_run", calls);
+    want(call(WASM, 32, kept, size, "") == ISP_OK, "isp_wasm", calls);
     want(call(TRACE, 32, kept, size, "") == ISP_OK, "isp_trace", calls);
     want(call(EXEC, 32, kept, size, "{\"n\":253}") == ISP_OK, "isp exec", calls);
     want(call(JSON, 32, calls, strlen(calls), "{\"n\":253}") == ISP_OK, "isp run", calls);

@@ -12,7 +12,7 @@
 #include <stdatomic.h>
 #include <stdlib.h>
 
-enum { THREADS = 16, COUNT = 5, BUDGET = 100000, CALLS = 6 };
+enum { THREADS = 16, COUNT = 5, BUDGET = 100000, CALLS = 7 };
 
 static atomic_long differ;
 static long rounds;
@@ -21,7 +21,7 @@ static long rounds;
 struct own {
     int number;
     uint32_t gang;
-    char source[512], code[4096], file[16384], lines[32768], output[64], out[256], err[256];
+    char source[512], code[4096], file[65536], lines[32768], output[64], out[256], err[256];
     size_t code_size;
     unsigned char packed[ISP_VALUE_SIZE + ISP_ARRAY_SIZE(COUNT, 4)];
 };
@@ -83,6 +83,8 @@ static void shown(struct own *own, int n)
     want(isp_native(own->code, own->code_size, own->file, sizeof own->file, &report) == ISP_OK, own, "isp_native");
     int size = snprintf(wanted, sizeof wanted, "#define ISP_GANG %u\n", own->gang);
     want(strncmp(own->file, wanted, (size_t)size) == 0, own, "the file of isp_native");
+    want(isp_wasm(own->code, own->code_size, own->file, sizeof own->file, &report) == ISP_OK && report.used > own->code_size, own, "isp_wasm");
+    want(memcmp(own->file + report.used - own->code_size, own->code, own->code_size) == 0, own, "the code behind the module");
 }
 
 /* an answer, and a refusal whose place is the thread's */

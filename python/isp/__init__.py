@@ -14,38 +14,46 @@ needed but the standard library, and for `native=True` a C compiler. Of this mod
 from __future__ import annotations
 
 from . import errors, library
-from .errors import ArgumentsError, BudgetUsed, CodeError, Error, NativeError, SourceError, Trap
+from .errors import ArgumentsError, BudgetUsed, CodeError, Error, ModuleError, NativeError, SourceError, Trap
 from .kernel import Function, Kernel, Result, checked_gang
 from .native import Native
 from .signatures import Parameter, Signature
+from .wasm import Wasm
 
 __all__ = [
-    "ArgumentsError", "BudgetUsed", "CodeError", "Error", "Function", "Kernel", "Native", "NativeError", "Parameter", "Result", "Signature",
-    "SourceError", "Trap", "compile", "load",
+    "ArgumentsError", "BudgetUsed", "CodeError", "Error", "Function", "Kernel", "ModuleError", "Native", "NativeError", "Parameter", "Result",
+    "Signature", "SourceError", "Trap", "Wasm", "compile", "load",
 ]
 
 
-def compile(source: str, gang: int = 4, native: bool = False) -> Kernel:
+def compile(source: str, gang: int = 4, native: bool = False, wasm: bool = False) -> Kernel:
     """Compiles the text of a source for a gang of 4, 8, 16 or 32 instances, and returns the kernel; with `native` one that a
-    C compiler has made native code of (Native).
+    C compiler has made native code of (Native), with `wasm` one that has its module of WebAssembly too (Wasm).
 
-    SourceError where the source is refused, ValueError for another gang, TypeError for what is no text, MemoryError where memory is
-    refused, NativeError where the C compiler is missing or fails.
+    SourceError where the source is refused, ValueError for another gang and for both `native` and `wasm`, TypeError for what is no text,
+    MemoryError where memory is refused, NativeError where the C compiler is missing or fails, ModuleError where no module is made.
     """
-    gang = checked_gang(gang)
+    kind, gang = _kind(native, wasm), checked_gang(gang)
     _check_text("source", source)
     status, code, report = library.compiled(source.encode(), gang)
     if status == errors.SOURCE:
         raise SourceError(report.text(), report.why, source)
     library.raise_else(status, report)
-    return (Native if native else Kernel)(code, source, gang)
+    return kind(code, source, gang)
 
 
-def load(code: str, native: bool = False) -> Kernel:
+def load(code: str, native: bool = False, wasm: bool = False) -> Kernel:
     """Returns the kernel of code text, as `isp asm` and `kernel.code` give it. Code with a fault is refused (CodeError): by a
-    call, and with `native` here."""
+    call, and with `native` or `wasm` here."""
     _check_text("code", code)
-    return (Native if native else Kernel)(code, None, None)
+    return _kind(native, wasm)(code, None, None)
+
+
+def _kind(native, wasm):
+    """Returns which kernel is wanted; ValueError for one that is both."""
+    if native and wasm:
+        raise ValueError("a kernel is native or wasm, not both")
+    return Native if native else Wasm if wasm else Kernel
 
 
 def _check_text(what, given):

@@ -85,6 +85,13 @@ class NativeError(Error):
         super().__init__(WORDS, text)
 
 
+class ModuleError(Error):
+    """No module of WebAssembly is made of the code: of which function, and why, up to 122 characters of what `ispx wasm` says."""
+
+    def __init__(self, text):
+        super().__init__(CODE, text)
+
+
 class CodeError(Error):
     """Code text is refused: `number` as in docs/FAULTS.md, with the `line`, or the `function` and the `instruction`."""
 

@@ -81,9 +81,10 @@ def library():
     report = ctypes.POINTER(Report)
     found.isp_compile.argtypes = [bytes_of, size, ctypes.c_uint32, to, size, report]
     found.isp_native.argtypes = [bytes_of, size, to, size, report]
+    found.isp_wasm.argtypes = [bytes_of, size, to, size, report]
     found.isp_run.argtypes = [bytes_of, size, ctypes.POINTER(Job), to, size, to, size, report]
     found.isp_command.argtypes = [ctypes.POINTER(Text), size, ctypes.POINTER(File), size, to, size, to, size, ctypes.POINTER(Used)]
-    for call in (found.isp_compile, found.isp_run, found.isp_native, found.isp_command):
+    for call in (found.isp_compile, found.isp_run, found.isp_native, found.isp_wasm, found.isp_command):
         call.restype = ctypes.c_uint8
     return found
 
@@ -104,12 +105,19 @@ def command(words, files):
 
 def compiled(source, gang):
     """Compiles a source; returns the status, the code text and the report."""
-    return _written(lambda room, size, report: library().isp_compile(source, len(source), gang, room, size, report))
+    status, text, report = _written(lambda room, size, report: library().isp_compile(source, len(source), gang, room, size, report))
+    return status, text.decode(), report
 
 
 def c_file(code):
     """Returns the status, the C file of code text, and the report."""
-    return _written(lambda room, size, report: library().isp_native(code, len(code), room, size, report))
+    status, text, report = _written(lambda room, size, report: library().isp_native(code, len(code), room, size, report))
+    return status, text.decode(), report
+
+
+def module(code):
+    """Returns the status, the module of WebAssembly of code text, and the report."""
+    return _written(lambda room, size, report: library().isp_wasm(code, len(code), room, size, report))
 
 
 def first_bytes(room, count):
@@ -118,13 +126,13 @@ def first_bytes(room, count):
 
 
 def _written(call):
-    """Makes a call that writes a text, with room enough; returns the status, the text and the report."""
+    """Makes a call that writes bytes, with room enough; returns the status, the bytes and the report."""
     report = Report(used=ROOM)
     while True:
         room = ctypes.create_string_buffer(max(1, report.used))
         status = call(room, len(room), ctypes.byref(report))
         if status != errors.ROOM:
-            return status, first_bytes(room, report.used).decode() if status == errors.OK else "", report
+            return status, first_bytes(room, report.used) if status == errors.OK else b"", report
 
 
 def run(code, entry, packed, budget, room):

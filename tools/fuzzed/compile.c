@@ -1,4 +1,4 @@
-/* Hostile sources into isp_compile: what isp.h promises of it holds, and what it gives is code. */
+/* Hostile sources into isp_compile: what isp.h promises of it holds, and what it gives is code, of which a module is made or is not. */
 #define _DEFAULT_SOURCE
 #include "fence.h"
 
@@ -35,5 +35,7 @@ int LLVMFuzzerTestOneInput(const uint8_t *data, size_t size)
     holds(compiled(source, gang, ends[1], wanted + data[1], &report) == ISP_OK && report.used == wanted, "a room that is large enough");
     holds(compiled(source, gang, ends[2], wanted, &report) == ISP_OK && memcmp(ends[1] - wanted - data[1], ends[2] - wanted, wanted) == 0, "the code again");
     holds(isp_native((char *)ends[2] - wanted, wanted, NULL, 0, &report) == ISP_ROOM, "the code is code");
+    status = isp_wasm((char *)ends[2] - wanted, wanted, NULL, 0, &report);
+    holds(status == ISP_ROOM || (status == ISP_CODE && report.why.number == 0), "the code has a module, or none is made of it");
     return 0;
 }

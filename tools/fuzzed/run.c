@@ -1,8 +1,8 @@
-/* Hostile code text and hostile packed bytes into isp_run and isp_trace: what isp.h promises of them holds. */
+/* Hostile code text and hostile packed bytes into isp_run and isp_trace, and the code into isp_wasm: what isp.h promises of them holds. */
 #define _DEFAULT_SOURCE
 #include "fence.h"
 
-enum { STEPS = 20000, LINES = 65536 };
+enum { STEPS = 20000, LINES = 65536, MODULE = 65536 };
 
 /* isp_run with a room of so many bytes, over a copy of what was given. */
 static uint8_t ran(struct isp_text code, struct isp_text entry, struct isp_text given, size_t room, struct isp_report *report)
@@ -18,6 +18,27 @@ static uint8_t ran(struct isp_text code, struct isp_text entry, struct isp_text 
     holds((status == ISP_ROOM) == (report->used > room), "what is wanted");
     holds((status == ISP_OK) == (report->line[0] == 0), "the line");
     return status;
+}
+
+/* isp_wasm says of the code what isp_run does, and gives a module that ends with the code, or says that none is made. */
+static void made(struct isp_text code, uint8_t ran, uint32_t number)
+{
+    struct isp_report report;
+    uint8_t status = isp_wasm(code.at, code.size, NULL, 0, &report);
+    if (status == ISP_MEMORY || ran == ISP_MEMORY)
+        return;
+    if (ran == ISP_TEXT || ran == ISP_CODE) {
+        holds(status == ran && report.why.number == number && report.used == 0, "isp_wasm and isp_run differ");
+        return;
+    }
+    holds(status == ISP_ROOM || (status == ISP_CODE && report.why.number == 0 && report.used == 0), "the status of isp_wasm");
+    size_t wanted = report.used;
+    if (status == ISP_CODE || wanted > MODULE)
+        return;
+    char *file = room_before(ends[5], wanted);
+    holds(isp_wasm(code.at, code.size, file, wanted - 1, &report) == ISP_ROOM && report.used == wanted && all_stay(file, wanted), "a byte too few");
+    holds(isp_wasm(code.at, code.size, file, wanted, &report) == ISP_OK && report.used == wanted && report.line[0] == 0, "a room that is large enough");
+    holds(memcmp(file, "\0asm", 4) == 0 && memcmp(file + wanted - code.size, code.at, code.size) == 0, "the module");
 }
 
 /* Up to the first zero stands code text, then the entry up to the next, and the rest is what the parameters are. */
@@ -41,6 +62,7 @@ int LLVMFuzzerTestOneInput(const uint8_t *data, size_t size)
         status = ran(code, entry, given, wanted, &report);
         holds((status == ISP_OK || status == ISP_TRAP || status == ISP_BUDGET) && report.used == wanted, "a room that is large enough");
     }
+    made(code, status, report.why.number);
     int refused = status == ISP_ARGUMENTS || status == ISP_TEXT || status == ISP_CODE;
     holds(refused ? seen == status : seen == ISP_OK || seen == ISP_ROOM || seen == ISP_MEMORY, "isp_trace and isp_run differ");
     return 0;

@@ -28,6 +28,7 @@ use Rattle.isp_meaning.specs.Entries.{IsEntry, IsExport}
 use Rattle.isp_machine.specs.declared.stop.Stop.{Stop}
 use Rattle.isp_machine.specs.declared.stop.Stop.TheVariants as stop
 use Rattle.isp_native.specs.Text.{IsCText}
+use Rattle.isp_wasm_file.specs.File.{file_of}
 use Rattle.isp_packed.proofs.Fits.{ok_same, unpacked_fits}
 use Rattle.isp_packed.specs.Packing.{IsPackable, longest, packed_answer}
 use Rattle.isp_packed.specs.Unpacking.{unpacked_of}
@@ -46,20 +47,23 @@ use Rattle.isp_headline.specs.BoundHeadline.{BoundHeadline, DoesAsMeantBound}
 use Rattle.isp_headline.specs.Headline.{RunsAsMeant}
 use Rattle.isp_c.specs.Compiling.{Compiles, IsCodeText, IsText, NoCodeText}
 use Rattle.isp_c.specs.FromSource.{FromSource, FromSourceToC, Leaves, LeavesAll, LeavesArguments}
-use Rattle.isp_c.specs.Refusals.{status_of}
-use Rattle.isp_c.specs.Reports.{Done, Refuses}
-use Rattle.isp_c.specs.Rooms.{Answers, Gives, fronted}
-use Rattle.isp_c.specs.Running.{Delivers, NoRun, Ran, RunOf, Runs, Stops, Takes, Tells, answered, returned_bits}
-use Rattle.isp_c.specs.Translating.{IsCFile, IsFile, NoCFile, Translates}
-use Rattle.isp_c.specs.declared.refusal.Refusal.{Refusal}
-use Rattle.isp_c.specs.declared.refusal.Refusal.TheVariants.{NoGang, Failed, Arguments, Short}
-use Rattle.isp_c.specs.declared.report.Report.{Report}
+use Rattle.isp_reports.specs.Refusals.{status_of}
+use Rattle.isp_reports.specs.Reports.{Done, Refuses}
+use Rattle.isp_reports.specs.Rooms.{Answers, Gives, fronted}
+use Rattle.isp_c.specs.FromSourceToWasm.{FromSourceToWasm}
+use Rattle.isp_c.specs.Modules.{IsModule, IsModuleFile, MakesModule, NoModuleFile}
+use Rattle.isp_c.specs.Running.{Delivers, NoCode, NoRun, Ran, RunOf, Runs, Stops, Takes, Tells, answered, returned_bits}
+use Rattle.isp_c.specs.Translating.{IsCFile, IsFile, Translates}
+use Rattle.isp_reports.specs.declared.refusal.Refusal.{Refusal}
+use Rattle.isp_reports.specs.declared.refusal.Refusal.TheVariants.{NoGang, Failed, Arguments, NoModule, Short}
+use Rattle.isp_reports.specs.declared.report.Report.{Report}
 
 -- ---- what isp_compile wrote
 
 no_status : (f : Refusal) → 0 ≡ status_of f → ⊥
 no_status NoGang e = omega (arith, e)
 no_status (Arguments f) e = omega (arith, e)
+no_status (NoModule line) e = omega (arith, e)
 no_status Short e = omega (arith, e)
 no_status (Failed (failure.Source f)) e = omega (arith, e)
 no_status (Failed (failure.Trapped t)) e = omega (arith, e)
@@ -118,9 +122,16 @@ compiled_text width source room text r x = is_front room text r (IsCodeText widt
     of (Err f) is = is
 
 c_file : (text old new : List ℕ) (r : Report) → Translates text old new r 0 → IsCFile text (take r.used new)
-c_file text old new r x = is_front old new r (IsCFile text) (NoCFile text) x.0 (of x.0 x.1) x.2
+c_file text old new r x = is_front old new r (IsCFile text) (NoCode text) x.0 (of x.0 x.1) x.2
   where
-    of : (answer : Result (List ℕ) Refusal) → IsFile text answer → MatchResult answer (IsCFile text) (NoCFile text)
+    of : (answer : Result (List ℕ) Refusal) → IsFile text answer → MatchResult answer (IsCFile text) (NoCode text)
+    of (Ok found) is = is
+    of (Err f) is = is
+
+module_file : (text old new : List ℕ) (r : Report) → MakesModule text old new r 0 → IsModuleFile text (take r.used new)
+module_file text old new r x = is_front old new r (IsModuleFile text) (NoModuleFile text) x.0 (of x.0 x.1) x.2
+  where
+    of : (answer : Result (List ℕ) Refusal) → IsModule text answer → MatchResult answer (IsModuleFile text) (NoModuleFile text)
     of (Ok found) is = is
     of (Err f) is = is
 
@@ -299,6 +310,7 @@ module _ (one : OneText) (none : Faultless) (law : BoundHeadline) (gang : Gang) 
     no_run (Failed (failure.NotIndependent d)) k = absurd k
     no_run (Failed (failure.NotApart name i)) k = absurd k
     no_run NoGang k = absurd k
+    no_run (NoModule line) k = absurd k
     no_run Short k = absurd k
     no_run (Arguments e) k = let same : Ok xs ≡ Err e = taken (Err e) k in absurd (let no : ⊥ = cc in no)
 
@@ -343,3 +355,10 @@ from_source_to_c one none gang source room text first wrote old new r x =
     let file : IsCFile (take first.used text) (take r.used new) = c_file (take first.used text) old new r x in
     let same : file.listing ≡ is.code = same_code one none (take first.used text) is.code is.loads file.listing file.loaded in
     (is.code, compiled gang source (take first.used text) is, subst (λ c. IsCText c (take r.used new)) same file.file_is)
+
+pub from_source_to_wasm : OneText → Faultless → FromSourceToWasm
+from_source_to_wasm one none gang source room text first wrote old new r x =
+    let is : IsCodeText (gang_width gang) source (take first.used text) = compiled_text (gang_width gang) source room text first wrote in
+    let file : IsModuleFile (take first.used text) (take r.used new) = module_file (take first.used text) old new r x in
+    let same : file.listing ≡ is.code = same_code one none (take first.used text) is.code is.loads file.listing file.loaded in
+    (is.code, compiled gang source (take first.used text) is, file.file_is ∙ ap file_of same)

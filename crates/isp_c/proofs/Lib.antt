@@ -1,4 +1,3 @@
-mod Lines
 mod Runs
 mod Traces
 mod FromSource

@@ -8,7 +8,7 @@ use Rattle.isp_traces.specs.declared.runs.Traced.{Traced}
 use Rattle.isp_traces.specs.declared.tracing.Window.{Window}
 use Rattle.isp_c.specs.Running.{Binds}
 use Rattle.isp_c.specs.Tracing.{TraceOf}
-use Rattle.isp_c.specs.declared.refusal.Refusal.{Refusal}
+use Rattle.isp_reports.specs.declared.refusal.Refusal.{Refusal}
 
 -- a run from the arguments that the bytes hold for an entry of code that was loaded
 module _ (img : Listing) (name bytes : List ℕ) (xs : List Argument) (w : Window) (budget : ℕ) (b : Binds img name bytes xs) where

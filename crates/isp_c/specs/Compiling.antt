@@ -7,10 +7,10 @@ use Rattle.isp_runs.specs.Compilation.{IsCompilation}
 use Rattle.isp_front.specs.Front.{IsFaulty}
 use Rattle.isp_runs.specs.Loading.{IsLoaded}
 use Rattle.isp_engine.specs.declared.failure.Failure.TheVariants.{Source, CannotRead, Memory}
-use Rattle.isp_c.specs.Rooms.{Answers}
-use Rattle.isp_c.specs.declared.refusal.Refusal.{Refusal}
-use Rattle.isp_c.specs.declared.refusal.Refusal.TheVariants.{NoGang, Failed}
-use Rattle.isp_c.specs.declared.report.Report.{Report}
+use Rattle.isp_reports.specs.Rooms.{Answers}
+use Rattle.isp_reports.specs.declared.refusal.Refusal.{Refusal}
+use Rattle.isp_reports.specs.declared.refusal.Refusal.TheVariants.{NoGang, Failed}
+use Rattle.isp_reports.specs.declared.report.Report.{Report}
 
 -- the text that is loaded as the code that the source is compiled to
 pub record IsCodeText (width : ℕ) (source text : List ℕ) : Type 0 where

@@ -18,12 +18,12 @@ use Rattle.isp_front.specs.Front.{IsSource}
 use Rattle.isp_engine.specs.declared.failure.Failure.TheVariants.{BudgetUsed, Memory, Trapped}
 use Rattle.isp_headline.specs.Headline.{RunsAsMeant}
 use Rattle.isp_c.specs.Compiling.{Compiles}
-use Rattle.isp_c.specs.Reports.{Done, Refuses}
-use Rattle.isp_c.specs.Rooms.{fronted}
+use Rattle.isp_reports.specs.Reports.{Done, Refuses}
+use Rattle.isp_reports.specs.Rooms.{fronted}
 use Rattle.isp_c.specs.Running.{Runs, returned_bits}
 use Rattle.isp_c.specs.Translating.{Translates}
-use Rattle.isp_c.specs.declared.refusal.Refusal.TheVariants.{Failed, Short}
-use Rattle.isp_c.specs.declared.report.Report.{Report}
+use Rattle.isp_reports.specs.declared.refusal.Refusal.TheVariants.{Failed, Short}
+use Rattle.isp_reports.specs.declared.report.Report.{Report}
 
 -- the bytes of the arguments before and behind, and what is said: an end or a trap leaves its arrays where the arguments stood
 abbrev pub LeavesArguments : Outcome → List ℕ → List ℕ → Report → ℕ → Type 0

@@ -1,10 +1,8 @@
-pub mod Lines
-pub mod Refusals
-pub mod Reports
-pub mod Rooms
 pub mod Compiling
 pub mod Running
 pub mod Translating
+pub mod Modules
 pub mod Tracing
 pub mod Commanding
 pub mod FromSource
+pub mod FromSourceToWasm

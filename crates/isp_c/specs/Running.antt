@@ -17,11 +17,11 @@ use Rattle.isp_machine.specs.declared.stop.Stop.TheVariants as stop
 use Rattle.isp_packed.specs.Packing.{packed_answer}
 use Rattle.isp_packed.specs.Unpacking.{unpacked_of}
 use Rattle.isp_packed.specs.declared.fault.PackedFault.{PackedFault}
-use Rattle.isp_c.specs.Reports.{Done, Refuses}
-use Rattle.isp_c.specs.Rooms.{fronted}
-use Rattle.isp_c.specs.declared.refusal.Refusal.{Refusal}
-use Rattle.isp_c.specs.declared.refusal.Refusal.TheVariants.{Arguments, Failed, Short}
-use Rattle.isp_c.specs.declared.report.Report.{Report}
+use Rattle.isp_reports.specs.Reports.{Done, Refuses}
+use Rattle.isp_reports.specs.Rooms.{fronted}
+use Rattle.isp_reports.specs.declared.refusal.Refusal.{Refusal}
+use Rattle.isp_reports.specs.declared.refusal.Refusal.TheVariants.{Arguments, Failed, Short}
+use Rattle.isp_reports.specs.declared.report.Report.{Report}
 
 -- ---- the run
 
@@ -57,6 +57,11 @@ abbrev pub NoLoad : List ℕ → Refusal → Type 0
 NoLoad text (Failed (Code f)) = IsNotLoaded text f
 NoLoad text (Failed Memory) = Unit {0}
 NoLoad text f = ⊥
+
+-- why bytes give no code: they are no text, or one of no code
+abbrev pub NoCode : List ℕ → Refusal → Type 0
+NoCode code (Failed (CannotRead name)) = (name.now ≡ codes "code") × (IsUtf8 code → ⊥)
+NoCode code f = NoLoad code f
 
 -- no function of the code is exported under the name
 abbrev pub HasNoEntry : List ℕ → List ℕ → Type 0

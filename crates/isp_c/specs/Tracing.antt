@@ -4,10 +4,10 @@ use Rattle.isp_base.specs.declared.signature.Argument.{Argument}
 use Rattle.isp_traces.specs.Tracing.{TracedRun}
 use Rattle.isp_traces.specs.declared.runs.Traced.{Traced}
 use Rattle.isp_traces.specs.declared.tracing.Window.{Window}
-use Rattle.isp_c.specs.Rooms.{Answers}
+use Rattle.isp_reports.specs.Rooms.{Answers}
 use Rattle.isp_c.specs.Running.{NoRun, Takes}
-use Rattle.isp_c.specs.declared.refusal.Refusal.{Refusal}
-use Rattle.isp_c.specs.declared.report.Report.{Report}
+use Rattle.isp_reports.specs.declared.refusal.Refusal.{Refusal}
+use Rattle.isp_reports.specs.declared.report.Report.{Report}
 use Rattle.isp_c.specs.declared.trace.Trace.{Trace}
 
 -- the steps that a caller asks for

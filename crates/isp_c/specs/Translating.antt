@@ -1,14 +1,12 @@
 -- What isp_native does.
-use Rattle.std.specs.Prelude.{◌≡◌, ℕ, List, codes, Result, Ok, Err, IsUtf8}
+use Rattle.std.specs.Prelude.{◌≡◌, ℕ, List, Result, Ok, Err}
 use Rattle.isp_code.specs.Listing.{Listing}
 use Rattle.isp_runs.specs.Loading.{IsLoaded}
-use Rattle.isp_engine.specs.declared.failure.Failure.TheVariants.{CannotRead}
 use Rattle.isp_native.specs.Text.{IsCText}
-use Rattle.isp_c.specs.Rooms.{Answers}
-use Rattle.isp_c.specs.Running.{NoLoad}
-use Rattle.isp_c.specs.declared.refusal.Refusal.{Refusal}
-use Rattle.isp_c.specs.declared.refusal.Refusal.TheVariants.{Failed}
-use Rattle.isp_c.specs.declared.report.Report.{Report}
+use Rattle.isp_reports.specs.Rooms.{Answers}
+use Rattle.isp_c.specs.Running.{NoCode}
+use Rattle.isp_reports.specs.declared.refusal.Refusal.{Refusal}
+use Rattle.isp_reports.specs.declared.report.Report.{Report}
 
 -- the C file of the code that a text is
 pub record IsCFile (code file : List ℕ) : Type 0 where
@@ -16,14 +14,9 @@ pub record IsCFile (code file : List ℕ) : Type 0 where
   pub loaded : IsLoaded code listing
   pub file_is : IsCText listing file
 
--- why there is none
-abbrev pub NoCFile : List ℕ → Refusal → Type 0
-NoCFile code (Failed (CannotRead name)) = (name.now ≡ codes "code") × (IsUtf8 code → ⊥)
-NoCFile code f = NoLoad code f
-
 abbrev pub IsFile : List ℕ → Result (List ℕ) Refusal → Type 0
 IsFile code (Ok file) = IsCFile code file
-IsFile code (Err f) = NoCFile code f
+IsFile code (Err f) = NoCode code f
 
 abbrev pub Translates : List ℕ → List ℕ → List ℕ → Report → ℕ → Type 0
 Translates code old new r status = (answer : Result (List ℕ) Refusal) × IsFile code answer × Answers old new r status answer

@@ -3,9 +3,9 @@ ghost use Rattle.std.specs.Prelude.{◌≡◌, [], false, IfErr, IfOk, IfSome, I
 ghost use Rattle.isp_engine.specs.declared.files.FileFault.TheVariants.{CannotRead};
 ghost use Rattle.isp_c.specs.Commanding.{Commanded, Did, Gives, Holds, bytes_in};
 
-use crate::room::put;
 use crate::texts::Text;
 use isp_engine::{FileFault, Kept, Sink, SourceFiles, command};
+use isp_reports::put;
 use std::alloc::{AllocError, AllocFailed, Global};
 
 /// A file for C: its name, and its text.

@@ -3,14 +3,11 @@ ghost use Rattle.std.specs.Prelude.{◌≡◌, IfErr, IfOk, string_bytes};
 ghost use Rattle.isp_base.specs.Types.{gang_width};
 ghost use Rattle.isp_runs.specs.Compilation.{IsCompilation};
 ghost use Rattle.isp_c.specs.Compiling.{Compiles, IsCodeText, NoCodeText};
-ghost use Rattle.isp_c.specs.Rooms.{Gives};
 
-use crate::refusal::Refusal;
-use crate::report::{Report, done, refuse};
-use crate::room::put;
 use isp_base::Gang;
 use isp_engine::{Failure, Image, compile};
 use isp_lex::SourceFault;
+use isp_reports::{Refusal, Report, give, refuse};
 use std::alloc::Global;
 
 /// Compiles the source for a gang of so many instances, and writes the code text at the front of `code`, its length to
@@ -38,16 +35,6 @@ pub extern "C" fn isp_compile(
         Ok(text) => give(text.as_bytes(), code, report),
         Err(refusal) => refuse(&refusal, 0, report),
     }
-}
-
-// Writes the bytes that a call gives.
-pub(crate) fn give(bytes: &[u8], room: &mut [u8], report: &mut Report) -> u8
-    ensures { Gives bytes.now room.old room.new report.new result }
-{
-    if !put(bytes, room) {
-        return refuse(&Refusal::Short, bytes.len(), report);
-    }
-    done(bytes.len(), 0, report)
 }
 
 // The code text of a source.

@@ -8,20 +8,18 @@
 mod command;
 mod compile;
 mod laws;
-mod line;
 mod native;
-mod refusal;
-mod report;
-mod room;
 mod run;
 mod texts;
 mod trace;
+mod wasm;
 
 pub use command::{File, Used, isp_command};
 pub use compile::isp_compile;
+pub use isp_reports::{Report, Why};
 pub use laws::from_source;
 pub use native::isp_native;
-pub use report::{Report, Why};
 pub use run::{Job, isp_run};
 pub use texts::Text;
 pub use trace::{Trace, isp_trace};
+pub use wasm::isp_wasm;

@@ -1,13 +1,12 @@
 //! Code text becomes a C file.
 ghost use Rattle.std.specs.Prelude.{◌≡◌, IfErr, IfOk, string_bytes};
-ghost use Rattle.isp_c.specs.Translating.{IsCFile, NoCFile, Translates};
+ghost use Rattle.isp_c.specs.Running.{NoCode};
+ghost use Rattle.isp_c.specs.Translating.{IsCFile, Translates};
 
-use crate::compile::give;
-use crate::refusal::Refusal;
-use crate::report::{Report, refuse};
-use crate::run::loaded;
+use crate::run::coded;
 use isp_engine::Failure;
 use isp_native::write;
+use isp_reports::{Refusal, Report, give, refuse};
 use std::alloc::Global;
 
 /// Reads code text, and writes its C file, a line for each instruction, at the front of `file`, its length to
@@ -34,12 +33,9 @@ pub extern "C" fn isp_native(alloc: Global, code: &[u8], file: &mut [u8], report
 // The C file of code text.
 fn c_file(alloc: Global, code: &[u8]) -> Result<String, Refusal<'static>>
     ensures ok { IfOk result (λ s. IsCFile code.now (string_bytes s)) }
-    ensures err { IfErr result (NoCFile code.now) }
+    ensures err { IfErr result (NoCode code.now) }
 {
-    let Ok(text) = std::str::from_utf8(code) else {
-        return Err(Refusal::Failed(Failure::CannotRead("code")));
-    };
-    let image = loaded(alloc, text)?;
+    let image = coded(alloc, code)?;
     match write(alloc, image.code()) {
         Ok(file) => Ok(file),
         Err(_) => Err(Refusal::Failed(Failure::Memory)),

@@ -9,19 +9,17 @@ ghost use Rattle.isp_runs.specs.Loading.{IsLoaded};
 ghost use Rattle.isp_engine.specs.declared.failure.Failure.TheVariants.{Memory};
 ghost use Rattle.isp_machine.specs.declared.stop.Stop.TheVariants.{Memory as StopMemory};
 ghost use Rattle.isp_packed.specs.Packing.{packed_answer};
-ghost use Rattle.isp_c.specs.Refusals.{no_entry};
-ghost use Rattle.isp_c.specs.Running.{Binds, Delivers, NoBound, NoLoad, NoRun, RunOf, Runs, Stops, answered, returned_bits};
-ghost use Rattle.isp_c.specs.declared.refusal.Refusal.TheVariants.{Failed};
+ghost use Rattle.isp_reports.specs.Refusals.{no_entry};
+ghost use Rattle.isp_c.specs.Running.{Binds, Delivers, NoBound, NoCode, NoLoad, NoRun, RunOf, Runs, Stops, answered, returned_bits};
+ghost use Rattle.isp_reports.specs.declared.refusal.Refusal.TheVariants.{Failed};
 
-use crate::refusal::Refusal;
-use crate::report::{Report, done, refuse};
-use crate::room::put;
 use crate::texts::Text;
 use isp_base::{Bound, Value, low_bits};
 use isp_engine::{
     BoundReport, CodeFault, Failure, Image, RunFault, StartFault, Stop, execute_bound, load_code,
 };
 use isp_packed::{pack, packed_laws, unpack};
+use isp_reports::{Refusal, Report, done, put, refuse};
 use std::alloc::Global;
 
 /// What is run of some code: an exported function, for so many instructions at most.
@@ -97,6 +95,17 @@ pub(crate) fn no_entry() -> Refusal<'static>
     ensures { result ≡ no_entry }
 {
     Refusal::Failed(Failure::Run(RunFault::NoEntry))
+}
+
+// The code that bytes give.
+pub(crate) fn coded(alloc: Global, code: &[u8]) -> Result<Image, Refusal<'static>>
+    ensures ok { IfOk result (IsLoaded code.now) }
+    ensures err { IfErr result (NoCode code.now) }
+{
+    match std::str::from_utf8(code) {
+        Ok(text) => loaded(alloc, text),
+        Err(_) => Err(Refusal::Failed(Failure::CannotRead("code"))),
+    }
 }
 
 pub(crate) fn loaded(alloc: Global, text: &str) -> Result<Image, Refusal<'static>>

@@ -6,14 +6,12 @@ ghost use Rattle.isp_engine.specs.declared.failure.Failure.TheVariants.{Memory};
 ghost use Rattle.isp_traces.specs.Tracing.{TracedRun};
 ghost use Rattle.isp_c.specs.Running.{NoRun};
 ghost use Rattle.isp_c.specs.Tracing.{TraceOf, Traces, window_of};
-ghost use Rattle.isp_c.specs.declared.refusal.Refusal.TheVariants.{Failed};
+ghost use Rattle.isp_reports.specs.declared.refusal.Refusal.TheVariants.{Failed};
 
-use crate::compile::give;
-use crate::refusal::Refusal;
-use crate::report::{Report, refuse};
 use crate::run::{Job, bound, loaded, no_entry};
 use isp_base::Bound;
 use isp_engine::{Failure, Image, StartFault};
+use isp_reports::{Refusal, Report, give, refuse};
 use isp_traces::{Traced, Window, trace_run};
 use std::alloc::Global;
 

@@ -1,4 +1,4 @@
-use Rattle.isp_c.proofs.FromSource.{from_source, from_source_to_c}
+use Rattle.isp_c.proofs.FromSource.{from_source, from_source_to_c, from_source_to_wasm}
 use Rattle.isp_c.proofs.laws.from_source.Goals as goal
 
 pub returns-clause-bytes : goal.returns-clause-bytes
@@ -6,3 +6,6 @@ returns-clause-bytes c = from_source c.text_laws.ensures.one c.text_laws.ensures
 
 pub returns-clause-file : goal.returns-clause-file
 returns-clause-file c = from_source_to_c c.text_laws.ensures.one c.text_laws.ensures.faultless
+
+pub returns-clause-module : goal.returns-clause-module
+returns-clause-module c = from_source_to_wasm c.text_laws.ensures.one c.text_laws.ensures.faultless

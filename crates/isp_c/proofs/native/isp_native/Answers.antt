@@ -1,5 +1,5 @@
 use Rattle.std.proofs.Common.{Ok, Err, refl, string_bytes, subst}
-use Rattle.isp_c.specs.Rooms.{Gives}
+use Rattle.isp_reports.specs.Rooms.{Gives}
 use Rattle.isp_c.proofs.native.isp_native.Goals as goal
 
 pub returns-in-Ok : goal.returns-in-Ok

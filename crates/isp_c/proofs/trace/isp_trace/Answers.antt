@@ -1,5 +1,5 @@
 use Rattle.std.proofs.Common.{Ok, Err, refl, subst}
-use Rattle.isp_c.specs.Rooms.{Gives}
+use Rattle.isp_reports.specs.Rooms.{Gives}
 use Rattle.isp_c.proofs.trace.isp_trace.Goals as goal
 
 pub returns-in-Ok : goal.returns-in-Ok

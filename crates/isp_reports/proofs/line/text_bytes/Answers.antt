@@ -1,7 +1,7 @@
 use Rattle.std.proofs.Common.{◌++◌, ap, sym, ◌∙◌}
 use Rattle.std.proofs.lemmas.List.{take_all}
-use Rattle.isp_c.specs.Lines.{Written, padded}
-use Rattle.isp_c.proofs.line.text_bytes.Goals as goal
+use Rattle.isp_reports.specs.Lines.{Written, padded}
+use Rattle.isp_reports.proofs.line.text_bytes.Goals as goal
 
 pub returns : goal.returns
 returns c =

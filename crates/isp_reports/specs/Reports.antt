@@ -1,9 +1,9 @@
 -- What a call says of itself: its report and its status.
 use Rattle.std.specs.Prelude.{◌≡◌, ℕ, []}
-use Rattle.isp_c.specs.Lines.{line_bytes}
-use Rattle.isp_c.specs.Refusals.{line_of, nothing, status_of, why_of}
-use Rattle.isp_c.specs.declared.refusal.Refusal.{Refusal}
-use Rattle.isp_c.specs.declared.report.Report.{Report}
+use Rattle.isp_reports.specs.Lines.{line_bytes}
+use Rattle.isp_reports.specs.Refusals.{line_of, nothing, status_of, why_of}
+use Rattle.isp_reports.specs.declared.refusal.Refusal.{Refusal}
+use Rattle.isp_reports.specs.declared.report.Report.{Report}
 
 -- all went well: so many bytes were written, and this was returned
 abbrev pub Done : ℕ → ℕ → Report → ℕ → Type 0

@@ -2,8 +2,8 @@
 ghost use Rattle.std.specs.Prelude.{◌≡◌, ◌≤◌, ◌+◌, ◌||◌, ◌++◌, [], Ok, Some, false, true, take, length};
 ghost use Rattle.isp_engine.specs.Failures.{failure_line};
 ghost use Rattle.isp_output.specs.Sinks.{refuses};
-ghost use Rattle.isp_c.specs.Lines.{line_bytes, padded};
-ghost use Rattle.isp_c.specs.Refusals.{line_of};
+ghost use Rattle.isp_reports.specs.Lines.{line_bytes, padded};
+ghost use Rattle.isp_reports.specs.Refusals.{line_of};
 
 use crate::refusal::{Refusal, in_json};
 use isp_engine::{Failure, Sink, SinkFault, tell_line};
@@ -25,7 +25,7 @@ struct Line {
 
 impl Model for Line {
     ghost use Rattle.std.specs.Prelude.{◌≡◌, ◌≤◌, ◌-◌, drop, replicate, take, true};
-    ghost use Rattle.isp_c.specs.Lines.{Written};
+    ghost use Rattle.isp_reports.specs.Lines.{Written};
 
     ghost Value = { Written };
 
@@ -112,6 +112,7 @@ pub(crate) fn line_of(refusal: &Refusal<'_>) -> [u8; LINE]
         Refusal::NoGang => text_bytes("isp: no such gang\n"),
         Refusal::Failed(failure) => failure_bytes(failure),
         Refusal::Arguments(fault) => failure_bytes(&in_json(*fault)),
+        Refusal::NoModule(line) => text_bytes(line.as_str()),
         Refusal::Short => text_bytes("isp: no room\n"),
     }
 }
@@ -125,12 +126,12 @@ fn failure_bytes(failure: &Failure<'_>) -> [u8; LINE]
     line.into_bytes()
 }
 
-// A short text.
+// The line that a text is.
 fn text_bytes(text: &str) -> [u8; LINE]
-    requires { length text.now ≤ 127 }
     ensures { result ≡ line_bytes text.now }
 {
     let mut line = Line::new();
-    line.push(text.as_bytes());
+    let count = usize::min(MOST, text.len());
+    line.push(&text.as_bytes()[..count]);
     line.into_bytes()
 }

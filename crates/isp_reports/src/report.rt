@@ -1,7 +1,7 @@
 //! What a call says of itself.
 ghost use Rattle.std.specs.Prelude.{◌≡◌};
-ghost use Rattle.isp_c.specs.Refusals.{nothing, number_of_kind, number_of_rule, numbered, of_argument, placed, why_of, why_of_arguments, why_of_code, why_of_failure, why_of_trap};
-ghost use Rattle.isp_c.specs.Reports.{Done, Refuses};
+ghost use Rattle.isp_reports.specs.Refusals.{nothing, number_of_kind, number_of_rule, numbered, of_argument, placed, why_of, why_of_arguments, why_of_code, why_of_failure, why_of_trap};
+ghost use Rattle.isp_reports.specs.Reports.{Done, Refuses};
 
 use crate::line::{LINE, line_of, no_line};
 use crate::refusal::Refusal;
@@ -96,7 +96,7 @@ impl Why {
 }
 
 /// A call that ends well: so many bytes were written, and this was returned.
-pub(crate) fn done(used: usize, returned: u64, report: &mut Report) -> u8
+pub fn done(used: usize, returned: u64, report: &mut Report) -> u8
     ensures { Done used returned report.new result }
 {
     *report = Report {
@@ -109,7 +109,7 @@ pub(crate) fn done(used: usize, returned: u64, report: &mut Report) -> u8
 }
 
 /// A call that is refused, or stopped behind so many bytes; how it ends.
-pub(crate) fn refuse(refusal: &Refusal<'_>, used: usize, report: &mut Report) -> u8
+pub fn refuse(refusal: &Refusal<'_>, used: usize, report: &mut Report) -> u8
     ensures { Refuses refusal.now used report.new result }
 {
     *report = Report {
@@ -125,7 +125,7 @@ fn why_of(refusal: &Refusal<'_>) -> Why
     ensures { result ≡ why_of refusal.now }
 {
     match refusal {
-        Refusal::NoGang | Refusal::Short => Why::none(),
+        Refusal::NoGang | Refusal::NoModule(_) | Refusal::Short => Why::none(),
         Refusal::Failed(failure) => why_of_failure(failure),
         Refusal::Arguments(fault) => why_of_arguments(*fault),
     }

@@ -1,9 +1,9 @@
 use Rattle.std.proofs.Common.{Some, ap, subst, ◌∙◌}
 use Rattle.isp_engine.specs.Failures.{failure_line}
 use Rattle.isp_engine.specs.Told.{Told}
-use Rattle.isp_c.specs.Lines.{Written, padded}
-use Rattle.isp_c.proofs.Lines.{told_line}
-use Rattle.isp_c.proofs.line.failure_bytes.Goals as goal
+use Rattle.isp_reports.specs.Lines.{Written, padded}
+use Rattle.isp_reports.proofs.Lines.{told_line}
+use Rattle.isp_reports.proofs.line.failure_bytes.Goals as goal
 
 pub returns : goal.returns
 returns c =

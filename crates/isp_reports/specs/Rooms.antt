@@ -1,9 +1,9 @@
 -- Bytes in a room.
 use Rattle.std.specs.Prelude.{◌≡◌, ℕ, ◌<◌, ◌≤◌, List, ◌++◌, drop, length, Result, Ok, Err}
-use Rattle.isp_c.specs.Reports.{Done, Refuses}
-use Rattle.isp_c.specs.declared.refusal.Refusal.{Refusal}
-use Rattle.isp_c.specs.declared.refusal.Refusal.TheVariants.{Short}
-use Rattle.isp_c.specs.declared.report.Report.{Report}
+use Rattle.isp_reports.specs.Reports.{Done, Refuses}
+use Rattle.isp_reports.specs.declared.refusal.Refusal.{Refusal}
+use Rattle.isp_reports.specs.declared.refusal.Refusal.TheVariants.{Short}
+use Rattle.isp_reports.specs.declared.report.Report.{Report}
 
 -- the bytes, and behind them what the room held there
 abbrev pub fronted : List ℕ → List ℕ → List ℕ

@@ -1,7 +1,7 @@
 use Rattle.std.proofs.Common.{arith, ◌≤◌, ◌+◌, ap, sym, subst, length}
-use Rattle.isp_c.specs.Lines.{Written}
-use Rattle.isp_c.proofs.Lines.{fits, zeros_behind}
-use Rattle.isp_c.proofs.line.Line.push.Goals as goal
+use Rattle.isp_reports.specs.Lines.{Written}
+use Rattle.isp_reports.proofs.Lines.{fits, zeros_behind}
+use Rattle.isp_reports.proofs.line.Line.push.Goals as goal
 
 pub invariant_of-self : goal.invariant_of-self
 invariant_of-self c =

@@ -1,5 +1,5 @@
 -- Why a call ends with a status other than 0: the status, the line, and what is told by numbers.
-use Rattle.std.specs.Prelude.{ℕ, List, [], ◌∷◌, ◌++◌, codes}
+use Rattle.std.specs.Prelude.{ℕ, List, [], ◌∷◌, ◌++◌, codes, string_bytes}
 use Rattle.isp_asm.specs.declared.fault.Rule.{Rule as TextRule}
 use Rattle.isp_asm.specs.declared.fault.Rule.TheVariants.{BadLine, BadOperand, BadLabel, NotCanonical}
 use Rattle.isp_base.specs.declared.trap.Trap.{Trap}
@@ -18,9 +18,9 @@ use Rattle.isp_lex.specs.Faults as source
 use Rattle.isp_packed.specs.declared.fault.PackedFault.{PackedFault}
 use Rattle.isp_packed.specs.declared.fault.PackedFault.TheVariants as packed
 use Rattle.isp_verify.specs.FaultTexts as verify
-use Rattle.isp_c.specs.declared.refusal.Refusal.{Refusal}
-use Rattle.isp_c.specs.declared.refusal.Refusal.TheVariants.{NoGang, Failed, Arguments, Short}
-use Rattle.isp_c.specs.declared.report.Why.{Why}
+use Rattle.isp_reports.specs.declared.refusal.Refusal.{Refusal}
+use Rattle.isp_reports.specs.declared.refusal.Refusal.TheVariants.{NoGang, Failed, Arguments, NoModule, Short}
+use Rattle.isp_reports.specs.declared.report.Why.{Why}
 
 -- ---- the status
 
@@ -28,6 +28,7 @@ abbrev pub status_of : Refusal → ℕ
 status_of NoGang = 2
 status_of (Failed f) = program.status_of f
 status_of (Arguments f) = 5
+status_of (NoModule line) = 8
 status_of Short = 10
 
 -- ---- the line
@@ -44,6 +45,7 @@ abbrev pub line_of : Refusal → List ℕ
 line_of NoGang = codes "isp: no such gang" ++ 10 ∷ []
 line_of (Failed f) = program.failure_line f
 line_of (Arguments f) = program.failure_line (in_json f)
+line_of (NoModule line) = string_bytes line
 line_of Short = codes "isp: no room" ++ 10 ∷ []
 
 -- ---- the numbers
@@ -104,6 +106,7 @@ abbrev pub why_of : Refusal → Why
 why_of NoGang = nothing
 why_of (Failed f) = why_of_failure f
 why_of (Arguments f) = why_of_arguments f
+why_of (NoModule line) = nothing
 why_of Short = nothing
 
 -- no function is exported under the name

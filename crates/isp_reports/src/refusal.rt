@@ -1,6 +1,6 @@
 //! Why a call ends with a status other than 0.
 ghost use Rattle.std.specs.Prelude.{◌≡◌};
-ghost use Rattle.isp_c.specs.Refusals.{in_json, refusal_of, status_of};
+ghost use Rattle.isp_reports.specs.Refusals.{in_json, refusal_of, status_of};
 
 use isp_bind::BindFault;
 use isp_engine::{Failure, RunFault};
@@ -8,13 +8,15 @@ use isp_packed::PackedFault;
 
 /// Why a call ends with a status other than 0.
 #[derive(Drop)]
-pub(crate) enum Refusal<'a> {
+pub enum Refusal<'a> {
     /// 2: no gang has so many instances.
     NoGang,
     /// As the program fails.
     Failed(Failure<'a>),
     /// 5: the bytes are not those of arguments. Of memory `Failed` tells, and never this.
     Arguments(PackedFault),
+    /// 8: no module of WebAssembly is made of the code, and the line that says why.
+    NoModule(String),
     /// 10: the room is too small.
     Short,
 }
@@ -28,6 +30,7 @@ impl Refusal<'_> {
             Refusal::NoGang => 2,
             Refusal::Failed(failure) => failure.status(),
             Refusal::Arguments(_) => 5,
+            Refusal::NoModule(_) => 8,
             Refusal::Short => 10,
         }
     }

@@ -1,0 +1,4 @@
+pub mod Lines
+pub mod Refusals
+pub mod Reports
+pub mod Rooms
