@@ -131,7 +131,17 @@ fn text_bytes(text: &str) -> [u8; LINE]
     ensures { result ≡ line_bytes text.now }
 {
     let mut line = Line::new();
-    let count = usize::min(MOST, text.len());
-    line.push(&text.as_bytes()[..count]);
+    line.push(front(text.as_bytes()));
     line.into_bytes()
+}
+
+// As many of the bytes as a line has room for.
+fn front(bytes: &[u8]) -> &[u8]
+    ensures front { result.now ≡ take 127 bytes.now }
+    ensures short { length result.now ≤ 127 }
+{
+    if bytes.len() <= MOST {
+        return bytes;
+    }
+    &bytes[..MOST]
 }
