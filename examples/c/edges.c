@@ -215,9 +215,13 @@ static void making_modules(void)
     const char *locals = "isp 2 gang 32\nfunc f export void\nm 25000\nret -\nend\n";
     WANT(isp_wasm(locals, strlen(locals), file, sizeof file, &report) == ISP_CODE && report.why.number == 0 && report.used == 0);
     WANT(strcmp(report.line, "isp: no module: f: more than 50,000 locals. Fix: take a smaller gang, or make a function of a part.\n") == 0);
-    const char *opens = "isp 1 gang 4\nfunc hidden inner void\nm 1\nret -\nend\nfunc opens export void\nloc p i32 4\nm 1\nclear a0 m0\nret -\nend\n";
+    /* each array is of 65,536 int64 in each of 32 lanes: 16 MB */
+    static char opens[8192] = "isp 2 gang 32\nfunc hidden inner void\nm 1\nret -\nend\nfunc opens export void\n";
+    for (int i = 0; i < 256; i++)
+        strcat(opens, "loc p i64 65536\n");
+    strcat(opens, "m 1\nclear a0 m0\nret -\nend\n");
     WANT(isp_wasm(opens, strlen(opens), file, sizeof file, &report) == ISP_CODE && report.why.number == 0 && report.used == 0);
-    WANT(strncmp(report.line, "isp: no module: opens: a varying local array, in it or, where it calls one, in any function; or ", 96) == 0);
+    WANT(strncmp(report.line, "isp: no module: opens: 4 GB of local arrays, in it or, where it calls one, in any function; or of texts. ", 105) == 0);
     WANT(strlen(report.line) == 127 && untouched(file, sizeof file));
     WANT(isp_wasm(opens, strlen(opens), NULL, 0, &report) == ISP_CODE && report.why.number == 0);
 }

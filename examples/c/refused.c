@@ -118,11 +118,12 @@ static void makes_module(struct left *left)
     report_of(left, status, &report);
 }
 
-/* of code that has an array of each lane's own no module is made */
+/* of code that has more locals than an engine takes no module is made */
 static void makes_none(struct left *left)
 {
     struct isp_report report;
-    uint8_t status = isp_wasm(code, code_size, left->room, ROOM, &report);
+    static const char locals[] = "isp 2 gang 32\nfunc f export void\nm 25000\nret -\nend\n";
+    uint8_t status = isp_wasm(locals, sizeof locals - 1, left->room, ROOM, &report);
     report_of(left, status, &report);
 }
 
