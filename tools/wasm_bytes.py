@@ -98,11 +98,11 @@ def lane_rows():
 def code_rows():
     yield "select", "Set 0 (Select (Local 0) (Local 1) (Const32 7))", "(local.set 0 (select (local.get 1) (i32.const 7) (local.get 0)))", ""
     yield "far_local", "Set 300 (Local 129)", "(local.set 300 (local.get 129))", ""
-    for size, word, far in ((1, "i32.load8_u", 0), (2, "i32.load16_u", 2), (4, "i32.load", 128), (8, "i64.load", 1 << 20)):
-        to = LOCALS[word[:3]][0]
+    for size, word, far in ((1, "i32.load8_u", 0), (2, "i32.load16_u", 2), (4, "i32.load", 128), (8, "i64.load", 1 << 20), (16, "v128.load", 16)):
+        to = LOCALS[word.split(".")[0]][0]
         yield f"load_{size}", f"Load {size} {to} (Local 1) {far}", f"(local.set {to} ({word} offset={far} (local.get 1)))", ""
-    for size, word, far in ((1, "i32.store8", 3), (2, "i32.store16", 0), (4, "i32.store", 127), (8, "i64.store", 300)):
-        value = LOCALS[word[:3]][1]
+    for size, word, far in ((1, "i32.store8", 3), (2, "i32.store16", 0), (4, "i32.store", 127), (8, "i64.store", 300), (16, "v128.store", 240)):
+        value = LOCALS[word.split(".")[0]][1]
         yield f"store_{size}", f"Store {size} (Local 0) {far} (Local {value})", f"({word} offset={far} (local.get 0) (local.get {value}))", ""
     yield "if", "If (Local 0) (Set 0 (Local 1)) Skip", "(if (local.get 0) (then (local.set 0 (local.get 1))))", ""
     yield ("if_else", "If (Local 0) Skip (Then (Set 0 (Local 1)) (Set 1 (Local 0)))",

@@ -48,7 +48,7 @@ def operands(kind):
         return [0, 1, 5, 8]
     if kind in SHAPES:
         return vectors(SHAPES[kind][1])
-    return edges(BITS[kind])
+    return vectors(8) if kind == "v128" else edges(BITS[kind])
 
 
 def table():
@@ -95,10 +95,10 @@ def table():
     rows.append(("bitselect",
                  "λ x y c. value (λ i. i) (Bitselect (Const128 x) (Const128 y) (Const128 c))", "v128.bitselect", ("I32x4", "I16x8", "I8x16"), "v128"))
     rows.append(("select", "λ x y c. value (λ i. i) (Select (Const32 c) (Const32 x) (Const32 y))", "select", ("i32", "i32", "i32"), "i32"))
-    for size, word in ((1, "i32.load8_u"), (2, "i32.load16_u"), (4, "i32.load"), (8, "i64.load")):
-        rows.append((f"load_{size}", f"λ a. loaded {size} a pattern", word, ("address",), word[:3]))
-    for size, word in ((1, "i32.store8"), (2, "i32.store16"), (4, "i32.store"), (8, "i64.store")):
-        rows.append((f"store_{size}", f"λ a v. packed 256 16 (stored {size} a v pattern)", word, ("address", word[:3]), "v128"))
+    for size, word in ((1, "i32.load8_u"), (2, "i32.load16_u"), (4, "i32.load"), (8, "i64.load"), (16, "v128.load")):
+        rows.append((f"load_{size}", f"λ a. loaded {size} a pattern", word, ("address",), word.split(".")[0]))
+    for size, word in ((1, "i32.store8"), (2, "i32.store16"), (4, "i32.store"), (8, "i64.store"), (16, "v128.store")):
+        rows.append((f"store_{size}", f"λ a v. packed 256 16 (stored {size} a v pattern)", word, ("address", word.split(".")[0]), "v128"))
     rows.append(("bitmask_i8x16", "unary (Bitmask I8x16)", "i8x16.bitmask", ("I8x16",), "i32"))
     for op, word in (("And", "and"), ("Or", "or"), ("Xor", "xor")):
         rows.append((f"{word}_v128", f"binary (Bits {op})", f"v128.{word}", ("I32x4", "I16x8"), "v128"))

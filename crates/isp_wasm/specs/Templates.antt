@@ -40,7 +40,7 @@ use Rattle.isp_wasm_meaning.specs.Ladder.{dispatched}
 use Rattle.isp_wasm_meaning.specs.Syntax as wasm
 use Rattle.isp_wasm_meaning.specs.Syntax.{Shape, I8x16, Add, Sub, Mul, And, Or, Xor, Eq, Ne, LtU, LtS, DivU, RemU, Eqz, Ctz, Wrap, ExtendU, Splat, Extract, Bitmask, Of, BitsOf, CompareLanes, Bits, Replace, Expr, Const32, Const64, Const128, Local, One, Two, Select, Bitselect}
 use Rattle.isp_wasm_meaning.specs.Syntax.{Code, Skip, Unreachable, Then, Set, Load, Store, Divide, Fail, Write, If, Br, Return, Call as CallFunction, GetGlobal, SetGlobal, Clear, Print, SignedText, UnsignedText, TruthText, ByteText}
-use Rattle.isp_wasm.specs.Places.{Setting, gang, text, Counter, Scalar, Vector, Mask, Base, Count, Fresh, Spare, Depth, Top, bytes_of, elem, shape, parts, size_of}
+use Rattle.isp_wasm.specs.Places.{Setting, gang, text, Counter, Scalar, Vector, Mask, Base, Count, Fresh, Spare, Depth, Top, bytes_of, elem, shape, shape_of, parts, size_of}
 use Rattle.isp_wasm.specs.Stack.{local_bytes, bytes_in}
 use Rattle.isp_wasm.specs.Words.{constant, below, whole_expr, plain_expr, unary_expr, compare_expr, convert_expr}
 use Rattle.isp_wasm.specs.Rows.{as_cell, lane_at, widened, narrowed, ones, compare_row, unary_row, by_lane, present, plain_row}
@@ -263,6 +263,42 @@ module _ (w : Setting) where
   abbrev pub packed_index : Register → Register → ℕ → Expr
   packed_index i k p = Two (Of wasm.I64 Add) (scalar_local i) (rank_expr k p)
 
+  -- ---- elements in a row, all at once: where the lanes fill their parts, they lie there as in memory
+
+  abbrev pub fills_parts : Elem → Bool
+  fills_parts Truth = false
+  fills_parts t = nat_eq (gang w % count (shape_of t)) 0
+
+  -- the first and the last element are there
+  abbrev pub run_is_there : Register → Register → Expr
+  run_is_there a i = Two (BitsOf wasm.I32 And) (is_there a (run_index i 0)) (is_there a (run_index i (gang w - 1)))
+
+  abbrev pub load_parts : Register → Register → ℕ → Code
+  load_parts a i n = each n (λ j. Load 16 (w.local (Fresh j)) (address_at a (scalar_local i)) (j * 16))
+
+  abbrev pub load_row : Register → Register → Register → Register → Code
+  load_row d a i k = Then (load_parts a i (parts w (shape w d))) (select_lanes d k)
+
+  -- an element whose lane is off gets what it has
+  abbrev pub store_part : Register → Register → Register → Register → ℕ → Code
+  store_part a i y k j =
+      Store 16 (address_at a (scalar_local i)) (j * 16) (Bitselect (vector_local y j) (Local (w.local (Fresh j))) (widened (shape w y) (mask_local k) j))
+
+  abbrev pub store_row : Register → Register → Register → Register → Code
+  store_row a i y k = Then (load_parts a i (parts w (shape w y))) (each (parts w (shape w y)) (store_part a i y k))
+
+  -- else lane by lane, as where one of them is not there
+  abbrev pub all_at_once : Bool → Expr → Code → Code → Code
+  all_at_once true there row lanes = If there row lanes
+  all_at_once false there row lanes = lanes
+
+  abbrev pub load_run : Register → Register → Register → Register → ℕ → Code
+  load_run d a i k q = all_at_once (fills_parts (elem w d)) (run_is_there a i) (load_row d a i k) (lane_loads d a (run_index i) k q)
+
+  abbrev pub store_run : Register → Register → Register → Register → ℕ → Code
+  store_run a i y k q =
+      all_at_once (fills_parts (elem w y)) (run_is_there a i) (store_row a i y k) (Then (lane_checks a (run_index i) k q) (lane_stores a (run_index i) y k))
+
   abbrev pub set_count : Register → Register → Code
   set_count d k = Set (w.local (Scalar d.number)) (One Wrap (rank_expr k (gang w)))
 
@@ -322,7 +358,7 @@ module _ (w : Setting) where
 
   abbrev pub vector_code : Register → VectorInstr → Code
   vector_code d (vector.Gather a i k q) = lane_loads d a (own_index i) k q
-  vector_code d (vector.LoadRun a i k q) = lane_loads d a (run_index i) k q
+  vector_code d (vector.LoadRun a i k q) = load_run d a i k q
   vector_code d i = set_lanes d (mask_under i) (vector_of d i)
 
   -- ---- masks
@@ -478,7 +514,7 @@ module _ (w : Setting) where
   code_of depth (instr.Divide o d x y k q) = quotients d.class o d x y k q
   code_of depth (instr.Store a i y k q) = Then (checked a i k q) (Store (bytes_of (elem w a)) (address_at a (scalar_local i)) 0 (scalar_local y))
   code_of depth (instr.Scatter a i y k q) = Then (lane_checks a (own_index i) k q) (lane_stores a (own_index i) y k)
-  code_of depth (instr.StoreRun a i y k q) = Then (lane_checks a (run_index i) k q) (lane_stores a (run_index i) y k)
+  code_of depth (instr.StoreRun a i y k q) = store_run a i y k q
   code_of depth (instr.PackedStore d a i y k q) = Then (lane_checks a (packed_index i k) k q) (Then (lane_stores a (packed_index i k) y k) (set_count d k))
   code_of depth (instr.PackedLoad d a i y k q) = Then (lane_loads y a (packed_index i k) k q) (set_count d k)
   code_of depth (instr.Jump to) = jump_to depth to

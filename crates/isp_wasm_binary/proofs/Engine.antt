@@ -578,6 +578,10 @@ load_8 : code_bytes (Load 8 2 (Local 1) 1048576) ≡ 32 ∷ 1 ∷ 41 ∷ 3 ∷ 1
 unfolding groups u32 signed_groups i32 i64 low_bytes v128
 load_8 = refl
 
+load_16 : code_bytes (Load 16 4 (Local 1) 16) ≡ 32 ∷ 1 ∷ 253 ∷ 0 ∷ 4 ∷ 16 ∷ 33 ∷ 4 ∷ []
+unfolding groups u32 signed_groups i32 i64 low_bytes v128
+load_16 = refl
+
 store_1 : code_bytes (Store 1 (Local 0) 3 (Local 1)) ≡ 32 ∷ 0 ∷ 32 ∷ 1 ∷ 58 ∷ 0 ∷ 3 ∷ []
 unfolding groups u32 signed_groups i32 i64 low_bytes v128
 store_1 = refl
@@ -593,6 +597,10 @@ store_4 = refl
 store_8 : code_bytes (Store 8 (Local 0) 300 (Local 3)) ≡ 32 ∷ 0 ∷ 32 ∷ 3 ∷ 55 ∷ 3 ∷ 172 ∷ 2 ∷ []
 unfolding groups u32 signed_groups i32 i64 low_bytes v128
 store_8 = refl
+
+store_16 : code_bytes (Store 16 (Local 0) 240 (Local 5)) ≡ 32 ∷ 0 ∷ 32 ∷ 5 ∷ 253 ∷ 11 ∷ 4 ∷ 240 ∷ 1 ∷ []
+unfolding groups u32 signed_groups i32 i64 low_bytes v128
+store_16 = refl
 
 if : code_bytes (If (Local 0) (Set 0 (Local 1)) Skip) ≡ 32 ∷ 0 ∷ 4 ∷ 64 ∷ 32 ∷ 1 ∷ 33 ∷ 0 ∷ 11 ∷ []
 unfolding groups u32 signed_groups i32 i64 low_bytes v128
@@ -675,39 +683,36 @@ unfolding groups u32 signed_groups i32 i64 low_bytes v128
 fail = refl
 
 all_sections : sections_bytes (record {
-  types = record { params = types.I32 ∷ types.I32 ∷ []; results = [] } ∷ record { params = types.I32 ∷ types.I32 ∷ types.I32 ∷ types.I32 ∷ []; results = [] }
-      ∷ record { params = types.I32 ∷ types.I64 ∷ types.V128 ∷ []; results = types.I32 ∷ [] } ∷ [];
-  imports = record { from = codes "isp"; name = codes "write"; type = 0 } ∷ record { from = codes "isp"; name = codes "trap"; type = 1 } ∷ [];
-  functions =
-      record {
-        type = 2;
-        locals = record { count = 2; type = types.I32 } ∷ record { count = 1; type = types.I64 } ∷ record { count = 3; type = types.V128 } ∷ [];
-        code = Then (Then (Set 3 (Local 0)) (Return (Some (Two (Of I32 Add) (Local 3) (Const32 1))))) Unreachable;
-      }
-      ∷ record { type = 0; locals = []; code = Unreachable } ∷ [];
-  pages = 17;
-  globals = record { type = types.I32; changes = false; first = 1024 } ∷ record { type = types.I32; changes = true; first = 2 ^ 32 - 1 }
-      ∷ record { type = types.I64; changes = false; first = 2 ^ 64 - 5 } ∷ record { type = types.V128; changes = true; first = 258 + 3 * 2 ^ 64 } ∷ [];
-  exports =
-      record { name = codes "double"; kind = FunctionKind; index = 2 } ∷ record { name = codes "memory"; kind = MemoryKind; index = 0 }
-      ∷ record { name = codes "isp.base"; kind = GlobalKind; index = 0 } ∷ record { name = 195 ∷ 169 ∷ []; kind = FunctionKind; index = 3 } ∷ [];
-  pieces = record { at = 64; has = codes "hello\n" } ∷ record { at = 300; has = [] } ∷ [];
-}) ≡ 0 ∷ 97 ∷ 115 ∷ 109 ∷ 1 ∷ 0 ∷ 0 ∷ 0 ∷ 1 ∷ 20 ∷ 3 ∷ 96 ∷ 2 ∷ 127 ∷ 127 ∷ 0 ∷ 96 ∷ 4 ∷ 127 ∷ 127 ∷ 127 ∷ 127 ∷ 0 ∷ 96 ∷ 3 ∷ 127 ∷ 126 ∷ 123 ∷ 1 ∷ 127 ∷ 2 ∷ 24 ∷ 2 ∷ 3 ∷ 105 ∷ 115 ∷ 112 ∷ 5 ∷ 119 ∷ 114 ∷ 105 ∷ 116 ∷ 101 ∷ 0 ∷ 0 ∷ 3 ∷ 105 ∷ 115 ∷ 112 ∷ 4 ∷ 116 ∷ 114 ∷ 97 ∷ 112 ∷ 0 ∷ 1 ∷ 3 ∷ 3 ∷ 2 ∷ 2 ∷ 0 ∷ 5 ∷ 3 ∷ 1 ∷ 0 ∷ 17 ∷ 6 ∷ 38 ∷ 4 ∷ 127 ∷ 0 ∷ 65 ∷ 128 ∷ 8 ∷ 11 ∷ 127 ∷ 1 ∷ 65 ∷ 127 ∷ 11 ∷ 126 ∷ 0 ∷ 66 ∷ 123 ∷ 11 ∷ 123 ∷ 1 ∷ 253 ∷ 12 ∷ 2 ∷ 1 ∷ 0 ∷ 0 ∷ 0 ∷ 0 ∷ 0 ∷ 0 ∷ 3 ∷ 0 ∷ 0 ∷ 0 ∷ 0 ∷ 0 ∷ 0 ∷ 0 ∷ 11 ∷ 7 ∷ 35 ∷ 4 ∷ 6 ∷ 100 ∷ 111 ∷ 117 ∷ 98 ∷ 108 ∷ 101 ∷ 0 ∷ 2 ∷ 6 ∷ 109 ∷ 101 ∷ 109 ∷ 111 ∷ 114 ∷ 121 ∷ 2 ∷ 0 ∷ 8 ∷ 105 ∷ 115 ∷ 112 ∷ 46 ∷ 98 ∷ 97 ∷ 115 ∷ 101 ∷ 3 ∷ 0 ∷ 2 ∷ 195 ∷ 169 ∷ 0 ∷ 3 ∷ 10 ∷ 25 ∷ 2 ∷ 19 ∷ 3 ∷ 2 ∷ 127 ∷ 1 ∷ 126 ∷ 3 ∷ 123 ∷ 32 ∷ 0 ∷ 33 ∷ 3 ∷ 32 ∷ 3 ∷ 65 ∷ 1 ∷ 106 ∷ 15 ∷ 0 ∷ 11 ∷ 3 ∷ 0 ∷ 0 ∷ 11 ∷ 11 ∷ 19 ∷ 2 ∷ 0 ∷ 65 ∷ 192 ∷ 0 ∷ 11 ∷ 6 ∷ 104 ∷ 101 ∷ 108 ∷ 108 ∷ 111 ∷ 10 ∷ 0 ∷ 65 ∷ 172 ∷ 2 ∷ 11 ∷ 0 ∷ []
+    types = record { params = types.I32 ∷ types.I32 ∷ []; results = [] } ∷ record { params = types.I32 ∷ types.I32 ∷ types.I32 ∷ types.I32 ∷ []; results = [] }
+        ∷ record { params = types.I32 ∷ types.I64 ∷ types.V128 ∷ []; results = types.I32 ∷ [] } ∷ [];
+    imports = record { from = codes "isp"; name = codes "write"; type = 0 } ∷ record { from = codes "isp"; name = codes "trap"; type = 1 } ∷ [];
+    functions =
+        record {
+          type = 2; locals = record { count = 2; type = types.I32 } ∷ record { count = 1; type = types.I64 } ∷ record { count = 3; type = types.V128 } ∷ [];
+          code = Then (Then (Set 3 (Local 0)) (Return (Some (Two (Of I32 Add) (Local 3) (Const32 1))))) Unreachable;
+        }
+        ∷ record { type = 0; locals = []; code = Unreachable } ∷ [];
+    pages = 17;
+    globals = record { type = types.I32; changes = false; first = 1024 } ∷ record { type = types.I32; changes = true; first = 2 ^ 32 - 1 }
+        ∷ record { type = types.I64; changes = false; first = 2 ^ 64 - 5 } ∷ record { type = types.V128; changes = true; first = 258 + 3 * 2 ^ 64 } ∷ [];
+    exports =
+        record { name = codes "double"; kind = FunctionKind; index = 2 } ∷ record { name = codes "memory"; kind = MemoryKind; index = 0 }
+        ∷ record { name = codes "isp.base"; kind = GlobalKind; index = 0 } ∷ record { name = 195 ∷ 169 ∷ []; kind = FunctionKind; index = 3 } ∷ [];
+    pieces = record { at = 64; has = codes "hello\n" } ∷ record { at = 300; has = [] } ∷ [];
+  }) ≡ 0 ∷ 97 ∷ 115 ∷ 109 ∷ 1 ∷ 0 ∷ 0 ∷ 0 ∷ 1 ∷ 20 ∷ 3 ∷ 96 ∷ 2 ∷ 127 ∷ 127 ∷ 0 ∷ 96 ∷ 4 ∷ 127 ∷ 127 ∷ 127 ∷ 127 ∷ 0 ∷ 96 ∷ 3 ∷ 127 ∷ 126 ∷ 123 ∷ 1 ∷ 127 ∷ 2 ∷ 24 ∷ 2 ∷ 3 ∷ 105 ∷ 115 ∷ 112 ∷ 5 ∷ 119 ∷ 114 ∷ 105 ∷ 116 ∷ 101 ∷ 0 ∷ 0 ∷ 3 ∷ 105 ∷ 115 ∷ 112 ∷ 4 ∷ 116 ∷ 114 ∷ 97 ∷ 112 ∷ 0 ∷ 1 ∷ 3 ∷ 3 ∷ 2 ∷ 2 ∷ 0 ∷ 5 ∷ 3 ∷ 1 ∷ 0 ∷ 17 ∷ 6 ∷ 38 ∷ 4 ∷ 127 ∷ 0 ∷ 65 ∷ 128 ∷ 8 ∷ 11 ∷ 127 ∷ 1 ∷ 65 ∷ 127 ∷ 11 ∷ 126 ∷ 0 ∷ 66 ∷ 123 ∷ 11 ∷ 123 ∷ 1 ∷ 253 ∷ 12 ∷ 2 ∷ 1 ∷ 0 ∷ 0 ∷ 0 ∷ 0 ∷ 0 ∷ 0 ∷ 3 ∷ 0 ∷ 0 ∷ 0 ∷ 0 ∷ 0 ∷ 0 ∷ 0 ∷ 11 ∷ 7 ∷ 35 ∷ 4 ∷ 6 ∷ 100 ∷ 111 ∷ 117 ∷ 98 ∷ 108 ∷ 101 ∷ 0 ∷ 2 ∷ 6 ∷ 109 ∷ 101 ∷ 109 ∷ 111 ∷ 114 ∷ 121 ∷ 2 ∷ 0 ∷ 8 ∷ 105 ∷ 115 ∷ 112 ∷ 46 ∷ 98 ∷ 97 ∷ 115 ∷ 101 ∷ 3 ∷ 0 ∷ 2 ∷ 195 ∷ 169 ∷ 0 ∷ 3 ∷ 10 ∷ 25 ∷ 2 ∷ 19 ∷ 3 ∷ 2 ∷ 127 ∷ 1 ∷ 126 ∷ 3 ∷ 123 ∷ 32 ∷ 0 ∷ 33 ∷ 3 ∷ 32 ∷ 3 ∷ 65 ∷ 1 ∷ 106 ∷ 15 ∷ 0 ∷ 11 ∷ 3 ∷ 0 ∷ 0 ∷ 11 ∷ 11 ∷ 19 ∷ 2 ∷ 0 ∷ 65 ∷ 192 ∷ 0 ∷ 11 ∷ 6 ∷ 104 ∷ 101 ∷ 108 ∷ 108 ∷ 111 ∷ 10 ∷ 0 ∷ 65 ∷ 172 ∷ 2 ∷ 11 ∷ 0 ∷ []
 unfolding groups u32 signed_groups i32 i64 low_bytes v128 sections_bytes
 all_sections = refl
 
 whole_module : bytes_of (record {
-  functions =
-      record {
-        export = Some (codes "first");
-        params = types.I32 ∷ types.I32 ∷ types.I64 ∷ [];
-        result = Some types.I32;
-        locals = types.I32 ∷ types.I32 ∷ types.V128 ∷ types.V128 ∷ types.I64 ∷ types.I32 ∷ [];
-        code = Then (Then (Write (Local 1) (Const32 6)) (Return (Some (Local 0)))) Unreachable;
-      }
-      ∷ types.unused
-      ∷ record { export = Some (codes "last"); params = types.I64 ∷ []; result = None; locals = []; code = Then (Return None) Unreachable } ∷ [];
-  memory = codes "hello\n";
-}) ≡ 0 ∷ 97 ∷ 115 ∷ 109 ∷ 1 ∷ 0 ∷ 0 ∷ 0 ∷ 1 ∷ 43 ∷ 9 ∷ 96 ∷ 2 ∷ 127 ∷ 127 ∷ 0 ∷ 96 ∷ 4 ∷ 127 ∷ 127 ∷ 127 ∷ 127 ∷ 0 ∷ 96 ∷ 1 ∷ 126 ∷ 0 ∷ 96 ∷ 1 ∷ 126 ∷ 0 ∷ 96 ∷ 1 ∷ 127 ∷ 0 ∷ 96 ∷ 1 ∷ 127 ∷ 0 ∷ 96 ∷ 3 ∷ 127 ∷ 127 ∷ 126 ∷ 1 ∷ 127 ∷ 96 ∷ 0 ∷ 0 ∷ 96 ∷ 1 ∷ 126 ∷ 0 ∷ 2 ∷ 98 ∷ 6 ∷ 3 ∷ 105 ∷ 115 ∷ 112 ∷ 5 ∷ 119 ∷ 114 ∷ 105 ∷ 116 ∷ 101 ∷ 0 ∷ 0 ∷ 3 ∷ 105 ∷ 115 ∷ 112 ∷ 4 ∷ 116 ∷ 114 ∷ 97 ∷ 112 ∷ 0 ∷ 1 ∷ 3 ∷ 105 ∷ 115 ∷ 112 ∷ 12 ∷ 112 ∷ 114 ∷ 105 ∷ 110 ∷ 116 ∷ 95 ∷ 115 ∷ 105 ∷ 103 ∷ 110 ∷ 101 ∷ 100 ∷ 0 ∷ 2 ∷ 3 ∷ 105 ∷ 115 ∷ 112 ∷ 14 ∷ 112 ∷ 114 ∷ 105 ∷ 110 ∷ 116 ∷ 95 ∷ 117 ∷ 110 ∷ 115 ∷ 105 ∷ 103 ∷ 110 ∷ 101 ∷ 100 ∷ 0 ∷ 3 ∷ 3 ∷ 105 ∷ 115 ∷ 112 ∷ 10 ∷ 112 ∷ 114 ∷ 105 ∷ 110 ∷ 116 ∷ 95 ∷ 98 ∷ 111 ∷ 111 ∷ 108 ∷ 0 ∷ 4 ∷ 3 ∷ 105 ∷ 115 ∷ 112 ∷ 10 ∷ 112 ∷ 114 ∷ 105 ∷ 110 ∷ 116 ∷ 95 ∷ 98 ∷ 121 ∷ 116 ∷ 101 ∷ 0 ∷ 5 ∷ 3 ∷ 4 ∷ 3 ∷ 6 ∷ 7 ∷ 8 ∷ 5 ∷ 3 ∷ 1 ∷ 0 ∷ 1 ∷ 6 ∷ 219 ∷ 2 ∷ 18 ∷ 127 ∷ 0 ∷ 65 ∷ 6 ∷ 11 ∷ 123 ∷ 1 ∷ 253 ∷ 12 ∷ 0 ∷ 0 ∷ 0 ∷ 0 ∷ 0 ∷ 0 ∷ 0 ∷ 0 ∷ 0 ∷ 0 ∷ 0 ∷ 0 ∷ 0 ∷ 0 ∷ 0 ∷ 0 ∷ 11 ∷ 123 ∷ 1 ∷ 253 ∷ 12 ∷ 0 ∷ 0 ∷ 0 ∷ 0 ∷ 0 ∷ 0 ∷ 0 ∷ 0 ∷ 0 ∷ 0 ∷ 0 ∷ 0 ∷ 0 ∷ 0 ∷ 0 ∷ 0 ∷ 11 ∷ 123 ∷ 1 ∷ 253 ∷ 12 ∷ 0 ∷ 0 ∷ 0 ∷ 0 ∷ 0 ∷ 0 ∷ 0 ∷ 0 ∷ 0 ∷ 0 ∷ 0 ∷ 0 ∷ 0 ∷ 0 ∷ 0 ∷ 0 ∷ 11 ∷ 123 ∷ 1 ∷ 253 ∷ 12 ∷ 0 ∷ 0 ∷ 0 ∷ 0 ∷ 0 ∷ 0 ∷ 0 ∷ 0 ∷ 0 ∷ 0 ∷ 0 ∷ 0 ∷ 0 ∷ 0 ∷ 0 ∷ 0 ∷ 11 ∷ 123 ∷ 1 ∷ 253 ∷ 12 ∷ 0 ∷ 0 ∷ 0 ∷ 0 ∷ 0 ∷ 0 ∷ 0 ∷ 0 ∷ 0 ∷ 0 ∷ 0 ∷ 0 ∷ 0 ∷ 0 ∷ 0 ∷ 0 ∷ 11 ∷ 123 ∷ 1 ∷ 253 ∷ 12 ∷ 0 ∷ 0 ∷ 0 ∷ 0 ∷ 0 ∷ 0 ∷ 0 ∷ 0 ∷ 0 ∷ 0 ∷ 0 ∷ 0 ∷ 0 ∷ 0 ∷ 0 ∷ 0 ∷ 11 ∷ 123 ∷ 1 ∷ 253 ∷ 12 ∷ 0 ∷ 0 ∷ 0 ∷ 0 ∷ 0 ∷ 0 ∷ 0 ∷ 0 ∷ 0 ∷ 0 ∷ 0 ∷ 0 ∷ 0 ∷ 0 ∷ 0 ∷ 0 ∷ 11 ∷ 123 ∷ 1 ∷ 253 ∷ 12 ∷ 0 ∷ 0 ∷ 0 ∷ 0 ∷ 0 ∷ 0 ∷ 0 ∷ 0 ∷ 0 ∷ 0 ∷ 0 ∷ 0 ∷ 0 ∷ 0 ∷ 0 ∷ 0 ∷ 11 ∷ 123 ∷ 1 ∷ 253 ∷ 12 ∷ 0 ∷ 0 ∷ 0 ∷ 0 ∷ 0 ∷ 0 ∷ 0 ∷ 0 ∷ 0 ∷ 0 ∷ 0 ∷ 0 ∷ 0 ∷ 0 ∷ 0 ∷ 0 ∷ 11 ∷ 123 ∷ 1 ∷ 253 ∷ 12 ∷ 0 ∷ 0 ∷ 0 ∷ 0 ∷ 0 ∷ 0 ∷ 0 ∷ 0 ∷ 0 ∷ 0 ∷ 0 ∷ 0 ∷ 0 ∷ 0 ∷ 0 ∷ 0 ∷ 11 ∷ 123 ∷ 1 ∷ 253 ∷ 12 ∷ 0 ∷ 0 ∷ 0 ∷ 0 ∷ 0 ∷ 0 ∷ 0 ∷ 0 ∷ 0 ∷ 0 ∷ 0 ∷ 0 ∷ 0 ∷ 0 ∷ 0 ∷ 0 ∷ 11 ∷ 123 ∷ 1 ∷ 253 ∷ 12 ∷ 0 ∷ 0 ∷ 0 ∷ 0 ∷ 0 ∷ 0 ∷ 0 ∷ 0 ∷ 0 ∷ 0 ∷ 0 ∷ 0 ∷ 0 ∷ 0 ∷ 0 ∷ 0 ∷ 11 ∷ 123 ∷ 1 ∷ 253 ∷ 12 ∷ 0 ∷ 0 ∷ 0 ∷ 0 ∷ 0 ∷ 0 ∷ 0 ∷ 0 ∷ 0 ∷ 0 ∷ 0 ∷ 0 ∷ 0 ∷ 0 ∷ 0 ∷ 0 ∷ 11 ∷ 123 ∷ 1 ∷ 253 ∷ 12 ∷ 0 ∷ 0 ∷ 0 ∷ 0 ∷ 0 ∷ 0 ∷ 0 ∷ 0 ∷ 0 ∷ 0 ∷ 0 ∷ 0 ∷ 0 ∷ 0 ∷ 0 ∷ 0 ∷ 11 ∷ 123 ∷ 1 ∷ 253 ∷ 12 ∷ 0 ∷ 0 ∷ 0 ∷ 0 ∷ 0 ∷ 0 ∷ 0 ∷ 0 ∷ 0 ∷ 0 ∷ 0 ∷ 0 ∷ 0 ∷ 0 ∷ 0 ∷ 0 ∷ 11 ∷ 123 ∷ 1 ∷ 253 ∷ 12 ∷ 0 ∷ 0 ∷ 0 ∷ 0 ∷ 0 ∷ 0 ∷ 0 ∷ 0 ∷ 0 ∷ 0 ∷ 0 ∷ 0 ∷ 0 ∷ 0 ∷ 0 ∷ 0 ∷ 11 ∷ 127 ∷ 1 ∷ 65 ∷ 6 ∷ 11 ∷ 7 ∷ 52 ∷ 5 ∷ 10 ∷ 105 ∷ 115 ∷ 112 ∷ 46 ∷ 109 ∷ 101 ∷ 109 ∷ 111 ∷ 114 ∷ 121 ∷ 2 ∷ 0 ∷ 8 ∷ 105 ∷ 115 ∷ 112 ∷ 46 ∷ 98 ∷ 97 ∷ 115 ∷ 101 ∷ 3 ∷ 0 ∷ 9 ∷ 105 ∷ 115 ∷ 112 ∷ 46 ∷ 115 ∷ 116 ∷ 97 ∷ 99 ∷ 107 ∷ 3 ∷ 17 ∷ 5 ∷ 102 ∷ 105 ∷ 114 ∷ 115 ∷ 116 ∷ 0 ∷ 6 ∷ 4 ∷ 108 ∷ 97 ∷ 115 ∷ 116 ∷ 0 ∷ 8 ∷ 10 ∷ 31 ∷ 3 ∷ 20 ∷ 4 ∷ 2 ∷ 127 ∷ 2 ∷ 123 ∷ 1 ∷ 126 ∷ 1 ∷ 127 ∷ 32 ∷ 1 ∷ 65 ∷ 6 ∷ 16 ∷ 0 ∷ 32 ∷ 0 ∷ 15 ∷ 0 ∷ 11 ∷ 3 ∷ 0 ∷ 0 ∷ 11 ∷ 4 ∷ 0 ∷ 15 ∷ 0 ∷ 11 ∷ 11 ∷ 12 ∷ 1 ∷ 0 ∷ 65 ∷ 0 ∷ 11 ∷ 6 ∷ 104 ∷ 101 ∷ 108 ∷ 108 ∷ 111 ∷ 10 ∷ []
+    functions =
+        record {
+          export = Some (codes "first"); params = types.I32 ∷ types.I32 ∷ types.I64 ∷ []; result = Some types.I32;
+          locals = types.I32 ∷ types.I32 ∷ types.V128 ∷ types.V128 ∷ types.I64 ∷ types.I32 ∷ [];
+          code = Then (Then (Write (Local 1) (Const32 6)) (Return (Some (Local 0)))) Unreachable;
+        }
+        ∷ types.unused
+        ∷ record { export = Some (codes "last"); params = types.I64 ∷ []; result = None; locals = []; code = Then (Return None) Unreachable } ∷ [];
+    memory = codes "hello\n";
+  }) ≡ 0 ∷ 97 ∷ 115 ∷ 109 ∷ 1 ∷ 0 ∷ 0 ∷ 0 ∷ 1 ∷ 43 ∷ 9 ∷ 96 ∷ 2 ∷ 127 ∷ 127 ∷ 0 ∷ 96 ∷ 4 ∷ 127 ∷ 127 ∷ 127 ∷ 127 ∷ 0 ∷ 96 ∷ 1 ∷ 126 ∷ 0 ∷ 96 ∷ 1 ∷ 126 ∷ 0 ∷ 96 ∷ 1 ∷ 127 ∷ 0 ∷ 96 ∷ 1 ∷ 127 ∷ 0 ∷ 96 ∷ 3 ∷ 127 ∷ 127 ∷ 126 ∷ 1 ∷ 127 ∷ 96 ∷ 0 ∷ 0 ∷ 96 ∷ 1 ∷ 126 ∷ 0 ∷ 2 ∷ 98 ∷ 6 ∷ 3 ∷ 105 ∷ 115 ∷ 112 ∷ 5 ∷ 119 ∷ 114 ∷ 105 ∷ 116 ∷ 101 ∷ 0 ∷ 0 ∷ 3 ∷ 105 ∷ 115 ∷ 112 ∷ 4 ∷ 116 ∷ 114 ∷ 97 ∷ 112 ∷ 0 ∷ 1 ∷ 3 ∷ 105 ∷ 115 ∷ 112 ∷ 12 ∷ 112 ∷ 114 ∷ 105 ∷ 110 ∷ 116 ∷ 95 ∷ 115 ∷ 105 ∷ 103 ∷ 110 ∷ 101 ∷ 100 ∷ 0 ∷ 2 ∷ 3 ∷ 105 ∷ 115 ∷ 112 ∷ 14 ∷ 112 ∷ 114 ∷ 105 ∷ 110 ∷ 116 ∷ 95 ∷ 117 ∷ 110 ∷ 115 ∷ 105 ∷ 103 ∷ 110 ∷ 101 ∷ 100 ∷ 0 ∷ 3 ∷ 3 ∷ 105 ∷ 115 ∷ 112 ∷ 10 ∷ 112 ∷ 114 ∷ 105 ∷ 110 ∷ 116 ∷ 95 ∷ 98 ∷ 111 ∷ 111 ∷ 108 ∷ 0 ∷ 4 ∷ 3 ∷ 105 ∷ 115 ∷ 112 ∷ 10 ∷ 112 ∷ 114 ∷ 105 ∷ 110 ∷ 116 ∷ 95 ∷ 98 ∷ 121 ∷ 116 ∷ 101 ∷ 0 ∷ 5 ∷ 3 ∷ 4 ∷ 3 ∷ 6 ∷ 7 ∷ 8 ∷ 5 ∷ 3 ∷ 1 ∷ 0 ∷ 1 ∷ 6 ∷ 219 ∷ 2 ∷ 18 ∷ 127 ∷ 0 ∷ 65 ∷ 6 ∷ 11 ∷ 123 ∷ 1 ∷ 253 ∷ 12 ∷ 0 ∷ 0 ∷ 0 ∷ 0 ∷ 0 ∷ 0 ∷ 0 ∷ 0 ∷ 0 ∷ 0 ∷ 0 ∷ 0 ∷ 0 ∷ 0 ∷ 0 ∷ 0 ∷ 11 ∷ 123 ∷ 1 ∷ 253 ∷ 12 ∷ 0 ∷ 0 ∷ 0 ∷ 0 ∷ 0 ∷ 0 ∷ 0 ∷ 0 ∷ 0 ∷ 0 ∷ 0 ∷ 0 ∷ 0 ∷ 0 ∷ 0 ∷ 0 ∷ 11 ∷ 123 ∷ 1 ∷ 253 ∷ 12 ∷ 0 ∷ 0 ∷ 0 ∷ 0 ∷ 0 ∷ 0 ∷ 0 ∷ 0 ∷ 0 ∷ 0 ∷ 0 ∷ 0 ∷ 0 ∷ 0 ∷ 0 ∷ 0 ∷ 11 ∷ 123 ∷ 1 ∷ 253 ∷ 12 ∷ 0 ∷ 0 ∷ 0 ∷ 0 ∷ 0 ∷ 0 ∷ 0 ∷ 0 ∷ 0 ∷ 0 ∷ 0 ∷ 0 ∷ 0 ∷ 0 ∷ 0 ∷ 0 ∷ 11 ∷ 123 ∷ 1 ∷ 253 ∷ 12 ∷ 0 ∷ 0 ∷ 0 ∷ 0 ∷ 0 ∷ 0 ∷ 0 ∷ 0 ∷ 0 ∷ 0 ∷ 0 ∷ 0 ∷ 0 ∷ 0 ∷ 0 ∷ 0 ∷ 11 ∷ 123 ∷ 1 ∷ 253 ∷ 12 ∷ 0 ∷ 0 ∷ 0 ∷ 0 ∷ 0 ∷ 0 ∷ 0 ∷ 0 ∷ 0 ∷ 0 ∷ 0 ∷ 0 ∷ 0 ∷ 0 ∷ 0 ∷ 0 ∷ 11 ∷ 123 ∷ 1 ∷ 253 ∷ 12 ∷ 0 ∷ 0 ∷ 0 ∷ 0 ∷ 0 ∷ 0 ∷ 0 ∷ 0 ∷ 0 ∷ 0 ∷ 0 ∷ 0 ∷ 0 ∷ 0 ∷ 0 ∷ 0 ∷ 11 ∷ 123 ∷ 1 ∷ 253 ∷ 12 ∷ 0 ∷ 0 ∷ 0 ∷ 0 ∷ 0 ∷ 0 ∷ 0 ∷ 0 ∷ 0 ∷ 0 ∷ 0 ∷ 0 ∷ 0 ∷ 0 ∷ 0 ∷ 0 ∷ 11 ∷ 123 ∷ 1 ∷ 253 ∷ 12 ∷ 0 ∷ 0 ∷ 0 ∷ 0 ∷ 0 ∷ 0 ∷ 0 ∷ 0 ∷ 0 ∷ 0 ∷ 0 ∷ 0 ∷ 0 ∷ 0 ∷ 0 ∷ 0 ∷ 11 ∷ 123 ∷ 1 ∷ 253 ∷ 12 ∷ 0 ∷ 0 ∷ 0 ∷ 0 ∷ 0 ∷ 0 ∷ 0 ∷ 0 ∷ 0 ∷ 0 ∷ 0 ∷ 0 ∷ 0 ∷ 0 ∷ 0 ∷ 0 ∷ 11 ∷ 123 ∷ 1 ∷ 253 ∷ 12 ∷ 0 ∷ 0 ∷ 0 ∷ 0 ∷ 0 ∷ 0 ∷ 0 ∷ 0 ∷ 0 ∷ 0 ∷ 0 ∷ 0 ∷ 0 ∷ 0 ∷ 0 ∷ 0 ∷ 11 ∷ 123 ∷ 1 ∷ 253 ∷ 12 ∷ 0 ∷ 0 ∷ 0 ∷ 0 ∷ 0 ∷ 0 ∷ 0 ∷ 0 ∷ 0 ∷ 0 ∷ 0 ∷ 0 ∷ 0 ∷ 0 ∷ 0 ∷ 0 ∷ 11 ∷ 123 ∷ 1 ∷ 253 ∷ 12 ∷ 0 ∷ 0 ∷ 0 ∷ 0 ∷ 0 ∷ 0 ∷ 0 ∷ 0 ∷ 0 ∷ 0 ∷ 0 ∷ 0 ∷ 0 ∷ 0 ∷ 0 ∷ 0 ∷ 11 ∷ 123 ∷ 1 ∷ 253 ∷ 12 ∷ 0 ∷ 0 ∷ 0 ∷ 0 ∷ 0 ∷ 0 ∷ 0 ∷ 0 ∷ 0 ∷ 0 ∷ 0 ∷ 0 ∷ 0 ∷ 0 ∷ 0 ∷ 0 ∷ 11 ∷ 123 ∷ 1 ∷ 253 ∷ 12 ∷ 0 ∷ 0 ∷ 0 ∷ 0 ∷ 0 ∷ 0 ∷ 0 ∷ 0 ∷ 0 ∷ 0 ∷ 0 ∷ 0 ∷ 0 ∷ 0 ∷ 0 ∷ 0 ∷ 11 ∷ 123 ∷ 1 ∷ 253 ∷ 12 ∷ 0 ∷ 0 ∷ 0 ∷ 0 ∷ 0 ∷ 0 ∷ 0 ∷ 0 ∷ 0 ∷ 0 ∷ 0 ∷ 0 ∷ 0 ∷ 0 ∷ 0 ∷ 0 ∷ 11 ∷ 127 ∷ 1 ∷ 65 ∷ 6 ∷ 11 ∷ 7 ∷ 52 ∷ 5 ∷ 10 ∷ 105 ∷ 115 ∷ 112 ∷ 46 ∷ 109 ∷ 101 ∷ 109 ∷ 111 ∷ 114 ∷ 121 ∷ 2 ∷ 0 ∷ 8 ∷ 105 ∷ 115 ∷ 112 ∷ 46 ∷ 98 ∷ 97 ∷ 115 ∷ 101 ∷ 3 ∷ 0 ∷ 9 ∷ 105 ∷ 115 ∷ 112 ∷ 46 ∷ 115 ∷ 116 ∷ 97 ∷ 99 ∷ 107 ∷ 3 ∷ 17 ∷ 5 ∷ 102 ∷ 105 ∷ 114 ∷ 115 ∷ 116 ∷ 0 ∷ 6 ∷ 4 ∷ 108 ∷ 97 ∷ 115 ∷ 116 ∷ 0 ∷ 8 ∷ 10 ∷ 31 ∷ 3 ∷ 20 ∷ 4 ∷ 2 ∷ 127 ∷ 2 ∷ 123 ∷ 1 ∷ 126 ∷ 1 ∷ 127 ∷ 32 ∷ 1 ∷ 65 ∷ 6 ∷ 16 ∷ 0 ∷ 32 ∷ 0 ∷ 15 ∷ 0 ∷ 11 ∷ 3 ∷ 0 ∷ 0 ∷ 11 ∷ 4 ∷ 0 ∷ 15 ∷ 0 ∷ 11 ∷ 11 ∷ 12 ∷ 1 ∷ 0 ∷ 65 ∷ 0 ∷ 11 ∷ 6 ∷ 104 ∷ 101 ∷ 108 ∷ 108 ∷ 111 ∷ 10 ∷ []
 unfolding groups u32 signed_groups i32 i64 low_bytes v128 sections_bytes
 whole_module = refl

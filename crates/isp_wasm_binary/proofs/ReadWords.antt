@@ -7,7 +7,7 @@ use Rattle.isp_wasm_meaning.specs.Syntax.{Shape, I8x16, I16x8, I32x4, I64x2, Siz
 use Rattle.isp_wasm_meaning.specs.Syntax.{Unary, Eqz, Ctz, Wrap, ExtendU, ExtendS, Extend8S, Extend16S, Splat, Extract, ExtendLow, ExtendHigh, Bitmask}
 use Rattle.isp_wasm_meaning.specs.Syntax.{Binary, Of, BitsOf, ShiftOf, Compare, Lanes, CompareLanes, Bits, Replace, Shuffle}
 use Rattle.isp_wasm_binary.specs.Numbers.{groups, u32}
-use Rattle.isp_wasm_binary.specs.Instructions.{Access, Bytes1, Bytes2, Bytes4, Bytes8, NoAccess, Word, Const32_word, Const64_word, Const128_word, Get_word, Set_word, Unary_word, Binary_word, Division_word, Select_word, Bitselect_word, Load_word, Store_word}
+use Rattle.isp_wasm_binary.specs.Instructions.{Access, Bytes1, Bytes2, Bytes4, Bytes8, Bytes16, NoAccess, Word, Const32_word, Const64_word, Const128_word, Get_word, Set_word, Unary_word, Binary_word, Division_word, Select_word, Bitselect_word, Load_word, Store_word}
 use Rattle.isp_wasm_binary.specs.Instructions.{Block_word, Loop_word, If_word, Else_word, End_word, Br_word, BrTable_word, Return_word, Call_word, Unreachable_word, GetGlobal_word, SetGlobal_word, Fill_word, word_bytes}
 use Rattle.isp_wasm_binary.proofs.Numbers.{Read, read_groups, read_signed, read_low, u32_back, i32_back, i64_back, v128_back}
 
@@ -133,7 +133,9 @@ simd_step (n, r) =
     (choose (nat_eq n 13) (shuffle (listed_bytes 16 r))
     (choose (nat_eq n 2004) (with_two (λ m o. Load_word (NoAccess m) o) (read_groups 4 r))
     (choose (nat_eq n 2005) (with_two (λ m o. Store_word (NoAccess m) o) (read_groups 4 r))
-    (either (found simd_number simd_words n r) (lane_step n r)))))
+    (choose (nat_eq n 0) (memarg Bytes16 Load_word r)
+    (choose (nat_eq n 11) (memarg Bytes16 Store_word r)
+    (either (found simd_number simd_words n r) (lane_step n r)))))))
 
 -- an instruction of two more bytes
 abbrev behind_two : Word → List ℕ → Step
@@ -355,6 +357,7 @@ load_read Bytes1 o r = ap (λ t. Some (Load_word Bytes1 t.0, t.1)) (u32_back o r
 load_read Bytes2 o r = ap (λ t. Some (Load_word Bytes2 t.0, t.1)) (u32_back o r)
 load_read Bytes4 o r = ap (λ t. Some (Load_word Bytes4 t.0, t.1)) (u32_back o r)
 load_read Bytes8 o r = ap (λ t. Some (Load_word Bytes8 t.0, t.1)) (u32_back o r)
+load_read Bytes16 o r = ap (λ t. Some (Load_word Bytes16 t.0, t.1)) (u32_back o r)
 load_read (NoAccess n) o r =
     ap (λ t. with_two (λ m p. Load_word (NoAccess m) p) (read_groups 4 t)) (append_assoc (u32 n) (u32 o) r)
     ∙ ap (with_two (λ m p. Load_word (NoAccess m) p)) (u32_back n (u32 o ++ r)) ∙ ap (λ t. Some (Load_word (NoAccess n) t.0, t.1)) (u32_back o r)
@@ -365,6 +368,7 @@ store_read Bytes1 o r = ap (λ t. Some (Store_word Bytes1 t.0, t.1)) (u32_back o
 store_read Bytes2 o r = ap (λ t. Some (Store_word Bytes2 t.0, t.1)) (u32_back o r)
 store_read Bytes4 o r = ap (λ t. Some (Store_word Bytes4 t.0, t.1)) (u32_back o r)
 store_read Bytes8 o r = ap (λ t. Some (Store_word Bytes8 t.0, t.1)) (u32_back o r)
+store_read Bytes16 o r = ap (λ t. Some (Store_word Bytes16 t.0, t.1)) (u32_back o r)
 store_read (NoAccess n) o r =
     ap (λ t. with_two (λ m p. Store_word (NoAccess m) p) (read_groups 4 t)) (append_assoc (u32 n) (u32 o) r)
     ∙ ap (with_two (λ m p. Store_word (NoAccess m) p)) (u32_back n (u32 o ++ r)) ∙ ap (λ t. Some (Store_word (NoAccess n) t.0, t.1)) (u32_back o r)

@@ -13,10 +13,11 @@ pub data Access : Type 0 where
   Bytes2 : Access
   Bytes4 : Access
   Bytes8 : Access
+  Bytes16 : Access
   NoAccess : ℕ → Access
 
 abbrev pub access : ℕ → Access
-access n = if nat_eq n 1 then Bytes1 else (if nat_eq n 2 then Bytes2 else (if nat_eq n 4 then Bytes4 else (if nat_eq n 8 then Bytes8 else NoAccess n)))
+access n = if nat_eq n 1 then Bytes1 else (if nat_eq n 2 then Bytes2 else (if nat_eq n 4 then Bytes4 else (if nat_eq n 8 then Bytes8 else (if nat_eq n 16 then Bytes16 else NoAccess n))))
 
 -- An instruction, as the standard has them one behind the other.
 pub data Word : Type 0 where
@@ -47,12 +48,13 @@ pub data Word : Type 0 where
   Fill_word : Word
 
 -- 5.4.6 memarg: the alignment, as the power of two that the bytes are, and the offset. i32.load8_u, i32.load16_u, i32.load,
--- i64.load; i32.store8, i32.store16, i32.store, i64.store
+-- i64.load, v128.load; i32.store8, i32.store16, i32.store, i64.store, v128.store
 abbrev pub load_bytes : Access → ℕ → List ℕ
 load_bytes Bytes1 o = 0x2D ∷ (u32 0 ++ u32 o)
 load_bytes Bytes2 o = 0x2F ∷ (u32 1 ++ u32 o)
 load_bytes Bytes4 o = 0x28 ∷ (u32 2 ++ u32 o)
 load_bytes Bytes8 o = 0x29 ∷ (u32 3 ++ u32 o)
+load_bytes Bytes16 o = simd 0 ++ (u32 4 ++ u32 o)
 load_bytes (NoAccess n) o = no_such 4 ++ (u32 n ++ u32 o)
 
 abbrev pub store_bytes : Access → ℕ → List ℕ
@@ -60,6 +62,7 @@ store_bytes Bytes1 o = 0x3A ∷ (u32 0 ++ u32 o)
 store_bytes Bytes2 o = 0x3B ∷ (u32 1 ++ u32 o)
 store_bytes Bytes4 o = 0x36 ∷ (u32 2 ++ u32 o)
 store_bytes Bytes8 o = 0x37 ∷ (u32 3 ++ u32 o)
+store_bytes Bytes16 o = simd 11 ++ (u32 4 ++ u32 o)
 store_bytes (NoAccess n) o = no_such 5 ++ (u32 n ++ u32 o)
 
 -- 5.4.1 control, 5.4.3 parametric, 5.4.4 variable, 5.4.6 memory, 5.4.7 numeric, 5.4.8 vector instructions. A block, a loop and

@@ -90,6 +90,7 @@ width widths.One = 1
 width widths.Two = 2
 width widths.Four = 4
 width widths.Eight = 8
+width widths.Sixteen = 16
 
 abbrev pub access : Width → instructions.Access
 access w = instructions.access (width w)

@@ -23,6 +23,7 @@ pub enum Width {
     Two,
     Four,
     Eight,
+    Sixteen,
 }
 
 impl Bytes {
@@ -158,6 +159,7 @@ impl Bytes {
             Width::Two => self.at(0x2F, 1, offset),
             Width::Four => self.at(0x28, 2, offset),
             Width::Eight => self.at(0x29, 3, offset),
+            Width::Sixteen => self.simd_at(0, offset),
         }
     }
 
@@ -170,6 +172,7 @@ impl Bytes {
             Width::Two => self.at(0x3B, 1, offset),
             Width::Four => self.at(0x36, 2, offset),
             Width::Eight => self.at(0x37, 3, offset),
+            Width::Sixteen => self.simd_at(11, offset),
         }
     }
 
@@ -179,6 +182,15 @@ impl Bytes {
     {
         self.byte(opcode)?;
         self.unsigned(align)?;
+        self.unsigned(offset)
+    }
+
+    // One on v128, an alignment of 16 bytes and an offset.
+    fn simd_at(&mut self, number: u32, offset: u32) -> Result<(), AllocError>
+        ensures { OnOk result (self.new ≡ self.old ++ (operators.simd number ++ (numbers.u32 4 ++ numbers.u32 offset))) }
+    {
+        self.simd(number)?;
+        self.unsigned(4)?;
         self.unsigned(offset)
     }
 

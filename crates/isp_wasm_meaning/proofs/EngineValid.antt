@@ -311,6 +311,9 @@ load_4 = refl
 load_8 : map (takes (Load 8 1 (Local 0) 0) None) ((W ∷ W ∷ []) ∷ (W ∷ L ∷ []) ∷ (W ∷ V ∷ []) ∷ (L ∷ W ∷ []) ∷ (L ∷ L ∷ []) ∷ (L ∷ V ∷ []) ∷ (V ∷ W ∷ []) ∷ (V ∷ L ∷ []) ∷ (V ∷ V ∷ []) ∷ []) ≡ (false ∷ true ∷ false ∷ false ∷ false ∷ false ∷ false ∷ false ∷ false ∷ [])
 load_8 = refl
 
+load_16 : map (takes (Load 16 1 (Local 0) 0) None) ((W ∷ W ∷ []) ∷ (W ∷ L ∷ []) ∷ (W ∷ V ∷ []) ∷ (L ∷ W ∷ []) ∷ (L ∷ L ∷ []) ∷ (L ∷ V ∷ []) ∷ (V ∷ W ∷ []) ∷ (V ∷ L ∷ []) ∷ (V ∷ V ∷ []) ∷ []) ≡ (false ∷ false ∷ true ∷ false ∷ false ∷ false ∷ false ∷ false ∷ false ∷ [])
+load_16 = refl
+
 store_1 : map (takes (Store 1 (Local 0) 0 (Local 1)) None) ((W ∷ W ∷ []) ∷ (W ∷ L ∷ []) ∷ (W ∷ V ∷ []) ∷ (L ∷ W ∷ []) ∷ (L ∷ L ∷ []) ∷ (L ∷ V ∷ []) ∷ (V ∷ W ∷ []) ∷ (V ∷ L ∷ []) ∷ (V ∷ V ∷ []) ∷ []) ≡ (true ∷ false ∷ false ∷ false ∷ false ∷ false ∷ false ∷ false ∷ false ∷ [])
 store_1 = refl
 
@@ -322,6 +325,9 @@ store_4 = refl
 
 store_8 : map (takes (Store 8 (Local 0) 0 (Local 1)) None) ((W ∷ W ∷ []) ∷ (W ∷ L ∷ []) ∷ (W ∷ V ∷ []) ∷ (L ∷ W ∷ []) ∷ (L ∷ L ∷ []) ∷ (L ∷ V ∷ []) ∷ (V ∷ W ∷ []) ∷ (V ∷ L ∷ []) ∷ (V ∷ V ∷ []) ∷ []) ≡ (false ∷ true ∷ false ∷ false ∷ false ∷ false ∷ false ∷ false ∷ false ∷ [])
 store_8 = refl
+
+store_16 : map (takes (Store 16 (Local 0) 0 (Local 1)) None) ((W ∷ W ∷ []) ∷ (W ∷ L ∷ []) ∷ (W ∷ V ∷ []) ∷ (L ∷ W ∷ []) ∷ (L ∷ L ∷ []) ∷ (L ∷ V ∷ []) ∷ (V ∷ W ∷ []) ∷ (V ∷ L ∷ []) ∷ (V ∷ V ∷ []) ∷ []) ≡ (false ∷ false ∷ true ∷ false ∷ false ∷ false ∷ false ∷ false ∷ false ∷ [])
+store_16 = refl
 
 bitmask_i8x16 : map (takes (Set 1 (One (Bitmask I8x16) (Local 0))) None) ((W ∷ W ∷ []) ∷ (W ∷ L ∷ []) ∷ (W ∷ V ∷ []) ∷ (L ∷ W ∷ []) ∷ (L ∷ L ∷ []) ∷ (L ∷ V ∷ []) ∷ (V ∷ W ∷ []) ∷ (V ∷ L ∷ []) ∷ (V ∷ V ∷ []) ∷ []) ≡ (false ∷ false ∷ false ∷ false ∷ false ∷ false ∷ true ∷ false ∷ false ∷ [])
 bitmask_i8x16 = refl

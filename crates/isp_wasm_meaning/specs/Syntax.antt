@@ -103,9 +103,9 @@ pub data Code : Type 0 where
   Then : Code → Code → Code
   -- local.set
   Set : (local : ℕ) → Expr → Code
-  -- so many bytes from the address and the offset on, to a local: i32.load8_u, i32.load16_u, i32.load, i64.load for 1, 2, 4, 8
+  -- so many bytes from the address and the offset on, to a local: i32.load8_u, i32.load16_u, i32.load, i64.load, v128.load for 1, 2, 4, 8, 16
   Load : (bytes local : ℕ) (address : Expr) (offset : ℕ) → Code
-  -- i32.store8, i32.store16, i32.store, i64.store for 1, 2, 4, 8
+  -- i32.store8, i32.store16, i32.store, i64.store, v128.store for 1, 2, 4, 8, 16
   Store : (bytes : ℕ) (address : Expr) (offset : ℕ) (value : Expr) → Code
   -- a quotient or a remainder, to a local
   Divide : Size → Division → (local : ℕ) → Expr → Expr → Code

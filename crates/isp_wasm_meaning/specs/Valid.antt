@@ -84,7 +84,7 @@ is_binary o = true
 
 -- what so many bytes are loaded to and stored from
 abbrev pub held : ℕ → Option ValueType
-held n = if nat_eq n 8 then Some I64 else (if nat_eq n 4 || (nat_eq n 2 || nat_eq n 1) then Some I32 else None)
+held n = if nat_eq n 16 then Some V128 else (if nat_eq n 8 then Some I64 else (if nat_eq n 4 || (nat_eq n 2 || nat_eq n 1) then Some I32 else None))
 
 -- what the host takes of what it writes
 abbrev pub taken_by : Printed → ValueType
