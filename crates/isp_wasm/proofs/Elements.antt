@@ -120,7 +120,7 @@ module _ (w : Setting) (ready : IsSettled w) where
         base_found l x lt base = el.base_is p low l base (let le = ends_inside x lt in let some = few_bytes (w.elems store) in let small = keeps.small in let more = x * each_bytes in omega (arith, le, some, small))
 
         module _ (l : ℕ → ℕ) (from e : Expr) (x : ℕ) (base : value l from ≡ w.begins store) (index : value l e ≡ x) where
-          address_is : x < many → value l (element_from w from a e) + 0 ≡ place_of x
+          pub address_is : x < many → value l (element_from w from a e) + 0 ≡ place_of x
           address_is lt =
               let le = ends_inside x lt in
               let some = few_bytes (w.elems store) in

@@ -33,7 +33,7 @@ use Rattle.isp_wasm.specs.Standing.{all_of, Stands, Holds, IsSettled, the_machin
 use Rattle.isp_wasm.specs.Thin.{IsVector, IsScalar}
 use Rattle.isp_wasm.proofs.Frames.{holds_scalar, there, elsewhere}
 use Rattle.isp_wasm.proofs.Steps.{falls_on, fails_here}
-use Rattle.isp_wasm.proofs.Parts.{Kept, Told}
+use Rattle.isp_wasm.proofs.Parts.{Kept, Told, ends_behind}
 use Rattle.isp_wasm.proofs.Vectors.{narrow, scalar_fits, vector_fits, vector_lane}
 use Rattle.isp_wasm.proofs.MaskWords.{member_is, lowest_is}
 use Rattle.isp_wasm.proofs.Scalars.{falls_scalar}
@@ -109,35 +109,48 @@ module _ (w : Setting) (ready : IsSettled w) (fuel n k : ℕ) (call : ℕ → Li
             ap (λ b. if b then all_of w c (store_at w a.number p) (x p) else c.vectors d p) off
             ∙ sym (ap (λ b. or_old (each1 (λ b. item w.code w.routine c a (element I64 b) p) (if b then Some (x p) else None)) (c.vectors d p)) off)
 
-    pub runs : IsScalar w i I64 → slice_get w.routine.code pc ≡ Some (instr.Vector (vector_register d) (vector.LoadRun a i m q)) → Good (pc + 1) c (run fuel call (lane_loads w (vector_register d) a (run_index w i) m q) s)
-    runs is has =
-        lanes_end w ready fuel n k call pc c s st d m (got w ready fuel n k call pc c s st d a m q el (run_index w i) x) (bad w ready fuel n k call pc c s st d a m q el (run_index w i) x) kind.Index q
-        (body w ready fuel n k call pc c s st d a m q el (run_index w i) x) (instr.Vector (vector_register d) (vector.LoadRun a i m q))
-        (run_outside (size w.code w.routine c a) (number I64 (c.scalars i.number)) (c.masks m.number)) (on (c.masks m.number) (λ p. item w.code w.routine c a (unsigned_abs (number I64 (c.scalars i.number) +ℤ pos p)) p)) has refl
-        (λ p l. ap (λ b. c.masks m.number p && b) (ap (λ n. is_beyond n (number I64 (c.scalars i.number) +ℤ pos p)) (size_is w ready a here el pc c s st) ∙ beyond_is length (c.scalars i.number) p (few w ready a here el) fits (let le = narrow w.code.gang in omega arith)))
-        (λ p l sound. by p l (c.masks m.number p) refl sound)
-        (run fuel call (lane_loads w (vector_register d) a (run_index w i) m q) s)
-        (lanes_loaded w ready fuel n k call pc c s st d a m q el (run_index w i) x
-        (λ p low on l h. ap₂ (λ u v. (u + v) % 2 ^ 64) (h.scalars_are i.number) (mod-eq_of_lt (let le = narrow w.code.gang in let lt : p < 2 ^ 64 = omega arith in lt))))
-      where
-        fits : c.scalars i.number < 2 ^ 64
-        fits = scalar_fits w c s.locals st.holds i I64 is
+    module _ (is : IsScalar w i I64) (has : slice_get w.routine.code pc ≡ Some (instr.Vector (vector_register d) (vector.LoadRun a i m q))) where
+      fits : c.scalars i.number < 2 ^ 64
+      fits = scalar_fits w c s.locals st.holds i I64 is
 
-        x : ℕ → ℕ
-        x p = (c.scalars i.number + p) % 2 ^ 64
+      abbrev x : ℕ → ℕ
+      x p = (c.scalars i.number + p) % 2 ^ 64
 
-        by : (p : ℕ) → p < gang w → (b : Bool) → c.masks m.number p ≡ b → (c.masks m.number p && not (nat_lt (x p) length)) ≡ false
-            → (if c.masks m.number p then all_of w c (store_at w a.number p) (x p) else c.vectors d p)
-            ≡ or_old (if c.masks m.number p then Some (item w.code w.routine c a (unsigned_abs (number I64 (c.scalars i.number) +ℤ pos p)) p) else None) (c.vectors d p)
-        by p l true on sound =
-            let lt = sound_index (c.masks m.number p) (x p) length sound on in
-            ap (λ b. if b then all_of w c (store_at w a.number p) (x p) else c.vectors d p) on
-            ∙ sym (ap (λ b. or_old (if b then Some (item w.code w.routine c a (unsigned_abs (number I64 (c.scalars i.number) +ℤ pos p)) p) else None) (c.vectors d p)) on
-            ∙ el.item_here c st.home_is (unsigned_abs (number I64 (c.scalars i.number) +ℤ pos p)) p l
-            ∙ ap (all_of w c (store_at w a.number p)) (first_is length (c.scalars i.number) p (few w ready a here el) fits (let le = narrow w.code.gang in omega arith) lt))
-        by p l false off sound =
-            ap (λ b. if b then all_of w c (store_at w a.number p) (x p) else c.vectors d p) off
-            ∙ sym (ap (λ b. or_old (if b then Some (item w.code w.routine c a (unsigned_abs (number I64 (c.scalars i.number) +ℤ pos p)) p) else None) (c.vectors d p)) off)
+      by : (p : ℕ) → p < gang w → (b : Bool) → c.masks m.number p ≡ b → (c.masks m.number p && not (nat_lt (x p) length)) ≡ false
+          → (if c.masks m.number p then all_of w c (store_at w a.number p) (x p) else c.vectors d p)
+          ≡ or_old (if c.masks m.number p then Some (item w.code w.routine c a (unsigned_abs (number I64 (c.scalars i.number) +ℤ pos p)) p) else None) (c.vectors d p)
+      by p l true on sound =
+          let lt = sound_index (c.masks m.number p) (x p) length sound on in
+          ap (λ b. if b then all_of w c (store_at w a.number p) (x p) else c.vectors d p) on
+          ∙ sym (ap (λ b. or_old (if b then Some (item w.code w.routine c a (unsigned_abs (number I64 (c.scalars i.number) +ℤ pos p)) p) else None) (c.vectors d p)) on
+          ∙ el.item_here c st.home_is (unsigned_abs (number I64 (c.scalars i.number) +ℤ pos p)) p l
+          ∙ ap (all_of w c (store_at w a.number p)) (first_is length (c.scalars i.number) p (few w ready a here el) fits (let le = narrow w.code.gang in omega arith) lt))
+      by p l false off sound =
+          ap (λ b. if b then all_of w c (store_at w a.number p) (x p) else c.vectors d p) off
+          ∙ sym (ap (λ b. or_old (if b then Some (item w.code w.routine c a (unsigned_abs (number I64 (c.scalars i.number) +ℤ pos p)) p) else None) (c.vectors d p)) off)
+
+      abbrev Loaded : Result → Type 0
+      Loaded r =
+          Kept (Sound w fuel call c.masks m (bad w ready fuel n k call pc c s st d a m q el (run_index w i) x) 1 q (body w ready fuel n k call pc c s st d a m q el (run_index w i) x) (Filled w ready fuel call c s d m (got w ready fuel n k call pc c s st d a m q el (run_index w i) x)) (gang w)) r
+          ⊎ Told (Refused w fuel call c.masks m (bad w ready fuel n k call pc c s st d a m q el (run_index w i) x) 1 q (body w ready fuel n k call pc c s st d a m q el (run_index w i) x) (Filled w ready fuel call c s d m (got w ready fuel n k call pc c s st d a m q el (run_index w i) x))) r
+
+      loaded : Loaded (run fuel call (lane_loads w (vector_register d) a (run_index w i) m q) s)
+      loaded =
+          lanes_loaded w ready fuel n k call pc c s st d a m q el (run_index w i) x
+          (λ p low on l h. ap₂ (λ u v. (u + v) % 2 ^ 64) (h.scalars_are i.number) (mod-eq_of_lt (let le = narrow w.code.gang in let lt : p < 2 ^ 64 = omega arith in lt)))
+
+      pub runs : Good (pc + 1) c (run fuel call (lane_loads w (vector_register d) a (run_index w i) m q) s)
+      runs =
+          lanes_end w ready fuel n k call pc c s st d m (got w ready fuel n k call pc c s st d a m q el (run_index w i) x) (bad w ready fuel n k call pc c s st d a m q el (run_index w i) x) kind.Index q
+          (body w ready fuel n k call pc c s st d a m q el (run_index w i) x) (instr.Vector (vector_register d) (vector.LoadRun a i m q))
+          (run_outside (size w.code w.routine c a) (number I64 (c.scalars i.number)) (c.masks m.number)) (on (c.masks m.number) (λ p. item w.code w.routine c a (unsigned_abs (number I64 (c.scalars i.number) +ℤ pos p)) p)) has refl
+          (λ p l. ap (λ b. c.masks m.number p && b) (ap (λ n. is_beyond n (number I64 (c.scalars i.number) +ℤ pos p)) (size_is w ready a here el pc c s st) ∙ beyond_is length (c.scalars i.number) p (few w ready a here el) fits (let le = narrow w.code.gang in omega arith)))
+          (λ p l sound. by p l (c.masks m.number p) refl sound)
+          (run fuel call (lane_loads w (vector_register d) a (run_index w i) m q) s) loaded
+
+      -- as a branch
+      pub runs_end : Good (pc + 1) c (behind (run fuel call (lane_loads w (vector_register d) a (run_index w i) m q) s))
+      runs_end = subst (Good (pc + 1) c) (sym (ends_behind _ _ (run fuel call (lane_loads w (vector_register d) a (run_index w i) m q) s) loaded)) runs
 
     -- in the order of the mask's lanes, which are counted
     pub packed_loads : is_per_lane w.routine a ≡ false → (r : Register) → r.class ≡ class.Scalar → elem w r ≡ I32 → IsScalar w i I64 → slice_get w.routine.code pc ≡ Some (instr.PackedLoad r a i (vector_register d) m q)

@@ -16,10 +16,12 @@ mod Results
 mod Scalars
 mod LaneLoops
 mod Regions
+mod RowRegions
 mod Elements
 mod Loads
 mod LaneEnds
 mod Gathers
+mod RowLoads
 mod Owned
 mod Stores
 mod Clears

@@ -2,7 +2,7 @@
 use Rattle.std.proofs.Common.{◌≡◌, ℕ, zero, suc, ◌+◌, ◌*◌, ◌<◌, ◌≢◌, ◌⊎◌, inl, inr, List, Option, refl, sym, ap, ◌∙◌, subst, arith}
 use Rattle.std.proofs.lemmas.Bool.{cases_eq}
 use Rattle.isp_wasm_meaning.specs.Syntax.{Shape, Expr, Code, Set}
-use Rattle.isp_wasm_meaning.specs.Meaning.{Report, State, Result, Fell, Trapped, run, value, set_local, then_to, lane, count}
+use Rattle.isp_wasm_meaning.specs.Meaning.{Report, State, Result, Fell, Trapped, run, value, behind, set_local, then_to, lane, count}
 use Rattle.isp_wasm.specs.Places.{Setting, Place, Fresh, IsKept}
 use Rattle.isp_wasm.specs.Templates.{each}
 use Rattle.isp_wasm.specs.Standing.{IsSettled}
@@ -61,6 +61,11 @@ pub record Told (T : Option Report → State → Type 0) (r : Result) : Type 0 w
   pub report : Option Report
   pub trapped : r ≡ Trapped report state
   pub holds : T report state
+
+-- an if ends as its branch does, where that falls through or traps
+pub ends_behind : (I : State → Type 0) (T : Option Report → State → Type 0) (r : Result) → Kept I r ⊎ Told T r → behind r ≡ r
+ends_behind I T r (inl k) = ap behind k.fell ∙ sym k.fell
+ends_behind I T r (inr t) = ap behind t.trapped ∙ sym t.trapped
 
 module _ (fuel : ℕ) (call : ℕ → List ℕ → State → Result) (body : ℕ → Code) (I : ℕ → State → Type 0) (T : Option Report → State → Type 0) where
   pub each_part : (n : ℕ) → ((j : ℕ) → j < n → (t : State) → I j t → Kept (I (suc j)) (run fuel call (body j) t) ⊎ Told T (run fuel call (body j) t)) → (s : State) → I 0 s

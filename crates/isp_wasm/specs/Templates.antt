@@ -1,5 +1,5 @@
 -- The WebAssembly of each instruction.
-use Rattle.std.specs.Prelude.{ℕ, List, [], ◌∷◌, ◌++◌, length, zero, suc, ◌+◌, ◌-◌, ◌*◌, ◌/◌, ◌%◌, ◌^◌, Option, Some, None, Bool, true, false, if◌then◌else◌, slice_get, nat_lt}
+use Rattle.std.specs.Prelude.{ℕ, List, [], ◌∷◌, ◌++◌, length, zero, suc, ◌+◌, ◌-◌, ◌*◌, ◌/◌, ◌%◌, ◌^◌, Option, Some, None, Bool, true, false, if◌then◌else◌, slice_get, nat_eq, nat_lt}
 use Rattle.isp_base.specs.Depths.{most_calls}
 use Rattle.isp_base.specs.Ranks.{widened as sum_type}
 use Rattle.isp_base.specs.Sets as Sets
