@@ -28,9 +28,11 @@ use Rattle.isp_wasm.proofs.Vectors.{copies, converts, unaries, binaries, compare
 use Rattle.isp_wasm.proofs.Masks.{masks_fall}
 use Rattle.isp_wasm.proofs.Divisions.{divides_scalar, divides_lanes}
 use Rattle.isp_wasm.proofs.Elements.{found, found_shared}
-use Rattle.isp_wasm.proofs.Gathers.{gathers, runs, packed_loads, loads}
+use Rattle.isp_wasm.proofs.Gathers.{gathers, packed_loads, loads}
+use Rattle.isp_wasm.proofs.RowLoads.{run_loads}
 use Rattle.isp_wasm.proofs.Clears.{clears}
-use Rattle.isp_wasm.proofs.Stores.{ends_so, scatters, stores_in_row, packed_stores, stores}
+use Rattle.isp_wasm.proofs.Stores.{ends_so, scatters, packed_stores, stores}
+use Rattle.isp_wasm.proofs.RowStores.{run_stores}
 use Rattle.isp_wasm.proofs.Across.{scans, exchanges, shuffles, shuffles_two, inserts, extracts}
 use Rattle.isp_wasm.proofs.Reductions.{reduces}
 use Rattle.isp_wasm.proofs.Texts.{says_fall}
@@ -80,7 +82,7 @@ module _ (w : Setting) (ready : IsSettled w) (covered : IsCovered w) (thin : All
     vector_number d (vector.Splat x m) has h = splats w ready fuel w.rungs k call pc c s st d x m has h
     vector_number d (vector.Index m) has h = indices w ready fuel w.rungs k call pc c s st d m has h
     vector_number d (vector.Gather a i m q) has h = gathers w ready fuel w.rungs k call pc c s st d a i m q (found w ready a (elem w (vector_register d)) h.0) h.1 has
-    vector_number d (vector.LoadRun a i m q) has h = runs w ready fuel w.rungs k call pc c s st d a i m q (found_shared w ready a (elem w (vector_register d)) h.0) h.1 has
+    vector_number d (vector.LoadRun a i m q) has h = run_loads w ready fuel w.rungs k call pc c s st d a i m q h.0 h.1 has
     vector_number d (vector.Scan o x m) has h = scans w ready fuel w.rungs k call pc c s st d o x m h.0 h.1 has
     vector_number d (vector.Exchange e x i m) has h = exchanges w ready fuel w.rungs k call pc c s st d e x i m h.0 h.1 has
     vector_number d (vector.Shuffle x i m) has h = shuffles w ready fuel w.rungs k call pc c s st d x i m h.0 h.1 has
@@ -113,9 +115,7 @@ module _ (w : Setting) (ready : IsSettled w) (covered : IsCovered w) (thin : All
     template (instr.Store a i y m q) has h = stores w ready fuel w.rungs k call pc c s st a i y m q has h.1 h.0 h.2
     template (instr.Scatter a i y m q) has h =
         subst (Good k (pc + 1) c) (ends_so (run fuel call (lane_checks w a (own_index w i) m q) s) (run fuel call (lane_stores w a (own_index w i) y m))) (scatters w ready fuel w.rungs k call pc c s st a i y m q h.0 h.2 h.1 has)
-    template (instr.StoreRun a i y m q) has h =
-        subst (Good k (pc + 1) c) (ends_so (run fuel call (lane_checks w a (run_index w i) m q) s) (run fuel call (lane_stores w a (run_index w i) y m)))
-        (stores_in_row w ready fuel w.rungs k call pc c s st a i y m q h.0 h.2 h.1 has)
+    template (instr.StoreRun a i y m q) has h = run_stores w ready fuel w.rungs k call pc c s st a i y m q h.0 h.2 h.1 has
     template (instr.PackedStore r a i y m q) has h = packed_stores w ready fuel w.rungs k call pc c s st a i y m q h.1 h.3 h.2 r (h.0).class_is (h.0).elem_is has
     template (instr.PackedLoad r a i y m q) has h = packed_load_at r a i y m q has h
     template (instr.Jump to) has h = jumps_to w ready fuel w.rungs k call pc c s st to (instr.Jump to) has low h refl refl

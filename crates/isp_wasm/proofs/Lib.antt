@@ -24,6 +24,7 @@ mod Gathers
 mod RowLoads
 mod Owned
 mod Stores
+mod RowStores
 mod Clears
 mod Divisions
 mod Picks

@@ -110,7 +110,7 @@ module _ (w : Setting) (ready : IsSettled w) (fuel n k : ℕ) (call : ℕ → Li
     abbrev pub from : ℕ
     from = c.scalars i.number
 
-    fits : from < 2 ^ 64
+    pub fits : from < 2 ^ 64
     fits = scalar_fits w c s.locals st.holds i I64 is
 
     abbrev pub AllThere : Bool
@@ -173,7 +173,7 @@ module _ (w : Setting) (ready : IsSettled w) (fuel n k : ℕ) (call : ℕ → Li
 
       module _ (full : Fills w t) where
         -- where part j of the row begins
-        part_address : (j : ℕ) → j < parts w (shape_of t) → (l : ℕ → ℕ) → Alike w s.locals l
+        pub part_address : (j : ℕ) → j < parts w (shape_of t) → (l : ℕ → ℕ) → Alike w s.locals l
             → value l (address_at w a (scalar_local w i)) + j * 16 ≡ w.begins at + (from + j * count (shape_of t)) * bytes_of (w.elems at)
         part_address j low l alike =
             let first = address_is w ready a t fd 0 (some_lanes w.code.gang) (all_of w c) s.memory s.size st.keeps l (syntax.Local (w.local (place.Base a.number))) (scalar_local w i) from
@@ -181,7 +181,7 @@ module _ (w : Setting) (ready : IsSettled w) (fuel n k : ℕ) (call : ℕ → Li
             let row = ap (λ e. from * bytes_of e + j * 16) (fd.stored_as 0 (some_lanes w.code.gang)) ∙ part_begins t from j ∙ ap (λ e. (from + j * count (shape_of t)) * bytes_of e) (sym (fd.stored_as 0 (some_lanes w.code.gang))) in
             omega (arith, first, row)
 
-        part_room : (j : ℕ) → j < parts w (shape_of t) → from + j * count (shape_of t) + count (shape_of t) ≤ length
+        pub part_room : (j : ℕ) → j < parts w (shape_of t) → from + j * count (shape_of t) + count (shape_of t) ≤ length
         part_room j low = let le = in_array in let up = part_in_gang w t full j low in omega (arith, le, up)
 
         -- the parts are read

@@ -20,7 +20,7 @@ use Rattle.isp_code.specs.declared.register.Class.TheVariants as class
 use Rattle.isp_code.specs.declared.register.Register.{Register}
 use Rattle.isp_wasm_meaning.specs.Syntax as syntax
 use Rattle.isp_wasm_meaning.specs.Syntax.{Expr, Code, Store, If, Skip, Const32, Local}
-use Rattle.isp_wasm_meaning.specs.Meaning.{State, Result, Fell, Branched, Returned, Trapped, OutOfFuel, run, value, behind, then_to, flag, set_local}
+use Rattle.isp_wasm_meaning.specs.Meaning.{Report, State, Result, Fell, Branched, Returned, Trapped, OutOfFuel, run, value, behind, then_to, flag, set_local}
 use Rattle.isp_wasm_meaning.specs.Ladder.{Meets}
 use Rattle.isp_wasm.specs.Places as place
 use Rattle.isp_wasm.specs.Places.{Setting, Counter, elem, bytes_of, gang}
@@ -182,27 +182,35 @@ module _ (w : Setting) (ready : IsSettled w) (fuel n k : ℕ) (call : ℕ → Li
 
     -- ---- checks and then stores, and what follows
 
+    -- as they are, or as a branch
+    pub stores_end_as : (out : Result → Result) → ((o : Option Report) (u : State) → out (Trapped o u) ≡ Trapped o u) → (i : Instr) (worse : Mask) (c1 : Conf) (after : State → Result) → slice_get w.routine.code pc ≡ Some i
+        → act w.code w.routine c i ≡ moved (unless w.code w.routine c (lowest (gang w) worse) kind.Index q c1) (λ z. z)
+        → ((p : ℕ) → p < gang w → worse p ≡ (set p && bad p)) → (left : ℕ → ℕ → Lanes) → IsLeft left
+        → ((memory : ℕ → ℕ) → act w.code w.routine c i ≡ Go c1 → Keeps w (left (gang w)) memory s.size → Good (pc + 1) c (out (after (record s { memory = memory }))))
+        → Good (pc + 1) c (out (then_to (run fuel call (lane_checks w a index m q) s) (λ u. then_to (run fuel call (lane_stores w a index y m) u) after)))
+    stores_end_as out traps i worse c1 after has is same_bad left is_left goes = by checks_run
+      where
+        second : State → Result
+        second u = then_to (run fuel call (lane_stores w a index y m) u) after
+
+        by : Checked → Good (pc + 1) c (out (then_to (run fuel call (lane_checks w a index m q) s) second))
+        by (inl kept) =
+            let ran = stores_run left is_left kept.holds.sound in
+            let f = ran.holds in
+            subst (Good (pc + 1) c) (sym (ap (λ r. out (then_to r second)) (kept.fell ∙ ap Fell kept.holds.inv) ∙ ap (λ r. out (then_to r after)) (ran.fell ∙ ap Fell f.is)))
+            (goes f.memory (is ∙ ap (λ o. moved (unless w.code w.routine c o kind.Index q c1) (λ z. z)) (none_fails w ready fuel n k call pc c s st m bad kind.Index q check Same worse same_bad kept.state kept.holds)) f.keeps)
+        by (inr told) =
+            subst (Good (pc + 1) c) (sym (ap (λ r. out (then_to r second)) told.trapped ∙ traps told.report told.state))
+            (lane_fails w ready fuel n k call pc c s st m bad kind.Index q check Same worse same_bad i Conf c1 (λ z. z) has is
+            (λ p u f. subst (λ u. (u.out ≡ s.out) × Keeps w (all_of w c) u.memory u.size) (sym f) (refl, st.keeps)) (Trapped told.report told.state)
+            (record { state = told.state; report = told.report; trapped = refl; holds = told.holds }))
+
     pub stores_end : (i : Instr) (worse : Mask) (c1 : Conf) (after : State → Result) → slice_get w.routine.code pc ≡ Some i
         → act w.code w.routine c i ≡ moved (unless w.code w.routine c (lowest (gang w) worse) kind.Index q c1) (λ z. z)
         → ((p : ℕ) → p < gang w → worse p ≡ (set p && bad p)) → (left : ℕ → ℕ → Lanes) → IsLeft left
         → ((memory : ℕ → ℕ) → act w.code w.routine c i ≡ Go c1 → Keeps w (left (gang w)) memory s.size → Good (pc + 1) c (after (record s { memory = memory })))
         → Good (pc + 1) c (then_to (run fuel call (lane_checks w a index m q) s) (λ u. then_to (run fuel call (lane_stores w a index y m) u) after))
-    stores_end i worse c1 after has is same_bad left is_left goes = by checks_run
-      where
-        second : State → Result
-        second u = then_to (run fuel call (lane_stores w a index y m) u) after
-
-        by : Checked → Good (pc + 1) c (then_to (run fuel call (lane_checks w a index m q) s) second)
-        by (inl kept) =
-            let ran = stores_run left is_left kept.holds.sound in
-            let f = ran.holds in
-            subst (Good (pc + 1) c) (sym (ap (λ r. then_to r second) (kept.fell ∙ ap Fell kept.holds.inv) ∙ ap (λ r. then_to r after) (ran.fell ∙ ap Fell f.is)))
-            (goes f.memory (is ∙ ap (λ o. moved (unless w.code w.routine c o kind.Index q c1) (λ z. z)) (none_fails w ready fuel n k call pc c s st m bad kind.Index q check Same worse same_bad kept.state kept.holds)) f.keeps)
-        by (inr told) =
-            subst (Good (pc + 1) c) (sym (ap (λ r. then_to r second) told.trapped))
-            (lane_fails w ready fuel n k call pc c s st m bad kind.Index q check Same worse same_bad i Conf c1 (λ z. z) has is
-            (λ p u f. subst (λ u. (u.out ≡ s.out) × Keeps w (all_of w c) u.memory u.size) (sym f) (refl, st.keeps)) (Trapped told.report told.state)
-            (record { state = told.state; report = told.report; trapped = refl; holds = told.holds }))
+    stores_end = stores_end_as (λ r. r) (λ o u. refl)
 
     -- ---- an array that all lanes share gets what a scatter leaves
 
@@ -342,7 +350,7 @@ module _ (w : Setting) (ready : IsSettled w) (fuel n k : ℕ) (call : ℕ → Li
     abbrev pub arrays_after : Map → ℕ → Lanes
     arrays_after places = put c.arrays (c.home.named a.number) (scatter (gang w) places (on (c.masks m.number) (c.vectors y.number)) (c.arrays (c.home.named a.number)))
 
-    named_so : (places : Map) (memory : ℕ → ℕ)
+    pub named_so : (places : Map) (memory : ℕ → ℕ)
         → Keeps w (put (all_of w c) (w.home.named a.number) (scatter (gang w) places (on (c.masks m.number) (c.vectors y.number)) (all_of w c (w.home.named a.number)))) memory s.size
         → Keeps w (all_of w (record c { arrays = arrays_after places })) memory s.size
     named_so places memory keeps =
@@ -376,23 +384,29 @@ module _ (w : Setting) (ready : IsSettled w) (fuel n k : ℕ) (call : ℕ → Li
       fits : c.scalars i.number < 2 ^ 64
       fits = scalar_fits w c s.locals st.holds i I64 is
 
-      pub stores_in_row : slice_get w.routine.code pc ≡ Some (instr.StoreRun a i y m q)
-          → Good (pc + 1) c (then_to (run fuel call (lane_checks w a (run_index w i) m q) s) (λ u. then_to (run fuel call (lane_stores w a (run_index w i) y m) u) Fell))
-      stores_in_row has =
-          stores_end a m y q (elem w y) fd yv (run_index w i) (λ p. (c.scalars i.number + p) % 2 ^ 64) lanes_are (instr.StoreRun a i y m q)
+      pub stores_in_row_as : (out : Result → Result) → ((o : Option Report) (u : State) → out (Trapped o u) ≡ Trapped o u) → ((u : State) → out (Fell u) ≡ Fell u)
+          → slice_get w.routine.code pc ≡ Some (instr.StoreRun a i y m q)
+          → Good (pc + 1) c (out (then_to (run fuel call (lane_checks w a (run_index w i) m q) s) (λ u. then_to (run fuel call (lane_stores w a (run_index w i) y m) u) Fell)))
+      stores_in_row_as out traps falls has =
+          stores_end_as a m y q (elem w y) fd yv (run_index w i) (λ p. (c.scalars i.number + p) % 2 ^ 64) lanes_are out traps (instr.StoreRun a i y m q)
           (run_outside (size w.code w.routine c a) (number I64 (c.scalars i.number)) (c.masks m.number)) (run_stored w.code w.routine c a i y m) Fell has refl
           (λ p l. ap (λ b. c.masks m.number p && b) (ap (λ n. is_beyond n (number I64 (c.scalars i.number) +ℤ pos p)) (size_is w ready a (elem w y) fd pc c s st) ∙ beyond_is size_of_it (c.scalars i.number) p (few w ready a (elem w y) fd) fits (let le = narrow w.code.gang in omega arith)))
           (λ p. put (all_of w c) (w.home.named a.number) (scatter p places (on (c.masks m.number) (c.vectors y.number)) (all_of w c (w.home.named a.number))))
           (shared_left a m y q (elem w y) fd yv (run_index w i) (λ p. (c.scalars i.number + p) % 2 ^ 64) lanes_are el.shared places
           (λ p l h lt. ap (λ b. if b then Some (unsigned_abs (number I64 (c.scalars i.number) +ℤ pos p)) else None) h ∙ ap Some (first_is size_of_it (c.scalars i.number) p (few w ready a (elem w y) fd) fits (let le = narrow w.code.gang in omega arith) lt))
           (λ p h. ap (λ b. if b then Some (unsigned_abs (number I64 (c.scalars i.number) +ℤ pos p)) else None) h))
-          (λ memory goes keeps. falls_on w ready fuel n k pc c s (instr.StoreRun a i y m q) st has (run_stored w.code w.routine c a i y m) (record s { memory = memory }) goes refl refl refl refl st.holds (named_so places memory keeps))
+          (λ memory goes keeps. subst (Good (pc + 1) c) (sym (falls (record s { memory = memory })))
+          (falls_on w ready fuel n k pc c s (instr.StoreRun a i y m q) st has (run_stored w.code w.routine c a i y m) (record s { memory = memory }) goes refl refl refl refl st.holds (named_so places memory keeps)))
         where
           places : Map
           places = run_places (number I64 (c.scalars i.number)) (c.masks m.number)
 
           lanes_are : (p : ℕ) → p < gang w → c.masks m.number p ≡ true → value s.locals (run_index w i p) ≡ (c.scalars i.number + p) % 2 ^ 64
           lanes_are p low h = ap₂ (λ u v. (u + v) % 2 ^ 64) (st.holds.scalars_are i.number) (mod-eq_of_lt (let le = narrow w.code.gang in let lt : p < 2 ^ 64 = omega arith in lt))
+
+      pub stores_in_row : slice_get w.routine.code pc ≡ Some (instr.StoreRun a i y m q)
+          → Good (pc + 1) c (then_to (run fuel call (lane_checks w a (run_index w i) m q) s) (λ u. then_to (run fuel call (lane_stores w a (run_index w i) y m) u) Fell))
+      stores_in_row = stores_in_row_as (λ r. r) (λ o u. refl) (λ u. refl)
 
       pub packed_stores : (r : Register) → r.class ≡ class.Scalar → elem w r ≡ I32 → slice_get w.routine.code pc ≡ Some (instr.PackedStore r a i y m q)
           → Good (pc + 1) c (then_to (run fuel call (lane_checks w a (packed_index w i m) m q) s) (λ u. then_to (run fuel call (lane_stores w a (packed_index w i m) y m) u) (run fuel call (set_count w r m))))

@@ -27,7 +27,7 @@ use Rattle.isp_wasm.specs.Places.{Setting, Place, gang, parts, elem, shape, size
 use Rattle.isp_wasm.specs.Rows.{widened}
 use Rattle.isp_wasm.specs.Templates.{fault, lowest_of, scalar_local, vector_local, mask_local, plus, waiting_calls, listed, part_under, passed_of, passed_all, arguments_of, called_number, scalar_result, result_local, select_lanes, vector_result, take_result, each, call_code}
 use Rattle.isp_wasm.proofs.Typed.{both, same, two, bitselect, source, widened_typed}
-use Rattle.isp_wasm.proofs.ValidLines.{HasTypes, fresh_low, source_low, global_at, few_results, each_valid, set_valid, then_valid, if_valid, local_typed, scalar_at, scalar_typed, vector_typed, mask_part_typed, lowest_typed, plus_typed}
+use Rattle.isp_wasm.proofs.ValidLines.{HasTypes, fresh_low, source_low, global_at, few_results, each_valid, set_valid, then_valid, if_valid, local_typed, scalar_at, scalar_typed, vector_typed, mask_part_typed, select_valid, lowest_typed, plus_typed}
 
 module _ (w : Setting) (local : ℕ → Option ValueType) (functions : List Function) (result : Option ValueType) (typed : HasTypes w local) where
   abbrev pub T : Expr → ValueType → Type 0
@@ -154,11 +154,7 @@ module _ (w : Setting) (local : ℕ → Option ValueType) (functions : List Func
       (each_valid w local functions result typed n (parts w (shape w r)) (λ j. GetGlobal (w.local (Fresh j)) (suc j))
       (λ j l. ap (of_type local (Local (w.local (Fresh j)))) (global_at w local functions result typed j (few_results w local functions result typed (shape w r) j l)).1
       ∙ local_typed w local functions result typed (w.local (Fresh j)) V128 (typed.fresh j (fresh_low (gang w) (shape w r) j l))))
-      (each_valid w local functions result typed n (parts w (shape w r)) (λ j. Set (w.local (VectorAt x j)) (Bitselect (Local (w.local (Fresh j))) (vector_local w r j) (widened (shape w r) (mask_local w k) j)))
-      (λ j l. set_valid w local functions result typed n (w.local (VectorAt x j)) (Bitselect (Local (w.local (Fresh j))) (vector_local w r j) (widened (shape w r) (mask_local w k) j)) V128 (typed.vectors r is j l)
-      (bitselect local (Local (w.local (Fresh j))) (vector_local w r j) (widened (shape w r) (mask_local w k) j) (local_typed w local functions result typed (w.local (Fresh j)) V128 (typed.fresh j (fresh_low (gang w) (shape w r) j l)))
-      (vector_typed w local functions result typed r is (elem w r) refl j l)
-      (widened_typed local (shape w r) (mask_local w k) j (mask_part_typed w local functions result typed k ks (source (shape w r) j) (source_low (gang w) (shape w r) j l))))))
+      (select_valid w local functions result typed n r k is ks)
   takes_vector n class.Scalar x k ks is = refl
   takes_vector n class.Mask x k ks is = refl
   takes_vector n class.Array x k ks is = refl

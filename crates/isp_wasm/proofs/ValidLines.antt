@@ -57,8 +57,10 @@ use Rattle.isp_wasm.specs.Places.{Setting, gang, parts, parts_for, elem, shape, 
 use Rattle.isp_wasm.specs.Words.{constant, below, whole_expr, plain_expr, unary_expr, compare_expr, convert_expr}
 use Rattle.isp_wasm.specs.Rows.{as_cell, lane_at, widened, by_lane, ones, compare_row, present}
 use Rattle.isp_wasm.specs.Templates.{each, scalar_local, vector_local, mask_local, set_lanes, set_mask, is_member, lanes_as_bits, lowest_of, lane_or, lane_or_zero, picked, first_value, folded, modulo, plus, exchange_expr, of_both, scan_expr, reduce_expr, scalar_code, vector_of, vector_code, mask_under}
+use Rattle.isp_wasm.specs.Templates.{select_lanes, fills_parts, run_is_there, load_parts, load_row, store_part, store_row, all_at_once}
 use Rattle.isp_wasm.specs.Templates.{best_step, best_of, fault, element_from, address_at, opened_bytes, base_if, base_at, lane_address, clear_if, is_there, spare, lane_loop, set_lane, lane_loads, lane_checks, lane_stores, own_index, run_index, rank_expr, packed_index, set_count, checked}
 use Rattle.isp_wasm.specs.Templates.{mask_bits, mask_of, numbers_part, range_count, quotients, code_of, magnitude_expr, division_of, turns_sign, quotient_to, jump_to, return_code, call_code, print_value, print_byte, print_comma, print_item, print_list}
+use Rattle.isp_wasm.proofs.Opening.{some_lanes as some_gang}
 use Rattle.isp_wasm.proofs.Typed.{both, same, one, two, select, bitselect, number, unary_typed, compare_typed, plain_typed, whole_typed, below_typed, convert_typed, zero_typed, negated, magnitude_typed, low, lane_typed, cell_typed, source, widened_typed, part_low, unary_row_typed, compare_row_typed, plain_row_typed, present_typed, narrowed_typed, by_lane_typed}
 
 -- ---- how many parts
@@ -342,16 +344,54 @@ module _ (w : Setting) (local : ℕ → Option ValueType) (functions : List Func
 
   -- ---- what is written under a mask
 
+  pub select_valid : (d : ℕ) (x k : Register) → IsV x → IsM k → C d (select_lanes w x k)
+  select_valid d x k xs ks =
+      let s = shape w x in
+      each_valid d (parts w s) (λ j. Set (w.local (VectorAt x.number j)) (wasm.Bitselect (Local (w.local (Fresh j))) (vector_local w x j) (widened s (mask_local w k) j)))
+      (λ j l. set_valid d (w.local (VectorAt x.number j)) (wasm.Bitselect (Local (w.local (Fresh j))) (vector_local w x j) (widened s (mask_local w k) j)) V128 (typed.vectors x xs j l)
+      (bitselect local (Local (w.local (Fresh j))) (vector_local w x j) (widened s (mask_local w k) j) (local_typed (w.local (Fresh j)) V128 (typed.fresh j (fresh_low (gang w) s j l))) (vector_typed x xs (elem w x) refl j l)
+      (widened_typed local s (mask_local w k) j (mask_part_typed k ks (source s j) (source_low (gang w) s j l)))))
+
   pub lanes_valid : (d : ℕ) (x k : Register) (new : ℕ → Expr) → IsV x → IsM k → ((j : ℕ) → j < parts w (shape w x) → T (new j) V128) → C d (set_lanes w x k new)
   lanes_valid d x k new xs ks h =
       let s = shape w x in
-      then_valid d (each (parts w s) (λ j. Set (w.local (Fresh j)) (new j)))
-      (each (parts w s) (λ j. Set (w.local (VectorAt x.number j)) (wasm.Bitselect (Local (w.local (Fresh j))) (vector_local w x j) (widened s (mask_local w k) j))))
-      (each_valid d (parts w s) (λ j. Set (w.local (Fresh j)) (new j)) (λ j l. set_valid d (w.local (Fresh j)) (new j) V128 (typed.fresh j (fresh_low (gang w) s j l)) (h j l)))
-      (each_valid d (parts w s) (λ j. Set (w.local (VectorAt x.number j)) (wasm.Bitselect (Local (w.local (Fresh j))) (vector_local w x j) (widened s (mask_local w k) j)))
-      (λ j l. set_valid d (w.local (VectorAt x.number j)) (wasm.Bitselect (Local (w.local (Fresh j))) (vector_local w x j) (widened s (mask_local w k) j)) V128 (typed.vectors x xs j l)
-      (bitselect local (Local (w.local (Fresh j))) (vector_local w x j) (widened s (mask_local w k) j) (local_typed (w.local (Fresh j)) V128 (typed.fresh j (fresh_low (gang w) s j l))) (vector_typed x xs (elem w x) refl j l)
-      (widened_typed local s (mask_local w k) j (mask_part_typed k ks (source s j) (source_low (gang w) s j l))))))
+      then_valid d (each (parts w s) (λ j. Set (w.local (Fresh j)) (new j))) (select_lanes w x k)
+      (each_valid d (parts w s) (λ j. Set (w.local (Fresh j)) (new j)) (λ j l. set_valid d (w.local (Fresh j)) (new j) V128 (typed.fresh j (fresh_low (gang w) s j l)) (h j l))) (select_valid d x k xs ks)
+
+  -- ---- elements in a row, all at once
+
+  offset_low : (s : Shape) (j : ℕ) → j < parts w s → nat_lt (j * 16) (2 ^ 32) ≡ true
+  offset_low s j l = lt-ltb (j * 16) (2 ^ 32) (let few = fresh_low (gang w) s j l in let le = gang_low w.code.gang in omega (arith, few, le))
+
+  parts_valid : (d : ℕ) (a i : Register) (s : Shape) → IsA a → Is i → elem w i ≡ I64 → C d (load_parts w a i (parts w s))
+  parts_valid d a i s as' is same =
+      each_valid d (parts w s) (λ j. Load 16 (w.local (Fresh j)) (address_at w a (scalar_local w i)) (j * 16))
+      (λ j l. both (is_type (local (w.local (Fresh j))) V128) (has_type local (address_at w a (scalar_local w i)) valued.I32 && nat_lt (j * 16) (2 ^ 32)) (local_typed (w.local (Fresh j)) V128 (typed.fresh j (fresh_low (gang w) s j l)))
+      (both (has_type local (address_at w a (scalar_local w i)) valued.I32) (nat_lt (j * 16) (2 ^ 32)) (address_typed a as' (scalar_local w i) (scalar_typed i is I64 same)) (offset_low s j l)))
+
+  pub row_loads_valid : (d : ℕ) (x a i k : Register) → IsV x → IsA a → Is i → elem w i ≡ I64 → IsM k → C d (load_row w x a i k)
+  row_loads_valid d x a i k xs as' is same ks = then_valid d (load_parts w a i (parts w (shape w x))) (select_lanes w x k) (parts_valid d a i (shape w x) as' is same) (select_valid d x k xs ks)
+
+  pub row_stores_valid : (d : ℕ) (a i y k : Register) → IsA a → Is i → elem w i ≡ I64 → IsV y → IsM k → C d (store_row w a i y k)
+  row_stores_valid d a i y k as' is same ys ks =
+      let s = shape w y in
+      let new : ℕ → Expr = λ j. wasm.Bitselect (vector_local w y j) (Local (w.local (Fresh j))) (widened s (mask_local w k) j) in
+      then_valid d (load_parts w a i (parts w s)) (each (parts w s) (store_part w a i y k)) (parts_valid d a i s as' is same)
+      (each_valid d (parts w s) (store_part w a i y k)
+      (λ j l. both (has_type local (new j) V128) (has_type local (address_at w a (scalar_local w i)) valued.I32 && nat_lt (j * 16) (2 ^ 32))
+      (bitselect local (vector_local w y j) (Local (w.local (Fresh j))) (widened s (mask_local w k) j) (vector_typed y ys (elem w y) refl j l) (local_typed (w.local (Fresh j)) V128 (typed.fresh j (fresh_low (gang w) s j l)))
+      (widened_typed local s (mask_local w k) j (mask_part_typed k ks (source s j) (source_low (gang w) s j l))))
+      (both (has_type local (address_at w a (scalar_local w i)) valued.I32) (nat_lt (j * 16) (2 ^ 32)) (address_typed a as' (scalar_local w i) (scalar_typed i is I64 same)) (offset_low s j l))))
+
+  run_there_typed : (a i : Register) → IsA a → Is i → elem w i ≡ I64 → T (run_is_there w a i) valued.I32
+  run_there_typed a i as' is same =
+      let some = some_gang w.code.gang in
+      two local (BitsOf wasm.I32 And) (is_there w a (run_index w i 0)) (is_there w a (run_index w i (gang w - 1))) refl (there_typed a as' (run_index w i 0) (run_typed i is same 0 some))
+      (there_typed a as' (run_index w i (gang w - 1)) (run_typed i is same (gang w - 1) (omega (arith, some))))
+
+  pub at_once_valid : (d : ℕ) (b : Bool) (a i : Register) (row lanes : Code) → IsA a → Is i → elem w i ≡ I64 → C (suc d) row → ((d : ℕ) → C d lanes) → C d (all_at_once w b (run_is_there w a i) row lanes)
+  at_once_valid d true a i row lanes as' is same h k = if_valid d (run_is_there w a i) row lanes (run_there_typed a i as' is same) h (k (suc d))
+  at_once_valid d false a i row lanes as' is same h k = k d
 
   pub widened_bools : (t : Register) → IsV t → elem w t ≡ Truth → (s : Shape) (j : ℕ) → j < parts w s → T (widened s (vector_local w t) j) V128
   widened_bools t ts same s j l = widened_typed local s (vector_local w t) j (vector_typed t ts Truth same (source s j) (source_low (gang w) s j l))
@@ -570,7 +610,12 @@ module _ (w : Setting) (local : ℕ → Option ValueType) (functions : List Func
   vectors_valid n d (vector.Gather a i k q) f =
       loads_valid n d a (own_index w i) k q (f.0).0 ((f.1).0).0 ((f.1).0).2 (((f.1).1).1).0 (own_typed i (((f.1).1).0).0 (((f.1).1).0).1)
   vectors_valid n d (vector.LoadRun a i k q) f =
-      loads_valid n d a (run_index w i) k q (f.0).0 ((f.1).0).0 ((f.1).0).2 (((f.1).1).1).0 (run_typed i (((f.1).1).0).0 (((f.1).1).0).1)
+      let xs = (f.0).0 in
+      let as' = ((f.1).0).0 in
+      let is = ((f.1).1).0 in
+      let ks = (((f.1).1).1).0 in
+      at_once_valid n (fills_parts w (elem w d)) a i (load_row w d a i k) (lane_loads w d a (run_index w i) k q) as' is.0 is.1 (row_loads_valid (suc n) d a i k xs as' is.0 is.1 ks)
+      (λ n. loads_valid n d a (run_index w i) k q xs as' ((f.1).0).2 ks (run_typed i is.0 is.1))
 
   -- ---- masks
 
@@ -719,8 +764,12 @@ module _ (w : Setting) (local : ℕ → Option ValueType) (functions : List Func
       (stores_valid n a (own_index w i) y m (f.0).0 (((f.1).1).0).0 (((f.1).1).0).1 ks (own_typed i ((f.1).0).0 ((f.1).0).1))
   line_valid g n k h (instr.StoreRun a i y m q) called f fits =
       let ks = (((f.1).1).1).0 in
-      then_valid n (lane_checks w a (run_index w i) m q) (lane_stores w a (run_index w i) y m) (checks_valid n a (run_index w i) m q (f.0).0 ks (run_typed i ((f.1).0).0 ((f.1).0).1))
-      (stores_valid n a (run_index w i) y m (f.0).0 (((f.1).1).0).0 (((f.1).1).0).1 ks (run_typed i ((f.1).0).0 ((f.1).0).1))
+      let as' = (f.0).0 in
+      let is = (f.1).0 in
+      let ys = ((f.1).1).0 in
+      at_once_valid n (fills_parts w (elem w y)) a i (store_row w a i y m) (Then (lane_checks w a (run_index w i) m q) (lane_stores w a (run_index w i) y m)) as' is.0 is.1 (row_stores_valid (suc n) a i y m as' is.0 is.1 ys.0 ks)
+      (λ n. then_valid n (lane_checks w a (run_index w i) m q) (lane_stores w a (run_index w i) y m) (checks_valid n a (run_index w i) m q as' ks (run_typed i is.0 is.1))
+      (stores_valid n a (run_index w i) y m as' ys.0 ys.1 ks (run_typed i is.0 is.1)))
   line_valid g n k h (instr.PackedStore d a i y m q) called f fits =
       let ks = ((((f.1).1).1).1).0 in
       let index = packed_typed i m (((f.1).1).0).0 (((f.1).1).0).1 ks in
