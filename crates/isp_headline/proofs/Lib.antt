@@ -6,3 +6,4 @@ mod Whole
 mod SoloRuns
 mod Answered
 mod FromSource
+mod Modules

@@ -3,6 +3,7 @@
 ghost use Rattle.isp_headline.specs.BoundHeadline.{BoundHeadline};
 ghost use Rattle.isp_headline.specs.FromSource.{ByExec, ByRun};
 ghost use Rattle.isp_headline.specs.Headline.{Headline};
+ghost use Rattle.isp_headline.specs.ModuleHeadline.{ModuleHeadline};
 ghost use Rattle.isp_headline.specs.OneProgram.{NoneRefused, OneProgram};
 ghost use Rattle.isp_headline.specs.SoloIsRun.{SoloIsRun};
 
@@ -26,6 +27,12 @@ pub fn headline()
 /// The same from arguments that are bound already, as bytes or by a caller.
 pub fn bound_headline()
     ensures { BoundHeadline }
+{}
+
+/// The same of a call in the module of WebAssembly that the code is: it returns or traps exactly when the gang's meaning ends or traps, with
+/// its arrays, value and output, and otherwise goes on with the same output so far.
+pub fn module_headline()
+    ensures { ModuleHeadline }
 {}
 
 /// What `solo` answers is what each run answers that has a budget large enough.

@@ -8,3 +8,4 @@ pub mod PickBytes
 pub mod RankBytes
 pub mod Reductions
 pub mod RowParts
+pub mod RunBytes

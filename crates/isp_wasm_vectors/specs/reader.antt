@@ -5,3 +5,4 @@ pub mod Parts
 pub mod Vectors
 pub mod Loops
 pub mod Quotients
+pub mod Runs

@@ -9,6 +9,7 @@ ghost use Rattle.isp_wasm_vectors.specs.reader.Quotients as quotients;
 
 use crate::loops::{Elements, Index, lane_checks, lane_loads, lane_stores, set_count};
 use crate::quotients::{Quotients, lane_quotients, scalar_quotient};
+use crate::runs::{Run, store_run};
 use isp_code::{Class, Instr, Register};
 use isp_wasm_binary::Bytes;
 use isp_wasm_write::{Kernel, Refusal};
@@ -82,13 +83,13 @@ pub fn lanes_line(kernel: &Kernel, out: &mut Bytes, instr: &Instr) -> Result<(),
             mask,
             place,
         } => {
-            let elements = Elements {
+            let run = Run {
                 array,
-                index: Index::Run(index),
+                index,
                 mask,
                 place,
             };
-            checked_stores(kernel, out, &elements, value)
+            store_run(kernel, out, &run, value)
         }
         Instr::PackedStore {
             count,

@@ -11,6 +11,7 @@ mod parts;
 mod picks;
 mod quotients;
 mod rows;
+mod runs;
 mod vectors;
 
 pub use across::across_line;

@@ -144,8 +144,8 @@ fn address(kernel: &Kernel, out: &mut Bytes, elements: &Elements, number: u8) ->
     Ok(out.binary(Binary::Of(Size::I32, Whole::Add))?)
 }
 
-// Appends whether a lane has an element.
-fn is_there(
+/// Appends whether a lane has an element.
+pub(crate) fn is_there(
     kernel: &Kernel,
     out: &mut Bytes,
     elements: &Elements,

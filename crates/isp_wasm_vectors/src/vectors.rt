@@ -16,6 +16,7 @@ use crate::parts::{count_of, parts, shape};
 use crate::rows::{
     Compared, as_bytes, is_lane_by_lane, plain_row, unary_row, widened_mask, widened_vector,
 };
+use crate::runs::{Run, load_run};
 use isp_code::{Register, VectorInstr};
 use isp_wasm_binary::{Bytes, Unary};
 use isp_wasm_write::{Kernel, Place, Refusal};
@@ -265,13 +266,13 @@ pub fn vector_line(
             mask,
             place,
         } => {
-            let elements = Elements {
+            let run = Run {
                 array,
-                index: Index::Run(index),
+                index,
                 mask,
                 place,
             };
-            lane_loads(kernel, out, result_to, &elements)
+            load_run(kernel, out, result_to, &run)
         }
         _ => set_lanes(kernel, out, result_to, instr),
     }

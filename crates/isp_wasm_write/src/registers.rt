@@ -100,7 +100,7 @@ impl<'a> Kernel<'a> {
     }
 
     /// Appends the address of an element of an array, of which the index is in a scalar register.
-    pub(crate) fn address_at(
+    pub fn address_at(
         &self,
         out: &mut Bytes,
         array: Register,

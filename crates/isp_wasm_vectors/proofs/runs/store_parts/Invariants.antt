@@ -1,0 +1,10 @@
+use Rattle.std.proofs.Common.{◌≡◌, ◌++◌}
+use Rattle.isp_wasm.specs.Templates.{each}
+use Rattle.isp_wasm_binary.specs.Instructions.{code_bytes}
+use Rattle.isp_wasm_write.specs.Settings.{setting}
+use Rattle.isp_wasm_vectors.specs.reader.Runs.{part_store}
+use Rattle.isp_wasm_vectors.proofs.runs.store_parts.Given as goal
+
+-- the parts so far
+abbrev pub invariant-loop-part : goal.invariant-loop-part
+invariant-loop-part l = l.out ≡ l.initial.out ++ code_bytes (each l.part (part_store (setting l.kernel) l.run l.value))
