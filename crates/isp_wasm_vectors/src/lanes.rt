@@ -4,10 +4,9 @@ ghost use Rattle.isp_wasm.specs.Templates as templates;
 ghost use Rattle.isp_wasm_binary.specs.Instructions.{code_bytes};
 ghost use Rattle.isp_wasm_write.specs.Settings.{setting};
 ghost use Rattle.isp_wasm_vectors.specs.Lines.{is_laned};
-ghost use Rattle.isp_wasm_vectors.specs.reader.Loops as loops;
 ghost use Rattle.isp_wasm_vectors.specs.reader.Quotients as quotients;
 
-use crate::loops::{Elements, Index, lane_checks, lane_loads, lane_stores, set_count};
+use crate::loops::{Elements, Index, checked_stores, lane_loads, set_count};
 use crate::quotients::{Quotients, lane_quotients, scalar_quotient};
 use crate::runs::{Run, store_run};
 use isp_code::{Class, Instr, Register};
@@ -22,19 +21,6 @@ fn division(kernel: &Kernel, out: &mut Bytes, all: &Quotients) -> Result<(), Ref
         Class::Vector => lane_quotients(kernel, out, all),
         _ => scalar_quotient(kernel, out, all),
     }
-}
-
-// Appends that all lanes are checked, and then stored.
-fn checked_stores(
-    kernel: &Kernel,
-    out: &mut Bytes,
-    elements: &Elements,
-    value: Register,
-) -> Result<(), Refusal>
-    ensures { OnOk result (out.new ≡ out.old ++ code_bytes (loops.checked_stores (setting kernel.now) elements.now value)) }
-{
-    lane_checks(kernel, out, elements)?;
-    lane_stores(kernel, out, elements, value)
 }
 
 /// Appends a division, a scatter, a store of a run, or a packed load or store.

@@ -312,6 +312,19 @@ pub(crate) fn lane_stores(
     Ok(())
 }
 
+/// Appends that all lanes are checked, and then stored.
+pub(crate) fn checked_stores(
+    kernel: &Kernel,
+    out: &mut Bytes,
+    elements: &Elements,
+    value: Register,
+) -> Result<(), Refusal>
+    ensures { OnOk result (out.new ≡ out.old ++ code_bytes (loops.checked_stores (setting kernel.now) elements.now value)) }
+{
+    lane_checks(kernel, out, elements)?;
+    lane_stores(kernel, out, elements, value)
+}
+
 /// Appends that a scalar register gets how many lanes a mask has.
 pub(crate) fn set_count(
     kernel: &Kernel,

@@ -8,7 +8,7 @@ ghost use Rattle.isp_wasm_binary.specs.Instructions.{code_bytes, expr_bytes};
 ghost use Rattle.isp_wasm_write.specs.Settings.{setting};
 ghost use Rattle.isp_wasm_vectors.specs.reader.Runs as runs;
 
-use crate::loops::{Elements, Index, is_there, lane_checks, lane_loads, lane_stores};
+use crate::loops::{Elements, Index, checked_stores, is_there, lane_loads};
 use crate::parts::{count_of, lanes, parts, shape};
 use crate::rows::widened_mask;
 use crate::vectors::select_lanes;
@@ -92,7 +92,20 @@ fn load_row(
     select_lanes(kernel, out, result_to, run.mask)
 }
 
-// Appends it, or a loop over the lanes where one of them is not there.
+// Appends the same, lane by lane.
+fn load_lanes(
+    kernel: &Kernel,
+    out: &mut Bytes,
+    result_to: Register,
+    run: &Run,
+) -> Result<(), Refusal>
+    ensures { OnOk result (out.new ≡ out.old ++ code_bytes (runs.load_lanes (setting kernel.now) result_to run.now)) }
+{
+    let elements = run.elements();
+    lane_loads(kernel, out, result_to, &elements)
+}
+
+// Appends the row, or its lanes where an element of them is not there.
 fn load_at_once(
     kernel: &Kernel,
     out: &mut Bytes,
@@ -105,7 +118,7 @@ fn load_at_once(
     out.begin_if()?;
     load_row(kernel, out, result_to, run)?;
     out.begin_else()?;
-    lane_loads(kernel, out, result_to, &run.elements())?;
+    load_lanes(kernel, out, result_to, run)?;
     Ok(out.end()?)
 }
 
@@ -121,7 +134,7 @@ pub(crate) fn load_run(
     if fills_parts(kernel, kernel.elem(result_to)) {
         load_at_once(kernel, out, result_to, run)
     } else {
-        lane_loads(kernel, out, result_to, &run.elements())
+        load_lanes(kernel, out, result_to, run)
     }
 }
 
@@ -143,7 +156,6 @@ fn part_store(
     Ok(out.store(Width::Sixteen, u32::from(part) * 16)?)
 }
 
-#[tactic(auto, using(crate::proofs::Each::one_more))]
 fn store_parts(
     kernel: &Kernel,
     out: &mut Bytes,
@@ -173,8 +185,7 @@ fn store_lanes(kernel: &Kernel, out: &mut Bytes, run: &Run, value: Register) -> 
     ensures { OnOk result (out.new ≡ out.old ++ code_bytes (runs.store_lanes (setting kernel.now) run.now value)) }
 {
     let elements = run.elements();
-    lane_checks(kernel, out, &elements)?;
-    lane_stores(kernel, out, &elements, value)
+    checked_stores(kernel, out, &elements, value)
 }
 
 // Appends a store of the row, or of the lanes where an element is not there.
