@@ -261,7 +261,7 @@ compare_cells n compare.GreaterOrEqual t l x y f g a b fit = turned_row n (shape
 bare : (n : ℕ) (t : Elem) (l : ℕ → ℕ) (x : ℕ → Expr) (f : ℕ → ℕ) → IsInteger t → IsCells n t l x f → IsRow n (shape_of t) l x f
 bare n t l x f num a = row_same n (shape_of t) l x (λ p. cell t (f p)) f (λ p q. cell_is t (f p) num) a
 
-covered : (n : ℕ) (t : Elem) (l : ℕ → ℕ) (x : ℕ → Expr) (f g : ℕ → ℕ) → IsInteger t → ((p : ℕ) → p < n → f p ≡ g p) → IsRow n (shape_of t) l x f → IsCells n t l x g
+pub covered : (n : ℕ) (t : Elem) (l : ℕ → ℕ) (x : ℕ → Expr) (f g : ℕ → ℕ) → IsInteger t → ((p : ℕ) → p < n → f p ≡ g p) → IsRow n (shape_of t) l x f → IsCells n t l x g
 covered n t l x f g num same a = row_same n (shape_of t) l x f (λ p. cell t (g p)) (λ p q. same p q ∙ sym (cell_is t (g p) num)) a
 
 whole_cells : (n : ℕ) (o : wasm.Whole) (t : Elem) (l : ℕ → ℕ) (x y : ℕ → Expr) (f g v : ℕ → ℕ) → IsInteger t → IsCells n t l x f → IsCells n t l y g → ((p : ℕ) → p < n → whole (width t) o (f p) (g p) ≡ v p)

@@ -88,16 +88,16 @@ unary_fits o t x = wrap_to-lt (width t) (unary_to o (number t x))
 abbrev pub spread : Elem → ℕ → ℕ
 spread t x = cond (nat_lt (greatest t) x) (x + (2 ^ 64 - 2 ^ width t)) x
 
-spread_low : (t : Elem) (x : ℕ) → x ≤ greatest t → spread t x ≡ x
+pub spread_low : (t : Elem) (x : ℕ) → x ≤ greatest t → spread t x ≡ x
 spread_low t x h = ap (λ b. cond b (x + (2 ^ 64 - 2 ^ width t)) x) (le-ltb (greatest t) x h)
 
 spread_high : (t : Elem) (x : ℕ) → greatest t < x → spread t x ≡ x + (2 ^ 64 - 2 ^ width t)
 spread_high t x h = ap (λ b. cond b (x + (2 ^ 64 - 2 ^ width t)) x) (lt-ltb (greatest t) x h)
 
-signed_low : (w more x : ℕ) → x < 2 ^ (w - 1) → signed w more x ≡ x
+pub signed_low : (w more x : ℕ) → x < 2 ^ (w - 1) → signed w more x ≡ x
 signed_low w more x h = ap (λ b. if b then x else x + (2 ^ more - 2 ^ w)) (lt-ltb x (2 ^ (w - 1)) h)
 
-signed_high : (w more x : ℕ) → 2 ^ (w - 1) ≤ x → signed w more x ≡ x + (2 ^ more - 2 ^ w)
+pub signed_high : (w more x : ℕ) → 2 ^ (w - 1) ≤ x → signed w more x ≡ x + (2 ^ more - 2 ^ w)
 signed_high w more x h = ap (λ b. if b then x else x + (2 ^ more - 2 ^ w)) (le-ltb x (2 ^ (w - 1)) h)
 
 abbrev pub resized : Elem → wasm.Size → (ℕ → ℕ) → Expr → ℕ
@@ -163,9 +163,11 @@ to_integer t u l a x num e h =
     cut_is u l (sized t (size_of t) (size_of u) (with_sign t a)) num (subst (λ n. n < 2 ^ bits (size_of u)) (sym is) (mod-lt (spread t x) (bits_pos (size_of u))))
     ∙ ap (λ n. n % 2 ^ width u) is ∙ twice_cut u (spread t x) ∙ whole_is t u x x (sym (mod-eq_of_lt h))
 
+pub truth_value : (t : Elem) (x : ℕ) → x < 2 ^ width t → flag (not (nat_eq x 0)) ≡ convert_bits Truth (number t x)
+truth_value t x h = flag_is (not (nat_eq x 0)) ∙ sym (bit_of (not (x == 0))) ∙ truth_is t x x (sym (mod-eq_of_lt h))
+
 to_bool : (t : Elem) (l : ℕ → ℕ) (a : Expr) (x : ℕ) → value l a ≡ x → x < 2 ^ width t → value l (convert_expr t Truth a) ≡ convert_bits Truth (number t x)
-to_bool t l a x e h =
-    ap₂ (λ u v. flag (not (nat_eq u v))) e (constant_is l t 0 (pow_pos (width t))) ∙ flag_is (not (nat_eq x 0)) ∙ sym (bit_of (not (x == 0))) ∙ truth_is t x x (sym (mod-eq_of_lt h))
+to_bool t l a x e h = ap₂ (λ u v. flag (not (nat_eq u v))) e (constant_is l t 0 (pow_pos (width t))) ∙ truth_value t x h
 
 pub convert_is : (t u : Elem) (l : ℕ → ℕ) (a : Expr) (x : ℕ) → value l a ≡ x → x < 2 ^ width t → value l (convert_expr t u a) ≡ convert_bits u (number t x)
 convert_is t Truth l a x e h = to_bool t l a x e h

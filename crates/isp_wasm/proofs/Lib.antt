@@ -3,6 +3,7 @@ mod WordLaws
 mod Converts
 mod Rows
 mod Cells
+mod ConvertRows
 mod Shared
 mod Steps
 mod Parts

@@ -1,17 +1,19 @@
 -- The lanes of rows of parts.
-use Rattle.std.proofs.Common.{◌≡◌, ℕ, zero, suc, ◌+◌, ◌-◌, ◌*◌, ◌/◌, ◌%◌, ◌^◌, ◌<◌, ◌≤◌, ◌≢◌, ◌⊎◌, inl, inr, Bool, true, false, refl, sym, ap, ap₂, ◌∙◌, subst, arith, mod-eq_of_lt}
+use Rattle.std.proofs.Common.{◌≡◌, ℕ, zero, suc, ◌+◌, ◌-◌, ◌*◌, ◌/◌, ◌%◌, ◌^◌, ◌<◌, ◌≤◌, ◌≢◌, ◌⊎◌, inl, inr, Bool, true, false, refl, sym, ap, ap₂, ◌∙◌, subst, arith, lit≤, mod-eq_of_lt}
 use Rattle.std.specs.Prelude.{nat_eq, if◌then◌else◌, min}
 use Rattle.std.proofs.lemmas.Bool.{eqb-true, eqb-false, lt-ltb, cases_lt, cases_eq}
 use Rattle.std.proofs.lemmas.Nat.{pow_pos, le-div}
 use Rattle.std.proofs.Math.Nat.{mod-lt}
+use Rattle.std.proofs.Math.Pow.{mod-mod-pow}
 use Rattle.isp_wasm_meaning.specs.Syntax.{Shape, I8x16, I16x8, I32x4, I64x2, Whole, Bitwise, Test, Expr, Const128, One, Two, Bitselect, ExtendLow, ExtendHigh, Splat, Lanes, CompareLanes, Bits}
 use Rattle.isp_wasm_meaning.specs.Meaning.{lane, of_lanes, flags, wide, count, halved, value, signed, whole, tested, bitwise}
 use Rattle.isp_wasm_meaning.proofs.Digits.{packed-below}
-use Rattle.isp_wasm_meaning.proofs.Lanes.{lane_is, selected, extended_low, extended_high, signed_flags, IsWide}
+use Rattle.isp_wasm_meaning.proofs.Lanes.{lane_is, selected, extended_low, extended_high, IsWide}
 use Rattle.isp_wasm_meaning.proofs.Bits.{lane_bits, replaced_same, replaced_other, joined_low, joined_high}
 use Rattle.isp_wasm.specs.Places.{Setting, gang, parts}
-use Rattle.isp_wasm.specs.Rows.{half, widened, joined, narrowed, built, present}
+use Rattle.isp_wasm.specs.Rows.{extended, widened, joined, narrowed, resized_row, built, present}
 use Rattle.isp_wasm.proofs.WordLaws.{whole_below}
+use Rattle.isp_wasm.proofs.Converts.{signed_low, signed_high}
 
 -- the first n lanes of a row are these
 abbrev pub IsRow : ℕ → Shape → (ℕ → ℕ) → (ℕ → Expr) → (ℕ → ℕ) → Type 0
@@ -78,7 +80,30 @@ pub row_built : (n : ℕ) (s : Shape) (l : ℕ → ℕ) (f : ℕ → Expr) (v : 
 row_built n s l f v h j i q r =
     cells_lane s l (λ i. f (j * count s + i)) (min (count s) (n - j * count s)) i (omega arith) (omega arith) ∙ h (j * count s + i) r
 
--- ---- flags, wider and narrower
+-- ---- lanes of another shape
+
+-- a number of 64 bits whose sign is that of so many as a lane has
+abbrev pub IsShort : Shape → ℕ → Type 0
+IsShort s y = (y < 2 ^ (wide s - 1)) ⊎ ((2 ^ 64 ≤ y + 2 ^ (wide s - 1)) × (y < 2 ^ 64))
+
+short_wider : (s : Shape) (y : ℕ) → IsWide s → IsShort (halved s) y → IsShort s y
+short_wider I8x16 y h k = absurd h
+short_wider I16x8 y h (inl k) = inl (omega (arith, k))
+short_wider I16x8 y h (inr k) = inr (omega (arith, k.0), k.1)
+short_wider I32x4 y h (inl k) = inl (omega (arith, k))
+short_wider I32x4 y h (inr k) = inr (omega (arith, k.0), k.1)
+short_wider I64x2 y h (inl k) = inl (omega (arith, k))
+short_wider I64x2 y h (inr k) = inr (omega (arith, k.0), k.1)
+
+-- it is extended by its sign
+wider_lane : (s : Shape) (y : ℕ) → IsWide s → IsShort (halved s) y → signed (wide (halved s)) (wide s) (y % 2 ^ wide (halved s)) ≡ y % 2 ^ wide s
+wider_lane I8x16 y h k = absurd h
+wider_lane I16x8 y h (inl k) = signed_low 8 16 (y % 2 ^ 8) (omega (arith, k)) ∙ omega (arith, k)
+wider_lane I16x8 y h (inr k) = signed_high 8 16 (y % 2 ^ 8) (omega (arith, k.0, k.1)) ∙ omega (arith, k.0, k.1)
+wider_lane I32x4 y h (inl k) = signed_low 16 32 (y % 2 ^ 16) (omega (arith, k)) ∙ omega (arith, k)
+wider_lane I32x4 y h (inr k) = signed_high 16 32 (y % 2 ^ 16) (omega (arith, k.0, k.1)) ∙ omega (arith, k.0, k.1)
+wider_lane I64x2 y h (inl k) = signed_low 32 64 (y % 2 ^ 32) (omega (arith, k)) ∙ omega (arith, k)
+wider_lane I64x2 y h (inr k) = signed_high 32 64 (y % 2 ^ 32) (omega (arith, k.0, k.1)) ∙ omega (arith, k.0, k.1)
 
 low_lane : (s : Shape) (j k : ℕ) → IsWide s → nat_eq (j % 2) 0 ≡ true → j / 2 * count (halved s) + k ≡ j * count s + k
 low_lane I8x16 j k h e = absurd h
@@ -106,27 +131,6 @@ high_room I8x16 k h l = absurd h
 high_room I16x8 k h l = omega arith
 high_room I32x4 k h l = omega arith
 high_room I64x2 k h l = omega arith
-
-row_half : (n : ℕ) (s : Shape) (l : ℕ → ℕ) (e : ℕ → Expr) (m : ℕ → Bool) → IsWide s → IsRow n (halved s) l e (λ p. flags (wide (halved s)) (m p)) → IsRow n s l (λ j. half s j (e (j / 2))) (λ p. flags (wide s) (m p))
-row_half n s l e m h x j i q r = by (nat_eq (j % 2) 0) refl
-  where
-    by : (b : Bool) → nat_eq (j % 2) 0 ≡ b → lane s i (value l (if b then One (ExtendLow s) (e (j / 2)) else One (ExtendHigh s) (e (j / 2)))) ≡ flags (wide s) (m (j * count s + i))
-    by true g =
-        let at = low_lane s j i h g in
-        extended_low s i (value l (e (j / 2))) q
-        ∙ ap (signed (wide (halved s)) (wide s)) (x (j / 2) i (low_room s i h q) (subst (λ p. p < n) (sym at) r) ∙ ap (λ p. flags (wide (halved s)) (m p)) at) ∙ signed_flags s (m (j * count s + i)) h
-    by false g =
-        let at = high_lane s j i h g in
-        extended_high s i (value l (e (j / 2))) q
-        ∙ ap (signed (wide (halved s)) (wide s)) (x (j / 2) (i + count s) (high_room s i h q) (subst (λ p. p < n) (sym at) r) ∙ ap (λ p. flags (wide (halved s)) (m p)) at)
-        ∙ signed_flags s (m (j * count s + i)) h
-
-pub row_widened : (n : ℕ) (s : Shape) (l : ℕ → ℕ) (e : ℕ → Expr) (m : ℕ → Bool) → IsRow n I8x16 l e (λ p. flags 8 (m p)) → IsRow n s l (widened s e) (λ p. flags (wide s) (m p))
-row_widened n I8x16 l e m x = x
-row_widened n I16x8 l e m x = row_half n I16x8 l e m tt x
-row_widened n I32x4 l e m x = row_half n I32x4 l (λ j. half I16x8 j (e (j / 2))) m tt (row_half n I16x8 l e m tt x)
-row_widened n I64x2 l e m x =
-    row_half n I64x2 l (λ j. half I32x4 j (half I16x8 (j / 2) (e (j / 2 / 2)))) m tt (row_half n I32x4 l (λ j. half I16x8 j (e (j / 2))) m tt (row_half n I16x8 l e m tt x))
 
 -- the lanes of two parts in one
 low_place : (s : Shape) (j i : ℕ) → IsWide s → 2 * j * count s + i ≡ j * count (halved s) + i
@@ -159,24 +163,96 @@ row_joined n s l e f h x j i q r = by (cases_lt i (count s))
         joined_high s i (value l (e (2 * j))) (value l (e (2 * j + 1))) h q le
         ∙ ap (λ v. v % 2 ^ wide (halved s)) (x (2 * j + 1) (i - count s) (rest_room s i h q le) (subst (λ p. p < n) (sym at) r) ∙ ap f at)
 
-flags_low : (s : Shape) (b : Bool) → IsWide s → flags (wide s) b % 2 ^ wide (halved s) ≡ flags (wide (halved s)) b
-flags_low I8x16 b h = absurd h
-flags_low I16x8 true h = refl
-flags_low I16x8 false h = refl
-flags_low I32x4 true h = refl
-flags_low I32x4 false h = refl
-flags_low I64x2 true h = refl
-flags_low I64x2 false h = refl
+low_half : (s : Shape) (y : ℕ) → IsWide s → y % 2 ^ wide s % 2 ^ wide (halved s) ≡ y % 2 ^ wide (halved s)
+low_half I8x16 y h = absurd h
+low_half I16x8 y h = mod-mod-pow y 8 8
+low_half I32x4 y h = mod-mod-pow y 16 16
+low_half I64x2 y h = mod-mod-pow y 32 32
 
-joined_flags : (n : ℕ) (s : Shape) (l : ℕ → ℕ) (e : ℕ → Expr) (m : ℕ → Bool) → IsWide s → IsRow n s l e (λ p. flags (wide s) (m p)) → IsRow n (halved s) l (joined s e) (λ p. flags (wide (halved s)) (m p))
-joined_flags n s l e m h x =
-    row_same n (halved s) l (joined s e) (λ p. flags (wide s) (m p) % 2 ^ wide (halved s)) (λ p. flags (wide (halved s)) (m p)) (λ p q. flags_low s (m p) h) (row_joined n s l e (λ p. flags (wide s) (m p)) h x)
+-- lanes that have the low bits of numbers
+module _ (n : ℕ) (l : ℕ → ℕ) (g : ℕ → ℕ) where
+  abbrev pub IsLow : Shape → (ℕ → Expr) → Type 0
+  IsLow s e = IsRow n s l e (λ p. g p % 2 ^ wide s)
+
+  abbrev pub AreShort : Shape → Type 0
+  AreShort s = (p : ℕ) → p < n → IsShort s (g p)
+
+  extends : (s : Shape) (e : ℕ → Expr) → IsWide s → AreShort (halved s) → IsLow (halved s) e → IsLow s (extended s e)
+  extends s e h short x j i q r = by (nat_eq (j % 2) 0) refl
+    where
+      by : (b : Bool) → nat_eq (j % 2) 0 ≡ b → lane s i (value l (if b then One (ExtendLow s) (e (j / 2)) else One (ExtendHigh s) (e (j / 2)))) ≡ g (j * count s + i) % 2 ^ wide s
+      by true b =
+          let at = low_lane s j i h b in
+          extended_low s i (value l (e (j / 2))) q
+          ∙ ap (signed (wide (halved s)) (wide s)) (x (j / 2) i (low_room s i h q) (subst (λ p. p < n) (sym at) r) ∙ ap (λ p. g p % 2 ^ wide (halved s)) at)
+          ∙ wider_lane s (g (j * count s + i)) h (short (j * count s + i) r)
+      by false b =
+          let at = high_lane s j i h b in
+          extended_high s i (value l (e (j / 2))) q
+          ∙ ap (signed (wide (halved s)) (wide s)) (x (j / 2) (i + count s) (high_room s i h q) (subst (λ p. p < n) (sym at) r) ∙ ap (λ p. g p % 2 ^ wide (halved s)) at)
+          ∙ wider_lane s (g (j * count s + i)) h (short (j * count s + i) r)
+
+  wider : (s : Shape) → IsWide s → AreShort (halved s) → AreShort s
+  wider s h short p q = short_wider s (g p) h (short p q)
+
+  widens : (s : Shape) (e : ℕ → Expr) → AreShort I8x16 → IsLow I8x16 e → IsLow s (widened s e)
+  widens I8x16 e short x = x
+  widens I16x8 e short x = extends I16x8 e tt short x
+  widens I32x4 e short x = extends I32x4 (extended I16x8 e) tt (wider I16x8 tt short) (extends I16x8 e tt short x)
+  widens I64x2 e short x =
+      extends I64x2 (extended I32x4 (extended I16x8 e)) tt (wider I32x4 tt (wider I16x8 tt short)) (extends I32x4 (extended I16x8 e) tt (wider I16x8 tt short) (extends I16x8 e tt short x))
+
+  joins : (s : Shape) (e : ℕ → Expr) → IsWide s → IsLow s e → IsLow (halved s) (joined s e)
+  joins s e h x =
+      row_same n (halved s) l (joined s e) (λ p. g p % 2 ^ wide s % 2 ^ wide (halved s)) (λ p. g p % 2 ^ wide (halved s)) (λ p q. low_half s (g p) h) (row_joined n s l e (λ p. g p % 2 ^ wide s) h x)
+
+  narrows : (s : Shape) (e : ℕ → Expr) → IsLow s e → IsLow I8x16 (narrowed s e)
+  narrows I8x16 e x = x
+  narrows I16x8 e x = joins I16x8 e tt x
+  narrows I32x4 e x = joins I16x8 (joined I32x4 e) tt (joins I32x4 e tt x)
+  narrows I64x2 e x = joins I16x8 (joined I32x4 (joined I64x2 e)) tt (joins I32x4 (joined I64x2 e) tt (joins I64x2 e tt x))
+
+  pub row_resized : (s t : Shape) (e : ℕ → Expr) → AreShort s → IsLow s e → IsLow t (resized_row s t e)
+  row_resized s I8x16 e short x = narrows s e x
+  row_resized I8x16 I16x8 e short x = widens I16x8 e short x
+  row_resized I8x16 I32x4 e short x = widens I32x4 e short x
+  row_resized I8x16 I64x2 e short x = widens I64x2 e short x
+  row_resized I16x8 I16x8 e short x = x
+  row_resized I16x8 I32x4 e short x = extends I32x4 e tt short x
+  row_resized I16x8 I64x2 e short x = extends I64x2 (extended I32x4 e) tt (wider I32x4 tt short) (extends I32x4 e tt short x)
+  row_resized I32x4 I16x8 e short x = joins I32x4 e tt x
+  row_resized I32x4 I32x4 e short x = x
+  row_resized I32x4 I64x2 e short x = extends I64x2 e tt short x
+  row_resized I64x2 I16x8 e short x = joins I32x4 (joined I64x2 e) tt (joins I64x2 e tt x)
+  row_resized I64x2 I32x4 e short x = joins I64x2 e tt x
+  row_resized I64x2 I64x2 e short x = x
+
+-- flags
+flags_low : (s : Shape) (b : Bool) → flags 64 b % 2 ^ wide s ≡ flags (wide s) b
+flags_low I8x16 true = refl
+flags_low I8x16 false = refl
+flags_low I16x8 true = refl
+flags_low I16x8 false = refl
+flags_low I32x4 true = refl
+flags_low I32x4 false = refl
+flags_low I64x2 true = refl
+flags_low I64x2 false = refl
+
+flags_short : (b : Bool) → IsShort I8x16 (flags 64 b)
+flags_short true = inr (lit≤ tt, lit≤ tt)
+flags_short false = inl (lit≤ tt)
+
+as_low : (n : ℕ) (s : Shape) (l : ℕ → ℕ) (e : ℕ → Expr) (m : ℕ → Bool) → IsRow n s l e (λ p. flags (wide s) (m p)) → IsLow n l (λ p. flags 64 (m p)) s e
+as_low n s l e m x = row_same n s l e (λ p. flags (wide s) (m p)) (λ p. flags 64 (m p) % 2 ^ wide s) (λ p q. sym (flags_low s (m p))) x
+
+as_flags : (n : ℕ) (s : Shape) (l : ℕ → ℕ) (e : ℕ → Expr) (m : ℕ → Bool) → IsLow n l (λ p. flags 64 (m p)) s e → IsRow n s l e (λ p. flags (wide s) (m p))
+as_flags n s l e m x = row_same n s l e (λ p. flags 64 (m p) % 2 ^ wide s) (λ p. flags (wide s) (m p)) (λ p q. flags_low s (m p)) x
+
+pub row_widened : (n : ℕ) (s : Shape) (l : ℕ → ℕ) (e : ℕ → Expr) (m : ℕ → Bool) → IsRow n I8x16 l e (λ p. flags 8 (m p)) → IsRow n s l (widened s e) (λ p. flags (wide s) (m p))
+row_widened n s l e m x = as_flags n s l (widened s e) m (widens n l (λ p. flags 64 (m p)) s e (λ p q. flags_short (m p)) (as_low n I8x16 l e m x))
 
 pub row_narrowed : (n : ℕ) (s : Shape) (l : ℕ → ℕ) (e : ℕ → Expr) (m : ℕ → Bool) → IsRow n s l e (λ p. flags (wide s) (m p)) → IsRow n I8x16 l (narrowed s e) (λ p. flags 8 (m p))
-row_narrowed n I8x16 l e m x = x
-row_narrowed n I16x8 l e m x = joined_flags n I16x8 l e m tt x
-row_narrowed n I32x4 l e m x = joined_flags n I16x8 l (joined I32x4 e) m tt (joined_flags n I32x4 l e m tt x)
-row_narrowed n I64x2 l e m x = joined_flags n I16x8 l (joined I32x4 (joined I64x2 e)) m tt (joined_flags n I32x4 l (joined I64x2 e) m tt (joined_flags n I64x2 l e m tt x))
+row_narrowed n s l e m x = as_flags n I8x16 l (narrowed s e) m (narrows n l (λ p. flags 64 (m p)) s e (as_low n s l e m x))
 
 -- ---- the parts that there are
 

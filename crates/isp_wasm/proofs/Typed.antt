@@ -24,7 +24,7 @@ use Rattle.isp_wasm_meaning.specs.Valid.{same_type, sized, unpacked, taken, give
 use Rattle.isp_wasm.specs.Places.{Setting, gang, parts, shape_of, size_of}
 use Rattle.isp_wasm.specs.Words as words
 use Rattle.isp_wasm.specs.Words.{constant, with_sign, cut, amount_of, less_of, right_of, below, whole_expr, plain_expr, unary_expr, compare_expr, longer, convert_expr}
-use Rattle.isp_wasm.specs.Rows.{as_cell, lane_at, built, half, widened, joined, narrowed, ones, raised_lanes, below_row, inverted, compare_row, unary_row, by_lane, present, plain_row}
+use Rattle.isp_wasm.specs.Rows.{as_cell, lane_at, built, half, extended, widened, joined, narrowed, resized_row, without_sign, ones, raised_lanes, below_row, inverted, compare_row, unary_row, by_lane, present, convert_row, plain_row}
 use Rattle.isp_wasm.specs.Thin.{IsUnary, IsInteger}
 
 pub both : (a b : Bool) → a ≡ true → b ≡ true → (a && b) ≡ true
@@ -234,6 +234,39 @@ module _ (local : ℕ → Option ValueType) where
   narrowed_typed I32x4 e j h = joined_typed I16x8 (joined I32x4 e) j refl (λ i. joined_typed I32x4 e i refl h)
   narrowed_typed I64x2 e j h = joined_typed I16x8 (joined I32x4 (joined I64x2 e)) j refl (λ i. joined_typed I32x4 (joined I64x2 e) i refl (λ k. joined_typed I64x2 e k refl h))
 
+  extended_typed : (s : Shape) (e : ℕ → Expr) → is_unary (ExtendLow s) ≡ true → is_unary (ExtendHigh s) ≡ true → ((i : ℕ) → T (e i) V128) → (j : ℕ) → T (extended s e j) V128
+  extended_typed s e p q h j = half_typed s (nat_eq (j % 2) 0) (e (j / 2)) p q (h (j / 2))
+
+  resized_typed : (s t : Shape) (e : ℕ → Expr) → ((i : ℕ) → T (e i) V128) → (j : ℕ) → T (resized_row s t e j) V128
+  resized_typed s I8x16 e h j = narrowed_typed s e j h
+  resized_typed I8x16 I16x8 e h j = widened_typed I16x8 e j (h (source I16x8 j))
+  resized_typed I8x16 I32x4 e h j = widened_typed I32x4 e j (h (source I32x4 j))
+  resized_typed I8x16 I64x2 e h j = widened_typed I64x2 e j (h (source I64x2 j))
+  resized_typed I16x8 I16x8 e h j = h j
+  resized_typed I16x8 I32x4 e h j = extended_typed I32x4 e refl refl h j
+  resized_typed I16x8 I64x2 e h j = extended_typed I64x2 (extended I32x4 e) refl refl (extended_typed I32x4 e refl refl h) j
+  resized_typed I32x4 I16x8 e h j = joined_typed I32x4 e j refl h
+  resized_typed I32x4 I32x4 e h j = h j
+  resized_typed I32x4 I64x2 e h j = extended_typed I64x2 e refl refl h j
+  resized_typed I64x2 I16x8 e h j = joined_typed I32x4 (joined I64x2 e) j refl (λ i. joined_typed I64x2 e i refl h)
+  resized_typed I64x2 I32x4 e h j = joined_typed I64x2 e j refl h
+  resized_typed I64x2 I64x2 e h j = h j
+
+  masked_typed : (b : Bool) (x : Expr) (n : ℕ) → T x V128 → T (if b then Two (Bits And) x (Const128 n) else x) V128
+  masked_typed true x n h = two (Bits And) x (Const128 n) refl h refl
+  masked_typed false x n h = h
+
+  without_sign_typed : (t u : Elem) (e : ℕ → Expr) (j : ℕ) → T (e j) V128 → T (without_sign t u e j) V128
+  without_sign_typed Truth u e j h = masked_typed (nat_lt 1 (width u)) (e j) (of_lanes (shape_of u) (λ i. 2 ^ 1 - 1)) h
+  without_sign_typed I8 u e j h = h
+  without_sign_typed U8 u e j h = masked_typed (nat_lt 8 (width u)) (e j) (of_lanes (shape_of u) (λ i. 2 ^ 8 - 1)) h
+  without_sign_typed I16 u e j h = h
+  without_sign_typed U16 u e j h = masked_typed (nat_lt 16 (width u)) (e j) (of_lanes (shape_of u) (λ i. 2 ^ 16 - 1)) h
+  without_sign_typed I32 u e j h = h
+  without_sign_typed U32 u e j h = masked_typed (nat_lt 32 (width u)) (e j) (of_lanes (shape_of u) (λ i. 2 ^ 32 - 1)) h
+  without_sign_typed I64 u e j h = h
+  without_sign_typed U64 u e j h = masked_typed (nat_lt 64 (width u)) (e j) (of_lanes (shape_of u) (λ i. 2 ^ 64 - 1)) h
+
   equals : (s : Shape) → is_binary (CompareLanes s Eq) ≡ true
   equals I8x16 = refl
   equals I16x8 = refl
@@ -291,6 +324,27 @@ module _ (local : ℕ → Option ValueType) where
         by : (b : Bool) → nat_lt j (parts w s) ≡ b → T (if b then e j else Const128 0) V128
         by true is = h j (ltb-true j (parts w s) is)
         by false is = refl
+
+    pub convert_row_typed : (t u : Elem) (e : ℕ → Expr) → ((i : ℕ) → i < parts w (shape_of t) → T (e i) V128) → (j : ℕ) → T (convert_row w t u e j) V128
+    convert_row_typed t u e h j = by u
+      where
+        sized_typed : (u : Elem) → T (without_sign t u (resized_row (shape_of t) (shape_of u) (present w (shape_of t) e)) j) V128
+        sized_typed u =
+            let row = resized_row (shape_of t) (shape_of u) (present w (shape_of t) e) in
+            without_sign_typed t u row j (resized_typed (shape_of t) (shape_of u) (present w (shape_of t) e) (present_typed (shape_of t) e h) j)
+
+        by : (u : Elem) → T (convert_row w t u e j) V128
+        by Truth =
+            let row = compare_row compare.NotEqual t e (λ j. Const128 0) in
+            narrowed_typed (shape_of t) (present w (shape_of t) row) j (present_typed (shape_of t) row (λ i l. compare_row_typed compare.NotEqual t e (λ j. Const128 0) i (h i l) refl))
+        by I8 = sized_typed I8
+        by U8 = sized_typed U8
+        by I16 = sized_typed I16
+        by U16 = sized_typed U16
+        by I32 = sized_typed I32
+        by U32 = sized_typed U32
+        by I64 = sized_typed I64
+        by U64 = sized_typed U64
 
     -- of lanes of the gang alone
     pub by_lane_typed : (t : Elem) (f : ℕ → Expr) → ((p : ℕ) → p < gang w → V (f p) t) → (j : ℕ) → T (by_lane w t f j) V128

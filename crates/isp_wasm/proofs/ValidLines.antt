@@ -61,7 +61,7 @@ use Rattle.isp_wasm.specs.Templates.{select_lanes, fills_parts, run_is_there, lo
 use Rattle.isp_wasm.specs.Templates.{best_step, best_of, fault, element_from, address_at, opened_bytes, base_if, base_at, lane_address, clear_if, is_there, spare, lane_loop, set_lane, lane_loads, lane_checks, lane_stores, own_index, run_index, rank_expr, packed_index, set_count, checked}
 use Rattle.isp_wasm.specs.Templates.{mask_bits, mask_of, numbers_part, range_count, quotients, code_of, magnitude_expr, division_of, turns_sign, quotient_to, jump_to, return_code, call_code, print_value, print_byte, print_comma, print_item, print_list}
 use Rattle.isp_wasm.proofs.Opening.{some_lanes as some_gang}
-use Rattle.isp_wasm.proofs.Typed.{both, same, one, two, select, bitselect, number, unary_typed, compare_typed, plain_typed, whole_typed, below_typed, convert_typed, zero_typed, negated, magnitude_typed, low, lane_typed, cell_typed, source, widened_typed, part_low, unary_row_typed, compare_row_typed, plain_row_typed, present_typed, narrowed_typed, by_lane_typed}
+use Rattle.isp_wasm.proofs.Typed.{both, same, one, two, select, bitselect, number, unary_typed, compare_typed, plain_typed, whole_typed, below_typed, convert_typed, zero_typed, negated, magnitude_typed, low, lane_typed, cell_typed, source, widened_typed, part_low, unary_row_typed, compare_row_typed, plain_row_typed, present_typed, narrowed_typed, convert_row_typed, by_lane_typed}
 
 -- ---- how many parts
 
@@ -559,9 +559,7 @@ module _ (w : Setting) (local : ℕ → Option ValueType) (functions : List Func
   vectors_valid : (n : ℕ) (d : Register) (i : VectorInstr) → Fine (vector_operands d i) → C n (vector_code w d i)
   vectors_valid n d (vector.Copy x k) f = row_valid n d (vector.Copy x k) (f.0).0 ((f.1).1).0 (λ j l. like x d ((f.1).0).0 ((f.1).0).1 j l)
   vectors_valid n d (vector.Convert x k) f =
-      row_valid n d (vector.Convert x k) (f.0).0 ((f.1).1).0
-      (λ j l. by_lane_typed local w (elem w d) (λ p. convert_expr (elem w x) (elem w d) (lane_at (elem w x) (vector_local w x) p))
-      (λ p q. convert_typed local (elem w x) (elem w d) (lane_at (elem w x) (vector_local w x) p) (lane_of x ((f.1).0).0 (elem w x) refl p q)) j)
+      row_valid n d (vector.Convert x k) (f.0).0 ((f.1).1).0 (λ j l. convert_row_typed local w (elem w x) (elem w d) (vector_local w x) (like x x ((f.1).0).0 refl) j)
   vectors_valid n d (vector.Unary o x k) f =
       row_valid n d (vector.Unary o x k) (f.0).0 ((f.1).1).0 (λ j l. unary_row_typed local o (elem w d) (vector_local w x) j (like x d ((f.1).0).0 ((f.1).0).1 j l))
   vectors_valid n d (vector.Binary o x y k) f =

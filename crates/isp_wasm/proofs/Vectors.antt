@@ -29,7 +29,6 @@ use Rattle.isp_wasm_meaning.proofs.Lanes.{selected, lane_below}
 use Rattle.isp_wasm.specs.Places as place
 use Rattle.isp_wasm.specs.Places.{Setting, Place, Counter, Fresh, IsKept, elem, shape, shape_of, size_of, parts, gang}
 use Rattle.isp_wasm.specs.Rows.{cell, as_cell, half, widened, narrowed, present, compare_row, lane_at}
-use Rattle.isp_wasm.specs.Words.{convert_expr}
 use Rattle.isp_wasm.specs.Templates.{each, set_lanes, vector_local, scalar_local, mask_local, vector_of, vector_code}
 use Rattle.isp_wasm.specs.Standing.{Stands, Holds, IsSettled, the_machine, vector_register}
 use Rattle.isp_wasm.specs.Thin.{IsVector, IsScalar, IsThinVector}
@@ -37,8 +36,8 @@ use Rattle.isp_wasm.proofs.Frames.{holds_alike, holds_vector}
 use Rattle.isp_wasm.proofs.Steps.{falls_on}
 use Rattle.isp_wasm.proofs.Parts.{AreSet, AreFresh, are_set, are_fresh}
 use Rattle.isp_wasm.proofs.Rows.{IsRow, row_same, row_widened, row_narrowed, row_present, row_splat, row_constant, enough}
-use Rattle.isp_wasm.proofs.Converts.{convert_is, convert_fits}
-use Rattle.isp_wasm.proofs.Cells.{IsCells, split_lane, cell_fits, cell_written, cell_of_bool, bool_flags, lane_value, by_lane_is, plain_cells, unary_cells, compare_cells, select_cells}
+use Rattle.isp_wasm.proofs.Cells.{IsCells, split_lane, cell_fits, cell_written, cell_of_bool, bool_flags, lane_value, plain_cells, unary_cells, compare_cells, select_cells}
+use Rattle.isp_wasm.proofs.ConvertRows.{convert_cells}
 
 pub other_part : (r d i j : ℕ) → i < j → place.Vector r j ≡ place.Vector d i → ⊥
 other_part r d i j h e = let same : j ≡ i = cc in omega arith
@@ -182,8 +181,7 @@ module _ (w : Setting) (ready : IsSettled w) (fuel n k : ℕ) (call : ℕ → Li
         let f : ℕ → ℕ = (λ b. convert_bits t (number u b)) in
         lanes_fall (instr.Vector (vector_register d) (vector.Convert x m)) d m (map1 f (on (c.masks m.number) (c.vectors x.number))) (λ p. f (c.vectors x.number p)) (vector_of w (vector_register d) (vector.Convert x m)) has refl
         (λ p q. chosen_over1 (c.masks m.number p) f (c.vectors x.number p) (c.vectors d p))
-        (λ l held. by_lane_is w t l (λ p. convert_expr u t (lane_at u (vector_local w x) p)) (λ p. f (c.vectors x.number p))
-        (λ p q. (convert_is u t l (lane_at u (vector_local w x) p) (c.vectors x.number p) (vector_lane w c l held x u h p q) (vector_fits w c l held x u h p q), convert_fits u t (c.vectors x.number p) (vector_fits w c l held x u h p q))))
+        (λ l held. convert_cells w l (vector_local w x) (c.vectors x.number) u t (vector_cells w c l held x u h) (vector_fits w c l held x u h))
 
     pub unaries : (d : ℕ) (o : UnaryOp) (x m : Register) → At d (vector.Unary o x m)
     unaries d o x m has h =

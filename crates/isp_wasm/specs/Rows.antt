@@ -1,11 +1,12 @@
 -- Vectors as rows of parts of 16 bytes. A lane has as many bits as its type; a bool's are eight, all ones or zeros.
 use Rattle.std.specs.Prelude.{ℕ, zero, suc, ◌+◌, ◌-◌, ◌*◌, ◌/◌, ◌%◌, ◌^◌, min, if◌then◌else◌, nat_eq, nat_lt}
+use Rattle.isp_base.specs.Values.{width}
 use Rattle.isp_base.specs.declared.operators.Compare.{Compare}
 use Rattle.isp_base.specs.declared.operators.Compare.TheVariants as compare
 use Rattle.isp_base.specs.declared.operators.UnaryOp.{UnaryOp}
 use Rattle.isp_base.specs.declared.operators.UnaryOp.TheVariants as unary
 use Rattle.isp_base.specs.declared.types.Elem.{Elem}
-use Rattle.isp_base.specs.declared.types.Elem.TheVariants.{Bool as Truth, I8, U8, U64}
+use Rattle.isp_base.specs.declared.types.Elem.TheVariants.{Bool as Truth, I8, U8, I16, I32, I64, U64}
 use Rattle.isp_code.specs.declared.instr.Plain.{Plain}
 use Rattle.isp_code.specs.declared.instr.Plain.TheVariants as plain
 use Rattle.isp_wasm_meaning.specs.Lists.{evens}
@@ -36,18 +37,22 @@ abbrev pub built : Shape → ℕ → (ℕ → Expr) → Expr
 built s zero f = Const128 0
 built s (suc n) f = Two (Replace s n) (built s n f) (f n)
 
--- ---- rows of flags
+-- ---- lanes of another shape
 
 -- part j of two, the low and the high one, of lanes of half the width
 abbrev pub half : Shape → ℕ → Expr → Expr
 half s j x = if nat_eq (j % 2) 0 then One (ExtendLow s) x else One (ExtendHigh s) x
 
--- bytes of ones or zeros as lanes of a shape
+-- lanes of half the width as lanes of a shape, with their sign
+abbrev pub extended : Shape → (ℕ → Expr) → ℕ → Expr
+extended s e j = half s j (e (j / 2))
+
+-- bytes as lanes of a shape: ones or zeros stay such
 abbrev pub widened : Shape → (ℕ → Expr) → ℕ → Expr
-widened I8x16 e j = e j
-widened I16x8 e j = half I16x8 j (e (j / 2))
-widened I32x4 e j = half I32x4 j (half I16x8 (j / 2) (e (j / 2 / 2)))
-widened I64x2 e j = half I64x2 j (half I32x4 (j / 2) (half I16x8 (j / 2 / 2) (e (j / 2 / 2 / 2))))
+widened I8x16 e = e
+widened I16x8 e = extended I16x8 e
+widened I32x4 e = extended I32x4 (extended I16x8 e)
+widened I64x2 e = extended I64x2 (extended I32x4 (extended I16x8 e))
 
 -- the low halves of the lanes of two parts
 abbrev pub joined : Shape → (ℕ → Expr) → ℕ → Expr
@@ -59,6 +64,18 @@ narrowed I8x16 e = e
 narrowed I16x8 e = joined I16x8 e
 narrowed I32x4 e = joined I16x8 (joined I32x4 e)
 narrowed I64x2 e = joined I16x8 (joined I32x4 (joined I64x2 e))
+
+-- lanes of a shape as lanes of another: their low bits, or with their sign
+abbrev pub resized_row : Shape → Shape → (ℕ → Expr) → ℕ → Expr
+resized_row s I8x16 e = narrowed s e
+resized_row I8x16 s e = widened s e
+resized_row I16x8 I32x4 e = extended I32x4 e
+resized_row I16x8 I64x2 e = extended I64x2 (extended I32x4 e)
+resized_row I32x4 I16x8 e = joined I32x4 e
+resized_row I32x4 I64x2 e = extended I64x2 e
+resized_row I64x2 I16x8 e = joined I32x4 (joined I64x2 e)
+resized_row I64x2 I32x4 e = joined I64x2 e
+resized_row s t e = e
 
 -- all ones
 abbrev pub ones : Expr
@@ -92,6 +109,14 @@ unary_row unary.Invert t x j = Two (Bits Xor) (x j) ones
 unary_row unary.Absolute t x j = Bitselect (Two (Lanes (shape_of t) Sub) (Const128 0) (x j)) (x j) (below_row t x (λ j. Const128 0) j)
 unary_row unary.Not t x j = Two (Bits Xor) (x j) ones
 
+-- lanes of a type as those of another: without the sign that came in, where the type has none
+abbrev pub without_sign : Elem → Elem → (ℕ → Expr) → ℕ → Expr
+without_sign I8 u e j = e j
+without_sign I16 u e j = e j
+without_sign I32 u e j = e j
+without_sign I64 u e j = e j
+without_sign t u e j = if nat_lt (width t) (width u) then Two (Bits And) (e j) (Const128 (of_lanes (shape_of u) (λ i. 2 ^ width t - 1))) else e j
+
 module _ (w : Setting) where
   -- a row, one lane of the gang after the other
   abbrev pub by_lane : Elem → (ℕ → Expr) → ℕ → Expr
@@ -100,6 +125,11 @@ module _ (w : Setting) where
   -- of the parts that there are
   abbrev pub present : Shape → (ℕ → Expr) → ℕ → Expr
   present s e j = if nat_lt j (parts w s) then e j else Const128 0
+
+  -- from a type to another; to a bool whether it is not 0
+  abbrev pub convert_row : Elem → Elem → (ℕ → Expr) → ℕ → Expr
+  convert_row t Truth e = narrowed (shape_of t) (present (shape_of t) (compare_row compare.NotEqual t e (λ j. Const128 0)))
+  convert_row t u e = without_sign t u (resized_row (shape_of t) (shape_of u) (present (shape_of t) e))
 
   -- there is no product of lanes of 8 bits, nor shifts by a lane's own amount
   abbrev pub plain_row : Plain → Elem → (ℕ → Expr) → (ℕ → Expr) → ℕ → Expr

@@ -43,7 +43,7 @@ use Rattle.isp_wasm_meaning.specs.Syntax.{Code, Skip, Unreachable, Then, Set, Lo
 use Rattle.isp_wasm.specs.Places.{Setting, gang, text, Counter, Scalar, Vector, Mask, Base, Count, Fresh, Spare, Depth, Top, bytes_of, elem, shape, shape_of, parts, size_of}
 use Rattle.isp_wasm.specs.Stack.{local_bytes, bytes_in}
 use Rattle.isp_wasm.specs.Words.{constant, below, whole_expr, plain_expr, unary_expr, compare_expr, convert_expr}
-use Rattle.isp_wasm.specs.Rows.{as_cell, lane_at, widened, narrowed, ones, compare_row, unary_row, by_lane, present, plain_row}
+use Rattle.isp_wasm.specs.Rows.{as_cell, lane_at, widened, narrowed, ones, compare_row, unary_row, by_lane, present, convert_row, plain_row}
 
 -- one part after the other
 abbrev pub each : ℕ → (ℕ → Code) → Code
@@ -321,7 +321,7 @@ module _ (w : Setting) where
 
   abbrev pub vector_of : Register → VectorInstr → ℕ → Expr
   vector_of d (vector.Copy x k) = vector_local x
-  vector_of d (vector.Convert x k) = by_lane w (elem w d) (λ p. convert_expr (elem w x) (elem w d) (lane_at (elem w x) (vector_local x) p))
+  vector_of d (vector.Convert x k) = convert_row w (elem w x) (elem w d) (vector_local x)
   vector_of d (vector.Unary o x k) = unary_row o (elem w d) (vector_local x)
   vector_of d (vector.Binary o x y k) = plain_row w o (elem w d) (vector_local x) (vector_local y)
   vector_of d (vector.Compare o x y k) = narrowed (shape w x) (present w (shape w x) (compare_row o (elem w x) (vector_local x) (vector_local y)))

@@ -110,12 +110,3 @@ pub extended_high : (s : Shape) (k x : ℕ) → k < count s → lane s k (unary 
 extended_high s k x h =
     lane_is s k (λ j. signed (wide (halved s)) (wide s) (lane (halved s) (j + count s) x))
     (λ j l. signed_below (wide (halved s)) (wide s) (lane (halved s) (j + count s) x) (wider s) (lane_below (halved s) (j + count s) x)) h
-
-pub signed_flags : (s : Shape) (b : Bool) → IsWide s → signed (wide (halved s)) (wide s) (flags (wide (halved s)) b) ≡ flags (wide s) b
-signed_flags I8x16 b h = absurd h
-signed_flags I16x8 true h = refl
-signed_flags I16x8 false h = refl
-signed_flags I32x4 true h = refl
-signed_flags I32x4 false h = refl
-signed_flags I64x2 true h = refl
-signed_flags I64x2 false h = refl
