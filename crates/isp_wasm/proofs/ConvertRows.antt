@@ -1,5 +1,5 @@
 -- Conversions of all lanes of a row.
-use Rattle.std.proofs.Common.{◌≡◌, ℕ, zero, suc, ◌+◌, ◌-◌, ◌*◌, ◌%◌, ◌^◌, ◌<◌, ◌≤◌, ◌⊎◌, inl, inr, Bool, true, false, cond, not, refl, sym, ap, ◌∙◌, subst, arith, mod-eq_of_lt, bit_and}
+use Rattle.std.proofs.Common.{◌≡◌, ℕ, zero, suc, ◌+◌, ◌-◌, ◌%◌, ◌^◌, ◌<◌, ◌≤◌, ◌⊎◌, inl, inr, Bool, true, false, cond, not, refl, sym, ap, ◌∙◌, subst, arith, mod-eq_of_lt, bit_and}
 use Rattle.std.specs.Prelude.{nat_eq, nat_lt, if◌then◌else◌}
 use Rattle.std.proofs.lemmas.Bool.{cases_lt, lt-ltb, le-ltb}
 use Rattle.std.proofs.lemmas.Nat.{and_mask, pow_pos, pow_below}
@@ -17,7 +17,7 @@ use Rattle.isp_wasm.specs.Places.{Setting, gang, shape_of}
 use Rattle.isp_wasm.specs.Rows.{cell, compare_row, convert_row, narrowed, present, resized_row, without_sign}
 use Rattle.isp_wasm.specs.Thin.{IsInteger}
 use Rattle.isp_wasm.proofs.Converts.{signed_low, signed_high, spread, spread_low, truth_value}
-use Rattle.isp_wasm.proofs.Rows.{IsRow, IsShort, IsLow, row_same, row_bits, row_constant, row_narrowed, row_present, row_resized}
+use Rattle.isp_wasm.proofs.Rows.{IsShort, IsLow, row_same, row_bits, row_constant, row_narrowed, row_present, row_resized}
 use Rattle.isp_wasm.proofs.Cells.{IsCells, lane_width, fits_cell, covered, zero_cells, compare_cells}
 
 -- ---- the number of 64 bits that has the sign of a lane

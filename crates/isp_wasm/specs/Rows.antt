@@ -47,7 +47,7 @@ half s j x = if nat_eq (j % 2) 0 then One (ExtendLow s) x else One (ExtendHigh s
 abbrev pub extended : Shape → (ℕ → Expr) → ℕ → Expr
 extended s e j = half s j (e (j / 2))
 
--- bytes as lanes of a shape: ones or zeros stay such
+-- bytes as lanes of a shape, with their sign; ones or zeros stay such
 abbrev pub widened : Shape → (ℕ → Expr) → ℕ → Expr
 widened I8x16 e = e
 widened I16x8 e = extended I16x8 e

@@ -26,6 +26,6 @@ pub use kernel::{Caller, Kernel, Place};
 pub use limits::limit_fault;
 pub use operand::{Operand, constant};
 pub use refusal::Refusal;
-pub use rows::{Part, below_part, compare_part, unary_part, widened_part};
+pub use rows::{Part, below_part, compare_part, half, unary_part, widened_part};
 pub use scalars::{all_ones, below, compare, convert, cut, plain, unary};
 pub use types::{bytes_of, shape_of, size_of, width_of};

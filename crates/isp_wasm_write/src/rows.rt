@@ -157,8 +157,8 @@ pub fn unary_part(out: &mut Bytes, op: UnaryOp, elem: Elem, part: Part) -> Resul
     }
 }
 
-// Of lanes half as wide, the low or the high ones made as wide as a shape's.
-fn half(out: &mut Bytes, shape: Shape, place: u32) -> Result<(), AllocError>
+/// Appends, behind a part of lanes half as wide as a shape's, that its low ones are made as wide where `place` is even, else its high ones.
+pub fn half(out: &mut Bytes, shape: Shape, place: u32) -> Result<(), AllocError>
     ensures { OnOk result (out.new ≡ out.old ++ half_tail (named.shape shape) place) }
 {
     if place % 2 == 0 {
