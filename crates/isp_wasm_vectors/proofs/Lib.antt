@@ -1,5 +1,6 @@
 pub mod CellBytes
 pub mod Chains
+pub mod ConvertBytes
 pub mod Each
 pub mod FoldBytes
 pub mod GangLanes

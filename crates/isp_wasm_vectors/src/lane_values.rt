@@ -13,7 +13,7 @@ use crate::parts::{count_of, lane, lanes, shape};
 use crate::picks::{Pick, Source, Which, lane_or_zero, modulo, picked};
 use isp_code::{Exchange, Register, VectorInstr};
 use isp_wasm_binary::{Binary, Bytes, Size, Test};
-use isp_wasm_write::{Kernel, Part, Place, Refusal, convert, plain, shape_of};
+use isp_wasm_write::{Kernel, Part, Place, Refusal, plain, shape_of};
 
 // A vector, a mask, and the number of a lane.
 #[derive(Clone, Copy)]
@@ -140,11 +140,6 @@ fn lane_value(
 {
     let elem = kernel.elem(result_to);
     match *instr {
-        VectorInstr::Convert { value, .. } => {
-            let from = kernel.elem(value);
-            let value = lane(kernel, from, value, number)?;
-            Ok(convert(out, from, elem, value)?)
-        }
         VectorInstr::Binary {
             op,
             left,

@@ -3,6 +3,7 @@
 
 mod across;
 mod cells;
+mod converts;
 mod folds;
 mod lane_values;
 mod lanes;

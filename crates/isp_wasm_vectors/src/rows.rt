@@ -15,16 +15,20 @@ use isp_base::{Compare, Elem, UnaryOp};
 use isp_code::{Plain, Register};
 use isp_wasm_binary::{Binary, Bitwise, Bytes, Shape, Whole};
 use isp_wasm_write::{
-    Kernel, Part, Refusal, below_part, compare_part, shape_of, unary_part, widened_part,
+    Kernel, Part, Refusal, below_part, compare_part, half, shape_of, unary_part, widened_part,
 };
 use std::alloc::AllocError;
 
-/// What a comparison takes.
+/// A row of lanes: of a register, or which of a register's are not 0, or which of two compare so: all ones or zeros.
 #[derive(Clone, Copy)]
-pub(crate) struct Compared {
-    pub op: Compare,
-    pub left: Register,
-    pub right: Register,
+pub(crate) enum Row {
+    Lanes(Register),
+    NotZero(Register),
+    Compared {
+        op: Compare,
+        left: Register,
+        right: Register,
+    },
 }
 
 /// Appends what an operator makes of a part.
@@ -127,71 +131,134 @@ pub(crate) fn plain_row(
     }
 }
 
-// Appends which lanes of a part compare so; past the parts that there are, none.
-fn compared_row(
-    kernel: &Kernel,
-    out: &mut Bytes,
-    compared: &Compared,
-    part: u8,
-) -> Result<(), Refusal>
-    ensures { OnOk result (out.new ≡ out.old ++ expr_bytes (parts.compared (setting kernel.now) compared.now part)) }
+// The register whose type the lanes of a row have.
+fn typed_by(row: &Row) -> Register
+    ensures { result ≡ parts.typed_by row.now }
 {
-    let elem = kernel.elem(compared.left);
-    if part >= parts(kernel, shape_of(elem)) {
+    match *row {
+        Row::Lanes(value) | Row::NotZero(value) => value,
+        Row::Compared { left, .. } => left,
+    }
+}
+
+// Appends a part of a row.
+fn lanes_at(kernel: &Kernel, out: &mut Bytes, row: &Row, part: u8) -> Result<(), Refusal>
+    ensures { OnOk result (out.new ≡ out.old ++ expr_bytes (parts.row_expr (setting kernel.now) row.now part)) }
+{
+    let elem = kernel.elem(typed_by(row));
+    match *row {
+        Row::Lanes(value) => Ok(vector(kernel, value, part)?.write(out)?),
+        Row::NotZero(value) => {
+            let value = vector(kernel, value, part)?;
+            Ok(compare_part(out, Compare::NotEqual, elem, value, Part::Zero)?)
+        }
+        Row::Compared { op, left, right } => {
+            let left = vector(kernel, left, part)?;
+            let right = vector(kernel, right, part)?;
+            Ok(compare_part(out, op, elem, left, right)?)
+        }
+    }
+}
+
+// The same, and past the parts that there are, zeros.
+fn present_at(kernel: &Kernel, out: &mut Bytes, row: &Row, part: u8) -> Result<(), Refusal>
+    ensures { OnOk result (out.new ≡ out.old ++ expr_bytes (parts.present_row (setting kernel.now) row.now part)) }
+{
+    if part >= parts(kernel, shape(kernel, typed_by(row))) {
         return Ok(Part::Zero.write(out)?);
     }
-    let left = vector(kernel, compared.left, part)?;
-    let right = vector(kernel, compared.right, part)?;
-    Ok(compare_part(out, compared.op, elem, left, right)?)
+    lanes_at(kernel, out, row, part)
 }
 
-// The same as lanes of 32 bits, where those that are compared have more.
-fn as_words(kernel: &Kernel, out: &mut Bytes, compared: &Compared, part: u8) -> Result<(), Refusal>
+// Appends a part of a row as lanes of 32 bits.
+fn as_words(kernel: &Kernel, out: &mut Bytes, row: &Row, part: u8) -> Result<(), Refusal>
     requires { part < 64 }
-    ensures { OnOk result (out.new ≡ out.old ++ expr_bytes (parts.as_words (setting kernel.now) compared.now part)) }
+    ensures { OnOk result (out.new ≡ out.old ++ expr_bytes (parts.resized (setting kernel.now) wasm.I32x4 row.now part)) }
 {
-    match shape(kernel, compared.left) {
+    let place = u32::from(part);
+    match shape(kernel, typed_by(row)) {
+        Shape::I8x16 => {
+            present_at(kernel, out, row, part / 2 / 2)?;
+            half(out, Shape::I16x8, place / 2)?;
+            Ok(half(out, Shape::I32x4, place)?)
+        }
+        Shape::I16x8 => {
+            present_at(kernel, out, row, part / 2)?;
+            Ok(half(out, Shape::I32x4, place)?)
+        }
+        Shape::I32x4 => present_at(kernel, out, row, part),
         Shape::I64x2 => {
-            compared_row(kernel, out, compared, 2 * part)?;
-            compared_row(kernel, out, compared, 2 * part + 1)?;
+            present_at(kernel, out, row, 2 * part)?;
+            present_at(kernel, out, row, 2 * part + 1)?;
             Ok(out.binary(Binary::Evens(Shape::I64x2))?)
         }
-        _ => compared_row(kernel, out, compared, part),
     }
 }
 
-// As lanes of 16 bits, where they have more.
-fn as_halves(kernel: &Kernel, out: &mut Bytes, compared: &Compared, part: u8) -> Result<(), Refusal>
-    requires { part < 32 }
-    ensures { OnOk result (out.new ≡ out.old ++ expr_bytes (parts.as_halves (setting kernel.now) compared.now part)) }
+// As lanes of 64 bits.
+fn as_longs(kernel: &Kernel, out: &mut Bytes, row: &Row, part: u8) -> Result<(), Refusal>
+    requires { part < 64 }
+    ensures { OnOk result (out.new ≡ out.old ++ expr_bytes (parts.resized (setting kernel.now) wasm.I64x2 row.now part)) }
 {
-    match shape(kernel, compared.left) {
-        Shape::I64x2 | Shape::I32x4 => {
-            as_words(kernel, out, compared, 2 * part)?;
-            as_words(kernel, out, compared, 2 * part + 1)?;
+    match shape(kernel, typed_by(row)) {
+        Shape::I64x2 => present_at(kernel, out, row, part),
+        _ => {
+            as_words(kernel, out, row, part / 2)?;
+            Ok(half(out, Shape::I64x2, u32::from(part))?)
+        }
+    }
+}
+
+// As lanes of 16 bits.
+fn as_halves(kernel: &Kernel, out: &mut Bytes, row: &Row, part: u8) -> Result<(), Refusal>
+    requires { part < 32 }
+    ensures { OnOk result (out.new ≡ out.old ++ expr_bytes (parts.resized (setting kernel.now) wasm.I16x8 row.now part)) }
+{
+    match shape(kernel, typed_by(row)) {
+        Shape::I8x16 => {
+            present_at(kernel, out, row, part / 2)?;
+            Ok(half(out, Shape::I16x8, u32::from(part))?)
+        }
+        Shape::I16x8 => present_at(kernel, out, row, part),
+        _ => {
+            as_words(kernel, out, row, 2 * part)?;
+            as_words(kernel, out, row, 2 * part + 1)?;
             Ok(out.binary(Binary::Evens(Shape::I32x4))?)
         }
-        _ => compared_row(kernel, out, compared, part),
     }
 }
 
-/// Appends which lanes compare so, as bytes of ones or zeros.
-pub(crate) fn as_bytes(
+/// Appends a part of a row as bytes: their low bits, so ones or zeros stay such.
+pub(crate) fn as_bytes(kernel: &Kernel, out: &mut Bytes, row: &Row, part: u8) -> Result<(), Refusal>
+    requires { part < 16 }
+    ensures { OnOk result (out.new ≡ out.old ++ expr_bytes (parts.resized (setting kernel.now) wasm.I8x16 row.now part)) }
+{
+    match shape(kernel, typed_by(row)) {
+        Shape::I8x16 => present_at(kernel, out, row, part),
+        _ => {
+            as_halves(kernel, out, row, 2 * part)?;
+            as_halves(kernel, out, row, 2 * part + 1)?;
+            Ok(out.binary(Binary::Evens(Shape::I16x8))?)
+        }
+    }
+}
+
+/// Appends a part of a row as lanes of a shape: their low bits, or with their sign.
+pub(crate) fn resized(
     kernel: &Kernel,
     out: &mut Bytes,
-    compared: &Compared,
+    shape: Shape,
+    row: &Row,
     part: u8,
 ) -> Result<(), Refusal>
     requires { part < 16 }
-    ensures { OnOk result (out.new ≡ out.old ++ expr_bytes (parts.as_bytes (setting kernel.now) compared.now part)) }
+    ensures { OnOk result (out.new ≡ out.old ++ expr_bytes (parts.resized (setting kernel.now) (named.shape shape) row.now part)) }
 {
-    match shape(kernel, compared.left) {
-        Shape::I8x16 => compared_row(kernel, out, compared, part),
-        _ => {
-            as_halves(kernel, out, compared, 2 * part)?;
-            as_halves(kernel, out, compared, 2 * part + 1)?;
-            Ok(out.binary(Binary::Evens(Shape::I16x8))?)
-        }
+    match shape {
+        Shape::I8x16 => as_bytes(kernel, out, row, part),
+        Shape::I16x8 => as_halves(kernel, out, row, part),
+        Shape::I32x4 => as_words(kernel, out, row, part),
+        Shape::I64x2 => as_longs(kernel, out, row, part),
     }
 }
 

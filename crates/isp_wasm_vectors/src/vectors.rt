@@ -10,11 +10,12 @@ ghost use Rattle.isp_wasm_write.specs.Settings.{setting};
 ghost use Rattle.isp_wasm_vectors.specs.reader.Vectors as vectors;
 
 use crate::cells::{begin_cell, end_cell, numbers};
+use crate::converts::converted;
 use crate::lane_values::by_lane;
 use crate::loops::{Elements, Index, lane_loads};
 use crate::parts::{count_of, parts, shape};
 use crate::rows::{
-    Compared, as_bytes, is_lane_by_lane, plain_row, unary_row, widened_mask, widened_vector,
+    Row, as_bytes, is_lane_by_lane, plain_row, unary_row, widened_mask, widened_vector,
 };
 use crate::runs::{Run, load_run};
 use isp_code::{Register, VectorInstr};
@@ -110,7 +111,7 @@ fn part_value(
             left,
             right,
             ..
-        } => { as_bytes(kernel, out, &Compared { op, left, right }, part) }
+        } => { as_bytes(kernel, out, &Row::Compared { op, left, right }, part) }
         VectorInstr::Select {
             test,
             if_true,
@@ -122,7 +123,7 @@ fn part_value(
             let shape = shape(kernel, result_to);
             Ok(numbers(out, shape, part * count_of(shape))?)
         }
-        VectorInstr::Convert { .. } => by_lane(kernel, out, result_to, instr, part),
+        VectorInstr::Convert { value, .. } => converted(kernel, out, result_to, value, part),
         VectorInstr::Scan { .. } => by_lane(kernel, out, result_to, instr, part),
         VectorInstr::Exchange { .. } => by_lane(kernel, out, result_to, instr, part),
         VectorInstr::Shuffle { .. } => by_lane(kernel, out, result_to, instr, part),

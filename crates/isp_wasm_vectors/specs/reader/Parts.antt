@@ -1,16 +1,18 @@
 -- What is made of parts of vectors, as the code goes about it.
 use Rattle.std.specs.Prelude.{ℕ, ◌/◌, Bool, true, false}
+use Rattle.isp_base.specs.declared.operators.Compare.TheVariants as compare
 use Rattle.isp_base.specs.declared.operators.UnaryOp.{UnaryOp}
 use Rattle.isp_base.specs.declared.types.Elem.{Elem}
 use Rattle.isp_base.specs.declared.types.Elem.TheVariants.{I8, U8}
 use Rattle.isp_code.specs.declared.instr.Plain.{Plain}
 use Rattle.isp_code.specs.declared.instr.Plain.TheVariants as plains
 use Rattle.isp_code.specs.declared.register.Register.{Register}
-use Rattle.isp_wasm_meaning.specs.Syntax.{Shape, I8x16, I16x8, I32x4, I64x2, Binary, Expr, Two, Bitselect}
+use Rattle.isp_wasm_meaning.specs.Syntax.{Shape, I8x16, I16x8, I32x4, I64x2, Binary, Expr, Const128, Two, Bitselect}
 use Rattle.isp_wasm.specs.Places.{Setting, elem, shape}
-use Rattle.isp_wasm.specs.Rows.{joined, narrowed, widened, present, below_row, compare_row, unary_row, plain_row}
+use Rattle.isp_wasm.specs.Rows.{resized_row, widened, present, below_row, compare_row, unary_row, plain_row}
 use Rattle.isp_wasm.specs.Templates.{vector_local, mask_local}
-use Rattle.isp_wasm_vectors.specs.declared.rows.Compared.{Compared}
+use Rattle.isp_wasm_vectors.specs.declared.rows.Row.{Row}
+use Rattle.isp_wasm_vectors.specs.declared.rows.Row.TheVariants as row
 
 -- the part of a row of bytes in which a part's lanes lie
 abbrev pub byte_part : Shape → ℕ → ℕ
@@ -27,15 +29,11 @@ is_lane_by_lane plains.Shl t = true
 is_lane_by_lane plains.Shr t = true
 is_lane_by_lane o t = false
 
--- lanes of 64 bits as lanes of 32, and so down to bytes
-abbrev pub words_of : Shape → (ℕ → Expr) → ℕ → Expr
-words_of I64x2 e = joined I64x2 e
-words_of s e = e
-
-abbrev pub halves_of : Shape → (ℕ → Expr) → ℕ → Expr
-halves_of I64x2 e = joined I32x4 (words_of I64x2 e)
-halves_of I32x4 e = joined I32x4 e
-halves_of s e = e
+-- the register whose type the lanes of a row have
+abbrev pub typed_by : Row → Register
+typed_by (row.Lanes x) = x
+typed_by (row.NotZero x) = x
+typed_by (row.Compared o x y) = x
 
 module _ (w : Setting) where
   -- what operators make of registers
@@ -62,14 +60,14 @@ module _ (w : Setting) where
   abbrev pub one_of : Elem → Register × Register → Register × Register → ℕ → Expr
   one_of t ds cs j = Bitselect (vector_local w ds.0 j) (vector_local w ds.1 j) (below t cs j)
 
-  abbrev pub compared : Compared → ℕ → Expr
-  compared c = present w (shape w c.left) (compare_row c.op (elem w c.left) (vector_local w c.left) (vector_local w c.right))
+  -- a row, with zeros behind its parts, and as lanes of a shape
+  abbrev pub row_expr : Row → ℕ → Expr
+  row_expr (row.Lanes x) = vector_local w x
+  row_expr (row.NotZero x) = compare_row compare.NotEqual (elem w x) (vector_local w x) (λ j. Const128 0)
+  row_expr (row.Compared o x y) = compare_row o (elem w x) (vector_local w x) (vector_local w y)
 
-  abbrev pub as_words : Compared → ℕ → Expr
-  as_words c = words_of (shape w c.left) (compared c)
+  abbrev pub present_row : Row → ℕ → Expr
+  present_row r = present w (shape w (typed_by r)) (row_expr r)
 
-  abbrev pub as_halves : Compared → ℕ → Expr
-  as_halves c = halves_of (shape w c.left) (compared c)
-
-  abbrev pub as_bytes : Compared → ℕ → Expr
-  as_bytes c = narrowed (shape w c.left) (compared c)
+  abbrev pub resized : Shape → Row → ℕ → Expr
+  resized s r = resized_row (shape w (typed_by r)) s (present_row r)

@@ -1,13 +1,15 @@
 -- What stands before and behind a value that becomes a lane, or that an operator takes.
-use Rattle.std.specs.Prelude.{ℕ, List, [], ◌++◌, ◌/◌, ◌%◌}
+use Rattle.std.specs.Prelude.{ℕ, List, [], ◌++◌, ◌-◌, ◌/◌, ◌%◌, ◌^◌, if◌then◌else◌, nat_lt}
+use Rattle.isp_base.specs.Values.{width}
 use Rattle.isp_base.specs.declared.types.Elem.{Elem}
-use Rattle.isp_base.specs.declared.types.Elem.TheVariants.{Bool as Truth}
+use Rattle.isp_base.specs.declared.types.Elem.TheVariants.{Bool as Truth, I8, I16, I32, I64}
 use Rattle.isp_code.specs.declared.instr.Scan.{Scan}
 use Rattle.isp_code.specs.declared.instr.Scan.TheVariants as scan
 use Rattle.isp_code.specs.declared.register.Register.{Register}
-use Rattle.isp_wasm_meaning.specs.Meaning.{count}
-use Rattle.isp_wasm_meaning.specs.Syntax.{I32, Add, Sub, And, Or, Of, BitsOf, Replace, Const32}
-use Rattle.isp_wasm.specs.Places.{Setting, Vector, elem, shape, size_of}
+use Rattle.isp_wasm_meaning.specs.Meaning.{count, of_lanes}
+use Rattle.isp_wasm_meaning.specs.Syntax.{Add, Sub, And, Or, Of, BitsOf, Bits, Replace, Const32, Const128}
+use Rattle.isp_wasm_meaning.specs.Syntax as wasm
+use Rattle.isp_wasm.specs.Places.{Setting, Vector, elem, shape, shape_of, size_of}
 use Rattle.isp_wasm.specs.Templates.{vector_local}
 use Rattle.isp_wasm_binary.specs.Operators.{binary_bytes}
 use Rattle.isp_wasm_binary.specs.Instructions.{Set_word, expr_bytes, word_bytes}
@@ -18,8 +20,16 @@ cell_head Truth = expr_bytes (Const32 0)
 cell_head t = []
 
 abbrev pub cell_tail : Elem → List ℕ
-cell_tail Truth = binary_bytes (Of I32 Sub)
+cell_tail Truth = binary_bytes (Of wasm.I32 Sub)
 cell_tail t = []
+
+-- behind lanes of a type that are made those of another
+abbrev pub unsigned_tail : Elem → Elem → List ℕ
+unsigned_tail I8 u = []
+unsigned_tail I16 u = []
+unsigned_tail I32 u = []
+unsigned_tail I64 u = []
+unsigned_tail t u = if nat_lt (width t) (width u) then expr_bytes (Const128 (of_lanes (shape_of u) (λ i. 2 ^ width t - 1))) ++ binary_bytes (Bits And) else []
 
 module _ (w : Setting) where
   -- of what lane p of a register is set to

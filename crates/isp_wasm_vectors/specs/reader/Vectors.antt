@@ -9,8 +9,8 @@ use Rattle.isp_code.specs.declared.register.Register.{Register}
 use Rattle.isp_wasm_meaning.specs.Syntax as wasm
 use Rattle.isp_wasm_meaning.specs.Syntax.{Replace, Splat, Eq, Expr, Const32, Local, One, Two, Select, Bitselect, Code, Set}
 use Rattle.isp_wasm.specs.Places.{Setting, Fresh, Vector, gang, elem, shape, shape_of, size_of}
-use Rattle.isp_wasm.specs.Words.{plain_expr, convert_expr}
-use Rattle.isp_wasm.specs.Rows.{lane_at, built, as_cell, by_lane, widened}
+use Rattle.isp_wasm.specs.Words.{plain_expr}
+use Rattle.isp_wasm.specs.Rows.{lane_at, built, as_cell, by_lane, convert_row, widened}
 use Rattle.isp_wasm.specs.Templates.{scalar_local, vector_local, mask_local, set_lanes, mask_under, vector_of}
 use Rattle.isp_wasm.specs.Templates.{lane_or_zero, modulo, picked, of_both, scan_expr, exchange_expr}
 use Rattle.isp_wasm_meaning.specs.Meaning.{count}
@@ -32,7 +32,6 @@ is_across i = false
 
 -- what can be made lane by lane
 abbrev pub is_laned : VectorInstr → Bool
-is_laned (vector.Convert x k) = true
 is_laned (vector.Binary o x y k) = true
 is_laned i = is_across i
 
@@ -61,7 +60,6 @@ module _ (w : Setting) where
 
   -- what lane p gets
   abbrev pub lane_of : Register → VectorInstr → ℕ → Expr
-  lane_of d (vector.Convert x k) p = convert_expr (elem w x) (elem w d) (lane_at (elem w x) (vector_local w x) p)
   lane_of d (vector.Binary o x y k) p =
       plain_expr o (elem w d) (lane_at (elem w d) (vector_local w x) p) (lane_at (elem w d) (vector_local w y) p)
   lane_of d (vector.Scan o x k) p = scan_expr w o x k p
@@ -92,6 +90,9 @@ module _ (w : Setting) where
 
   abbrev pub splat : Register → Register → Expr
   splat d x = One (Splat (shape w d)) (as_cell (elem w d) (scalar_local w x))
+
+  abbrev pub converted : Register → Register → ℕ → Expr
+  converted d x = convert_row w (elem w x) (elem w d) (vector_local w x)
 
   abbrev pub chosen : Register → Register → Register × Register → ℕ → Expr
   chosen d t xs j = Bitselect (vector_local w xs.0 j) (vector_local w xs.1 j) (widened (shape w d) (vector_local w t) j)
