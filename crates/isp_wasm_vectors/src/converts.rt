@@ -61,19 +61,26 @@ fn value_bits(elem: Elem, shape: Shape) -> [u8; 16]
     }
 }
 
-// Behind a part of lanes of a type that are made those of another: without the sign that came in, where the type has none.
+// Behind a part of lanes that were of a type: the bits of its values alone, where those of the other are wider.
 #[tactic(auto, using(crate::proofs::ConvertBytes::value_fits))]
-fn without_sign(out: &mut Bytes, from: Elem, to: Elem) -> Result<(), AllocError>
-    ensures { OnOk result (out.new ≡ out.old ++ tails.unsigned_tail from to) }
+fn masked(out: &mut Bytes, from: Elem, to: Elem) -> Result<(), AllocError>
+    ensures { OnOk result (out.new ≡ out.old ++ tails.masked_tail from to) }
 {
-    if matches!(from, Elem::I8 | Elem::I16 | Elem::I32 | Elem::I64) {
-        return Ok(());
-    }
     if width_of(from) >= width_of(to) {
         return Ok(());
     }
     out.const128(&value_bits(from, shape_of(to)))?;
     out.binary(Binary::Bits(Bitwise::And))
+}
+
+// The same, where the type has no sign: the one that came in is out again.
+fn without_sign(out: &mut Bytes, from: Elem, to: Elem) -> Result<(), AllocError>
+    ensures { OnOk result (out.new ≡ out.old ++ tails.unsigned_tail from to) }
+{
+    match from {
+        Elem::I8 | Elem::I16 | Elem::I32 | Elem::I64 => Ok(()),
+        _ => masked(out, from, to),
+    }
 }
 
 /// Appends a part of a vector of a type as one of another's.

@@ -24,12 +24,15 @@ cell_tail Truth = binary_bytes (Of wasm.I32 Sub)
 cell_tail t = []
 
 -- behind lanes of a type that are made those of another
+abbrev pub masked_tail : Elem → Elem → List ℕ
+masked_tail t u = if nat_lt (width t) (width u) then expr_bytes (Const128 (of_lanes (shape_of u) (λ i. 2 ^ width t - 1))) ++ binary_bytes (Bits And) else []
+
 abbrev pub unsigned_tail : Elem → Elem → List ℕ
 unsigned_tail I8 u = []
 unsigned_tail I16 u = []
 unsigned_tail I32 u = []
 unsigned_tail I64 u = []
-unsigned_tail t u = if nat_lt (width t) (width u) then expr_bytes (Const128 (of_lanes (shape_of u) (λ i. 2 ^ width t - 1))) ++ binary_bytes (Bits And) else []
+unsigned_tail t u = masked_tail t u
 
 module _ (w : Setting) where
   -- of what lane p of a register is set to
