@@ -80,12 +80,7 @@ fn load_parts(kernel: &Kernel, out: &mut Bytes, run: &Run, parts: u8) -> Result<
 }
 
 // Appends that those of the mask go to a vector register.
-fn load_row(
-    kernel: &Kernel,
-    out: &mut Bytes,
-    result_to: Register,
-    run: &Run,
-) -> Result<(), Refusal>
+fn load_row(kernel: &Kernel, out: &mut Bytes, result_to: Register, run: &Run) -> Result<(), Refusal>
     ensures { OnOk result (out.new ≡ out.old ++ code_bytes (runs.load_row (setting kernel.now) result_to run.now)) }
 {
     load_parts(kernel, out, run, parts(kernel, shape(kernel, result_to)))?;
