@@ -21,9 +21,8 @@ use Rattle.isp_wasm_meaning.specs.Module.{code_in}
 use Rattle.isp_wasm.specs.Agreement as wasm
 use Rattle.isp_wasm.specs.Standing.{report_of}
 use Rattle.isp_wasm.specs.Entry.{SameOutcomes, Shows}
-use Rattle.isp_wasm.specs.Kernel.{in_call, passed}
+use Rattle.isp_wasm.specs.Kernel.{KernelsAgree, in_call, passed}
 use Rattle.isp_wasm.specs.Module.{module_of}
-use Rattle.isp_wasm.proofs.Kernels.{kernels_agree}
 use Rattle.isp_headline.specs.Headline.{ComesTo, NeverOver, HasWritten, DoesTheSame}
 use Rattle.isp_headline.specs.ModuleHeadline.{CallDoesTheSame, ModuleHeadline, RanOut}
 use Rattle.isp_headline.proofs.Programs.{one_program}
@@ -115,13 +114,13 @@ module _ (image : Listing) (xs : List Argument) (at : List ℕ) (f : ℕ) (g : R
           );
         }
 
-pub module_headline : ModuleHeadline
-module_headline gang text image compiled accepted program source entry f h xs starts few =
+pub module_headline : KernelsAgree → ModuleHeadline
+module_headline law gang text image compiled accepted program source entry f h xs starts few =
     let one : compiled.program ≡ program = one_program gang text compiled.program program compiled.source source in
     let it = does_as_meant_bound program image (subst IsAccepted one compiled.accepted) (subst (λ z. Agrees z image) one compiled.agrees) entry f h xs starts few in (
       it.routine,
       it.export,
       λ at s covered laid room.
           does_the_same image xs at f it.routine s laid.silent (λ n. run_of program f n xs) it.runs.same
-          (kernels_agree image accepted entry xs f it.routine (record { export = it.export; fits = subst (λ ps. has_signature ps xs ≡ true) (sym it.parameters) starts.fits }) covered at s laid room),
+          (law image accepted entry xs f it.routine (record { export = it.export; fits = subst (λ ps. has_signature ps xs ≡ true) (sym it.parameters) starts.fits }) covered at s laid room),
     )

@@ -9,6 +9,7 @@ ghost use Rattle.isp_headline.specs.SoloIsRun.{SoloIsRun};
 
 use isp_asm::text_laws;
 use isp_engine::SourceFiles;
+use isp_wasm::kernels_agree;
 
 /// A text is at most one program, and no program is refused.
 pub fn one_program()
@@ -33,7 +34,9 @@ pub fn bound_headline()
 /// its arrays, value and output, and otherwise goes on with the same output so far.
 pub fn module_headline()
     ensures { ModuleHeadline }
-{}
+{
+    kernels_agree();
+}
 
 /// What `solo` answers is what each run answers that has a budget large enough.
 pub fn solo_is_run()
