@@ -6,4 +6,3 @@ mod Whole
 mod SoloRuns
 mod Answered
 mod FromSource
-mod Modules

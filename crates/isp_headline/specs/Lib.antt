@@ -4,4 +4,3 @@ pub mod BoundHeadline
 pub mod SoloIsRun
 pub mod Answers
 pub mod FromSource
-pub mod ModuleHeadline
