@@ -73,14 +73,14 @@ class Routine {
   calls = [];
   opens = 0;
 
-  constructor([name, exported, , result = null]) {
-    Object.assign(this, { name, isExported: exported === "export", result });
+  constructor([name, exported, , result = null], gang) {
+    Object.assign(this, { name, isExported: exported === "export", result, gang });
   }
 
   /** Takes a further line of the function. */
   add(word, words) {
     if (word === "par") this.parameters.push({ name: words[2], code: words[1], isArray: words[0] === "a" });
-    if (word === "loc") this.opens += TYPES[words[1]].bytes * Number(words[2]);
+    if (word === "loc") this.opens += (words[0] === "p" ? this.gang : 1) * TYPES[words[1]].bytes * Number(words[2]);
     if (word === "call") this.calls.push({ callee: Number(words[0].slice(1)), arrays: words.slice(4).filter((it) => it.startsWith("a")) });
     if (word in WRITES) this.written.add(words[WRITES[word]]);
   }
@@ -100,7 +100,7 @@ function readCode(module) {
   for (const line of new TextDecoder().decode(section).split("\n")) {
     const [word, ...words] = line.split(" ");
     if (word === "isp") gang = Number(words[2]);
-    else if (word === "func") routines.push(new Routine(words));
+    else if (word === "func") routines.push(new Routine(words, gang));
     else routines.at(-1)?.add(word, words);
   }
   followCalls(routines);

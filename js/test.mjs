@@ -18,7 +18,7 @@ const { EngineError, Kernels, Trap, load } = isp;
 const PROGRAM = process.argv[2] ?? fileURLToPath(new URL("../crates/ispx/out/ispx", import.meta.url));
 const FOLDER = mkdtempSync(`${tmpdir()}/isp-js-`);
 const GANGS = [4, 8, 16, 32];
-const PARTS = 43;
+const PARTS = 44;
 
 /** What `ispx wasm` with these options makes of a text. */
 function moduleOf(text, ...options) {
@@ -336,6 +336,22 @@ async function openedArrays() {
   assert.ok(again.values.every((it) => it === 0));
 }
 
+const OWN = `int down(int n) {
+    int own[64];
+    own[63] = n;
+    int below = n > 0 ? 1 : 0;
+    if (n > 0) below = down(n - 1);
+    return below + own[63] + own[7];
+}
+export void f(uniform int a[]) { a[programIndex] = down(200 - programIndex); }`;
+
+async function arraysOfEachLane() {
+  const kernels = await made(OWN, 16);
+  const a = kernels.array("int", 16);
+  kernels.call("f", { a });
+  assert.deepEqual(Array.from(a.values), Array.from({ length: 16 }, (_, p) => ((200 - p) * (201 - p)) / 2));
+}
+
 async function memoryThatCannotGrow() {
   const kernels = await made(FILLED);
   for (const [length, type] of [[2 ** 33, "uint8"], [2 ** 30 + 1, "int"], [Number.MAX_SAFE_INTEGER, "int64"]]) {
@@ -449,7 +465,7 @@ const parts = [
   ...GANGS.map((it) => [`an array near the end of memory, gang ${it}`, () => endOfMemory(it)]),
   ...Object.entries({
     bools, otherNames, wrongArguments, wrongNames, refusedCallsChangeNothing, numbersOf64Bits, greatestCount, otherViews, ownValues, overlaps, trapsWithoutSource,
-    arraysAfterATrap, printed, markOfBytes, charactersInTwo, exactEndOfMemory, openedArrays, memoryThatCannotGrow, openedArraysThatCannotLie, copiesLeaveNothing, valuesGiven, noStack,
+    arraysAfterATrap, printed, markOfBytes, charactersInTwo, exactEndOfMemory, openedArrays, arraysOfEachLane, memoryThatCannotGrow, openedArraysThatCannotLie, copiesLeaveNothing, valuesGiven, noStack,
     endlessRuns, loads, gangs, noModule, declared,
   }),
 ];

@@ -5,7 +5,7 @@ const KINDS = ["divide", "index", "assert", "depth"];
 const hex = (text) => [...new TextEncoder().encode(text)].map((it) => it.toString(16).padStart(2, "0")).join("");
 
 // a number, which a job has as a text
-const given = (type, text) => type === "bool" ? text === "1" : BigInt(text);
+const given = (type, text) => type === "bool" ? text !== "0" : BigInt(text);
 
 // an element or a result, as an answer says it
 const shown = (type, value) => type === "bool" ? Boolean(value) : String(value);
