@@ -9,23 +9,38 @@ use crate::table::{LaneSet, Line, Reading, Row};
 use isp_code::{Call, Function, Instr, MaskInstr, Register, ScalarInstr, VectorInstr};
 use std::alloc::{AllocError, Global};
 
+// Adds lanes that are not there by the same name: two edges may bring the same ones.
+fn add(read: &mut Vec<Reading>, r: Reading) -> Result<(), AllocError> {
+    if !read
+        .iter()
+        .any(|x| x.vector == r.vector && x.lanes.is(r.lanes))
+    {
+        read.push(r)?;
+    }
+    Ok(())
+}
+
 // Adds what bounds the value of a mask, for a vector.
 fn add_bound(read: &mut Vec<Reading>, vector: u32, bound: Bound) -> Result<(), AllocError> {
     match bound {
-        Bound::One(lanes) => read.push(Reading { vector, lanes })?,
-        Bound::Either(lanes, _) => read.push(Reading { vector, lanes })?,
+        Bound::One(lanes) | Bound::Either(lanes, _) => add(read, Reading { vector, lanes }),
         Bound::Together(left, right) => {
-            read.push(Reading {
-                vector,
-                lanes: left,
-            })?;
-            read.push(Reading {
-                vector,
-                lanes: right,
-            })?;
+            add(
+                read,
+                Reading {
+                    vector,
+                    lanes: left,
+                },
+            )?;
+            add(
+                read,
+                Reading {
+                    vector,
+                    lanes: right,
+                },
+            )
         }
     }
-    Ok(())
 }
 
 // Adds lanes that are read after an instruction, as they are called before it.
@@ -34,10 +49,7 @@ fn add_earlier(read: &mut Vec<Reading>, instr: &Instr, r: Reading) -> Result<(),
         Instr::Mask { result, instr } if r.lanes.is(set_of(*result)) => {
             add_bound(read, r.vector, upper(instr))
         }
-        _ => {
-            read.push(r)?;
-            Ok(())
-        }
+        _ => add(read, r),
     }
 }
 
