@@ -956,17 +956,9 @@ def unfree(header, texts):
             yield f"{name}: {' '.join(found)}"
 
 
-def is_branched(text):
-    """A function has more than 12 jumps that are taken or not: then no tables are looked for."""
-    return any(len(re.findall(r"^L\d+: (?:JZ|JNZ|JOFF|JON|JALL)\(", body, re.M)) > 12 for body in text.split("\nSTART\n"))
-
-
 def miscounted(header, name, told, text):
     """What differs in the C file of a kernel from what is told of its writes: `taken, 14 full, 6 free, 4 useless, 2 select`. Calls have no free line."""
     words, found = free_words(header), words_of(text)
-    if is_branched(text):
-        yield from (f"{name}: it has many jumps, and `{word}`" for word in found if word == "SKIP" or word[:1] == "F" and word[1:] in words)
-        return
     full, free, useless, select = map(int, re.fullmatch(r"taken, (\d+) full, (\d+) free, (\d+) useless, (\d+) select", told).groups())
     calls, kept = found.count("VCALL"), sum(word in words for word in found)
     freed_here = sum(word.removeprefix("F") in words for word in found) - kept

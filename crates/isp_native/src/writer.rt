@@ -9,15 +9,13 @@ ghost use Rattle.isp_native.specs.Text.{IsCText, c_text, header_text, numbered};
 
 use crate::page::Page;
 use isp_base::Span;
-use isp_code::{Code, Function, Instr};
+use isp_code::{Code, Function};
 use isp_lanes_read::{Tables, check, find};
 use std::alloc::{AllocError, Global};
 
-// No tables are looked for where a function has more instructions, or more jumps that are taken or not: each of those may double
-// what the search for tables takes.
-const MOST_LINES: usize = 1024;
-
-const MOST_BRANCHES: usize = 12;
+// No tables are looked for where a function has more instructions. The search looks at each with all vectors that are read later: 12,000
+// instructions on 1,000 variables that live in all of them took six seconds, as many on a few variables a tenth of one.
+const MOST_LINES: usize = 8192;
 
 /// The C file of code: a line for each instruction, in their order, over `include/isp_machine.h`. Where nobody reads
 /// the lanes again that an instruction has to keep, its line has the free word, and where nobody reads what it writes, the
@@ -47,15 +45,7 @@ fn tables_of(alloc: Global, code: &Code) -> Result<Option<Tables>, AllocError>
 }
 
 fn is_large(code: &Code) -> bool {
-    code.functions().iter().any(|f| is_long(&f.code))
-}
-
-fn is_long(code: &[Instr]) -> bool {
-    let branches = code
-        .iter()
-        .filter(|instr| matches!(instr, Instr::JumpIf { .. }))
-        .count();
-    code.len() > MOST_LINES || branches > MOST_BRANCHES
+    code.functions().iter().any(|f| f.code.len() > MOST_LINES)
 }
 
 // The C file of code, by tables or without.
