@@ -6,3 +6,5 @@ mod Whole
 mod SoloRuns
 mod Answered
 mod FromSource
+mod Exported
+mod Modules

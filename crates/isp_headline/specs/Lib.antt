@@ -4,3 +4,4 @@ pub mod BoundHeadline
 pub mod SoloIsRun
 pub mod Answers
 pub mod FromSource
+pub mod ModuleHeadline

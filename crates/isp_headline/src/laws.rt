@@ -3,11 +3,13 @@
 ghost use Rattle.isp_headline.specs.BoundHeadline.{BoundHeadline};
 ghost use Rattle.isp_headline.specs.FromSource.{ByExec, ByRun};
 ghost use Rattle.isp_headline.specs.Headline.{Headline};
+ghost use Rattle.isp_headline.specs.ModuleHeadline.{ModuleHeadline};
 ghost use Rattle.isp_headline.specs.OneProgram.{NoneRefused, OneProgram};
 ghost use Rattle.isp_headline.specs.SoloIsRun.{SoloIsRun};
 
 use isp_asm::text_laws;
 use isp_engine::SourceFiles;
+use isp_wasm::kernels_agree;
 
 /// A text is at most one program, and no program is refused.
 pub fn one_program()
@@ -27,6 +29,14 @@ pub fn headline()
 pub fn bound_headline()
     ensures { BoundHeadline }
 {}
+
+/// The same of a call in the module of WebAssembly that the code is: it returns or traps exactly when the gang's meaning ends or traps, with
+/// its arrays, value and output, and otherwise goes on with the same output so far.
+pub fn module_headline()
+    ensures { ModuleHeadline }
+{
+    kernels_agree();
+}
 
 /// What `solo` answers is what each run answers that has a budget large enough.
 pub fn solo_is_run()

@@ -5,4 +5,6 @@ mod calls;
 mod laws;
 
 pub use calls::{Refusal, compile_as_meant, run_as_meant};
-pub use laws::{bound_headline, by_exec, by_run, headline, one_program, solo_is_run};
+pub use laws::{
+    bound_headline, by_exec, by_run, headline, module_headline, one_program, solo_is_run,
+};
