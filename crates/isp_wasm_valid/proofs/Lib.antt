@@ -1,0 +1,5 @@
+mod Folded
+mod Control
+mod Sections
+mod Exports
+mod Valid
