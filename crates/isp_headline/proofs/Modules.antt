@@ -1,16 +1,20 @@
 -- A call in the module of a text's code does what the gang does.
-use Rattle.std.proofs.Common.{◌≡◌, ℕ, zero, suc, ◌≤◌, List, [], Option, Some, None, true, refl, sym, ◌∙◌, subst}
+use Rattle.std.proofs.Common.{◌≡◌, ℕ, zero, suc, ◌^◌, ◌<◌, ◌≤◌, List, [], length, Option, Some, None, Bool, true, false, not, ◌&&◌, refl, sym, ◌∙◌, subst, arith}
+use Rattle.std.specs.Prelude.{◌||◌, nat_lt}
+use Rattle.std.proofs.lemmas.Bool.Decides.{nat_tests}
 use Rattle.isp_base.specs.Binding.{has_signature}
 use Rattle.isp_base.specs.Outcomes as outcomes
 use Rattle.isp_base.specs.Outcomes.{Outcome, Ends, Traps, GoesOn}
 use Rattle.isp_base.specs.Prefixes.{IsPrefix}
 use Rattle.isp_base.specs.Rows.{Row}
+use Rattle.isp_base.specs.Types.{gang_width}
 use Rattle.isp_base.specs.declared.signature.Argument.{Argument}
 use Rattle.isp_base.specs.declared.trap.Trap.{Trap}
 use Rattle.isp_base.specs.declared.types.Value.{Value}
 use Rattle.isp_code.specs.Entries as code
 use Rattle.isp_code.specs.Listing.{Listing, Routine}
 use Rattle.isp_code.specs.Machine.{outcome_after}
+use Rattle.isp_code.specs.Writable.{IsWritable}
 use Rattle.isp_meaning.proofs.Grown.{prefix_self, prefix_on}
 use Rattle.isp_meaning.specs.Entries.{IsEntry}
 use Rattle.isp_meaning.specs.Runs.{run_of}
@@ -22,9 +26,11 @@ use Rattle.isp_wasm_meaning.specs.Module.{code_in}
 use Rattle.isp_wasm.specs.Agreement as wasm
 use Rattle.isp_wasm.specs.Entry.{SameOutcomes, Shows, ReturnsSo, TrapsSo}
 use Rattle.isp_wasm.specs.Kernel.{KernelsAgree, in_call, passed}
-use Rattle.isp_wasm.specs.Module.{module_of}
+use Rattle.isp_wasm.specs.Module.{joined, is_plain, all_plain, is_covered, module_of}
 use Rattle.isp_wasm.specs.Places.{Setting}
+use Rattle.isp_wasm.specs.Stack.{has_call, bytes_in}
 use Rattle.isp_wasm.specs.Standing.{report_of}
+use Rattle.isp_wasm_valid.specs.Modules.{ModulesValid}
 use Rattle.isp_headline.specs.Headline.{ComesTo, NeverOver, HasWritten, DoesTheSame}
 use Rattle.isp_headline.specs.BoundHeadline.{DoesAsMeantBound}
 use Rattle.isp_headline.specs.ModuleHeadline.{CallDoesTheSame, ModuleDoesAsMeant, ModuleHeadline, RanOut}
@@ -199,18 +205,38 @@ call_does_the_same image xs at f g s silent gang same it =
 starts_in : (image : Listing) (entry : List ℕ) (f : ℕ) (g : Routine) (xs : List Argument) → code.IsExport image entry f g → has_signature (code.parameters_of g) xs ≡ true → code.IsEntry image entry xs f g
 starts_in image entry f g xs export fits = record { export = export; fits = fits }
 
-module_does_as_meant : KernelsAgree → (program : Program) (image : Listing) → code_fault image ≡ None → (entry : List ℕ) (f : ℕ) (h : TFunction) (xs : List Argument) → IsEntry program entry xs f h
+second : (a b : Bool) → (a && b) ≡ true → b ≡ true
+second true b e = e
+second false b e = absurd (let no : ⊥ = cc in no)
+
+first : (a b : Bool) → (a && b) ≡ true → a ≡ true
+first true b e = refl
+first false b e = absurd (let no : ⊥ = cc in no)
+
+low : (a b : ℕ) → nat_lt a b ≡ true → a < b
+low a b e = grind (arith, nat_tests)
+
+-- texts of code that has a covered function have few bytes
+few_texts : (image : Listing) (g : Routine) → is_covered image g ≡ true → length (module_of image).memory < 2 ^ 32
+few_texts image g covered =
+    low (length (joined image.texts)) (2 ^ 32)
+    (second (nat_lt (length g.code) (2 ^ 32)) (nat_lt (length (joined image.texts)) (2 ^ 32))
+    (second (nat_lt (suc (bytes_in (gang_width image.gang) g.locals)) (2 ^ 32)) (nat_lt (length g.code) (2 ^ 32) && nat_lt (length (joined image.texts)) (2 ^ 32))
+    (first (is_plain image g) (not (has_call g) || all_plain image) covered)))
+
+module_does_as_meant : KernelsAgree → ModulesValid → (program : Program) (image : Listing) → code_fault image ≡ None → IsWritable image → (entry : List ℕ) (f : ℕ) (h : TFunction) (xs : List Argument) → IsEntry program entry xs f h
     → DoesAsMeantBound program image entry f h xs → ModuleDoesAsMeant program image entry f xs
-module_does_as_meant law program image accepted entry f h xs starts it =
+module_does_as_meant law valid program image accepted writable entry f h xs starts it =
     let goes = starts_in image entry f it.routine xs it.export (subst (λ ps. has_signature ps xs ≡ true) (sym it.parameters) starts.fits) in
     record {
       routine = it.routine;
       export = it.export;
+      valid = λ covered. valid image accepted writable (few_texts image it.routine covered);
       only = one_exported image entry f it.routine it.export it.only;
       same = λ covered at s laid room.
           call_does_the_same image xs at f it.routine s laid.silent (λ n. run_of program f n xs) it.runs.same (law image accepted entry xs f it.routine goes covered at s laid room);
     }
 
-pub module_headline : KernelsAgree → ModuleHeadline
-module_headline law gang text image compiled accepted program source entry f h xs starts few =
-    module_does_as_meant law program image accepted entry f h xs starts (bound_headline gang text image compiled program source entry f h xs starts few)
+pub module_headline : KernelsAgree → ModulesValid → ModuleHeadline
+module_headline law valid gang text image compiled accepted writable program source entry f h xs starts few =
+    module_does_as_meant law valid program image accepted writable entry f h xs starts (bound_headline gang text image compiled program source entry f h xs starts few)

@@ -17,6 +17,7 @@ use Rattle.isp_meaning.specs.Entries.{IsEntry}
 use Rattle.isp_meaning.specs.Runs.{run_of}
 use Rattle.isp_code.specs.Entries as code
 use Rattle.isp_code.specs.Listing.{Listing, Routine}
+use Rattle.isp_code.specs.Writable.{IsWritable}
 use Rattle.isp_verify.specs.Faults.{code_fault}
 use Rattle.isp_runs.specs.Compilation.{IsCompilation}
 use Rattle.isp_front.specs.Front.{IsSource}
@@ -29,6 +30,8 @@ use Rattle.isp_wasm.specs.Agreement.{out_of, value_bits}
 use Rattle.isp_wasm.specs.Entry.{Shows, ReturnsSo, TrapsSo}
 use Rattle.isp_wasm.specs.Kernel.{HasRoom, IsLaidOut, in_call, passed}
 use Rattle.isp_wasm.specs.Module.{is_covered, module_of}
+use Rattle.isp_wasm_binary.specs.Binary.{sections_of}
+use Rattle.isp_wasm_valid.specs.Modules.{IsValidModule}
 use Rattle.isp_headline.specs.Headline.{ComesTo, NeverOver, HasWritten}
 
 -- ---- one call
@@ -62,7 +65,8 @@ IsExported m name k = (g : Function) × (slice_get m.functions k ≡ Some g) × 
 pub record ModuleDoesAsMeant (program : Program) (image : Listing) (entry : List ℕ) (f : ℕ) (xs : List Argument) : Type 0 where
   pub routine : Routine
   pub export : code.IsExport image entry f routine
-  -- Where it is covered, it is the function that the module exports under the name, and no other is.
+  -- Where it is covered, the module is valid, it exports this function under the name, and no other.
+  pub valid : is_covered image routine ≡ true → IsValidModule (sections_of (module_of image))
   pub only : is_covered image routine ≡ true → (k : ℕ) → IsExported (module_of image) entry k ↔ (k ≡ f)
   -- A host calls it, with the arguments in memory, and room for the arrays that are opened: that does what the gang's meaning does.
   pub same : is_covered image routine ≡ true → (at : List ℕ) (s : State) → IsLaidOut image xs at s → (uses_stack routine ≡ true → HasRoom image xs at f routine s)
@@ -80,6 +84,6 @@ IsModuleFaithful gang text image =
     → AreShort xs
     → ModuleDoesAsMeant program image entry f xs
 
--- of every text and code of it that the verifier accepts, as the image has that `compile` gives of it
+-- of every text and code of it in which the verifier finds no fault, and which has a text, as the image that `compile` gives
 abbrev pub ModuleHeadline : Type 0
-ModuleHeadline = (gang : Gang) (text : List ℕ) (image : Listing) → IsCompilation gang text image → code_fault image ≡ None → IsModuleFaithful gang text image
+ModuleHeadline = (gang : Gang) (text : List ℕ) (image : Listing) → IsCompilation gang text image → code_fault image ≡ None → IsWritable image → IsModuleFaithful gang text image

@@ -8,8 +8,9 @@ ghost use Rattle.isp_typed.specs.Typed.{Program};
 ghost use Rattle.isp_headline.specs.Answers.{Answers, Entered, IsMemory};
 ghost use Rattle.isp_headline.specs.BoundHeadline.{IsFaithfulBound};
 ghost use Rattle.isp_headline.specs.Headline.{IsFaithful};
+ghost use Rattle.isp_headline.specs.ModuleHeadline.{IsModuleFaithful};
 
-use crate::laws::{bound_headline, headline};
+use crate::laws::{bound_headline, headline, module_headline};
 use isp_base::Gang;
 use isp_engine::{Image, Report, RunFault, compile, execute};
 use isp_lex::SourceFault;
@@ -20,18 +21,23 @@ use thiserror::Error;
 ///
 /// The image does what the text means. From each exported function and all arguments the machine ends with some arrays, result and
 /// output, or traps with some arrays and output, exactly when the gang does so, and otherwise goes on with the same output so far.
-/// Where each instance stands alone, it ends with the arrays of its instances run one by one. The text of a program is not refused,
-/// but for memory. The refusals are those of `front`. 0: memory was refused.
+/// Where each instance stands alone, it ends with the arrays of its instances run one by one. A call in the image's module of WebAssembly
+/// returns and traps as the gang ends and traps. The text of a program is not refused, but for memory. The refusals are those of `front`. 0:
+/// memory was refused.
 pub fn compile_as_meant(alloc: Global, text: &str, gang: Gang) -> Result<Image, SourceFault>
     ensures compiled { IfOk result (IsCompilation gang text.now) }
     ensures faithful { IfOk result (IsFaithful gang text.now) }
     ensures bound { IfOk result (IsFaithfulBound gang text.now) }
+    ensures in_module { IfOk result (IsModuleFaithful gang text.now) }
     ensures only { (program : Program) → IsSource gang text.now program → IfErr result (λ e. e ≡ SourceFault.Memory) }
     ensures refused { IfErr result (λ e. (f : Fault) → e ≡ SourceFault.Refused f → IsFaulty gang text.now f) }
 {
     headline();
     bound_headline();
-    compile(alloc, text, gang)
+    module_headline();
+    let image = compile(alloc, text, gang)?;
+    let _code = image.code();
+    Ok(image)
 }
 
 /// Why a text gives no report.

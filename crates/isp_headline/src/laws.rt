@@ -10,6 +10,7 @@ ghost use Rattle.isp_headline.specs.SoloIsRun.{SoloIsRun};
 use isp_asm::text_laws;
 use isp_engine::SourceFiles;
 use isp_wasm::kernels_agree;
+use isp_wasm_valid::modules_are_valid;
 
 /// A text is at most one program, and no program is refused.
 pub fn one_program()
@@ -30,12 +31,13 @@ pub fn bound_headline()
     ensures { BoundHeadline }
 {}
 
-/// The same of a call in the module of WebAssembly that the code is: it returns or traps exactly when the gang's meaning ends or traps, with
-/// its arrays, value and output, and otherwise goes on with the same output so far.
+/// The same of a call in the module of WebAssembly that the code is, which is valid: it returns or traps exactly when the gang's meaning ends
+/// or traps, with its arrays, value and output, and otherwise goes on with the same output so far.
 pub fn module_headline()
     ensures { ModuleHeadline }
 {
     kernels_agree();
+    modules_are_valid();
 }
 
 /// What `solo` answers is what each run answers that has a budget large enough.

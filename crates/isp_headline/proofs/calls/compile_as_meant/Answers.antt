@@ -1,8 +1,16 @@
-use Rattle.isp_runs.proofs.BoundRuns.{each_ok}
+use Rattle.isp_lex.specs.declared.fault.SourceFault.TheVariants.{Memory}
+use Rattle.isp_front.proofs.Fronts.{err_is}
 use Rattle.isp_headline.proofs.calls.compile_as_meant.Goals as goal
 
+pub returns-in_err-image-clause-only : goal.returns-in_err-image-clause-only
+returns-in_err-image-clause-only c = λ program k.
+    err_is c.from_residual.result _ Memory c.from_residual.ensures.1 (c.in_err-image.ensures.only program k)
+
 pub returns-clause-faithful : goal.returns-clause-faithful
-returns-clause-faithful c = each_ok c.compile.result _ _ (c.headline.ensures c.args.gang c.args.text.now) c.compile.ensures.compiled
+returns-clause-faithful c = c.headline.ensures c.args.gang c.args.text.now c.in_ok-image.image c.in_ok-image.ensures.compiled
 
 pub returns-clause-bound : goal.returns-clause-bound
-returns-clause-bound c = each_ok c.compile.result _ _ (c.bound_headline.ensures c.args.gang c.args.text.now) c.compile.ensures.compiled
+returns-clause-bound c = c.bound_headline.ensures c.args.gang c.args.text.now c.in_ok-image.image c.in_ok-image.ensures.compiled
+
+pub returns-clause-in_module : goal.returns-clause-in_module
+returns-clause-in_module c = c.module_headline.ensures c.args.gang c.args.text.now c.in_ok-image.image c.in_ok-image.ensures.compiled c.code.ensures.fine c.code.ensures.writable
