@@ -125,9 +125,11 @@ module _ (w : Setting) (machine : ℕ → Outcome) (call : ℕ → Result) where
 
     -- where the machine has written what the call has
     written : (n m : ℕ) (r : Result) (o : Outcome) → call n ≡ r → machine m ≡ o → outcomes.out_of o ≡ wasm.out_of r → HasWritten machine (wasm.out_of (call n))
-    written n m r o a b same =
-        (m, subst (λ z. IsPrefix (wasm.out_of z) (outcomes.out_of (machine m))) (sym a)
-        (subst (λ z. IsPrefix (wasm.out_of r) (outcomes.out_of z)) (sym b) (subst (IsPrefix (wasm.out_of r)) (sym same) (prefix_self (wasm.out_of r)))))
+    written n m r o a b same = (
+      m,
+      subst (λ z. IsPrefix (wasm.out_of z) (outcomes.out_of (machine m))) (sym a)
+          (subst (λ z. IsPrefix (wasm.out_of r) (outcomes.out_of z)) (sym b) (subst (IsPrefix (wasm.out_of r)) (sym same) (prefix_self (wasm.out_of r)))),
+    )
 
     none_written : (s : State) → call 0 ≡ OutOfFuel s → s.out ≡ [] → HasWritten machine (wasm.out_of (call 0))
     none_written s e silent = (0, subst (λ z. IsPrefix (wasm.out_of z) (outcomes.out_of (machine 0))) (sym e) (subst (λ z. IsPrefix z (outcomes.out_of (machine 0))) (sym silent) (outcomes.out_of (machine 0), refl)))
