@@ -14,7 +14,7 @@ use isp_lanes_read::{Tables, check, find};
 use std::alloc::{AllocError, Global};
 
 // No tables are looked for where a function has more instructions. The search looks at each with all vectors that are read later: 12,000
-// instructions on 1,000 variables that live in all of them took six seconds, as many on a few variables a tenth of one.
+// instructions on 1,000 variables that live in all of them took six seconds, as many on a few variables a quarter of one.
 const MOST_LINES: usize = 8192;
 
 /// The C file of code: a line for each instruction, in their order, over `include/isp_machine.h`. Where nobody reads

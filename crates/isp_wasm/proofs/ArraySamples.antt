@@ -20,8 +20,8 @@ use Rattle.isp_wasm.specs.Brighten.{s, m, a}
 use Rattle.isp_wasm.specs.Module.{is_covered, module_of}
 
 -- so many elements of 32 bits
-abbrev pub row : ℕ → Local
-row n = record { sharing = Shared; elem = I32; size = n }
+abbrev pub i32s : ℕ → Local
+i32s n = record { sharing = Shared; elem = I32; size = n }
 
 -- element 1 of its array, and 5 more there, for the caller to find if it were its own
 abbrev pub inner_code : List Instr
@@ -41,10 +41,10 @@ kernel_code =
     ∷ instr.Return (Some (s 1)) ∷ []
 
 abbrev pub kernel : Routine
-kernel = record { name = codes "sum"; exported = true; returns = GivesScalar I32; params = []; locals = row 2 ∷ []; scalars = I64 ∷ I32 ∷ I32 ∷ []; vectors = []; masks = 1; code = kernel_code }
+kernel = record { name = codes "sum"; exported = true; returns = GivesScalar I32; params = []; locals = i32s 2 ∷ []; scalars = I64 ∷ I32 ∷ I32 ∷ []; vectors = []; masks = 1; code = kernel_code }
 
 abbrev pub inner : Routine
-inner = record { name = codes "one"; exported = false; returns = GivesScalar I32; params = []; locals = row 3 ∷ []; scalars = I64 ∷ I32 ∷ I32 ∷ []; vectors = []; masks = 1; code = inner_code }
+inner = record { name = codes "one"; exported = false; returns = GivesScalar I32; params = []; locals = i32s 3 ∷ []; scalars = I64 ∷ I32 ∷ I32 ∷ []; vectors = []; masks = 1; code = inner_code }
 
 abbrev pub both : Listing
 both = record { gang = W4; places = record { start = 0; end = 0 } ∷ []; texts = []; routines = kernel ∷ inner ∷ [] }
