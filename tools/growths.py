@@ -2,8 +2,8 @@
 
 A request is made with its first growth refused, then with its second, until it asks for fewer; and once more so with all behind it refused,
 too. Under each refusal the program must answer 7 and the line of memory, and have written a beginning of what the request writes; or just what
-the request says, where the system's library does without the growth. `ispx explain` may also end as the request says with the line of memory in
-place of what it explains. At last, with no refusal, all is as the request says; and it met as many refusals as any request does at least.
+the request says, where the system's library does without the growth. `ispx explain` and `test` may also end as the request says with the line of memory in
+place of what they say. At last, with no refusal, all is as the request says; and it met as many refusals as any request does at least.
 """
 import os
 import pathlib
@@ -28,6 +28,7 @@ TAKEN = {
         "and run", "a value in place of an array, by its parameter", "no entry, and what is exported", "count: output, answer and counts",
         "trace: with lanes, in a window", "the C file of a source", "the prototypes of the exported functions",
         "the WebAssembly module of a source", "no module where a function calls one with 4 GB of arrays", "a command that is none"],
+    "test.rows": ["an array of another name", "an answer without arrays"],
 }
 
 
@@ -60,7 +61,7 @@ class Growths:
                 self.out = bytes.fromhex(rest)
             elif word == "err":
                 self.err = spelt_out(rest).replace("⟦⟧", place) + "\n"
-        self.explains = self.words[1] == "explain"
+        self.explains = self.words[1] in ("explain", "test")
 
     def run(self, _program):
         """Returns what differs, or None."""

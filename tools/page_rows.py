@@ -18,7 +18,7 @@ An example is a block between ``` that begins with `$ `:
     $ isp WORD..                    what it prints, and last `[STATUS]` where that is not 0; `$ bin/isp WORD..` too
     $ isp WORD.. > NAME             what it prints is what the `$ cat NAME` behind it shows
     $ ispx WORD..                   the same of `ispx`; of `ispx explain` all behind what `isp` writes to standard output goes to standard error,
-                                    of `ispx run` all where the status is not 0
+                                    of `ispx run` all where the status is not 0, of `ispx test SOURCE`, which reads SOURCE.tests too, nothing
 
 Other commands count for nothing. A file that a page does not show is taken from the repository, where it is there. Of a command that
 goes into another, or reads a file that is not shown since another made it, there is no row; its name is printed. The format of the
@@ -120,7 +120,7 @@ def row(heading, words, files, shown, program="words", outs=None):
         out, err = [*out, *err][:outs], [*out, *err][outs:]
     yield f"=== {heading}"
     # (a file of `ispx run` stands behind `@`)
-    for word in [it.rpartition("@")[2] for it in words]:
+    for word in [it.rpartition("@")[2] for it in [*words, *([f"{words[-1]}.tests"] if words[0] == "test" else [])]]:
         if word in files:
             yield f"file {word} {spelt(files[word])}"
         elif re.search(r"[./]", word) and os.path.isfile(f"{ROOT}/{word}"):
@@ -176,7 +176,7 @@ def rows_of(page):
                 print(f"page_rows.py: no row of `{command}`", file=sys.stderr)
             else:
                 # (what `ispx run` refuses it shows in several lines)
-                outs = 0 if words[:2] == ["ispx", "run"] and parted(shown)[0] else None
+                outs = {"run": 0 if parted(shown)[0] else None, "test": len(shown)}.get(words[1]) if words[0] == "ispx" else None
                 rows += row(heading, words[1:], files, shown, PROGRAM[words[0]], outs)
                 printed[tuple(words[1:])] = shown
     return rows, differ

@@ -17,7 +17,7 @@ use Rattle.isp_asm.specs.Spelling as says
 use Rattle.isp_asm.specs.Spelling.{Line, lines_of, routine_lines, head_lines, if_any, place_line, text_line, param_line, local_line, instr_line, scalars_line, vectors_line}
 use Rattle.isp_asm.specs.reader.Reading.{line_kind, row_head}
 
--- each line may follow the one before it, and the text may end behind the last
+-- each line may follow the one before it, and the text may end after the last
 abbrev pub Follows : Seen → List Line → Type 0
 Follows s [] = may_end s.last ≡ true
 Follows s (l ∷ ls) = (may_follow s.last (line_kind l) ≡ true) × (has_room s (line_kind l) ≡ true) × Follows (after_kind s (line_kind l)) ls
@@ -36,7 +36,7 @@ row_kind (call c) = refl
 pub instr_kind : (i : Instr) → line_kind (instr_line i) ≡ kind.Instr
 instr_kind i = row_kind (row i)
 
--- what may stand behind a line, at each place of a function
+-- what may stand after a line, at each place of a function
 abbrev InCode : Kind → Type 0
 InCode j = (may_follow j kind.Instr ≡ true) × (may_follow j kind.End ≡ true)
 
@@ -61,7 +61,7 @@ BeforeTexts j = (may_follow j kind.Text ≡ true) × BeforeFunctions j
 abbrev BeforePlaces : Kind → Type 0
 BeforePlaces j = (may_follow j kind.Place ≡ true) × BeforeTexts j
 
--- a function and what stands behind it
+-- a function and what stands after it
 module _ (h : Routine) (rest : List Line) where
   abbrev code_on : List Line
   code_on = map instr_line h.code ++ (says.End ∷ rest)

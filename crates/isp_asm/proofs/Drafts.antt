@@ -1,4 +1,4 @@
--- What a further line adds to what lines said: itself, behind them.
+-- What a further line adds to what lines said: itself, after them.
 use Rattle.std.specs.Prelude.{◌≡◌, ℕ, suc, Bool, true, false, ◌&&◌, List, [], ◌∷◌, ◌++◌, length, map}
 use Rattle.std.specs.List.{list_all}
 use Rattle.std.proofs.Common.{refl, ap, ◌∙◌, subst, arith, append_assoc}
@@ -102,7 +102,7 @@ fit_all h f = rw (f.name, f.params, f.locals, f.masks, f.code) refl
 push_fits : {A : Type 0} (p : A → Bool) (xs : List A) (x : A) → list_all p xs ≡ true → p x ≡ true → list_all p (xs ++ x ∷ []) ≡ true
 push_fits p xs x h k = rw (list_all-append p xs (x ∷ []), h, k) refl
 
--- ---- each kind of line behind the lines so far
+-- ---- each kind of line after the lines so far
 
 module _ (c : Listing) where
   place_behind : (s : Span) → c.texts ≡ [] → c.routines ≡ [] → lines_of (record c { places = c.places ++ s ∷ [] }) ≡ lines_of c ++ says.Place s ∷ []
@@ -188,7 +188,7 @@ module _ (c : Listing) (h : Routine) where
       before_instr (AddsAt (says.Do i)) (λ o. instr_behind c h i) (λ o. instr_behind c h i) k (subst (λ (j : Kind). may_follow k j ≡ true) (instr_kind i) m)
   adds says.End k m f = before_end (AddsAt says.End) (λ o. end_behind c h) (λ o. end_behind c h) k m
 
-  -- what comes behind the line has not come yet
+  -- what comes after the line has not come yet
   abbrev KeepsAt : Line → Kind → Type 0
   KeepsAt l k = Ordered k c h → IsDraft (taken l (record { last = k; code = c; begun = h }))
 

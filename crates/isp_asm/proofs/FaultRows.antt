@@ -452,7 +452,7 @@ later_line = refl
 two_functions : IsRead (body ++ line "end" ++ line "func g inner v u8" ++ line "par a b x" ++ line "loc p i8 2" ++ line "s u64" ++ line "v u8 u8" ++ line "m 2" ++ line "ret v1" ++ line "end")
 two_functions = refl
 
--- a place behind the last number is one line too many, whatever its operands are
+-- a place after the last number is one line too many, whatever its operands are
 no_room : words_line_fault (record { last = kind.Place; places = 2 ^ 32; texts = 0 }) (codes "place" ∷ codes "x" ∷ codes "y" ∷ []) ≡ Some BadLine
 no_room = refl
 

@@ -55,12 +55,12 @@ head_plain h = listed heads refl (head_found h)
         let q = and_parts (is_plain (head_word g)) (list_all (λ g. is_plain (head_word g)) gs) k in
         at_one g (head_word h) (first_spelled gs (head_word h)) _ q.0 (listed gs q.1) e
 
--- the words behind the head of a line
+-- the words after the head of a line
 abbrev row_operands : Row → List (List ℕ)
 row_operands (line o rs t) = map register_word rs ++ tail_words t
 row_operands (call c) = function_word c.function ∷ back_word c.result ∷ register_word c.mask ∷ place_word c.place ∷ map register_word c.arguments
 
--- what stands behind the first word is right for that word
+-- what stands after the first word is right for that word
 pub record Operands (h : Head) (ws : List (List ℕ)) : Type 0 where
   pub forms : List Form
   pub known : forms_at h (length ws) ≡ Some forms

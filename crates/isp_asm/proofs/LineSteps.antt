@@ -1,4 +1,4 @@
--- A line of a text, as it is taken; and the lines behind it.
+-- A line of a text, as it is taken; and the lines after it.
 use Rattle.std.specs.Prelude.{◌≡◌, ◌≢◌, ℕ, suc, ◌+◌, ◌<◌, ◌≤◌, Bool, true, false, not, ◌&&◌, ◌==◌, cond, length, get_or, List, [], ◌∷◌, ◌++◌, Option, Some, None, MatchOption, Result, Ok, Err, IfOk}
 use Rattle.std.specs.Borrow.{Bor}
 use Rattle.std.specs.List.{list_all, slice_split, onto_first}
@@ -54,7 +54,7 @@ line_is l text e = line_text_is (line_words l) ∙ ap (λ ws. line_body ws ++ 10
 lines_and : (ls : List Line) (l : Line) → lines_text (ls ++ l ∷ []) ≡ lines_text ls ++ line_text (line_words l)
 lines_and ls l = flat_map-append (λ l. line_text (line_words l)) ls (l ∷ []) ∙ ap (λ bs. lines_text ls ++ bs) (append-nil (line_text (line_words l)))
 
--- the words behind a first word are read as a line that may stand there
+-- the words after a first word are read as a line that may stand there
 line_stands : (s : Seen) (ws : List (List ℕ)) (h : Head) (l : Line) → takes s (kind_of h) ≡ true → line_words l ≡ head_word h ∷ ws → line_fits l ≡ true → Stands s l
 line_stands s ws h l stands words fits =
     let r = line_right l fits in
@@ -104,7 +104,7 @@ feed_split rest (Some x) e =
     let p = split_parts 10 rest (Some x) e (omega arith) in
     (p.0, ap (slice_split is_feed) p.0 ∙ split_at is_feed x.0.now 10 x.1.now (no_feed x.0.now p.1) refl)
 
--- a line without a fault leaves the fault to those behind it
+-- a line without a fault leaves the fault to those after it
 pub line_step : (s : Seen) (n : ℕ) (rest line behind : List ℕ) (f : Option Fault) → slice_split is_feed rest ≡ line ∷ slice_split is_feed behind
     → line_fault s line ≡ None → fault_from s n (slice_split is_feed rest) ≡ f
     → fault_from (after_line s line) (n + 1) (slice_split is_feed behind) ≡ f

@@ -38,7 +38,7 @@ type_kept U32 = refl
 type_kept I64 = refl
 type_kept U64 = refl
 
--- numbers, and numbers behind a letter
+-- numbers, and numbers after a letter
 pub number_kept : (n : ℕ) → number_fits n ≡ true → digits_value 10 (decimal n) ≡ n
 number_kept n h = digits_value-decimal own n (number_lt n h)
 

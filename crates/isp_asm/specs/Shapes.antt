@@ -1,4 +1,4 @@
--- How many registers stand behind the word of an instruction, and what ends the line.
+-- How many registers stand after the word of an instruction, and what ends the line.
 use Rattle.std.specs.Prelude.{ℕ, true, false}
 use Rattle.isp_asm.specs.declared.head.Op.{Op}
 use Rattle.isp_asm.specs.declared.head.Op.TheVariants as op

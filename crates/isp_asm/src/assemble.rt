@@ -318,7 +318,7 @@ fn store(op: Op, registers: &[Register], place: u32) -> Instr
     }
 }
 
-// What stores or loads the lanes of a mask one behind the other.
+// What stores or loads the lanes of a mask one after the other.
 fn packed(op: Op, registers: &[Register], place: u32) -> Instr
     requires { IsTrue (is_packed op) }
     ensures { result ≡ making.made op registers.now (Tail.Place place) }

@@ -64,7 +64,7 @@ fn header(words: &[&str]) -> Result<Gang, Rule>
     lanes(version, gang, width)
 }
 
-// The lanes of a gang, behind its version.
+// The lanes of a gang, after its version.
 fn lanes(version: &str, gang: &str, width: &str) -> Result<Gang, Rule>
     ensures spelled { IfOk result (λ g. line_words (says.Isp g) ≡ codes "isp" ∷ version.now ∷ gang.now ∷ width.now ∷ []) }
     ensures ok { OnOk result (behind_fault head.Isp (version.now ∷ gang.now ∷ width.now ∷ []) ≡ None) }
@@ -230,7 +230,7 @@ fn end(words: &[&str]) -> Result<(), Rule>
     }
 }
 
-/// The line with this first word and these words behind it.
+/// The line with this first word and these words after it.
 pub(crate) fn read(alloc: Global, head: Head, words: &[&str]) -> Result<Line, LineFault>
     ensures spelled { IfOk result (λ l. line_words (said l) ≡ head_word head ∷ words_of words.now) }
     ensures fits { IfOk result (λ l. line_fits (said l) ≡ true) }

@@ -1,4 +1,4 @@
-//! What stands behind the word of an instruction, as it is read.
+//! What stands after the word of an instruction, as it is read.
 ghost use Rattle.std.specs.Prelude.{◌≡◌, [], ◌∷◌, ◌++◌, length, get_or, map, replicate, true, IfOk, IfErr, OnOk, Some, None};
 ghost use Rattle.std.specs.List.{list_all};
 ghost use Rattle.isp_code.specs.Writable.{register_fits};

@@ -53,7 +53,7 @@ impl Page {
         }
     }
 
-    // What stores, and what stores or loads lanes one behind the other.
+    // What stores, and what stores or loads lanes one after the other.
     fn access(&mut self, instr: &Instr) -> Result<(), AllocError>
         requires { IsTrue (is_access instr.now) }
         ensures { OnOk result (self.new ≡ self.old ++ line_text (instr_words instr.now)) }

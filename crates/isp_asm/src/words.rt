@@ -246,7 +246,7 @@ fn positive(digits: &[u8]) -> Result<i128, Rule>
     }
 }
 
-// What stands behind a minus.
+// What stands after a minus.
 fn negative(digits: &[u8]) -> Result<i128, Rule>
     ensures spelled { IfOk result (λ z. signed_decimal z ≡ 45 ∷ digits.now) }
     ensures fits { IfOk result (λ z. constant_fits z ≡ true) }

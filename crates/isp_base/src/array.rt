@@ -116,7 +116,7 @@ impl Array {
         }
     }
 
-    /// One more element, behind the others.
+    /// One more element, after the others.
     pub fn push(&mut self, bits: u64) -> Result<(), AllocError>
         requires { bits < 2 ^ width self.old.elem }
         ensures ok { OnOk result (self.new ≡ record { elem = self.old.elem; bits = self.old.bits ++ bits ∷ [] }) }

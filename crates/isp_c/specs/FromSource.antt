@@ -1,5 +1,5 @@
 -- From source to bytes: what `isp_run` and `isp_native` do with the code text that `isp_compile` wrote.
---     Leaves         what stands behind a call whose machine came to an outcome: arguments, output, report and status
+--     Leaves         what stands after a call whose machine came to an outcome: arguments, output, report and status
 --     FromSource     a machine came to it that does what the source means
 --     FromSourceToC  the C file is that of code which does so
 use Rattle.std.specs.Prelude.{◌≡◌, ◌⊎◌, ℕ, ◌<◌, ◌≤◌, List, length, take, None, Ok}
@@ -25,7 +25,7 @@ use Rattle.isp_c.specs.Translating.{Translates}
 use Rattle.isp_reports.specs.declared.refusal.Refusal.TheVariants.{Failed, Short}
 use Rattle.isp_reports.specs.declared.report.Report.{Report}
 
--- the bytes of the arguments before and behind, and what is said: an end or a trap leaves its arrays where the arguments stood
+-- the bytes of the arguments before and after, and what is said: an end or a trap leaves its arrays where the arguments stood
 abbrev pub LeavesArguments : Outcome → List ℕ → List ℕ → Report → ℕ → Type 0
 LeavesArguments (Ends arrays x out) old new r status = (new ≡ fronted (packed_answer arrays None) old) × Done (length out) (returned_bits x) r status
 LeavesArguments (Traps t arrays out) old new r status = (new ≡ fronted (packed_answer arrays None) old) × Refuses (Failed (Trapped t)) (length out) r status
@@ -43,7 +43,7 @@ pub record Leaves (o : Outcome) (old new room given : List ℕ) (r : Report) (st
 -- A source is compiled for a gang, and the first bytes of the room, as many as the report says, are code text. Of the program that the
 -- source is, an exported function is run from bytes that hold arguments of it. Then a machine runs the function as is meant (it ends and
 -- traps exactly as the gang does, else goes on with the same output so far; and ends as the instances do one by one, where each stands
--- alone), and what stands there is what it has come to behind the budget. Or memory was refused, and nothing is changed.
+-- alone), and what stands there is what it has come to after the budget. Or memory was refused, and nothing is changed.
 abbrev pub FromSource : Type 0
 FromSource =
     (gang : Gang) (source room text : List ℕ) (first : Report)

@@ -94,7 +94,7 @@ Stops (stop.Trapped t) ran old new r status = (new ≡ answered ran old) × Refu
 Stops stop.Running ran old new r status = (new ≡ old) × Refuses (Failed BudgetUsed) (length ran.output.items) r status
 Stops stop.Memory ran old new r status = ⊥
 
--- the arguments before and behind a run, the room for its output, and what is said; where memory is refused or the room is too
+-- the arguments before and after a run, the room for its output, and what is said; where memory is refused or the room is too
 -- small, both stay
 pub record Delivers (ran : BoundReport) (old new room given : List ℕ) (r : Report) (status : ℕ) : Type 0 where
   pub memory : ran.stop ≡ stop.Memory → (new ≡ old) × (given ≡ room) × Refuses (Failed Memory) 0 r status

@@ -86,7 +86,7 @@ fn word(alloc: Global, bytes: &[u8]) -> Result<String, Unspelt> {
     }
 }
 
-// The words, behind the name of the program.
+// The words, after the name of the program.
 fn spelt(alloc: Global, words: &[Text<'_>]) -> Result<Vec<String>, Unspelt> {
     let mut all = Vec::new(alloc);
     all.push(String::from_str(alloc, "isp")?)?;
@@ -117,11 +117,11 @@ impl<T: Drop> From<AllocFailed<T>> for Unspelt {
 
 // ---- the call
 
-/// Does what the words ask for, as the program does, with files that stand in memory. The words are those behind `isp`,
+/// Does what the words ask for, as the program does, with files that stand in memory. The words are those after `isp`,
 /// and the files that they name are the first of that name in `files`.
 ///
 /// What goes to standard output is written at the front of `out`, and what goes to standard error at the front of `err`;
-/// `used` has both lengths, and the bytes behind them stay. The result is the status of the program, or
+/// `used` has both lengths, and the bytes after them stay. The result is the status of the program, or
 ///
 /// - 7: memory was refused. The rooms have what was written until then, or both stay and `used` is 0.
 /// - 10: `out` or `err` has fewer bytes than were written, which are as many as `used` says. Both stay.

@@ -11,7 +11,7 @@ use isp_reports::{Refusal, Report, give, refuse};
 use std::alloc::Global;
 
 /// Compiles the source for a gang of so many instances, and writes the code text at the front of `code`, its length to
-/// `report.used`. The bytes behind it stay. The result is the status:
+/// `report.used`. The bytes after it stay. The result is the status:
 ///
 /// - 0: the code text is that of a program that does what the source means.
 /// - 1: the source is refused; the numbers of `front`, and the place.

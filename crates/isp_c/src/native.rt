@@ -10,7 +10,7 @@ use isp_reports::{Refusal, Report, give, refuse};
 use std::alloc::Global;
 
 /// Reads code text, and writes its C file, a line for each instruction, at the front of `file`, its length to
-/// `report.used`. The bytes behind it stay. A C compiler makes native code of it with `include/isp_machine.h`
+/// `report.used`. The bytes after it stay. A C compiler makes native code of it with `include/isp_machine.h`
 /// (docs/EMBEDDING.md). The result is the status:
 ///
 /// - 0: the file is that of the code.

@@ -34,14 +34,14 @@ pub struct Job<'a> {
 ///
 /// `packed` holds the arguments as `isp_packed` defines them: for each parameter in turn, the little end first and nothing
 /// between, a value in 8 bytes, zero above its width, or an array as 8 bytes with the number of its elements and then the
-/// elements, each in as many bytes as its type has. Behind the run it begins with the arrays in the same form, one behind
-/// the other, and the bytes behind them stay. What `print` wrote is at the front of `output`, its length in `report.used`,
-/// and the bytes behind it stay. The result is the status:
+/// elements, each in as many bytes as its type has. After the run it begins with the arrays in the same form, one after
+/// the other, and the bytes after them stay. What `print` wrote is at the front of `output`, its length in `report.used`,
+/// and the bytes after it stay. The result is the status:
 ///
 /// - 0: the run ended. `report.result` has what it returned.
 /// - 3: it trapped: kind, place and instance. The arrays are as they were then.
 /// - 4: the budget is used up. The arguments stay, so the call can be made again with a greater one.
-/// - 5: 50 no function is exported under this name; 72 the bytes end before this parameter does; 73 there are bytes behind
+/// - 5: 50 no function is exported under this name; 72 the bytes end before this parameter does; 73 there are bytes after
 ///   the last one; 75 this element of this parameter is no value of its type; 76 this array has more than 2^63 - 1
 ///   elements.
 /// - 6: the code text is no UTF-8.

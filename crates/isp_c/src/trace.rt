@@ -39,7 +39,7 @@ impl Trace<'_> {
 }
 
 /// Reads code text, runs the entry from the arguments that `packed` holds, as isp_run does, and writes the lines of the steps that
-/// are asked for at the front of `lines`, their length to `report.used`. The bytes behind them stay. A line has the number of the
+/// are asked for at the front of `lines`, their length to `report.used`. The bytes after them stay. A line has the number of the
 /// step, the function, the instruction and its line of code text, the masks that it read and what it wrote
 /// (crates/isp_traces/README.md). The result is the status:
 ///

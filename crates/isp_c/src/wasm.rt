@@ -11,7 +11,7 @@ use isp_wasm_file::{Refusal as NoModule, file, refusal_line};
 use std::alloc::{AllocError, Global};
 
 /// Reads code text, and writes its module of WebAssembly at the front of `file`, its length to `report.used`: what `ispx wasm`
-/// writes, with the code text in a section of its own behind it, where a host reads what each function takes. The bytes behind
+/// writes, with the code text in a section of its own after it, where a host reads what each function takes. The bytes after
 /// it stay. The result is the status:
 ///
 /// - 0: the bytes are those of the code's module.

@@ -89,7 +89,7 @@ impl Code {
     }
 
     /// Adds a place and gives its number. 0 where memory is refused; 46 where the place ends before it starts or
-    /// behind byte 1,048,576, or there are 4,294,967,296 places. The code is then as before.
+    /// after byte 1,048,576, or there are 4,294,967,296 places. The code is then as before.
     pub fn add_place(&mut self, place: Span) -> Result<u32, CodeLimit>
         ensures number { IfOk result (λ n. n ≡ length self.old.places) }
         ensures added { OnOk result (self.new ≡ record self.old { places = self.old.places ++ place ∷ [] }) }

@@ -43,7 +43,7 @@ pub enum Returns {
 
 /// A function: its registers by class, and its instructions.
 ///
-/// The parameters are the first registers of their classes, in their order. Behind them come the local arrays, the
+/// The parameters are the first registers of their classes, in their order. After them come the local arrays, the
 /// further scalar registers and the further vector registers. Mask registers are counted alone; the first has the
 /// mask of the call.
 #[derive(Drop)]

@@ -62,7 +62,7 @@ pub enum Scan {
 }
 
 /// What a lane gets from another by one number: the value of the lane with this number, or of the one that many lanes
-/// above, where behind the last lane the first follows, or none does and there is 0.
+/// above, where after the last lane the first follows, or none does and there is 0.
 #[derive(Clone, Copy)]
 pub enum Exchange {
     Broadcast,
@@ -189,7 +189,7 @@ pub enum VectorInstr {
         mask: Register,
         place: u32,
     },
-    /// The element as many behind an index as the lane's number says.
+    /// The element as many after an index as the lane's number says.
     LoadRun {
         array: Register,
         index: Register,
@@ -353,7 +353,7 @@ pub enum Instr {
         mask: Register,
         place: u32,
     },
-    /// Stores lanes at consecutive elements, each as many behind an index as its number says.
+    /// Stores lanes at consecutive elements, each as many after an index as its number says.
     StoreRun {
         array: Register,
         index: Register,

@@ -18,7 +18,7 @@ const LOCAL_LIMIT: u32 = 65_536;
 /// Every number in the text of code is below this, but for constants.
 const NUMBER_LIMIT: u64 = 1 << 32;
 
-/// Whether the text can have a place: it does not end before it starts, nor behind the longest source.
+/// Whether the text can have a place: it does not end before it starts, nor after the longest source.
 pub(crate) fn place_fits(place: Span) -> bool
     ensures { result ≡ writable.place_fits place }
 {

@@ -1,1 +1,2 @@
+mod Feeds
 pub mod Stories

@@ -8,6 +8,7 @@ use Rattle.std.specs.Prelude.{◌≡◌, ◌≢◌, ◌⊎◌, ℕ, List, [], Bo
 use Rattle.isp_base.specs.declared.types.Gang.{Gang}
 use Rattle.isp_code.specs.Listing.{Listing}
 use Rattle.isp_command_line.specs.declared.words.RunRequest.{RunRequest}
+use Rattle.isp_engine.specs.declared.commands.Job.{Job}
 use Rattle.isp_engine.specs.declared.failure.Failure.{Failure}
 use Rattle.isp_engine.specs.declared.failure.Failure.TheVariants.{Memory}
 use Rattle.isp_engine.specs.Commands.{Given, NotGiven, exit_status, job_of_run}
@@ -32,14 +33,19 @@ AnsweredBy ends status = (end : Result ⊤ Failure) × (status ≡ exit_status e
 
 -- ---- count and trace
 
+-- the files are read, and the first of them, which has this text, gives code
+abbrev pub GivenBy : Holds → Job → List ℕ → Listing → List ℕ → Type 0
+GivenBy holds job source code json = (g : Given holds job code json) × (g.files.text ≡ source)
+
 -- the files are read, the source is compiled, and the entry is run and shown
-pub record ShownRun (shows : Shows) (holds : Holds) (q : RunRequest) (old new : Option (List ℕ)) (failed : Bool) (end : Result ⊤ Failure) : Type 0 where
+pub record ShownRun (shows : List ℕ → Shows) (holds : Holds) (q : RunRequest) (old new : Option (List ℕ)) (failed : Bool) (end : Result ⊤ Failure) : Type 0 where
   pub code : Listing
   pub json : List ℕ
-  pub given : Given holds (job_of_run q) code json
-  pub shown : ShowEnds shows q.entry.now code json old new failed end
+  pub source : List ℕ
+  pub given : GivenBy holds (job_of_run q) source code json
+  pub shown : ShowEnds (shows source) q.entry.now code json old new failed end
 
-abbrev pub ShownEnds : Shows → Holds → RunRequest → Option (List ℕ) → Option (List ℕ) → Bool → Result ⊤ Failure → Type 0
+abbrev pub ShownEnds : (List ℕ → Shows) → Holds → RunRequest → Option (List ℕ) → Option (List ℕ) → Bool → Result ⊤ Failure → Type 0
 ShownEnds shows holds q old new failed end = ShownRun shows holds q old new failed end ⊎ Stops (NotGiven holds (job_of_run q)) old new failed end
 
 -- ---- code

@@ -1,6 +1,7 @@
 //! What `ispx` does with code: it is run and shown, or written as another thing.
 #![tactic(auto)]
 
+mod lines;
 mod native;
 mod runs;
 mod texts;

@@ -1,48 +1,54 @@
 //! Runs that show what they do: `ispx count` and `ispx trace`.
-ghost use Rattle.std.specs.Prelude.{◌≡◌, ℕ, false, string_bytes, IfOk, IfErr};
+ghost use Rattle.std.specs.Prelude.{◌≡◌, ℕ, false, true, string_bytes, IfOk, IfErr};
 ghost use Rattle.isp_code.specs.Entries.{IsEntry};
 ghost use Rattle.isp_code.specs.Listing.{Routine};
-ghost use Rattle.isp_code_commands.specs.Requests.{ShownEnds};
-ghost use Rattle.isp_code_commands.specs.Runs.{BindsFor, CountShows, NotRun, ShowEnds, answer_line};
+ghost use Rattle.isp_code_commands.specs.Requests.{GivenBy, ShownEnds};
+ghost use Rattle.isp_code_commands.specs.Lines.{AreByLines};
+ghost use Rattle.isp_code_commands.specs.Runs.{BindsFor, CountShows, NotRun, ShowEnds, answer_line, lines_wanted};
 ghost use Rattle.isp_code_commands.specs.Runs.{EndsTrace, TraceShows, WritesPage, end_of_stop, window_of};
-ghost use Rattle.isp_engine.specs.Commands.{Given, NotGiven, job_of_run};
+ghost use Rattle.isp_engine.specs.Commands.{NotGiven, job_of_run};
 ghost use Rattle.isp_traces.specs.Counting.{CountedRun};
+ghost use Rattle.isp_traces.specs.Tallies.{IsGrouped};
 ghost use Rattle.isp_traces.specs.Tracing.{TracedRun};
 
+use crate::lines::by_lines;
 use crate::native::image_of;
 use crate::texts::read_both;
 use isp_base::{Bound, Signature};
 use isp_bind::{answer, bind};
 use isp_command_line::RunRequest;
 use isp_engine::{Failure, Image, RunFault, Sink, SourceFiles, StartFault, Stop, write_bytes};
-use isp_traces::{Counted, Traced, Window, count_run, counts_line, trace_run};
+use isp_traces::{
+    Counted, Grouping, Traced, Window, count_grouped, counts_line, lines_line, trace_run,
+};
 use isp_verify::Verified;
-use ispx_command_line::TraceRequest;
+use ispx_command_line::{CountRequest, TraceRequest};
 use std::alloc::{AllocError, Global};
 
-/// What a run shows, and how the program ends behind it.
+/// What a run shows, and how the program ends after it.
 #[derive(Drop)]
 struct Shown {
     page: Vec<u8>,
     end: Result<(), Failure<'static>>,
 }
 
-/// Runs an entry of a source as `isp run` does, and writes behind its output and its answer what its instructions come to, as a
-/// line of JSON. Where the run traps (3), its budget is used (4) or memory is refused in it (7) that line goes out too.
+/// Runs an entry of a source as `isp run` does, and writes after its output and its answer what its instructions come to, as a
+/// line of JSON, and where they are wanted those of each line of the source. Where the run traps (3), its budget is used (4) or memory is
+/// refused in it (7) these lines go out too.
 ///
 /// 6: a file cannot be read. 1: the source is refused. 5: no such entry, or its arguments are refused. 7: memory was refused before the run,
 /// or in what is written. Then nothing goes out. 6 also: the output cannot be written; then the first bytes of the page have gone out.
 pub fn count<'a, F: SourceFiles, O: Sink>(
     alloc: Global,
-    wanted: &RunRequest<'a>,
+    wanted: &CountRequest<'a>,
     files: &F,
     out: &mut O,
 ) -> Result<(), Failure<'a>>
     requires { O.has_failed out.old ≡ false }
-    ensures { ShownEnds (CountShows wanted.now) (F.holds files.now) wanted.now (O.written out.old) (O.written out.new) (O.has_failed out.new) result }
+    ensures { ShownEnds (CountShows wanted.now) (F.holds files.now) wanted.now.run (O.written out.old) (O.written out.new) (O.has_failed out.new) result }
 {
-    let (image, json) = given(alloc, wanted, files)?;
-    count_image(alloc, &image, wanted, json.as_str(), out)
+    let (image, source, json) = given(alloc, &wanted.run, files)?;
+    count_image(alloc, &image, source.as_str(), wanted, json.as_str(), out)
 }
 
 /// Runs an entry of a source up to the end of a window, or for as many instructions as its budget says where they are fewer, and
@@ -56,37 +62,38 @@ pub fn trace<'a, F: SourceFiles, O: Sink>(
     out: &mut O,
 ) -> Result<(), Failure<'a>>
     requires { O.has_failed out.old ≡ false }
-    ensures { ShownEnds (TraceShows wanted.now) (F.holds files.now) wanted.now.run (O.written out.old) (O.written out.new) (O.has_failed out.new) result }
+    ensures { ShownEnds (λ _. TraceShows wanted.now) (F.holds files.now) wanted.now.run (O.written out.old) (O.written out.new) (O.has_failed out.new) result }
 {
-    let (image, json) = given(alloc, &wanted.run, files)?;
+    let (image, _source, json) = given(alloc, &wanted.run, files)?;
     trace_image(alloc, &image, wanted, json.as_str(), out)
 }
 
-// The code of the source, and the text of the arguments.
+// The code of the source, its text, and that of the arguments.
 fn given<'a, F: SourceFiles>(
     alloc: Global,
     wanted: &RunRequest<'a>,
     files: &F,
-) -> Result<(Image, String), Failure<'a>>
-    ensures ok { IfOk result (λ g. Given (F.holds files.now) (job_of_run wanted.now) g.0 (string_bytes g.1)) }
+) -> Result<(Image, String, String), Failure<'a>>
+    ensures ok { IfOk result (λ g. GivenBy (F.holds files.now) (job_of_run wanted.now) (string_bytes g.1) g.0 (string_bytes g.2)) }
     ensures err { IfErr result (NotGiven (F.holds files.now) (job_of_run wanted.now)) }
 {
     let (source, json) = read_both(alloc, wanted.source, wanted.arguments, files)?;
     let image = image_of(alloc, Some(wanted.gang), source.as_str())?;
-    Ok((image, json))
+    Ok((image, source, json))
 }
 
 fn count_image<O: Sink>(
     alloc: Global,
     image: &Image,
-    wanted: &RunRequest<'_>,
+    source: &str,
+    wanted: &CountRequest<'_>,
     json: &str,
     out: &mut O,
 ) -> Result<(), Failure<'static>>
     requires { O.has_failed out.old ≡ false }
-    ensures { ShowEnds (CountShows wanted.now) wanted.now.entry.now image.now json.now (O.written out.old) (O.written out.new) (O.has_failed out.new) result }
+    ensures { ShowEnds (CountShows wanted.now source.now) wanted.now.run.entry.now image.now json.now (O.written out.old) (O.written out.new) (O.has_failed out.new) result }
 {
-    let shown = counted(alloc, image.verified(), wanted, json)?;
+    let shown = counted(alloc, image.verified(), source, wanted, json)?;
     write_shown(shown, out)
 }
 
@@ -104,7 +111,7 @@ fn trace_image<O: Sink>(
     write_shown(shown, out)
 }
 
-// Writes what a run shows, and says how the program ends behind it.
+// Writes what a run shows, and says how the program ends after it.
 fn write_shown<O: Sink>(shown: Shown, out: &mut O) -> Result<(), Failure<'static>>
     requires { O.has_failed out.old ≡ false }
     ensures { WritesPage shown.page.items shown.end (O.written out.old) (O.written out.new) (O.has_failed out.new) result }
@@ -117,23 +124,59 @@ fn write_shown<O: Sink>(shown: Shown, out: &mut O) -> Result<(), Failure<'static
 fn counted(
     alloc: Global,
     code: &Verified,
-    wanted: &RunRequest<'_>,
+    source: &str,
+    wanted: &CountRequest<'_>,
     json: &str,
 ) -> Result<Shown, Failure<'static>>
-    ensures ok { IfOk result (λ s. CountShows wanted.now code.now json.now s.page.items s.end) }
-    ensures err { IfErr result (NotRun code.now wanted.now.entry.now json.now) }
+    ensures ok { IfOk result (λ s. CountShows wanted.now source.now code.now json.now s.page.items s.end) }
+    ensures err { IfErr result (NotRun code.now wanted.now.run.entry.now json.now) }
 {
-    let (signature, bound) = entry(alloc, code, wanted.entry, json)?;
-    let run = count_entry(alloc, code, wanted, bound)?;
+    let (signature, bound) = entry(alloc, code, wanted.run.entry, json)?;
+    let grouping = grouping_of(alloc, code, source, wanted.lines)?;
+    let run = count_entry(alloc, code, &wanted.run, bound, grouping)?;
     let line = answer_of(alloc, signature, &run)?;
     let counts = counts_line(alloc, code, &run.counts)?;
+    let lines = lines_of(alloc, code, wanted, &run)?;
     let mut page = run.output;
     page.extend_from_slice(line.as_bytes())?;
     page.extend_from_slice(counts.as_slice())?;
+    page.extend_from_slice(lines.as_slice())?;
     Ok(Shown {
         page,
         end: end_of(run.stop),
     })
+}
+
+// The places by lines, where these are wanted.
+fn grouping_of(
+    alloc: Global,
+    code: &Verified,
+    source: &str,
+    lines: bool,
+) -> Result<Grouping, AllocError>
+    ensures { IfOk result (λ q. lines ≡ true → AreByLines source.now code.now.places q) }
+{
+    if lines {
+        by_lines(alloc, source, code.code().places())
+    } else {
+        Ok(Grouping::none(alloc))
+    }
+}
+
+// The counts of each line, where they are wanted.
+fn lines_of(
+    alloc: Global,
+    code: &Verified,
+    wanted: &CountRequest<'_>,
+    run: &Counted,
+) -> Result<Vec<u8>, AllocError>
+    ensures { IfOk result (λ v. v.items ≡ lines_wanted wanted.now.lines code.now run.now) }
+{
+    if wanted.lines {
+        lines_line(alloc, code, &run.counts)
+    } else {
+        Ok(Vec::new(alloc))
+    }
 }
 
 // What a traced run shows.
@@ -177,11 +220,13 @@ fn count_entry(
     code: &Verified,
     wanted: &RunRequest<'_>,
     bound: Bound,
+    grouping: Grouping,
 ) -> Result<Counted, AllocError>
     requires { (f : ℕ) × (h : Routine) × IsEntry code.now wanted.now.entry.now bound.arguments.items f h }
-    ensures { IfOk result (CountedRun code.now wanted.now.entry.now bound.arguments.items wanted.now.budget) }
+    ensures counted { IfOk result (CountedRun code.now wanted.now.entry.now bound.arguments.items wanted.now.budget) }
+    ensures grouped { IfOk result (λ r. IsGrouped grouping r.counts.groups) }
 {
-    match count_run(alloc, code, wanted.entry, bound, wanted.budget) {
+    match count_grouped(alloc, code, wanted.entry, bound, wanted.budget, grouping) {
         Ok(run) => Ok(run),
         Err(StartFault::Memory) => Err(AllocError),
         Err(StartFault::NoEntry) => unreachable!(),
@@ -229,7 +274,7 @@ fn window(wanted: &TraceRequest<'_>) -> Window
     }
 }
 
-// How the program ends behind a run that stopped so.
+// How the program ends after a run that stopped so.
 fn end_of(stop: Stop) -> Result<(), Failure<'static>>
     ensures { result ≡ end_of_stop stop }
 {
@@ -241,7 +286,7 @@ fn end_of(stop: Stop) -> Result<(), Failure<'static>>
     }
 }
 
-// How it ends behind a trace.
+// How it ends after a trace.
 fn end_of_trace(stop: Stop, window: Window, budget: u64) -> Result<(), Failure<'static>>
     ensures { EndsTrace window budget stop result }
 {

@@ -116,7 +116,7 @@ fn gang_of(inner: &ArgMatches<'_>) -> Option<Gang> {
     Gang::of_width(inner.get_str("gang")?.parse::<usize>().ok()?)
 }
 
-/// What `isp --version` and `ispx --version` say behind the name: the version, and the commit that these sources stand in but for
+/// What `isp --version` and `ispx --version` say after the name: the version, and the commit that these sources stand in but for
 /// this line. `tools/release --stamp` writes it.
 pub const VERSION: &str = "0.2.0 (3a1f7c4a)";
 

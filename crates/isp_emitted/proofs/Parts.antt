@@ -34,7 +34,7 @@ patched_stays =
       behind = λ n m at to code above i from lt. patched_same code at to i (λ e. omega (arith, e, above, lt));
     }
 
--- ---- what is appended stands behind what was there
+-- ---- what is appended stands after what was there
 
 back_same : {A : Type 0} (xs ys : List A) (i : ℕ) → slice_get (xs ++ ys) (length xs + i) ≡ slice_get ys i
 back_same [] ys i = let e : 0 + i ≡ i = omega arith in ap (slice_get ys) e

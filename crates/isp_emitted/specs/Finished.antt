@@ -12,7 +12,7 @@ pub record AddsRows (old new : Rows) : Type 0 where
   pub scalars : Begins old.scalars new.scalars
   pub vectors : Begins old.vectors new.vectors
 
--- The draft is the last one of this function: `finished` has its routine, and so has code in which other functions were begun behind it.
+-- The draft is the last one of this function: `finished` has its routine, and so has code in which other functions were begun after it.
 pub record RunsDraft (w : Setting) (d : Draft) : Type 0 where
   pub heading : d.heading ≡ Some (heading_of w.function)
   pub begun : AddsRows (first_rows w.function.variables w.function.answer) d.rows

@@ -8,7 +8,7 @@ use Rattle.isp_output.specs.declared.sink.SinkFault.{SinkFault}
 use Rattle.isp_output.proofs.Written.{adds_nil, took_early, took_later}
 use Rattle.isp_engine.specs.Told.{Wrote, Told}
 
--- ---- pieces one behind the other: what went out, and what is left
+-- ---- pieces one after the other: what went out, and what is left
 
 module _ {X : Type 0} (f : X → List ℕ) (xs : List X) (i : ℕ) (d : X) (within : i < length xs) (done all : List ℕ) (whole : done ++ flat_map f (drop i xs) ≡ all) (bytes : List ℕ) (is : bytes ≡ f (get_or xs i d)) where
   split : drop i xs ≡ get_or xs i d ∷ drop (i + 1) xs

@@ -41,13 +41,13 @@ pub record RunsTo (code : Listing) (entry json : List ℕ) (budget : ℕ) (old n
   pub means : answer ≢ Err WriteFailed → (gang : Gang) (text : List ℕ) (compiled : IsCompilation gang text code) → Means compiled.program entry json budget answer
   pub sends : Sends code entry json budget old new failed answer
 
--- how the program ends behind a run that stands so
+-- how the program ends after a run that stands so
 abbrev pub end_of_ending : Ending → Result ⊤ Failure
 end_of_ending Ended = Ok tt
 end_of_ending (Stopped t) = Err (Trapped t)
 end_of_ending Running = Err BudgetUsed
 
--- and behind what a run answered
+-- and after what a run answered
 abbrev pub end_of : Result Report RunFault → Result ⊤ Failure
 end_of (Ok r) = end_of_ending r.ending
 end_of (Err f) = Err (run_failure f)

@@ -26,7 +26,7 @@ use std::alloc::Global;
 /// `asm [--gang G] SOURCE` compiles the source and writes its code; `check [--gang G] SOURCE` writes whether each exported
 /// function is an independent entry; `solo [--gang G] [--turns N] SOURCE ENTRY ARGUMENTS` runs ENTRY by each instance alone.
 /// The output goes to `out` while a program runs, and
-/// where a run has ended the answer and a line feed behind it. Where the status is not 0 a line on `err` says why; refused
+/// where a run has ended the answer and a line feed after it. Where the status is not 0 a line on `err` says why; refused
 /// words, of which help is one, have more than a line. Where `err` fails, or has failed before, the rest of it is lost.
 pub fn command<F: SourceFiles, O: Sink, E: Sink>(
     alloc: Global,
@@ -150,7 +150,7 @@ fn image_of(alloc: Global, origin: Origin, text: &str) -> Result<Image, Failure<
     }
 }
 
-// Runs the entry of code, and says how the program ends behind it.
+// Runs the entry of code, and says how the program ends after it.
 fn run_image<O: Sink>(
     alloc: Global,
     image: &Image,

@@ -48,7 +48,7 @@ pub fn read_source<R: Read>(alloc: Global, reader: &mut R) -> Result<String, Fil
 ///
 /// A read that a signal broke off is made again. `CannotRead` comes where the reader gives more than
 /// `most` bytes, where a read fails otherwise, and where the bytes are not UTF-8; nothing is read
-/// behind that.
+/// after that.
 #[tactic(auto, using(crate::proofs::Reading::consumes_more))]
 pub fn read_text<R: Read>(alloc: Global, reader: &mut R, most: usize) -> Result<String, FileFault>
     ensures whole { IfOk result (λ s. IfSome (R.remaining reader.old) (λ bytes. string_bytes s
@@ -84,7 +84,7 @@ fn buffer(alloc: Global) -> Result<Vec<u8>, FileFault>
     vec![in alloc; 0u8; STEP].map_err(|_| FileFault::Memory)
 }
 
-// Puts more bytes behind those that were read, up to `most`.
+// Puts more bytes after those that were read, up to `most`.
 fn keep(bytes: &mut Vec<u8>, more: &[u8], most: usize) -> Result<(), FileFault>
     requires { length bytes.old.items ≤ most }
     ensures bytes { OnOk result (bytes.new.items ≡ bytes.old.items ++ more.now) }

@@ -20,7 +20,7 @@ use itoa::Buffer;
 use std::fmt;
 use std::fmt::Write;
 
-// Writes pieces one behind the other, up to the first fault.
+// Writes pieces one after the other, up to the first fault.
 fn write_pieces<W: Sink>(out: &mut W, pieces: &[&str]) -> Result<(), SinkFault>
     requires { W.has_failed out.old ≡ false }
     ensures { Wrote (flat_map (λ piece. piece.now) pieces.now) (W.written out.old) (W.written out.new)

@@ -10,7 +10,7 @@ use Rattle.isp_exprs.specs.Rules.{pair_then}
 use Rattle.isp_exprs.specs.reader.Lists.{and_one}
 use Rattle.isp_exprs.specs.declared.callee.Want.{Want}
 
--- a list and another behind it
+-- a list and another after it
 abbrev pub behind : {A : Type 0} → List A × List A → List A
 behind p = p.0 ++ p.1
 

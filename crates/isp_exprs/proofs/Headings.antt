@@ -110,7 +110,7 @@ pub called_function : (all : List Header) (w : List ℕ) (n k : ℕ) (r : Callee
     → r ≡ of_function n (option_map (λ (h : Header). (k, heading_of h)) (slice_get all k)) → r ≡ callee (headings_of all) w n
 called_function all w n k r l s e = e ∙ (ap (of_function n) (placed w all k s) ∙ sym (rw l refl))
 
--- headings with one more behind them
+-- headings with one more after them
 pub headings_more : (all more : List Header) (h : Header) → more ≡ all ++ h ∷ [] → headings_of more ≡ headings_of all ++ heading_of h ∷ []
 headings_more all more h e = ap headings_of e ∙ map-append heading_of all (h ∷ [])
 

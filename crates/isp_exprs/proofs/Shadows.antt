@@ -56,7 +56,7 @@ places_less w ns b before after h e k a = a ∙ (ap (cond (bytes_eq b.name w) h)
     go true t = k ∙ ap (λ z. last_place z ns) ((bytes_eq-Decides b.name w).0 t)
     go false t = refl
 
--- what one more hides stands behind the others
+-- what one more hides stands after the others
 pub hidden_pushed : (ns : List Binding) (b : Binding) (hs : List (Option ℕ)) (o : Option ℕ) → hs ≡ hidden_places ns → o ≡ last_place b.name ns → hs ++ o ∷ [] ≡ hidden_places (ns ++ b ∷ [])
 hidden_pushed ns b hs o e k = rw (e, k) (sym (hidden_more ns b))
 
@@ -77,7 +77,7 @@ pub hidden_rest : (hs less : List (Option ℕ)) (o : Option (Option ℕ)) (ns : 
 hidden_rest hs less None ns b n l e s h = let m = no_more hs (hidden_places ns) (last_place b.name ns) (h ∙ hidden_more ns b) in absurd (clash (sym (s (omega arith))))
 hidden_rest hs less (Some x) ns b n l e s h = lists_same less (hidden_places ns) x (last_place b.name ns) (sym e ∙ (h ∙ hidden_more ns b))
 
--- a list without what was put behind it
+-- a list without what was put after it
 pub popped_back : {A : Type 0} (xs more less : List A) (x : A) (n : ℕ) → more ≡ xs ++ x ∷ [] → n ≡ length more → less ≡ take (n - 1) more → less ≡ xs
 popped_back xs more less x n m l e =
     let k : n - 1 ≡ length xs = omega (arith, simp length-append at (ap length m)) in

@@ -36,6 +36,6 @@ abbrev pub next_known : List Variable → Result Variable Fault → Meaning
 next_known vars (Ok v) = Ok (record { number = length vars; variable = v })
 next_known vars (Err f) = Err f
 
--- one more name, for the variable behind those there are
+-- one more name, for the variable after those there are
 abbrev pub with_name : List Binding → List Variable → List ℕ → Result Variable Fault → List Binding
 with_name ns vars w v = ns ++ record { name = w; meaning = next_known vars v } ∷ []

@@ -84,7 +84,7 @@ base_elem base.Uint16 = Some U16
 base_elem base.Uint32 = Some U32
 base_elem base.Uint64 = Some U64
 
--- the same behind `unsigned`
+-- the same after `unsigned`
 abbrev pub unsigned_elem : Base → Option Elem
 unsigned_elem base.Int8 = Some U8
 unsigned_elem base.Int16 = Some U16

@@ -271,7 +271,7 @@ impl Headers {
         }
     }
 
-    /// One more function behind the others.
+    /// One more function after the others.
     pub fn push(&mut self, alloc: Global, header: Header) -> Result<(), AllocError>
         ensures { OnOk result (self.new ≡ self.old ++ heading_of header ∷ []) }
     {

@@ -105,7 +105,7 @@ fn want_at(past: Want, wants: &[Want], place: usize) -> Want
     }
 }
 
-/// One more argument behind the others.
+/// One more argument after the others.
 fn push(
     so_far: Verdict<Vec<Passed>>,
     part: Verdict<Passed>,

@@ -138,7 +138,7 @@ dims_back (suc k) (d ∷ ds) rest few small =
 abbrev behind_first : ℕ × List ℕ → Read (List ℕ)
 behind_first n = mark_of 44 n.1 >>= (λ c. ahead (n.0 ∷ []) (dims_of 63 c.1))
 
--- as they stand behind the bracket
+-- as they stand after the bracket
 pub lengths_back : (shape rest : List ℕ) → length shape ≤ 64 → ((i : ℕ) → get_or shape i 0 ≤ longest) → lengths_of (past_blanks (flat_map length_text shape ++ 41 ∷ rest)) ≡ Ok (shape, rest)
 lengths_back [] rest few small = refl
 lengths_back (d ∷ ds) rest few small =

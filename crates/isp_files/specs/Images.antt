@@ -15,7 +15,7 @@ use Rattle.isp_files.specs.declared.fault.Flaw.TheVariants.{Ends, Magic, Header,
 abbrev pub ends_line : ℕ → Bool
 ends_line b = (b == 13) || (b == 10)
 
--- behind blanks and comments, which go from `#` to the end of their line; whether the first byte stands in a comment
+-- after blanks and comments, which go from `#` to the end of their line; whether the first byte stands in a comment
 abbrev pub past_gap : Bool → List ℕ → List ℕ
 past_gap c [] = []
 past_gap true (b ∷ bs) = past_gap (not (ends_line b)) bs
@@ -26,7 +26,7 @@ abbrev pub gap_of : List ℕ → Read ⊤
 gap_of [] = flawed Ends []
 gap_of (b ∷ bs) = if (b == 35) || is_blank b then Ok (tt, past_gap false (b ∷ bs)) else flawed Header (b ∷ bs)
 
--- a number behind a gap
+-- a number after a gap
 abbrev pub size_of : List ℕ → Read ℕ
 size_of bs = gap_of bs >>= (λ g. number_of g.1)
 
@@ -34,7 +34,7 @@ size_of bs = gap_of bs >>= (λ g. number_of g.1)
 abbrev pub most_of : List ℕ → Read ℕ
 most_of bs = gap_of bs >>= (λ g. number_of g.1 >>= (λ n. if (n.0 == 0) || nat_lt 65535 n.0 then flawed Maxval g.1 else Ok n))
 
--- one blank, behind which the samples begin
+-- one blank, after which the samples begin
 abbrev pub blank_of : List ℕ → Read ⊤
 blank_of [] = flawed Ends []
 blank_of (b ∷ bs) = if is_blank b then Ok (tt, bs) else flawed Header (b ∷ bs)

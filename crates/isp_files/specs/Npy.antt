@@ -84,7 +84,7 @@ dims_of (suc k) bs =
     if slice_index (past_blanks bs) 0 == 41 then Ok ([], drop 1 (past_blanks bs))
     else (dim_at (past_blanks bs) >>= (λ n. ahead (n.0 ∷ []) (dims_of k n.1)))
 
--- behind one dimension the comma is never left out
+-- after one dimension the comma is never left out
 abbrev pub lengths_of : List ℕ → Read (List ℕ)
 lengths_of bs =
     if slice_index bs 0 == 41 then Ok ([], drop 1 bs)
@@ -100,7 +100,7 @@ pub data Entry : Type 0 where
   Ordered : Entry
   Shaped : List ℕ → Entry
 
--- what stands behind a key
+-- what stands after a key
 abbrev pub value_of : List ℕ → List ℕ → List ℕ → Read Entry
 value_of key start bs =
     if bytes_eq key (codes "descr") then (type_at (past_blanks bs) >>= (λ t. Ok (Typed t.0, t.1)))

@@ -1,5 +1,5 @@
 -- How bytes are read, a piece at a time.
---     Read A          a value and the bytes behind it; or what is wrong, and how many bytes are left where it stands
+--     Read A          a value and the bytes after it; or what is wrong, and how many bytes are left where it stands
 --     number_of       a number in digits
 --     numbers_of      so many numbers, each in so many bytes and at most so great
 use Rattle.std.specs.Prelude.{ℕ, zero, suc, ◌-◌, ◌^◌, ◌==◌, ◌||◌, ◌&&◌, List, [], ◌∷◌, ◌++◌, length, take, drop, Bool, nat_lt, Result, Ok, Err, ⊤, if◌then◌else◌}

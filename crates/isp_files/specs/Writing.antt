@@ -24,7 +24,7 @@ type_name U32 = codes "<u4"
 type_name I64 = codes "<i8"
 type_name U64 = codes "<u8"
 
--- a comma stands behind each length
+-- a comma stands after each length
 abbrev pub length_text : ℕ → List ℕ
 length_text n = decimal n ++ 44 ∷ []
 
@@ -38,7 +38,7 @@ padding_text n = replicate (63 - (n + 10) % 64) 32 ++ 10 ∷ []
 abbrev pub header_text : Elem → List ℕ → List ℕ
 header_text t shape = dict_text t shape ++ padding_text (length (dict_text t shape))
 
--- magic, version, and the header behind its length
+-- magic, version, and the header after its length
 abbrev pub opened : List ℕ → List ℕ
 opened header = magic ++ 1 ∷ 0 ∷ little_bytes 2 (length header) ++ header
 

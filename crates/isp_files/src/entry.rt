@@ -37,7 +37,7 @@ pub(crate) fn next_entry(alloc: Global, reader: &mut Reader<'_>) -> Result<Entry
     value(alloc, key, unknown, reader)
 }
 
-// What stands behind a key.
+// What stands after a key.
 fn value(alloc: Global, key: &[u8], unknown: Slip, reader: &mut Reader<'_>) -> Result<Entry, Slip>
     ensures ok { (start : List ℕ) → unknown ≡ slip.At Keys (length start) → IfOk result (λ e. value_of key.now start reader.old ≡ Ok (said e, reader.new)) }
     ensures err { (start : List ℕ) → unknown ≡ slip.At Keys (length start) → IfErr result (λ e. e ≢ slip.Memory → value_of key.now start reader.old ≡ Err e) }
@@ -229,7 +229,7 @@ fn shape(alloc: Global, reader: &mut Reader<'_>) -> Result<Vec<usize>, Slip>
     dims(lengths, reader)
 }
 
-// The further lengths, behind the first, up to `)`.
+// The further lengths, after the first, up to `)`.
 #[tactic(auto, using(crate::proofs::Steps::dims_next, crate::proofs::Steps::dims_bad, crate::proofs::Steps::dims_closed, crate::proofs::Steps::dims_last, crate::proofs::Steps::dims_deep))]
 fn dims(first: Vec<usize>, reader: &mut Reader<'_>) -> Result<Vec<usize>, Slip>
     ensures ok { IfOk result (λ v. ahead first.items (dims_of 63 reader.old) ≡ Ok (v.items, reader.new)) }
@@ -252,7 +252,7 @@ fn dims(first: Vec<usize>, reader: &mut Reader<'_>) -> Result<Vec<usize>, Slip>
     Ok(lengths)
 }
 
-// A length, and the comma behind it, which may be left out before `)`.
+// A length, and the comma after it, which may be left out before `)`.
 fn dim(reader: &mut Reader<'_>) -> Result<usize, Slip>
     ensures ok { IfOk result (λ n. dim_at reader.old ≡ Ok (n, reader.new)) }
     ensures err { IfErr result (λ e. dim_at reader.old ≡ Err e) }

@@ -51,7 +51,7 @@ pub enum Flaw {
     /// A byte of a bool that is neither 0 nor 1, or a sample above the greatest that the header names.
     #[error("no value of its type")]
     NoValue,
-    /// Bytes behind the last element.
+    /// Bytes after the last element.
     #[error("more bytes than the elements take")]
     Long,
 }

@@ -14,11 +14,11 @@ use isp_base::{Array, Elem};
 use std::alloc::Global;
 
 /// The samples of a PGM (P5) or a PPM (P6): `uint8` where the greatest is at most 255, else `uint16`. The shape is height and
-/// width, and of a PPM 3 behind them; the rows come from above.
+/// width, and of a PPM 3 after them; the rows come from above.
 ///
 /// The first flaw is answered, with its byte, counted from 0: `Ends`, at the length of the file, where it is too short; `Magic`;
 /// `Header` at the first byte at which no header goes on so; `Maxval` at a greatest sample of 0 or above 65535; `TooMany`;
-/// `NoValue` at a sample above the greatest; `Long` at the first byte behind the last sample. `Memory` takes the place of what
+/// `NoValue` at a sample above the greatest; `Long` at the first byte after the last sample. `Memory` takes the place of what
 /// would follow.
 pub fn read_image(alloc: Global, bytes: &[u8]) -> Result<Grid, FileFault>
     ensures ok { IfOk result (λ g. image_of bytes.now ≡ Ok (g.shape.items, g.array)) }
@@ -75,7 +75,7 @@ fn shape(alloc: Global, is_color: bool, height: usize, width: usize) -> Result<V
     }
 }
 
-// A number behind a gap.
+// A number after a gap.
 fn size(reader: &mut Reader<'_>) -> Result<usize, Slip>
     ensures ok { IfOk result (λ n. size_of reader.old ≡ Ok (n, reader.new)) }
     ensures err { IfErr result (λ e. size_of reader.old ≡ Err e) }
@@ -99,7 +99,7 @@ fn most(reader: &mut Reader<'_>) -> Result<usize, Slip>
     Ok(most)
 }
 
-// The blank behind which the samples begin.
+// The blank after which the samples begin.
 fn blank(reader: &mut Reader<'_>) -> Result<(), Slip>
     ensures ok { OnOk result (blank_of reader.old ≡ Ok (tt, reader.new)) }
     ensures err { IfErr result (λ e. blank_of reader.old ≡ Err e) }

@@ -21,7 +21,7 @@ use std::alloc::Global;
 /// The first flaw is answered, with its byte, counted from 0: `Ends`, at the length of the file, where it is too short; `Magic`
 /// and `Version`; `Header` at the first byte at which no header goes on so; `BigEndian`, `Float`, `Struct` and `UnknownType` at the type,
 /// `Fortran` at its `True`; `Keys` at a key that is not known, or at the header where one is there twice; `TooDeep` and `TooMany`
-/// of the shape; `NoValue` at a byte of a bool above 1; `Long` at the first byte behind the last element. `Memory` takes the
+/// of the shape; `NoValue` at a byte of a bool above 1; `Long` at the first byte after the last element. `Memory` takes the
 /// place of what would follow.
 pub fn read_npy(alloc: Global, bytes: &[u8]) -> Result<Grid, FileFault>
     ensures ok { IfOk result (λ g. npy_of bytes.now ≡ Ok (g.shape.items, g.array)) }

@@ -42,7 +42,7 @@ pub fn write_image(
 
 // ---- NPY
 
-// Magic, version, and the header behind its length.
+// Magic, version, and the header after its length.
 fn opened(alloc: Global, header: &[u8]) -> Result<Vec<u8>, AllocError>
     ensures { IfOk result (λ v. v.items ≡ opened header.now) }
 {

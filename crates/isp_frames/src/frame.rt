@@ -545,7 +545,7 @@ impl<const N: usize> Frame<N> {
         array.gather(stores, &mut self.vectors, d as usize, i as usize, mask)
     }
 
-    /// In each lane of a mask the element of a store that is as many behind an index as the lane's number
+    /// In each lane of a mask the element of a store that is as many after an index as the lane's number
     /// says, in a vector that is written where it stands.
     ///
     /// Index where one is outside, with the lowest such lane, and then nothing changes.

@@ -50,7 +50,7 @@ fn open_each<const N: usize>(
     Ok(())
 }
 
-/// Opens the local arrays of a function, all zero, and adds them behind those that it is passed.
+/// Opens the local arrays of a function, all zero, and adds them after those that it is passed.
 /// Where memory is refused no store is open that was not.
 pub fn open_locals<const N: usize>(
     alloc: Global,

@@ -136,7 +136,7 @@ pub fn argument_arrays<const N: usize>(
     Ok(arrays)
 }
 
-/// Zeros behind scalars.
+/// Zeros after scalars.
 pub fn push_zeros(scalars: &mut Vec<u64>, count: usize) -> Result<(), AllocError>
     ensures { OnOk result (scalars.new.items ≡ scalars.old.items ++ replicate count 0) }
 {
@@ -145,7 +145,7 @@ pub fn push_zeros(scalars: &mut Vec<u64>, count: usize) -> Result<(), AllocError
     Ok(())
 }
 
-// A vector that is zero behind vectors.
+// A vector that is zero after vectors.
 fn push_zero<const N: usize>(
     vectors: &mut Vec<Lanes<N>>,
     zeros: &Zeros<N>,
@@ -157,7 +157,7 @@ fn push_zero<const N: usize>(
     Ok(())
 }
 
-/// Vectors that are zero behind vectors.
+/// Vectors that are zero after vectors.
 pub fn push_zero_lanes<const N: usize>(
     vectors: &mut Vec<Lanes<N>>,
     zeros: &Zeros<N>,

@@ -74,7 +74,7 @@ pub memory_err : (old new : Evaluator) (f : Store → Goes) (r : Result (Unit {0
 memory_err old new f (Ok a) m = tt
 memory_err old new f (Err e) m = refused m
 
--- ---- so much is counted, and then this comes
+-- ---- that much is counted, and then this comes
 
 module _ (old new : Evaluator) (h : Frame → ℕ → State → Res) where
   ahead : (k w : ℕ) → ran (store_seen old w) (h (frame_seen old.here) old.left (state_seen old (w + k))) ≡ ran (store_seen old (w + k)) (h (frame_seen old.here) old.left (state_seen old (w + k)))

@@ -5,7 +5,7 @@ use Rattle.isp_gang_run.specs.Tasks.{Counts}
 use Rattle.isp_gang_run.specs.declared.counting.Work.{Work}
 use Rattle.isp_gang_run.specs.declared.state.Evaluator.{Evaluator}
 
--- so much more than one counts
+-- that much more than one counts
 abbrev pub Adds : Evaluator → Work → ℕ → Type 0
 Adds e work n = work.count ≡ capped (e.work.count + n)
 

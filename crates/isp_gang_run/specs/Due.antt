@@ -112,7 +112,7 @@ module _ (program : Program) (turns l : ℕ) where
   abbrev pub give_due : Option (Bor TypedExpr) → ℕ
   give_due x = give_most call_due (option_map (λ y. expr_of y.now) x)
 
-  -- a loop of which so many turns are left: from a turn on, from its test on, from behind its body on
+  -- a loop of which so many turns are left: from a turn on, from its test on, from after its body on
   abbrev pub turns_due : Looping → ℕ → ℕ
   turns_due p =
       turns_most (run_due (stmt_of p.body.now)) (test_most call_due (option_map (λ x. expr_of x.now) p.test))

@@ -335,11 +335,11 @@ does e = act (program_of e.program.now) e.turns
 abbrev pub rest : Evaluator → Store → Goes
 rest e = finish (program_of e.program.now) e.turns e.tasks.items
 
--- so much work is what an evaluator counts
+-- that much work is what an evaluator counts
 abbrev pub Counts : Evaluator → ℕ → Type 0
 Counts e w = e.work.count ≡ capped w
 
--- All that the one has still to do, after so much work, comes to what this and then the other's tasks come to, after the
+-- All that the one has still to do, after that much work, comes to what this and then the other's tasks come to, after the
 -- work that the other counts.
 pub record Comes (old new : Evaluator) (f : Store → Goes) : Type 0 where
   pub by : (w : ℕ) → (w' : ℕ) × (go (f (store_seen old w)) (rest old) ≡ rest new (store_seen new w'))

@@ -395,7 +395,7 @@ module _ {A B : Type 0} (F : Form A) (H : Form B) (g : A → B) (m : Makes F H g
       made_refused F H g [] (FailsForm H) n ts r f (made_err g (F.read n ts) r (sym (m.reads n ts) ∙ e)) (λ a x i. m.makes a x i)
       (λ k u d le h w. made_fails g (F.read k u) (H.read k u) d (m.reads k u) w)
 
--- a form, and behind it what a mark begins
+-- a form, and after it what a mark begins
 pub then_behind : {A B : Type 0} (F : Form A) (m : Mark) (G : Form B) → ((x : A) (s : Span) (rest : List Token) → F.ends x (at m s ∷ rest)) → (b : List Token) → Can G b → Follows F (Behind m G) Free
 then_behind F m G ends b c =
     follows F (Behind m G) (λ x y d rest i h. let j = behind_is m G d y i in subst (λ (l : List Token). F.ends x (l ++ rest)) (sym j.1) (ends x y.0 (j.0 ++ rest)))

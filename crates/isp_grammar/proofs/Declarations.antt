@@ -93,7 +93,7 @@ size_complete n = makes_complete SizeSign Sized (λ p. size_from p.0 p.1) size_m
 size_refused : (n : ℕ) → IsRefused Sized n
 size_refused n = makes_refused SizeSign Sized (λ p. size_from p.0 p.1) size_makes n (sign_refused size_of size_kind size_signs n)
 
--- ---- what stands behind the name of an item
+-- ---- what stands after the name of an item
 
 abbrev pub ValueTail : Form (Span × Expr)
 ValueTail = Behind mark.Assign (Exprs loosest)

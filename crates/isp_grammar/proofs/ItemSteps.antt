@@ -1,4 +1,4 @@
--- Steps of reading what stands behind the name of an item.
+-- Steps of reading what stands after the name of an item.
 use Rattle.std.proofs.Common.{◌≡◌, ℕ, true, false, List, [], ◌∷◌, drop, Ok, Err, refl, inl, inr}
 use Rattle.isp_base.specs.declared.types.Span.{Span}
 use Rattle.isp_lex.specs.Tokens.{starts_with}

@@ -41,7 +41,7 @@ more_fails e n front ts c f = rw (begins_as mark.Comma ts true c, mark_here mark
 abbrev Second : Type 0
 Second = Range × Option (Span × Range)
 
--- what is behind a comma and a range comes after them
+-- what is after a comma and a range comes after them
 behind_second : (front : List Range) (x : Range) (s : Span) (read : Read (Option (Span × Range)))
     → with_more front (◌>>=◌ {B = Option (Span × Second) × List Token} (◌>>=◌ {B = (Span × Second) × List Token} (◌>>=◌ {B = Second × List Token} read (λ y. Ok ((x, y.0), y.1))) (λ y. Ok ((s, y.0), y.1))) (λ y. Ok (Some y.0, y.1)))
     ≡ with_last (front ++ x ∷ []) read

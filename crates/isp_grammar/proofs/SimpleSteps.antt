@@ -123,7 +123,7 @@ pub mark_here : (m : Mark) (ts : List Token) → starts_with m ts ≡ true → m
 mark_here m [] e = absurd cc
 mark_here m (t ∷ ts) e = mark_read m t ts e
 
--- ---- what is left is shorter, where a reading goes on behind a first token
+-- ---- what is left is shorter, where a reading goes on after a first token
 
 pub shorter : {X : Type 0} (result : Result (X × Bor (List Token)) Stop) (t : Token) (rest tokens : List Token) → tokens ≡ t ∷ rest
     → IfOk result (λ r. length r.1.now < length rest) → IfOk result (λ r. length r.1.now < length tokens)

@@ -474,7 +474,7 @@ maps_raw n =
     (mark_at mark.ParenClose) (maps_maybe simple_from mark.ParenClose (StepPart.read n) (step_part_at n) (maps_step_part n))
     (maps_id (mark_at mark.ParenClose)))))))
 
--- each part with the sign behind it
+-- each part with the sign after it
 abbrev grouped : Span × (Option First × (Span × (Option Expr × (Span × (Option Simple × Span))))) → Span × ((Option First × Span) × ((Option Expr × Span) × (Option Simple × Span)))
 grouped p = (p.0, ((p.1.0, p.1.1.0), ((p.1.1.1.0, p.1.1.1.1.0), p.1.1.1.1.1)))
 

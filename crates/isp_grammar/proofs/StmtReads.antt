@@ -1,4 +1,4 @@
--- How each statement is read behind its first token.
+-- How each statement is read after its first token.
 use Rattle.std.proofs.Common.{◌≡◌, ℕ, suc, ◌≤◌, List, [], ◌∷◌, ◌++◌, Ok, Err, refl, sym, ap, subst, ◌∙◌, arith}
 use Rattle.std.specs.Prelude.{⊤}
 use Rattle.isp_base.specs.declared.types.Span.{Span}

@@ -65,7 +65,7 @@ depth_of_stmt_pos (assert x c s) = omega arith
 
 -- ---- lists of statements
 
--- no `else` begins what stands behind a statement of a list
+-- no `else` begins what stands after a statement of a list
 pub stmt_stands : Stands Statement mark.BraceClose
 stmt_stands = record {
   first = λ a s rest i. stmt_off_mark mark.BraceClose brace_close_foreign i rest;

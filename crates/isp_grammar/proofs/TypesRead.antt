@@ -192,7 +192,7 @@ at_front a qs u i = qualifiers_read qs a i (first_span (a ++ u)) [] u
 
 -- ---- the form
 
--- behind a type without base no word of a type may follow
+-- after a type without base no word of a type may follow
 abbrev pub EndsType : Option Base → List Token → Type 0
 EndsType None rest = type_word_at rest ≡ by.Other
 EndsType (Some b) rest = Unit {0}

@@ -1,4 +1,4 @@
--- Forms behind a mark or in brackets, without the places of the marks.
+-- Forms after a mark or in brackets, without the places of the marks.
 use Rattle.std.proofs.Common.{◌≡◌, ℕ, List, [], ◌∷◌, ◌++◌, Ok, refl, sym, ap, subst, ◌∙◌, arith}
 use Rattle.isp_base.specs.declared.types.Span.{Span}
 use Rattle.isp_lex.specs.Tokens.{at}
@@ -11,7 +11,7 @@ use Rattle.isp_grammar.proofs.FormsComplete.{EndsByHead, one_by_head}
 use Rattle.isp_grammar.proofs.Refused.{IsRefused, one_refused, both_refused}
 use Rattle.isp_grammar.specs.reader.Readers.{◌>>=◌, both, mark_at}
 
--- ---- behind a mark
+-- ---- after a mark
 
 module _ {A : Type 0} (m : Mark) (F : Form A) where
   abbrev pub After : Form A

@@ -45,7 +45,7 @@ AreListed is ts [] = ⊥
 AreListed is ts (x ∷ []) = is ts x
 AreListed is ts (x ∷ y ∷ ys) = (a : List Token) × (s : Span) × (b : List Token) × (ts ≡ a ++ at mark.Comma s ∷ b) × is a x × AreListed is b (y ∷ ys)
 
--- any number, each behind a comma
+-- any number, each after a comma
 abbrev pub AreBehindCommas : {A : Type 0} → (List Token → A → Type 0) → List Token → List A → Type 0
 AreBehindCommas is = AreAll (λ ts x. (s : Span) × (a : List Token) × (ts ≡ at mark.Comma s ∷ a) × is a x)
 

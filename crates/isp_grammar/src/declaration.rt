@@ -15,7 +15,7 @@ use isp_lex::{Mark, Token, TokenKind};
 use isp_tree::{Declaration, Expr, Item, Size, Word};
 use std::alloc::Global;
 
-/// What stands behind the name of an item, with the places of its signs.
+/// What stands after the name of an item, with the places of its signs.
 #[derive(Drop)]
 pub enum ItemTail {
     /// `= e`
@@ -70,7 +70,7 @@ fn size_in_brackets(tokens: &[Token]) -> Result<((Span, (Size, Span)), &[Token])
     Ok(((open, (size, close)), rest))
 }
 
-/// A value behind `=`, or a size in brackets.
+/// A value after `=`, or a size in brackets.
 fn item_tail(alloc: Global, left: usize, tokens: &[Token]) -> Result<(ItemTail, &[Token]), Stop>
     ensures value { Gives (λ r. (item_tail_of r.0, r.1.now)) result (item_tail_at left tokens.now) }
     ensures rest { IfOk result (λ r. length r.1.now < length tokens.now) }
@@ -83,7 +83,7 @@ fn item_tail(alloc: Global, left: usize, tokens: &[Token]) -> Result<(ItemTail, 
     Ok((ItemTail::Size(open, size, close), rest))
 }
 
-/// A name with what stands behind it.
+/// A name with what stands after it.
 fn with_tail(word: Word, tail: ItemTail) -> Item
     ensures { item_of result ≡ item_from word (Some (item_tail_of tail)) }
 {

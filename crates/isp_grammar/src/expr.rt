@@ -210,7 +210,7 @@ pub type Found<'a> = (Box<Expr>, usize, &'a [Token]);
 /// An index with its closing bracket, its depth, and the tokens after it.
 type Index<'a> = ((Box<Expr>, Span), usize, &'a [Token]);
 
-/// What is behind `[`.
+/// What is after `[`.
 #[cycle(expr)]
 #[tactic(auto, unfolding(crate::specs::reader::Exprs::bracketed_at))]
 fn index(alloc: Global, left: usize, tokens: &[Token]) -> Result<Index<'_>, Stop>
@@ -303,7 +303,7 @@ fn arguments(
 /// Arguments with their closing bracket, the depth of the deepest, and the tokens after them.
 type Called<'a> = ((Vec<Argument>, Span), usize, &'a [Token]);
 
-/// What is behind the bracket of a call.
+/// What is after the bracket of a call.
 #[cycle(expr)]
 #[tactic(auto, unfolding(crate::specs::reader::Exprs::arguments_at))]
 fn called(alloc: Global, left: usize, tokens: &[Token]) -> Result<Called<'_>, Stop>
@@ -317,7 +317,7 @@ fn called(alloc: Global, left: usize, tokens: &[Token]) -> Result<Called<'_>, St
     Ok(((all, close), height, rest))
 }
 
-/// What stands behind a name in an expression.
+/// What stands after a name in an expression.
 #[derive(Drop)]
 pub enum Behind {
     Nothing,
@@ -347,7 +347,7 @@ fn suffix(alloc: Global, left: usize, tokens: &[Token]) -> Result<(Behind, usize
     Ok((Behind::Nothing, 0, tokens))
 }
 
-/// A name with what stands behind it.
+/// A name with what stands after it.
 fn with_suffix(word: Word, suffix: Behind) -> Expr
     ensures { expr_of result ≡ named word (suffix_of suffix) }
 {
@@ -384,7 +384,7 @@ fn named(alloc: Global, left: usize, tokens: &[Token]) -> Result<Found<'_>, Stop
     made(alloc, with_suffix(word, suffix), height + 1, rest)
 }
 
-/// A type, a closing bracket, and what is cast, behind an opening bracket.
+/// A type, a closing bracket, and what is cast, after an opening bracket.
 #[cycle(expr)]
 #[tactic(auto, unfolding(crate::specs::reader::Exprs::cast_at))]
 fn cast(alloc: Global, left: usize, opening: Span, tokens: &[Token]) -> Result<Found<'_>, Stop>
@@ -401,7 +401,7 @@ fn cast(alloc: Global, left: usize, opening: Span, tokens: &[Token]) -> Result<F
     made(alloc, Expr::Cast { ty, operand, span }, height + 1, rest)
 }
 
-/// An expression and a closing bracket, behind an opening bracket.
+/// An expression and a closing bracket, after an opening bracket.
 #[cycle(expr)]
 #[tactic(auto, unfolding(crate::specs::reader::Exprs::closed_at))]
 fn closed(alloc: Global, left: usize, opening: Span, tokens: &[Token]) -> Result<Found<'_>, Stop>
@@ -421,7 +421,7 @@ fn closed(alloc: Global, left: usize, opening: Span, tokens: &[Token]) -> Result
     made(alloc, brackets, height + 1, rest)
 }
 
-/// An operand behind an operator that stands before it.
+/// An operand after an operator that stands before it.
 #[cycle(expr)]
 fn prefixed(
     alloc: Global,
@@ -517,7 +517,7 @@ fn binary(alloc: Global, looseness: usize, left: usize, tokens: &[Token]) -> Res
     Ok((found, height, rest))
 }
 
-/// What is behind `?`, the depth of the deeper part, and the tokens after it.
+/// What is after `?`, the depth of the deeper part, and the tokens after it.
 #[cycle(expr)]
 #[tactic(auto, unfolding(crate::specs::reader::Exprs::parts_at))]
 fn parts(alloc: Global, left: usize, tokens: &[Token]) -> Result<(Branches, usize, &[Token]), Stop>

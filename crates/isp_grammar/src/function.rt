@@ -104,7 +104,7 @@ fn param_list(alloc: Global, tokens: &[Token]) -> Result<(Vec<Param>, &[Token]),
     }
 }
 
-/// Whether `void` stands here, and a closing bracket behind it.
+/// Whether `void` stands here, and a closing bracket after it.
 fn only_void(tokens: &[Token]) -> bool
     ensures { result ≡ only_void tokens.now }
 {

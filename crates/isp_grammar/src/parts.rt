@@ -48,7 +48,7 @@ pub fn test(alloc: Global, left: usize, tokens: &[Token]) -> Result<(Box<Expr>, 
     Ok((value, rest))
 }
 
-/// An expression or nothing, and the semicolon behind it.
+/// An expression or nothing, and the semicolon after it.
 #[tactic(auto, unfolding(crate::specs::reader::Choices::maybe_at, crate::specs::reader::Choices::maybe_closed_at))]
 pub fn maybe_expr(
     alloc: Global,
@@ -129,7 +129,7 @@ fn step_part(alloc: Global, left: usize, tokens: &[Token]) -> Result<(Box<Simple
     simple(alloc, left - 1, tokens)
 }
 
-/// The first part of a `for` or nothing, and the semicolon behind it.
+/// The first part of a `for` or nothing, and the semicolon after it.
 #[tactic(auto, unfolding(crate::specs::reader::Choices::maybe_at, crate::specs::reader::Choices::maybe_closed_at))]
 pub fn maybe_first(
     alloc: Global,
@@ -146,7 +146,7 @@ pub fn maybe_first(
     closed_by(Mark::Semicolon, Some(found), rest)
 }
 
-/// The step of a `for` or nothing, and the closing bracket behind it.
+/// The step of a `for` or nothing, and the closing bracket after it.
 #[tactic(auto, unfolding(crate::specs::reader::Choices::maybe_at, crate::specs::reader::Choices::maybe_closed_at))]
 pub fn maybe_step(
     alloc: Global,
@@ -171,7 +171,7 @@ pub struct ForHead {
     pub step: Option<Box<Simple>>,
 }
 
-/// An expression behind a mark.
+/// An expression after a mark.
 #[tactic(auto, unfolding(crate::specs::reader::Stmts::behind_at))]
 fn behind(
     alloc: Global,
@@ -253,7 +253,7 @@ pub fn ranges(alloc: Global, left: usize, tokens: &[Token]) -> Result<(Vec<Range
     more_ranges(alloc, left, all, rest)
 }
 
-/// The name of a `foreach_unique`, and the value behind `in`.
+/// The name of a `foreach_unique`, and the value after `in`.
 #[tactic(auto, unfolding(crate::specs::reader::Stmts::unique_parts_at))]
 pub fn unique_parts(
     alloc: Global,
@@ -284,7 +284,7 @@ pub fn text(tokens: &[Token]) -> Result<((Text, Span), &[Token]), Stop>
     }
 }
 
-/// The values behind a text, each behind a comma, up to a closing bracket.
+/// The values after a text, each after a comma, up to a closing bracket.
 fn values(alloc: Global, left: usize, tokens: &[Token]) -> Result<(Vec<Expr>, &[Token]), Stop>
     ensures value { Gives (λ r. (exprs_of r.0.items, r.1.now)) result (values_at left tokens.now) }
     ensures rest { IfOk result (λ r. length r.1.now ≤ length tokens.now) }
@@ -299,7 +299,7 @@ fn values(alloc: Global, left: usize, tokens: &[Token]) -> Result<(Vec<Expr>, &[
     Ok((all, rest))
 }
 
-/// The values, and where the closing bracket and the semicolon behind them stand.
+/// The values, and where the closing bracket and the semicolon after them stand.
 pub fn closed_values(
     alloc: Global,
     left: usize,

@@ -62,7 +62,7 @@ pub fn mark(mark: Mark, tokens: &[Token]) -> Result<(Span, &[Token]), Stop>
     }
 }
 
-/// What was read, and where this mark stands behind it, and the tokens after the mark.
+/// What was read, and where this mark stands after it, and the tokens after the mark.
 pub fn closed_by<T: Drop>(
     sign: Mark,
     value: T,
@@ -117,7 +117,7 @@ pub fn larger(a: usize, b: usize) -> usize
     if a < b { b } else { a }
 }
 
-/// A list with one more item behind.
+/// A list with one more item after.
 pub fn with_item<T: Drop>(mut all: Vec<T>, item: T) -> Result<Vec<T>, Stop>
     ensures items { IfOk result (λ r. r.items ≡ all.items ++ item ∷ []) }
     ensures memory { IfErr result (λ e. e ≡ Stop.Memory) }
@@ -126,7 +126,7 @@ pub fn with_item<T: Drop>(mut all: Vec<T>, item: T) -> Result<Vec<T>, Stop>
     Ok(all)
 }
 
-/// A list with what a box holds behind.
+/// A list with what a box holds after.
 pub fn with_boxed<T: Drop>(all: Vec<T>, item: Box<T>) -> Result<Vec<T>, Stop>
     ensures items { IfOk result (λ r. r.items ≡ all.items ++ item.value ∷ []) }
     ensures memory { IfErr result (λ e. e ≡ Stop.Memory) }

@@ -14,7 +14,7 @@ use isp_lex::{Mark, Token, TokenKind};
 use isp_tree::{Assignment, Change, Expr, Simple};
 use std::alloc::Global;
 
-/// What stands behind an expression, with the place of its sign.
+/// What stands after an expression, with the place of its sign.
 #[derive(Drop)]
 pub enum Ending {
     Assign(Assignment, Span, Box<Expr>),
@@ -107,7 +107,7 @@ fn stepped(change: Change, place: Span, target: Box<Expr>) -> Simple
     }
 }
 
-/// An expression with what stands behind it.
+/// An expression with what stands after it.
 fn ended(target: Box<Expr>, ending: Option<Ending>) -> Simple
     ensures { simple_of result ≡ ended_from (expr_of target.value) (option_map ending_of ending) }
 {

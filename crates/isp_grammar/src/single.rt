@@ -41,7 +41,7 @@ pub fn simple_stmt(alloc: Global, inner: usize, tokens: &[Token]) -> Result<Foun
     boxed(alloc, Stmt::Simple { simple, span }, rest)
 }
 
-/// What stands behind `break` or `continue` at this place.
+/// What stands after `break` or `continue` at this place.
 #[tactic(auto, unfolding(crate::specs::reader::Stmts::jump_at))]
 pub fn jump_stmt(
     alloc: Global,
@@ -62,7 +62,7 @@ pub fn jump_stmt(
     boxed(alloc, found, rest)
 }
 
-/// What stands behind `return` at this place.
+/// What stands after `return` at this place.
 #[tactic(auto, unfolding(crate::specs::reader::Stmts::return_at))]
 pub fn return_stmt(
     alloc: Global,
@@ -82,7 +82,7 @@ pub fn return_stmt(
     boxed(alloc, found, rest)
 }
 
-/// What stands behind `print` at this place.
+/// What stands after `print` at this place.
 #[tactic(auto, unfolding(crate::specs::reader::Stmts::print_at))]
 pub fn print_stmt(
     alloc: Global,
@@ -106,7 +106,7 @@ pub fn print_stmt(
     boxed(alloc, found, rest)
 }
 
-/// What stands behind `assert` at this place.
+/// What stands after `assert` at this place.
 #[tactic(auto, unfolding(crate::specs::reader::Stmts::assert_at))]
 pub fn assert_stmt(
     alloc: Global,

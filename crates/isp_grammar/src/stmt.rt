@@ -102,7 +102,7 @@ fn else_branch(
     Ok((Some(other), rest))
 }
 
-/// What stands behind `if` at this place.
+/// What stands after `if` at this place.
 #[cycle(stmt)]
 #[tactic(auto, unfolding(crate::specs::reader::Stmts::if_at))]
 fn conditional(
@@ -121,7 +121,7 @@ fn conditional(
     boxed(alloc, if_of(form, keyword, test, then, other), rest)
 }
 
-/// What stands behind the first word of such a loop at this place.
+/// What stands after the first word of such a loop at this place.
 #[cycle(stmt)]
 #[tactic(auto, unfolding(crate::specs::reader::Stmts::loop_at))]
 fn loop_stmt(
@@ -139,7 +139,7 @@ fn loop_stmt(
     boxed(alloc, loop_of(keyword, head, body), rest)
 }
 
-/// What stands behind `do` at this place.
+/// What stands after `do` at this place.
 #[cycle(stmt)]
 #[tactic(auto, unfolding(crate::specs::reader::Stmts::do_at))]
 fn do_loop(
@@ -157,7 +157,7 @@ fn do_loop(
     boxed(alloc, do_of(form, keyword, body, test, end), rest)
 }
 
-/// What stands behind `unmasked` at this place.
+/// What stands after `unmasked` at this place.
 #[cycle(stmt)]
 #[tactic(auto, unfolding(crate::specs::reader::Stmts::unmasked_at))]
 fn unmasked(alloc: Global, inner: usize, keyword: Span, tokens: &[Token]) -> Result<Found<'_>, Stop>

@@ -14,13 +14,13 @@ use Rattle.isp_headline.specs.ModuleHeadline.{IsExported}
 same_some : {A : Type 0} (x y : A) → Some x ≡ Some y → x ≡ y
 same_some x y e = cc
 
--- an element of a list that is mapped, with something behind it
+-- an element of a list that is mapped, with something after it
 mapped_get : {A B : Type 0} (f : A → B) (xs : List A) (ys : List B) (k : ℕ) (x : A) → slice_get xs k ≡ Some x → slice_get (map f xs ++ ys) k ≡ Some (f x)
 mapped_get f [] ys k x e = absurd (let no : ⊥ = cc in no)
 mapped_get f (a ∷ xs) ys zero x e = ap (λ z. Some (f z)) (same_some a x e)
 mapped_get f (a ∷ xs) ys (suc k) x e = mapped_get f xs ys k x e
 
--- and each is one of these, or stands behind them
+-- and each is one of these, or stands after them
 abbrev Of : {A B : Type 0} → (A → B) → List A → List B → ℕ → B → Type 0
 Of {A = A} f xs ys k b = ((a : A) × (slice_get xs k ≡ Some a) × (f a ≡ b)) ⊎ ((j : ℕ) × (slice_get ys j ≡ Some b))
 

@@ -1,6 +1,6 @@
 -- What `run_as_meant` answers of a text, an entry and a JSON text of arguments.
 --     Entered     an exported function of the program that the text is, and what the JSON text binds for it
---     IsReport    the report of how a machine stands behind the budget, which runs the function as is meant
+--     IsReport    the report of how a machine stands after the budget, which runs the function as is meant
 --     Answers     a report, or why there is none
 use Rattle.std.specs.Prelude.{◌≡◌, ℕ, List, Result, Ok, Err}
 use Rattle.isp_base.specs.Outcomes.{Outcome}

@@ -67,7 +67,7 @@ pub record EachStandsAlone (program : Program) (f : ℕ) (xs : List Argument) (t
   pub ended : (p : ℕ) → p < gang_width program.gang → IsEnded (solo_run program f (turns p) xs (bound xs) p)
   pub apart : AreApart (gang_width program.gang) (λ p. solo_run program f (turns p) xs (bound xs) p)
 
--- the arrays behind the runs of these instances, each over what the one before it left
+-- the arrays after the runs of these instances, each over what the one before it left
 abbrev pub behind_each : Program → ℕ → (ℕ → ℕ) → List Argument → List ℕ → (ℕ → ℕ → ℕ) → ℕ → ℕ → ℕ
 behind_each program f turns xs [] m = m
 behind_each program f turns xs (p ∷ ps) m = behind_each program f turns xs ps (after (solo_run program f (turns p) xs m p) m)
@@ -99,7 +99,7 @@ Reported ps o (Err e) = e ≡ Memory
 abbrev pub SentFirst : List Parameter → (ℕ → Outcome) → ℕ → Option (List ℕ) → Option (List ℕ) → Type 0
 SentFirst ps machine budget old new = (m : ℕ) × (m ≤ budget) × TookFirst (sent ps (machine m)) old new
 
--- `run_to` answers the report of how the machine stands behind the budget, and all of it has gone out; or memory was refused, or a
+-- `run_to` answers the report of how the machine stands after the budget, and all of it has gone out; or memory was refused, or a
 -- write failed, and the beginning has
 abbrev pub Sent : List Parameter → (ℕ → Outcome) → ℕ → Option (List ℕ) → Option (List ℕ) → Bool → Result Report RunFault → Type 0
 Sent ps machine budget old new failed (Ok r) = Reports ps (machine budget) r × TookAll (sent ps (machine budget)) old new failed

@@ -40,7 +40,7 @@ use Rattle.isp_headline.specs.Headline.{ComesTo, NeverOver, HasWritten}
 abbrev pub RanOut : Result → Type 0
 RanOut r = (s : State) × (r ≡ OutOfFuel s)
 
--- how the gang's run stands after so many turns, and what the call comes to with so much fuel; w says where its arrays lie
+-- how the gang's run stands after so many turns, and what the call comes to with that much fuel; w says where its arrays lie
 pub record CallDoesTheSame (w : Setting) (gang : ℕ → Outcome) (call : ℕ → Result) : Type 0 where
   -- Where the gang ends or traps, the call does, with its arrays in memory, its value and its output,
   pub ends : (rs : List Row) (x : Option Value) (out : List ℕ) → ComesTo gang (Ends rs x out) → (n : ℕ) × ReturnsSo w rs x out (call n)

@@ -12,7 +12,7 @@ abbrev pub AnyOf : {A : Type 0} → (A → Type 0) → List A → Type 0
 AnyOf P [] = ⊥
 AnyOf P (x ∷ xs) = P x ⊎ AnyOf P xs
 
--- each with each that comes behind it
+-- each with each that comes after it
 abbrev pub Pairs : {A : Type 0} → (A → A → Type 0) → List A → Type 0
 Pairs R [] = Unit {0}
 Pairs R (x ∷ xs) = AllOf (R x) xs × Pairs R xs

@@ -111,7 +111,7 @@ module _ (gang : ℕ) (test : Mask → State → Val Payload) (body : Mask → S
         choose true x s1 e = h (kept_by is_true live x) returned s1 e
         choose false x s1 e = (0, omega arith, omega arith)
 
-  -- a turn of which the body is done, and what comes behind it
+  -- a turn of which the body is done, and what comes after it
   close : (v : Res) (most : ℕ) (s s1 : State) → s1.work ≡ (tick s).work + m → WentAfterTurns most (k + (n + 0)) each s1 v → WentAfterTurns (suc most) 0 each s v
   close (Went s2 g b c r) most s s1 e h =
       let w = h.2 in

@@ -62,7 +62,7 @@ SameWithMembers gang calls other =
     (f : ℕ) (sp : Span) (a : Mask) (xs : List Passed) (frame : Frame) (s : State) → any gang a ≡ true → calls f sp a xs frame s ≡ other f sp a xs frame s
 
 -- A call may stand anywhere in an expression or a statement. Over a set with a member, what calls would do over an empty set plays no
--- part: none is made there. So no operand, branch, turn or round, and nothing behind a statement, runs for nobody.
+-- part: none is made there. So no operand, branch, turn or round, and nothing after a statement, runs for nobody.
 pub record NobodyRuns : Type 0 where
   pub expression : (gang : ℕ) (frame : Frame) (calls other : Calls) (x : TExpr) (a : Mask) (s : State)
       → SameWithMembers gang calls other → any gang a ≡ true → value gang frame calls x a s ≡ value gang frame other x a s

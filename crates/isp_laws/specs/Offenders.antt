@@ -87,7 +87,7 @@ pub record TheLowestIsNamed : Type 0 where
       → first_element (gang_width program.gang) frame (calls_at program most levels) b a (tick s) ≡ Gives z s1
       → ByLowest (gang_width program.gang) a (λ q. packed_outside (extent frame (base_array b)) z a q ≡ true) Index sp
       (value_over program most levels frame (t_packed_load b v sp) a s)
-  -- a call too many, behind its arguments: in the lowest member of all
+  -- a call too many, after its arguments: in the lowest member of all
   pub too_deep : (program : Program) (most : ℕ) (frame : Frame) (f : ℕ) (xs : TArguments) (t : Ty) (sp : Span) (a : Mask) (s s1 : State) (ps : List Passed)
       → any (gang_width program.gang) a ≡ true
       → arguments (gang_width program.gang) frame (calls_at program most 0) xs a (tick s) ≡ Gives ps s1

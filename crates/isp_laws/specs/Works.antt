@@ -58,13 +58,13 @@ SomebodyLeft gang (Cut s) = Unit {0}
 abbrev pub AlwaysGoesOn : ℕ → ℕ → (Mask → State → Res) → Type 0
 AlwaysGoesOn gang n does = (a : Mask) (s : State) → any gang a ≡ true → WentAfter n s (does a s) × SomebodyLeft gang (does a s)
 
--- what ends has so much work, and that of some turns, of which it makes no more than it may
+-- what ends has that much work, and that of some turns, of which it makes no more than it may
 abbrev pub WentAfterTurns : (most before each : ℕ) → State → Res → Type 0
 WentAfterTurns most before each s (Went s1 g b c r) = (k : ℕ) × (k ≤ most) × (s1.work ≡ s.work + (before + k * each))
 WentAfterTurns most before each s (Trapped t s1) = Unit {0}
 WentAfterTurns most before each s (Cut s1) = Unit {0}
 
--- A turn counts one, and its body, its step and the test behind it. The test of a `while` and of a `for` is taken once more, before the
+-- A turn counts one, and its body, its step and the test after it. The test of a `while` and of a `for` is taken once more, before the
 -- first turn.
 pub record WorkOfLoops : Type 0 where
   pub of_while : (gang : ℕ) (frame : Frame) (calls : Calls) (most : ℕ) (form : Form) (before : ℕ) (e : TExpr) (x : TStmt) (sp : Span) (a : Mask) (s : State) (n m : ℕ)

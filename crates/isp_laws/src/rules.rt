@@ -24,7 +24,7 @@ pub fn outside_is_needed()
     ensures { OutsideIsNeeded }
 {}
 
-/// Rule 5: an entry that assigns a uniform variable behind a varying `continue` and breaks no other rule, where the gang leaves
+/// Rule 5: an entry that assigns a uniform variable after a varying `continue` and breaks no other rule, where the gang leaves
 /// other arrays.
 pub fn turned_is_needed()
     ensures { TurnedIsNeeded }

@@ -38,7 +38,7 @@ pub open_none : (text : List ℕ) → IsOpen text → close text ≡ None
 open_none [] h = refl
 open_none (b ∷ bs) h = rw (open_first b bs h (closes b bs) refl, open_none bs (open_tail b bs h)) refl
 
--- nor is what is open up to the `*`, with more behind it
+-- nor is what is open up to the `*`, with more after it
 closed_first : (b : ℕ) (body rest : List ℕ) → IsOpen (b ∷ (body ++ 42 ∷ [])) → (t : Bool) → closes b (body ++ 42 ∷ 47 ∷ rest) ≡ t → t ≡ false
 closed_first b [] rest h true e = absurd (false≢true (and_both (b == 42) false e).1)
 closed_first b (c ∷ cs) rest h true e = open_first b (c ∷ (cs ++ 42 ∷ [])) h true e
@@ -132,7 +132,7 @@ pub open_fault : (place : ℕ) (text more : List ℕ) → text ≡ 47 ∷ 42 ∷
 open_fault place text more s h =
     subst (λ (x : List ℕ). IsFault place x (fault OpenComment (record { start = place; end = place + length x }))) (sym s) (open_comment place more (lacks_open more h))
 
--- a text may be cut behind the first two bytes of a comment
+-- a text may be cut after the first two bytes of a comment
 pub open_cut : (text : List ℕ) → IsUtf8 text → next_is 47 text ≡ true → next_is 42 (drop 1 text) ≡ true → IsCharBoundary text 2
 open_cut text u e f =
     let s = two_split 47 42 text e f in

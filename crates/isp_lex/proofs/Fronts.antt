@@ -30,7 +30,7 @@ use Rattle.isp_lex.proofs.SignLaws.{no_sign, sign_sound, sign_whole}
 use Rattle.isp_lex.proofs.Spellings.{begins_front, mark_ascii, mark_begins, mark_some, mark_word}
 use Rattle.isp_lex.proofs.Words.{kind_sound}
 
--- a text may be cut behind ASCII
+-- a text may be cut after ASCII
 ascii_cut : (text after bs : List ℕ) (n : ℕ) → IsAscii text → bs ≡ text ++ after → length text ≡ n → IsUtf8 bs → IsCharBoundary bs n
 ascii_cut text after bs n a e l u =
     IsCharBoundary-from_take bs n u (omega (arith, ap length e, length-append text after))

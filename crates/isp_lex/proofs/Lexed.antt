@@ -104,7 +104,7 @@ one_list text ts us d e = (one_end text ts us [] [] d refl e refl).0
 pub no_fault : (text : List ℕ) (ts us : List Token) (rest : List ℕ) (place : ℕ) (f : Fault) → Lexes 0 text ts [] → Lexes 0 text us rest → 0 < length rest → IsFault place rest f → ⊥
 no_fault text ts us rest place f d e l i = let p : [] ≡ rest = (one_end text ts us [] rest d refl e (step_fault i)).1 in omega (arith, ap length p)
 
--- what the span of a token names behind a front
+-- what the span of a token names after a front
 slice_here : (front text after : List ℕ) (place : ℕ) → length front ≡ place → slice (span place (length text)) (front ++ (text ++ after)) ≡ text
 slice_here front text after place e =
     let d = drop_at front (text ++ after) place e in

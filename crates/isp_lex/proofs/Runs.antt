@@ -49,7 +49,7 @@ run_ends_at : (p : ℕ → Bool) (b : ℕ) (bs : List ℕ) (t : Bool) → p b �
 run_ends_at p b bs true e h = h
 run_ends_at p b bs false e h = e
 
--- and the byte behind it does not
+-- and the byte after it does not
 pub run_ends : (p : ℕ → Bool) (bs : List ℕ) → begins p (drop (run p bs) bs) ≡ false
 run_ends p [] = refl
 run_ends p (b ∷ bs) = run_ends_at p b bs (p b) refl (run_ends p bs)
@@ -63,7 +63,7 @@ words_ascii (b ∷ bs) h =
     let q = and_both (is_word_byte b) (all is_word_byte bs) h in
     IsAscii-cons b bs (word_byte_ascii b q.0) (words_ascii bs q.1)
 
--- a text may be cut behind the run
+-- a text may be cut after the run
 pub run_boundary : (bs : List ℕ) → IsUtf8 bs → IsCharBoundary bs (run is_word_byte bs)
 run_boundary bs u =
     IsCharBoundary-from_take bs (run is_word_byte bs) u (run_le is_word_byte bs) (IsUtf8-from_ascii _ (words_ascii _ (run_all is_word_byte bs)))

@@ -50,7 +50,7 @@ abbrev sign_piece : Option (Mark × ℕ) → Option Piece
 sign_piece None = None
 sign_piece (Some s) = taken (kind.Mark s.0) s.1
 
--- behind a `/`
+-- after a `/`
 abbrev slash : List ℕ → Option Piece
 slash bs = cond (next_is 47 bs) (passed (suc (suc (run is_line_byte (drop 1 bs))))) (cond (next_is 42 bs) (closed_piece (close (drop 1 bs))) (sign_piece (sign_of 47 bs)))
 

@@ -48,7 +48,7 @@ sum_one n = omega arith
 sum_two : (n : ℕ) → 2 + n ≡ suc (suc n)
 sum_two n = omega arith
 
--- what follows is read behind what is said before it
+-- what follows is read after what is said before it
 text_over : {body bytes : List ℕ} → Decodes body bytes → (rest : List ℕ) → text_at false (body ++ rest) ≡ over bytes (length body) (text_at false rest)
 text_over nothing rest = over_nil (text_at false rest)
 text_over (plain b body bytes h d) rest =

@@ -45,7 +45,7 @@ text_low (kind.Text t) text i = record { front = 34 ∷ i.0; last = 34; split = 
 text_low (kind.Mark m) text i = ascii_low text (not_empty (kind.Mark m) text i) (subst IsAscii (sym i) (mark_ascii m))
 text_low kind.LeftOut text i = ascii_low text (not_empty kind.LeftOut text i) (words_ascii text (left_word text i).1)
 
--- a text may be cut behind what ends with ASCII
+-- a text may be cut after what ends with ASCII
 low_cut : (front text after : List ℕ) (at : ℕ) → IsUtf8 (front ++ (text ++ after)) → EndsLow text → at ≡ length front + length text → IsCharBoundary (front ++ (text ++ after)) at
 low_cut front text after at u e q =
     let all_of = front ++ (text ++ after) in

@@ -6,7 +6,7 @@ use Rattle.isp_lex.specs.Bytes.{next_is}
 abbrev pub is_plain : ℕ → Bool
 is_plain byte = (nat_le 32 byte && not (byte == 127)) && (not (byte == 34) && not (byte == 92))
 
--- what a backslash with this byte behind it says: `n`, `t`, `r`, a backslash and a quote
+-- what a backslash with this byte after it says: `n`, `t`, `r`, a backslash and a quote
 abbrev pub escaped : ℕ → Option ℕ
 escaped letter =
     cond (letter == 110) (Some 10) (

@@ -49,7 +49,7 @@ fn word(alloc: Global, text: &str) -> Result<TokenKind, AllocError>
     }
 }
 
-/// A number or a word that stands at a place, with nothing behind it.
+/// A number or a word that stands at a place, with nothing after it.
 fn run_piece(alloc: Global, text: &str, place: usize) -> Result<Piece, SourceFault>
     requires room { place + length text.now < 2 ^ 64 }
     requires some { 0 < length text.now }
@@ -174,7 +174,7 @@ pub fn one_list()
 
 /// A law: a list of tokens is no longer than its text, which has at most 1,048,576 bytes; each token
 /// has a byte of the text at least, a name is a word that is not reserved, a number fits its type;
-/// and tokens stand one behind another.
+/// and tokens stand one after another.
 pub fn token_laws()
     ensures { (list : TokenList) → IsListed list → AreTokens list }
 {}

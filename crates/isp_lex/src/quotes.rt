@@ -27,7 +27,7 @@ fn is_plain(byte: u8) -> bool
     byte >= 32 && byte != 127 && byte != b'"' && byte != b'\\'
 }
 
-/// What a backslash with this byte behind it says.
+/// What a backslash with this byte after it says.
 fn escaped(byte: u8) -> Option<u8>
     ensures { result ≡ class.escaped byte }
 {
@@ -41,7 +41,7 @@ fn escaped(byte: u8) -> Option<u8>
     }
 }
 
-/// What stands behind a backslash.
+/// What stands after a backslash.
 fn escape(more: &[u8]) -> Said
     ensures { result ≡ escape_at more.now }
 {

@@ -28,7 +28,7 @@ use Rattle.isp_lower.specs.declared.types.Scope.{Scope}
 use Rattle.isp_registers.proofs.Lemmas.{call_view, later_drop}
 use Rattle.isp_lower.proofs.Landing.{appends_self, appends_then}
 
--- ---- the rate of the parameter of a number, and of those behind it
+-- ---- the rate of the parameter of a number, and of those after it
 
 no_rate : (j : ℕ) → next_rate (drop j []) ≡ Varying
 no_rate zero = refl
@@ -107,7 +107,7 @@ module _ (l : Layout) (rs : List Rate) (all : List rust_argument.TypedArgument) 
   registers_end le ds total m e =
       sym (append-nil ds) ∙ ap (λ zs. ds ++ argument_registers l (drop i rs) (t_arguments (arguments_of zs)) m) (sym (drop_all i all le)) ∙ e
 
--- ---- the instruction behind the arguments, and its place
+-- ---- the instruction after the arguments, and its place
 
 pub called_behind : (a b c : Body) (go : ℕ → Instr) (sp : Span) (m : ℕ) → m ≡ length a.places.items → Appends a b (λ pc p. []) (sp ∷ []) → Appends b c (λ pc p. go m ∷ []) [] → Appends a c (λ pc p. go p ∷ []) (sp ∷ [])
 called_behind a b c go sp m is x y =

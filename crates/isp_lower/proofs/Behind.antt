@@ -1,4 +1,4 @@
--- The number behind the registers that code names: none of them has it, and it is no greater than the number of those that are there.
+-- The number after the registers that code names: none of them has it, and it is no greater than the number of those that are there.
 use Rattle.std.proofs.Common.{◌≡◌, ◌≢◌, ◌≤◌, ◌<◌, ◌+◌, ℕ, List, [], ◌∷◌, ◌++◌, length, drop, get_or, map, max, Option, Some, None, Bool, true, false, if◌then◌else◌, refl, ap, sym, subst, ◌∙◌, arith}
 use Rattle.std.proofs.lemmas.List.{drop_all, drop_more}
 use Rattle.isp_code.specs.Operands.{any_register, call_operands, divided, operands, tested}

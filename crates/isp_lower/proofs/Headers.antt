@@ -25,7 +25,7 @@ types_more rows at r low =
 long : (rows : List RegisterRow) (at : ℕ) → at < length rows → length (types_of (map row_of (take at rows))) ≡ at
 long rows at low = length_types (take at rows) ∙ length-take-le at rows (omega (arith, low))
 
--- a row behind the first ones
+-- a row after the first ones
 pub types_step : (rows : List RegisterRow) (at count : ℕ) (r : RegisterRow) (ts : List Elem) → at < length rows → count ≤ at → ts ≡ drop count (types_of (map row_of (take at rows)))
     → ts ++ (get_or rows at r).elem ∷ [] ≡ drop count (types_of (map row_of (take (at + 1) rows)))
 types_step rows at count r ts low le e =

@@ -67,7 +67,7 @@ landed a b c d at x go k p is one part set kept same =
       texts = same ∙ part.texts ∙ one.texts;
     }
 
--- One of two parts: a jump leads to the second, and one stands behind the first. The first jump is written when both it and
+-- One of two parts: a jump leads to the second, and one stands after the first. The first jump is written when both it and
 -- the first part stand, the second at the end.
 pub code_chosen : (a b c d e f g : List Instr) (at over : ℕ) (x o : Instr) (go : ℕ → Instr) (k m : ℕ → List Instr)
     → at ≡ length a → b ≡ a ++ x ∷ [] → c ≡ b ++ k (length b) → over ≡ length c → d ≡ c ++ o ∷ []

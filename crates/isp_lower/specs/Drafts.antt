@@ -99,7 +99,7 @@ with_text t d = record d { texts = d.texts ++ t ∷ [] }
 abbrev pub with_instr : Instr → Draft → Draft
 with_instr i d = record d { code = d.code ++ i ∷ [] }
 
--- the next register is behind those that are there and those that the code names; so is the next mask
+-- the next register is after those that are there and those that the code names; so is the next mask
 abbrev pub next_register : Rate → Draft → ℕ
 next_register r d = max (length (rows_at d.rows r)) (behind_named (class_at r) d.code)
 

@@ -1,4 +1,4 @@
--- What each writer appends, told what it is given: where registers lie, the tree, the register that gets the value, the mask
+-- What each writer appends, given what it is given: where registers lie, the tree, the register that gets the value, the mask
 -- and the first free slot.
 use Rattle.std.specs.Prelude.{ℕ, ◌+◌, ◌∷◌, [], ◌++◌, List, length, map, Bool, false, Option}
 use Rattle.isp_base.specs.Ranks.{same_elem}
@@ -41,7 +41,7 @@ use Rattle.isp_lower.specs.declared.sites.Target.{Target}
 use Rattle.isp_lower.specs.declared.types.Body.{Body}
 use Rattle.isp_lower.specs.declared.types.Scope.{Scope}
 
--- Code that is told the numbers of its first instruction and of its first place in the source, and the places that it names.
+-- Code that is given the numbers of its first instruction and of its first place in the source, and the places that it names.
 pub record Piece : Type 0 where
   pub code : ℕ → ℕ → List Instr
   pub places : List Span
@@ -130,7 +130,7 @@ abbrev pub skipped_at : Scope → Skip → TExpr → Target → Piece
 skipped_at on skip x t =
     record { code = λ pc p. guard (λ at. instr.JumpIf skip.test skip.register at) pc (λ pc1. variable_from (layout on) false t.ty.rate t.to.number x pc1 p t.site.mask.number t.site.slot.number); places = expr_places (layout on) x }
 
--- ---- choices: a side that is moved to its slot, one under a mask, both behind a test in register c, and with the test
+-- ---- choices: a side that is moved to its slot, one under a mask, both after a test in register c, and with the test
 
 abbrev pub side_at : Scope → Ty → TExpr → Site → Piece
 side_at on t x at =
@@ -147,7 +147,7 @@ guarded_at on r x at =
     let n = at.slot.number in
     record { code = λ pc p. guard (jump_off k) pc (λ pc1. operand_of (layout on) r x k n (expr_code (layout on) x pc1 p k n)); places = expr_places (layout on) x }
 
--- a side told its place, its mask and its slot
+-- a side given its place, its mask and its slot
 abbrev pub side_code : Scope → Rate → TExpr → ℕ → ℕ → ℕ → ℕ → List Instr
 side_code on r x p pc m i = operand_of (layout on) r x m i (expr_code (layout on) x pc p m i)
 
@@ -179,7 +179,7 @@ chosen_at on r z x y t =
       places = expr_places l z ++ (expr_places l x ++ expr_places l y);
     }
 
--- one instruction behind the test
+-- one instruction after the test
 abbrev pub short_at : Scope → TExpr → TExpr → TExpr → Target → Piece
 short_at on z x y t =
     let l = layout on in
@@ -208,7 +208,7 @@ library_at on f xs t =
     let n = t.site.slot.number in
     record { code = λ pc p. values_code l rs xs pc p k n ++ library_code f t.ty.rate t.to.number (l.spare t.ty.rate t.ty.elem n) (value_registers l rs xs n) k; places = values_places l xs }
 
--- ---- calls: an argument at the rate of its parameter, the arguments of a function, the instruction behind them, and the call
+-- ---- calls: an argument at the rate of its parameter, the arguments of a function, the instruction after them, and the call
 
 abbrev pub argument_at : Scope → Rate → TArgument → Site → Piece
 argument_at on r x at =
@@ -269,7 +269,7 @@ changed_at on o e y at =
           operate_places o.operator o.span;
     }
 
--- the same with the value of an expression, and with the number 1, behind the index
+-- the same with the value of an expression, and with the number 1, after the index
 abbrev pub element_by_at : Scope → Operation → Element → TExpr → Site → Piece
 element_by_at on o e x at =
     let l = layout on in
@@ -289,7 +289,7 @@ element_step_at on o e at =
     let n = at.slot.number in
     record { code = λ pc p. one_code l r o.elem at.mask.number n ++ (changed_at on o e (record { number = one_in l r o.elem n }) (behind at)).code pc p; places = e.span ∷ operate_places o.operator o.span }
 
--- an element gets the value of an expression, behind the index
+-- an element gets the value of an expression, after the index
 abbrev pub element_to_at : Scope → Element → TExpr → Site → Piece
 element_to_at on e x at =
     let l = layout on in

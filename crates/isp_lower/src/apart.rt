@@ -19,7 +19,7 @@ fn fillers(alloc: Global, count: usize) -> Result<Vec<Line>, AllocError>
 }
 
 impl Body {
-    /// A body of as many instructions and of the same places, without a text: what is written behind them is numbered as in
+    /// A body of as many instructions and of the same places, without a text: what is written after them is numbered as in
     /// this one, where it names no text.
     pub(crate) fn apart(&self, alloc: Global) -> Result<Body, AllocError>
         ensures code { IfOk result (λ b. length b.code.items ≡ length self.now.code.items) }
@@ -32,7 +32,7 @@ impl Body {
         })
     }
 
-    /// Takes what was written apart: the instructions behind as many as this one has, and the places. Where memory is
+    /// Takes what was written apart: the instructions after as many as this one has, and the places. Where memory is
     /// refused, all stays as it was.
     pub(crate) fn join(&mut self, mut written: Body) -> Result<(), AllocError>
         requires { length self.old.code.items ≤ length written.code.items }

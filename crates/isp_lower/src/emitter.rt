@@ -92,7 +92,7 @@ impl<'p> Emitter<'p> {
         Ok(number)
     }
 
-    /// A register of the function at work for values of a type, and its number: behind those that are there and those that
+    /// A register of the function at work for values of a type, and its number: after those that are there and those that
     /// instructions name, so no instruction names it, and no other call gives it. The number has 32 bits. It takes time in
     /// step with the code so far. 0 where memory is refused.
     pub fn fresh(&mut self, rate: Rate, elem: Elem) -> Result<RegisterNumber, AllocError>
@@ -112,8 +112,8 @@ impl<'p> Emitter<'p> {
             .fresh_from(alloc, behind, rate, elem)
     }
 
-    /// One more mask register of the function at work, and its number: behind those that are there and those that
-    /// instructions name, so no instruction names it, and no earlier call gave it. Code in the slots behind its number leaves
+    /// One more mask register of the function at work, and its number: after those that are there and those that
+    /// instructions name, so no instruction names it, and no earlier call gave it. Code in the slots after its number leaves
     /// it as it is. There are fewer than 4,294,967,295 masks then. It takes time in step with the code so far.
     pub fn fresh_mask(&mut self) -> MaskNumber
         requires begun { IsBegun (draft_of self.old) }

@@ -22,7 +22,7 @@ pub struct Heading {
     pub locals: Vec<Local>,
 }
 
-/// The types of a routine's registers behind the parameters.
+/// The types of a routine's registers after the parameters.
 #[derive(Drop)]
 pub struct Types {
     pub scalars: Vec<Elem>,

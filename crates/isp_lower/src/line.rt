@@ -60,7 +60,7 @@ impl Line {
         self.number = Some(target);
     }
 
-    /// The number behind the registers of a class that it names.
+    /// The number after the registers of a class that it names.
     #[tactic(auto, using(crate::proofs::Behind::named_same))]
     pub(crate) fn behind(&self, class: Class) -> usize
         ensures is { result ≡ behind_registers class (registers_named (operands self.now)) }

@@ -1,4 +1,4 @@
-//! The number behind the registers of a class that code names.
+//! The number after the registers of a class that code names.
 ghost use Rattle.std.specs.Prelude.{◌≡◌, ◌≤◌};
 ghost use Rattle.isp_code.specs.Operands.{call_operands, mask_operands, operands, scalar_operands, vector_operands};
 ghost use Rattle.isp_code.specs.Registers.{same_class};
@@ -32,7 +32,7 @@ fn same_class(a: Class, b: Class) -> bool
     }
 }
 
-/// The number behind a register of a class, and 0 of another one.
+/// The number after a register of a class, and 0 of another one.
 fn behind_one(class: Class, register: Register) -> usize
     ensures is { result ≡ behind_one class register }
     ensures few { result ≤ 4294967296 }
@@ -44,7 +44,7 @@ fn behind_one(class: Class, register: Register) -> usize
     }
 }
 
-/// The number behind those of some registers.
+/// The number after those of some registers.
 fn behind(class: Class, registers: &[Register]) -> usize
     ensures is { result ≡ behind_registers class registers.now }
     ensures few { result ≤ 4294967296 }
@@ -56,7 +56,7 @@ fn behind(class: Class, registers: &[Register]) -> usize
     most
 }
 
-/// The number behind those that an instruction names that writes a scalar.
+/// The number after those that an instruction names that writes a scalar.
 fn behind_scalar(class: Class, d: Register, instr: ScalarInstr) -> usize
     ensures is { result ≡ behind_registers class (registers_named (scalar_operands d instr)) }
     ensures few { result ≤ 4294967296 }

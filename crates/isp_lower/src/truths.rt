@@ -56,7 +56,7 @@ fn counts(on: &Scope, x: &TypedExpr) -> bool
     }
 }
 
-/// Whether the lanes' elements of an array of a rate stand in a row, each one place behind that of the lane before.
+/// Whether the lanes' elements of an array of a rate stand in a row, each one place after that of the lane before.
 pub fn is_run(on: &Scope, array: Rate, index: &TypedExpr) -> bool
     ensures { result ≡ is_run (layout on.now) array (expr_of index.now) }
 {

@@ -1,4 +1,4 @@
--- Runs of elements: lane p has the element that is p places behind that of a scalar index. A run does what an access does by an index in
+-- Runs of elements: lane p has the element that is p places after that of a scalar index. A run does what an access does by an index in
 -- each lane, where lane p has the bits of that sum.
 use Rattle.std.proofs.Common.{◌≡◌, ℕ, ◌<◌, ◌^◌, [], Option, Some, None, Bool, true, false, refl, sym, ap, ◌∙◌, subst, arith, ℤ, pos, mod-eq_of_lt, ◌⊎◌, inl, inr, eqb-true}
 use Rattle.std.specs.Prelude.{◌&&◌, ◌+ℤ◌, if◌then◌else◌, unsigned_abs}
@@ -47,7 +47,7 @@ abbrev pub RunFits : Bool → Rate → Rate → Mask → ℕ → Type 0
 RunFits true br r a x = (br ≡ Uniform) × (r ≡ Varying) × InReach a x
 RunFits false br r a x = Unit {0}
 
--- the indices of a set are these values, told by what scalars and vectors hold
+-- the indices of a set are these values, given by what scalars and vectors hold
 pub record IndexHolds (z : Bool) (br r : Rate) (a : Mask) (x : ℕ) (m : Payload) (scalars : ℕ → ℕ) (vectors : ℕ → Lanes) : Type 0 where
   pub holds : at_rate r a m ≡ held_at r scalars (lanes_by z scalars vectors) a x
   pub fits : RunFits z br r a (scalars x)

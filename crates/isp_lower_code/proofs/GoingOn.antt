@@ -19,7 +19,7 @@ out_in (machine.Runs c) = c.out
 out_in (machine.Trapped t c) = c.out
 out_in (machine.Ended x c) = c.out
 
--- a state from which the machine came so far that it had written so much: it ran, and had written the beginning
+-- a state from which the machine came so far that it had written that much: it ran, and had written the beginning
 record RanFor (z : machine.State) (out : List ℕ) : Type 0 where
   pub conf : Conf
   pub is : z ≡ machine.Runs conf

@@ -138,7 +138,7 @@ linked fs n rows masks code = record {
       { routine = routine_for g; found = routine_at fs f g e; params = params_held (params_of g); returns = refl };
 }
 
--- ---- the code of a tree is sound in a routine that ends behind it
+-- ---- the code of a tree is sound in a routine that ends after it
 
 module _ (fs : List TFunction) (rows : Rows) (masks pc p k n : ℕ) (lt : k < masks) where
   abbrev pub in_rows : List Instr → Routine

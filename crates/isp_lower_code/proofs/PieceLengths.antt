@@ -25,7 +25,7 @@ use Rattle.isp_lower_code.specs.Layout.{Layout}
 use Rattle.isp_lower_code.specs.Library.{library_code}
 use Rattle.isp_lower_code.specs.Pieces.{guard, choice, move, move_code, pair_code, needing, decided, logic_code, choose_rest}
 
--- a few more behind what is short
+-- a few more after what is short
 pub behind_long : (a b : List Instr) (y : ℕ) → length a ≤ 32 * y → length b ≤ 2 → length (a ++ b) + 8 ≤ 32 * suc y
 behind_long a b y la lb = omega (arith, length-append a b)
 

@@ -108,7 +108,7 @@ module _ (w : Setting) (ready : IsSettled w) where
 
   -- ---- one node, given what holds of its parts
 
-  -- five steps are left after it, or four behind a conversion, which has no count of its own
+  -- five steps are left after it, or four after a conversion, which has no count of its own
   abbrev pub RunsHere : TExpr → Type 0
   RunsHere x =
       (pc p k n q rest : ℕ) (a : Mask) (s : State) (c : Conf) → ExprParts w x n → AreAt w.routine.code pc (expr_code w.layout x pc p k n)

@@ -1,4 +1,4 @@
--- The text of code can have the code of a tree, since it is sound in a routine that ends behind it.
+-- The text of code can have the code of a tree, since it is sound in a routine that ends after it.
 use Rattle.std.proofs.Common.{◌≡◌, ◌≤◌, ◌<◌, ◌+◌, ℕ, List, length, arith}
 use Rattle.isp_base.specs.declared.types.Span.{Span}
 use Rattle.isp_code.specs.Listing.{Listing, Routine}

@@ -33,7 +33,7 @@ pub record AsksAreFew : Type 0 where
   pub expr_masks : (x : TExpr) (n m most : ℕ) → m ≤ most → n + 4 * typed_nodes x ≤ most → masks_with m (expr_asks x n) ≤ most
   pub simple_masks : (x : TSimple) (n m most : ℕ) → m ≤ most → n + 4 * simple_nodes x + 8 ≤ most → masks_with m (simple_asks x n) ≤ most
 
--- registers are added behind those that are there
+-- registers are added after those that are there
 pub record BeginsWith (old new : Rows) : Type 0 where
   pub scalars : Begins old.scalars new.scalars
   pub vectors : Begins old.vectors new.vectors
@@ -46,7 +46,7 @@ pub record OwnIsThere : Type 0 where
   pub simples : (fs : List TFunction) (vars : List Variable) (answer : Option Ty) (rows : Rows) (x : TSimple) (n : ℕ) → BeginsWith (first_rows vars answer) rows
       → FineSimple fs vars x → HasOwn rows (simple_asks x n)
 
--- Constants have 64 bits, and each number that is named 32: of an instruction or a place, of which none comes behind the last one that can be named.
+-- Constants have 64 bits, and each number that is named 32: of an instruction or a place, of which none comes after the last one that can be named.
 pub record IsWritten (is : List Instr) (ps : List Span) : Type 0 where
   pub constants : list_all constant_in is ≡ true
   pub numbers : list_all has_small_number is ≡ true

@@ -25,7 +25,7 @@ pub data Ask : Type 0 where
   Number : ℕ → Ask
   Loads : ℕ → Ask
 
--- all of it is there, told by what it is to have a register, an array that is read or written, one that is declared, a mask, and a variable
+-- all of it is there, given by what it is to have a register, an array that is read or written, one that is declared, a mask, and a variable
 -- that is known as loaded
 abbrev pub All : (Rate → Name → Elem → Type 0) → (ArrayVariable → Type 0) → (ArrayVariable → Type 0) → (ℕ → Type 0) → (ℕ → Type 0) → Ask → Type 0
 All H A L M W Nothing = Unit {0}
@@ -107,7 +107,7 @@ run_asks Varying i n = Nothing
 abbrev pub element_asks : Rate → Rate → TExpr → ℕ → Ask → Ask
 element_asks g r i n a = Both (run_asks g i n) (index_asks r i n a)
 
--- the right side of `&&` and `||` has a mask where it is asked lane by lane; so has a part behind a varying test
+-- the right side of `&&` and `||` has a mask where it is asked lane by lane; so has a part after a varying test
 abbrev pub test_asks : Rate → ℕ → Ask
 test_asks Uniform n = Nothing
 test_asks Varying n = MaskOf n

@@ -110,7 +110,7 @@ abbrev pub heading_of : TFunction → Heading
 heading_of h =
     record { name = h.name; exported = h.exported; returns = returns_of h.answer; params = params_of h.parameters h.variables; locals = locals_of h.variables }
 
--- the types of the registers behind the parameters
+-- the types of the registers after the parameters
 abbrev pub scalars_behind : List Param → Rows → List Elem
 scalars_behind ps rows = drop (length (param_elems class.Scalar ps)) (types_of rows.scalars)
 

@@ -68,7 +68,7 @@ abbrev pub write : Rate → ℕ → ℕ → ℕ → ℕ → ℕ → Instr
 write Uniform b i x k p = instr.Store (array_register b) (register Uniform i) (register Uniform x) (mask_register k) p
 write Varying b i x k p = instr.Scatter (array_register b) (register Varying i) (register Varying x) (mask_register k) p
 
--- a run of elements: lane p has the element that is p places behind that of a scalar index
+-- a run of elements: lane p has the element that is p places after that of a scalar index
 abbrev pub read_run : ℕ → ℕ → ℕ → ℕ → ℕ → Instr
 read_run d b i k p = instr.Vector (register Varying d) (vector.LoadRun (array_register b) (register Uniform i) (mask_register k) p)
 

@@ -1,4 +1,4 @@
--- The registers that instructions name, whether a function has them, and which number is behind them.
+-- The registers that instructions name, whether a function has them, and which number is after them.
 use Rattle.std.specs.Prelude.{◌≢◌, ◌<◌, ◌+◌, ℕ, List, [], ◌∷◌, length, max, Option, Some, None, if◌then◌else◌}
 use Rattle.isp_code.specs.Operands.{operands}
 use Rattle.isp_code.specs.declared.instr.Instr.{Instr}
@@ -53,7 +53,7 @@ IsOf rows masks x = x.number < count_of rows masks x.class
 abbrev pub Unnamed : Register → List Instr → Type 0
 Unnamed x code = InCode (λ y. y ≢ x) code
 
--- ---- the number behind those of a class: one more than the greatest, and 0 where none is named
+-- ---- the number after those of a class: one more than the greatest, and 0 where none is named
 
 abbrev pub register_named : Operand → Option Register
 register_named (AnyRegister x) = Some x

@@ -1,4 +1,4 @@
--- Small pieces of code, told by their parts: one behind the other, behind a jump or chosen by one, and those of `&&`, `||` and a varying `?:`.
+-- Small pieces of code, given by their parts: one after the other, after a jump or chosen by one, and those of `&&`, `||` and a varying `?:`.
 use Rattle.std.specs.Prelude.{ℕ, ◌+◌, ◌∷◌, [], ◌++◌, List, length, Bool, true, false, nat_eq}
 use Rattle.isp_base.specs.declared.types.Rate.{Rate}
 use Rattle.isp_base.specs.declared.types.Rate.TheVariants.{Uniform, Varying}
@@ -10,7 +10,7 @@ use Rattle.isp_typed.specs.declared.variable.Logic.{Logic}
 use Rattle.isp_typed.specs.declared.variable.Logic.TheVariants.{And, Or}
 use Rattle.isp_lower_code.specs.Instructions.{copy, select, where_so, the_others, jump_off, jump_on}
 
--- one part after the other, each told where it begins
+-- one part after the other, each given where it begins
 abbrev pub two : ℕ → List Instr → (ℕ → List Instr) → List Instr
 two pc a b = a ++ b (pc + length a)
 

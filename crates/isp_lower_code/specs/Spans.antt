@@ -21,7 +21,7 @@ module _ (l : Layout) where
     expr_places (t_choose c x y t sp) = expr_places c ++ (expr_places x ++ expr_places y)
     expr_places (t_call c t) = call_places c
     expr_places (t_library f e xs t sp) = values_places xs
-    -- a packed call names its place behind those of its parts
+    -- a packed call names its place after those of its parts
     expr_places (t_packed_store b x sp) = base_places b ++ (expr_places x ++ sp ∷ [])
     expr_places (t_packed_load b v sp) = base_places b ++ sp ∷ []
 
@@ -41,7 +41,7 @@ module _ (l : Layout) where
     values_places t_no_exprs = []
     values_places (t_expr_then x xs) = expr_places x ++ values_places xs
 
-    -- a call names its place behind those of its arguments
+    -- a call names its place after those of its arguments
     pub call_places : TCall → List Span
     call_places (t_called f xs sp) = arguments_places xs ++ sp ∷ []
 

@@ -108,7 +108,7 @@ pub some_begin : (l : Layout) (n : ℕ) (ks : List Constant) → (ks ≡ [] → 
 some_begin l n [] ne a b c f g = absurd (ne refl)
 some_begin l n (x ∷ xs) ne a b c f g = appends_then a b c (λ pc p. fill_mask n ∷ []) (λ pc p. keep_code l n (x ∷ xs)) [] [] f g
 
--- a function's body behind them, and what it gives back
+-- a function's body after them, and what it gives back
 pub function_written : (on : Scope) (ks : List Constant) (b : TBlock) (x y z w : Body) → Appends x y (λ pc p. constants_code (layout on) 3 ks) []
     → Writes y z (record {
       code = λ pc n. block_code (layout on) on.answer b pc n first_spot;

@@ -73,7 +73,7 @@ pub record AreNamed (r : Registers) : Type 0 where
   pub vectors : length r.vectors ≤ 4294967295
   pub arrays : length r.arrays ≤ 4294967295
 
--- what is asked for, and then the constants, come behind those with which the function begins
+-- what is asked for, and then the constants, come after those with which the function begins
 pub few_registers : (h : TFunction) (ks : List Constant) (z m r : Registers) → IsSmall h → keep_steps ks ≤ 24 → rows_of z ≡ first_rows h.variables h.answer
     → GrowsBy (registers_asked (Both (constants_asks 3 ks) (block_asks h.answer h.body 3))) (rows_of z) (rows_of m) → GrowsBy (length ks) (rows_of m) (rows_of r) → AreNamed r
 few_registers h ks z m r small short first more kept =

@@ -27,7 +27,7 @@ pub texts_last : (xs : List TStmt) (x : TStmt) → stmts_texts (t_stmts (xs ++ x
 texts_last [] x = append-nil (stmt_texts x)
 texts_last (y ∷ ys) x = ap (λ z. stmt_texts y ++ z) (texts_last ys x) ∙ sym (append_assoc (stmt_texts y) (stmts_texts (t_stmts ys)) (stmt_texts x))
 
--- the numbers behind a list
+-- the numbers after a list
 abbrev pub behind_all : Layout → List TStmt → Numbers → Numbers
 behind_all l xs z =
     record { place = z.place + length (stmts_places l (t_stmts xs)); text = z.text + length (stmts_texts (t_stmts xs)) }

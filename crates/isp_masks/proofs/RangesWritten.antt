@@ -30,7 +30,7 @@ use Rattle.isp_masks.specs.declared.ranges.Sweep.{Sweep}
 use Rattle.isp_masks.proofs.Lists.{same_numbers}
 use Rattle.isp_masks.proofs.Writing.{beyond, landed_over, writes_back, writes_behind, writes_front, writes_past, writes_then}
 
--- the first instruction, the test, the jump past what is inside, and behind that the jump back to the test
+-- the first instruction, the test, the jump past what is inside, and after that the jump back to the test
 pub sweep_written : (a s b c d f e : Body) (first tested x add : Instr) (go : ℕ → Instr) (y : Piece) (top at : ℕ)
     → Appends a s (λ pc n. first ∷ []) [] → top ≡ length s.code.items → Appends s b (λ pc n. tested ∷ []) [] → at ≡ length b.code.items
     → Appends b c (λ pc n. x ∷ []) [] → Writes c d y → Appends d f (λ pc n. add ∷ instr.Jump top ∷ []) []
@@ -68,7 +68,7 @@ goes_on_codes false h [] = refl
 goes_on_codes false h (x ∷ set) = refl
 goes_on_codes true h set = refl
 
--- the runs that have all lanes, told where their indices begin, and where the next of them does
+-- the runs that have all lanes, given where their indices begin, and where the next of them does
 pub full_written : (l : Layout) (a b c d e f k : Body) (alone kept : Bool) (own : List Instr) (i x m n h first to : ℕ) (y : Piece)
     → Appends a b (λ pc p. fill_mask h ∷ []) [] → first ≡ length b.code.items → Appends b c (λ pc p. own) []
     → to ≡ next_from alone first (length c.code.items) → Appends c d (λ pc p. index_step l alone i n h pc) [] → Writes d e y → Appends e f (λ pc p. refill kept h) []
@@ -99,7 +99,7 @@ full_written l a b c d e f k alone kept own i x m n h first to y fill first_at s
       texts = whole.texts;
     }
 
--- the run behind them: its lanes, and a jump past its indices and its body
+-- the run after them: its lanes, and a jump past its indices and its body
 pub rest_written : (l : Layout) (a b c d e f : Body) (own : List Instr) (x bound h : ℕ) (skip : Instr) (y : Piece) (at : ℕ)
     → Appends a b (λ pc p. range_mask h x (wide l (bound + 1)) ∷ []) [] → at ≡ length b.code.items → Appends b c (λ pc p. skip ∷ []) []
     → Appends c d (λ pc p. own) [] → Writes d e y → f.code.items ≡ slice_set e.code.items at (jump_off h (length e.code.items)) → f.places ≡ e.places → f.texts ≡ e.texts
@@ -130,7 +130,7 @@ last_written a b c d e f begin skip go y w at start three is one part landed kep
       texts = whole.texts;
     }
 
--- what all runs use, the bounds, and the ranges, told the numbers of what their body names next
+-- what all runs use, the bounds, and the ranges, given the numbers of what their body names next
 pub foreach_written : (l : Layout) (a b c d : Body) (rs : List TRange) (k n : ℕ) (body : Numbers → RunBodies) (ps : List Span) (ts : List (List ℕ))
     → Appends a b (λ pc p. measures_code l n (runs_slot n rs)) [] → Appends b c (λ pc p. bounds_code l rs pc p k (n + 1 + 1)) (ranges_places l rs)
     → Writes c d (record { code = λ pc z. ranges_code l n (runs_slot n rs) (body z) rs [] (n + 1 + 1) (places_slot n rs) pc; places = ps; texts = ts })

@@ -75,7 +75,7 @@ values_first r k (p ∷ ps) (v ∷ vs) = let w = values_first r (suc k) ps vs in
 refilled : (ts ps rest : List Elem) → ts ≡ ps ++ rest → ps ++ drop (length ps) ts ≡ ts
 refilled ts ps rest is = ap (λ z. ps ++ drop (length ps) z) is ∙ ap (λ z. ps ++ z) (drop-append_seam ps rest) ∙ sym is
 
--- all registers of a class: the parameters, and those behind them
+-- all registers of a class: the parameters, and those after them
 registers_are : (r : Rate) (ps : List Parameter) (vs : List Declared) (more : List Row) (rows : List Row) (params : List Param) (types : List Elem) → params ≡ params_of ps vs → rows ≡ value_rows r 0 vs ++ more
     → types ≡ drop (length (param_elems (class_at r) params)) (types_of rows) → param_elems (class_at r) params ++ types ≡ types_of rows
 registers_are r ps vs more rows params types is all behind =

@@ -1,5 +1,5 @@
--- What loops are written in: what follows a test, behind what stands before the jump past it; turns, whose jump back leads to
--- where they begin; and a `for`, behind its first part.
+-- What loops are written in: what follows a test, after what stands before the jump past it; turns, whose jump back leads to
+-- where they begin; and a `for`, after its first part.
 use Rattle.std.proofs.Common.{◌≡◌, ℕ, ◌+◌, [], ◌++◌, length, Option, Some, None, refl, ap, ◌∙◌, arith}
 use Rattle.isp_base.specs.declared.types.Rate.{Rate}
 use Rattle.isp_base.specs.declared.types.Rate.TheVariants.{Uniform, Varying}
@@ -23,7 +23,7 @@ use Rattle.isp_masks.specs.declared.looping.Loop.{Loop}
 use Rattle.isp_masks.proofs.Lists.{same_numbers}
 use Rattle.isp_masks.proofs.Writing.{writes_past}
 
--- behind a test
+-- after a test
 abbrev jumped_past : Rate → ℕ → ℕ → Piece → Piece
 jumped_past r x n y = record { code = λ pc z. guard (sift_jump r x n) pc (λ pc1. y.code pc1 z); places = y.places; texts = y.texts }
 

@@ -48,7 +48,7 @@ abbrev glued : List ℕ → List Part → List Part
 glued [] ps = ps
 glued (b ∷ bs) ps = Words (b ∷ bs) ∷ ps
 
--- what stands behind the first word begins with a value
+-- what stands after the first word begins with a value
 abbrev rest_of : List ℕ → List ℕ
 rest_of bs = drop (length (first_word bs)) bs
 
@@ -107,7 +107,7 @@ pub told_first : (a b h : Body) (bs ws : List ℕ) (n : ℕ) (xs : List Shown) (
 told_first a b h bs ws n xs k en ew f g =
     told_word a b h bs xs k (subst (λ z. Writes a b (words_at z)) (ew ∙ ap (λ m. take m bs) en ∙ word_taken bs) f) (subst (λ m. Writes b h (told_at (parts (drop m bs)) xs k)) en g)
 
--- a value, and the word behind it
+-- a value, and the word after it
 pub told_more : (a b c h : Body) (bs more ws : List ℕ) (n m : ℕ) (xs ys : List Shown) (k : ℕ) → n ≡ length (first_word bs) → n < length bs → more ≡ drop (n + 1) bs
     → m ≡ length (first_word more) → ws ≡ take m more → ys ≡ drop 1 xs → Appends a b (λ pc p. first_shown xs k) [] → Writes b c (words_at ws)
     → Writes c h (told_at (parts (drop m more)) ys k) → Writes a h (told_at (parts (drop n bs)) xs k)
@@ -186,7 +186,7 @@ module _ (l : Layout) where
   pub code_end : (all : List rust.TypedExpr) (i k m : ℕ) (a : Body) → length all ≤ i → Appends a a (code_of (drop i all) k m) (places_of (drop i all))
   code_end all i k m a le = subst (λ zs. Appends a a (code_of zs k m) (places_of zs)) (sym (drop_all i all le)) (appends_self a)
 
-  -- the values, and behind them the words and the values
+  -- the values, and after them the words and the values
   pub printed : (a b c : Body) (text : List ℕ) (xs : List TExpr) (shown : List Shown) (k n : ℕ) → rates_of shown ≡ own_rates xs → registers_of shown ≡ value_registers l (own_rates xs) (t_exprs xs) n
       → Appends a b (λ pc p. values_code l (own_rates xs) (t_exprs xs) pc p k n) (values_places l (t_exprs xs)) → Writes b c (told_at (parts text) shown k)
       → Writes a c (record { code = λ pc z. print_code l text xs pc z.place z.text k n; places = print_places l xs; texts = print_texts text })

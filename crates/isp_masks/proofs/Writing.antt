@@ -16,7 +16,7 @@ use Rattle.isp_masks.specs.AtWork.{next_of}
 use Rattle.isp_masks.specs.Written.{Piece, Writes}
 use Rattle.isp_masks.proofs.Lists.{same_numbers}
 
--- ---- the numbers behind what is written
+-- ---- the numbers after what is written
 
 pub texts_still : (a b : Body) → b.texts ≡ a.texts → texts_of b ≡ texts_of a
 texts_still a b e = ap (λ (ts : Vec (Vec ℕ Global) Global). map (λ (t : Vec ℕ Global). t.items) ts.items) e
@@ -68,7 +68,7 @@ writes_past a b c f p y x g =
       texts = w.texts;
     }
 
--- code behind it that names nothing
+-- code after it that names nothing
 pub writes_back : (a b c : Body) (x : Piece) (f : ℕ → ℕ → List Instr) → Writes a b x → Appends b c f []
     → Writes a c (record { code = λ pc z. x.code pc z ++ f (pc + length (x.code pc z)) (z.place + length x.places); places = x.places; texts = x.texts })
 writes_back a b c x f w g =
@@ -86,7 +86,7 @@ writes_back a b c x f w g =
       texts = texts_still b c g.texts ∙ w.texts;
     }
 
--- code behind it that names places, and no text
+-- code after it that names places, and no text
 pub writes_adding : (a b c : Body) (x : Piece) (f : ℕ → ℕ → List Instr) (p : List Span) → Writes a b x → Appends b c f p
     → Writes a c (record { code = λ pc z. x.code pc z ++ f (pc + length (x.code pc z)) (z.place + length x.places); places = x.places ++ p; texts = x.texts })
 writes_adding a b c x f p w g =
@@ -161,7 +161,7 @@ chosen_of a b c d e f g at over x o go y w is first one last jump set kept held 
       texts = texts_still f g still ∙ two.texts ∙ ap (λ s. s ++ w.texts) told ∙ append_assoc (texts_of a) y.texts w.texts;
     }
 
--- ---- turns, behind code that names no text
+-- ---- turns, after code that names no text
 
 pub rounds_written : (a b c d e : Body) (f : ℕ → ℕ → List Instr) (p : List Span) (begin : List Instr) (n top : ℕ) (y : Piece)
     → Appends a b f p → top ≡ length b.code.items → Appends b c (λ pc m. begin) [] → Writes c d y → Appends d e (λ pc m. instr.JumpIf jump.On (mask_register n) top ∷ []) []

@@ -18,7 +18,7 @@ abbrev pub AreBelow : ℕ → List ℕ → Type 0
 AreBelow n [] = Unit {0}
 AreBelow n (j ∷ js) = (j < n) × AreBelow n js
 
--- Code that is told where its jumps lead, the number of its first instruction and the numbers of what it names.
+-- Code that is given where its jumps lead, the number of its first instruction and the numbers of what it names.
 abbrev pub Code : Type 0
 Code = ℕ → ℕ → Numbers → List Instr
 
@@ -34,7 +34,7 @@ abbrev pub jump_where : Bool → ℕ → ℕ → List Instr
 jump_where true k t = jump_off k t ∷ []
 jump_where false k t = []
 
--- behind what was written before, room is kept for such a jump
+-- after what was written before, room is kept for such a jump
 abbrev pub LeavesRoom : Body → Body → List ℕ → List ℕ → ℕ → Bool → Type 0
 LeavesRoom old new before jumps k left =
     (first : Body) (c : Code) (s : List Span) (u : List (List ℕ)) → Awaits first old before k c s u → Awaits first new jumps k (λ t pc z. c t pc z ++ jump_where left k t) s u

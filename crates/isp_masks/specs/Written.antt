@@ -1,4 +1,4 @@
--- What each writer of statements appends, told what it is given: where registers lie, the trees, the masks of a statement and
+-- What each writer of statements appends, given what it is given: where registers lie, the trees, the masks of a statement and
 -- its first slot, a loop, a test.
 use Rattle.std.specs.Prelude.{◌≡◌, ℕ, ◌+◌, List, [], ◌∷◌, ◌++◌, length, Option, None, option_map, Bool, map}
 use Rattle.std.proofs.Common.{Bor}
@@ -93,7 +93,7 @@ abbrev pub guarded_at : Scope → TStmt → Spot → ℕ → ℕ → Piece
 guarded_at on x spot k n =
     record { code = λ pc z. guard (jump_off k) pc (λ pc1. part_code on x z pc1 (record (spot_of spot) { on = k; slot = n })); places = stmt_places (layout on) x; texts = stmt_texts x }
 
--- One part behind a test in register c, told how it is left; two of them, told whether nobody leaves them; and with the test.
+-- One part after a test in register c, given how it is left; two of them, given whether nobody leaves them; and with the test.
 abbrev pub part_at : Scope → Leaving → Form → Rate → ℕ → TStmt → Spot → Piece
 part_at on v f r c x spot =
     record { code = λ pc z. if_code v f r c pc (spot_of spot) (part_code on x z); places = stmt_places (layout on) x; texts = stmt_texts x }
@@ -128,7 +128,7 @@ if_at on f e x spot =
     let part = part_at on (leaving_of x) f (type_of e).rate (found l e spot.slot.number) x spot in
     record { code = λ pc z. two pc (expr_code l e pc z.place spot.masks.on.number spot.slot.number) (λ pc1. part.code pc1 (past (expr_places l e) z)); places = expr_places l e ++ part.places; texts = part.texts }
 
--- two parts, told whether all go on from both
+-- two parts, given whether all go on from both
 abbrev pub both_parts_at : Scope → Form → Rate → ℕ → TStmt → TStmt → Spot → Piece
 both_parts_at on f r c x y spot = parts_at on (both_go_on x y) f r c x y spot
 
@@ -151,7 +151,7 @@ abbrev pub turn_at : Scope → TStmt → Loop → Piece
 turn_at on x it =
     record { code = λ pc z. turn_code it.wide it.exits pc it.slot.number (body_code (layout on) on.answer x it.slot.number z); places = stmt_places (layout on) x; texts = stmt_texts x }
 
--- what leads back to instruction top; behind the step; and for those that are live alone
+-- what leads back to instruction top; after the step; and for those that are live alone
 abbrev pub back_at : Scope → Option TExpr → ℕ → ℕ → Silent
 back_at on e n top =
     record { code = λ pc p. back_code (layout on) e pc p n top; places = test_places (layout on) e }
@@ -166,7 +166,7 @@ next_at on alone e step n top =
     let part = stepped_at on e step n top in
     record { code = λ pc p. live_code alone n pc (λ pc1. part.code pc1 p); places = part.places }
 
--- turns from one on; behind a test; and with a test before them
+-- turns from one on; after a test; and with a test before them
 abbrev pub turning_at : Scope → Option TExpr → Option TSimple → TStmt → Loop → Piece
 turning_at on e step x it =
     let l = layout on in
@@ -190,7 +190,7 @@ entered_at on test e step x it =
       texts = turns.texts;
     }
 
--- a `while`, and a `for` behind its first part
+-- a `while`, and a `for` after its first part
 abbrev pub turns_at : Scope → Form → Option TExpr → Option TSimple → TStmt → Spot → Piece
 turns_at on f e step x spot =
     let l = layout on in
@@ -295,7 +295,7 @@ range_step l it by = compute Uniform plain.Add (wide l it.place.number) (wide l 
 abbrev pub index_codes : ℕ → List OuterIndex → List Instr
 index_codes h = map (λ x. splat x.index.number x.value.number h)
 
--- the last range: its beginning, with its place in a register; all indices of a run; its full runs behind the test of the first, its last
+-- the last range: its beginning, with its place in a register; all indices of a run; its full runs after the test of the first, its last
 -- run, and all of it
 abbrev pub runs_begin : Layout → Sweep → ℕ → List Instr
 runs_begin l it x =
@@ -343,7 +343,7 @@ last_range_at on i x set it =
       texts = stmt_texts x ++ stmt_texts x;
     }
 
--- the ranges from one on; behind the beginning of a turn of the first of them; and the whole
+-- the ranges from one on; after the beginning of a turn of the first of them; and the whole
 abbrev pub ranges_at : Scope → List TRange → TStmt → List OuterIndex → Sweep → Piece
 ranges_at on rs x set it =
     let l = layout on in

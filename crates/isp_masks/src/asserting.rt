@@ -63,7 +63,7 @@ fn fails_for_some(
     Ok(())
 }
 
-/// The trap behind a test, at a place in the source.
+/// The trap after a test, at a place in the source.
 fn fails(b: &mut Body, test: Test, place: PlaceNumber, site: Site) -> Result<(), AllocError>
     ensures { OnOk result (Appends b.old b.new (λ pc p. fails_code test.rate test.register.number pc place.number site.mask.number site.slot.number) []) }
 {

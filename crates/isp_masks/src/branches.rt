@@ -1,5 +1,5 @@
 //! The code of `if`: by a uniform test a jump takes one part, by a varying one each part runs for its own lanes. In a c-form the
-//! first part runs for the mask of the whole, and where all lanes pass the test nothing is joined behind it.
+//! first part runs for the mask of the whole, and where all lanes pass the test nothing is joined after it.
 ghost use Rattle.std.specs.Prelude.{◌<◌, ◌+◌, true, false, OnOk};
 ghost use Rattle.isp_base.specs.declared.types.Rate.TheVariants.{Uniform, Varying};
 ghost use Rattle.isp_tree.specs.declared.stmt.Form.TheVariants.{Plain, Coherent};
@@ -59,7 +59,7 @@ pub(crate) fn if_alone(
     Ok(())
 }
 
-/// The part of an `if` behind its test: jumped over by a uniform one, under a mask by a varying one.
+/// The part of an `if` after its test: jumped over by a uniform one, under a mask by a varying one.
 #[cycle(stmt)]
 fn part_by(
     b: &mut Body,
@@ -270,7 +270,7 @@ pub(crate) fn if_else(
     Ok(())
 }
 
-/// Both parts behind a test.
+/// Both parts after a test.
 #[cycle(stmt)]
 fn parts_by(
     b: &mut Body,
@@ -369,7 +369,7 @@ fn both_kept(
     Ok(())
 }
 
-/// Those that go on from the first part come back behind the second.
+/// Those that go on from the first part come back after the second.
 #[cycle(stmt)]
 fn both_joined(
     b: &mut Body,

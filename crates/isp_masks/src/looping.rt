@@ -36,7 +36,7 @@ pub(crate) struct Test {
     pub register: RegisterNumber,
 }
 
-/// What a loop does behind a turn: its step and its test, where it has them.
+/// What a loop does after a turn: its step and its test, where it has them.
 #[derive(Clone, Copy)]
 pub(crate) struct Turning<'a> {
     pub step: Option<&'a TypedSimple>,
@@ -60,7 +60,7 @@ pub(crate) fn is_wide_by(form: Form, test: Option<&TypedExpr>) -> bool
     }
 }
 
-/// Where the test and the step of a loop work: for the lanes that run it, in the slots behind its masks.
+/// Where the test and the step of a loop work: for the lanes that run it, in the slots after its masks.
 pub(crate) fn inside(slot: Slot) -> Site
     requires { slot.number + 3 < 4294967296 }
     ensures { result ≡ record { mask = record { number = slot.number }; slot = record { number = slot.number + 3 } } }

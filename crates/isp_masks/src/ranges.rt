@@ -512,7 +512,7 @@ pub(crate) fn step_index(
     Ok(step)
 }
 
-/// A mask has all lanes again, behind a body that somebody may leave.
+/// A mask has all lanes again, after a body that somebody may leave.
 pub(crate) fn fill_again(b: &mut Body, kept: bool, k: MaskNumber) -> Result<(), AllocError>
     ensures { OnOk result (Appends b.old b.new (λ pc p. refill kept k.number) []) }
 {

@@ -38,7 +38,7 @@ fn lane_number(to: RegisterNumber, k: MaskNumber) -> Instr
     }
 }
 
-/// The lowest lane of a slot's mask leaves it for the mask behind, and a scalar gets its number.
+/// The lowest lane of a slot's mask leaves it for the mask after, and a scalar gets its number.
 pub(crate) fn take_lane(b: &mut Body, to: RegisterNumber, slot: Slot) -> Result<(), AllocError>
     requires { slot.number + 1 < 4294967296 }
     ensures { OnOk result (Appends b.old b.new (λ pc p. take_code to.number slot.number) []) }

@@ -45,7 +45,7 @@ fn returned(on: &Scope) -> Option<Register>
     }
 }
 
-/// The code of a body, behind that of the constants that it keeps. Mask 0 has those that called, masks 1 and 2 get those that continued and
+/// The code of a body, after that of the constants that it keeps. Mask 0 has those that called, masks 1 and 2 get those that continued and
 /// that returned.
 fn body(b: &mut Body, on: &Scope, kept: &[Constant], x: &TypedBlock) -> Result<(), AllocError>
     requires kept { Each (λ k. (layout on.now).kept k.rate k.elem k.bits ≡ true) kept.now }

@@ -54,7 +54,7 @@ pub(crate) fn part(
     Ok(())
 }
 
-/// A mask keeps the lanes of another, the others go to a third. Room for a jump stands behind, of which the number is given.
+/// A mask keeps the lanes of another, the others go to a third. Room for a jump stands after, of which the number is given.
 fn set_apart(
     b: &mut Body,
     to: MaskNumber,

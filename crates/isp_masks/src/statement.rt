@@ -177,7 +177,7 @@ pub(crate) fn block(
     Ok(())
 }
 
-/// A turn: those that continue in it come back behind the body.
+/// A turn: those that continue in it come back after the body.
 #[cycle(stmt)]
 fn turn(b: &mut Body, on: &Scope, body: Part<'_>, it: Loop) -> Result<(), AllocError>
     requires slots { it.slot.number + 3 < 4294967296 }
@@ -196,7 +196,7 @@ fn turn(b: &mut Body, on: &Scope, body: Part<'_>, it: Loop) -> Result<(), AllocE
     Ok(())
 }
 
-/// Turns from one on, with what stands behind each.
+/// Turns from one on, with what stands after each.
 #[cycle(stmt)]
 fn turning(
     b: &mut Body,
@@ -316,7 +316,7 @@ fn unique_loop(
     Ok(())
 }
 
-/// A `while`, and a `for` behind its first part.
+/// A `while`, and a `for` after its first part.
 #[cycle(stmt)]
 fn turns(
     b: &mut Body,
@@ -471,7 +471,7 @@ fn last_range(
     Ok(())
 }
 
-/// Its runs that have all lanes, behind the test of the first.
+/// Its runs that have all lanes, after the test of the first.
 #[cycle(stmt)]
 fn full_runs(
     b: &mut Body,
@@ -500,7 +500,7 @@ fn full_runs(
     Ok(())
 }
 
-/// The run behind them, of the lanes that are left.
+/// The run after them, of the lanes that are left.
 #[cycle(stmt)]
 fn rest_run(
     b: &mut Body,

@@ -1,4 +1,4 @@
-//! The code of a `for`'s first part, and what stands behind a turn of a loop: the step, the test and the jump back.
+//! The code of a `for`'s first part, and what stands after a turn of a loop: the step, the test and the jump back.
 ghost use Rattle.std.specs.Prelude.{◌<◌, ◌+◌, option_map, Some, false, OnOk};
 ghost use Rattle.isp_typed.specs.Views.{expr_of, first_of, simple_of};
 ghost use Rattle.isp_lower_code.specs.Asks.{expr_asks};
@@ -32,7 +32,7 @@ pub(crate) fn first_part(
     }
 }
 
-/// What stands behind a turn that begins at instruction top, for the lanes that are live.
+/// What stands after a turn that begins at instruction top, for the lanes that are live.
 pub(crate) fn next_turn(
     b: &mut Body,
     on: &Scope,

@@ -76,7 +76,7 @@ pub(crate) fn keep_values(
     Ok(())
 }
 
-/// The value of a slot's lowest lane is that of the turn, and the lanes that have it leave the slot's mask for the mask behind.
+/// The value of a slot's lowest lane is that of the turn, and the lanes that have it leave the slot's mask for the mask after.
 pub(crate) fn take_value(
     b: &mut Body,
     on: &Scope,

@@ -20,7 +20,7 @@ sound_at code h [] all j i at = absurd (cc)
 sound_at code h (x ∷ is) all zero i at = subst (IsSound code h) (same_Some x i at) all.0
 sound_at code h (x ∷ is) all (suc j) i at = sound_at code h is all.1 j i at
 
--- what stands behind a list
+-- what stands after a list
 last_of : (a : List Instr) (x : Instr) → slice_get (a ++ x ∷ []) (length a) ≡ Some x
 last_of [] x = refl
 last_of (i ∷ a) x = last_of a x

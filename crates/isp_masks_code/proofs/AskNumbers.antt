@@ -40,7 +40,7 @@ pub constants_registers : (n : ℕ) (ks : List Constant) → registers_asked (co
 constants_registers n [] = omega arith
 constants_registers n (x ∷ xs) = omega (arith, step_some x.rate, constants_registers n xs)
 
--- ---- masks of a test and of a loop, and the slots behind them
+-- ---- masks of a test and of a loop, and the slots after them
 
 loop_numbers : (n : ℕ) → n + 3 < 4294967295 → HasNumbers (loop_asks n)
 loop_numbers n low = (omega (arith, low), (omega (arith, low), (omega (arith, low), omega (arith, low))))

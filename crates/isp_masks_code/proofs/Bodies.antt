@@ -198,7 +198,7 @@ module _ (w : Setting) (ready : IsSettled w) (none : w.layout.run ≡ None) wher
   pub within_is : (i : ℕ) (d : Bool) → w.layout.loaded i ≡ d → within w.layout i ≡ run_in d None w.layout i
   within_is i d ed = ap (λ k. run_in k w.layout.run w.layout i) ed ∙ ap (λ o. run_in d o w.layout i) none
 
-  -- behind the body
+  -- after the body
   pub run_stands : (i : ℕ) (m : Mask) (b : ℕ) (s : State) (c : Conf) → Stands (in_run w i m b) s c → Stands w s c
   run_stands i m b s c = within_as (λ l. Stands (with_layout w l m b) s c → Stands w s c) w.layout i (λ o d st. stands_back w o d m b s c st (forgets o d m b s c st))
 

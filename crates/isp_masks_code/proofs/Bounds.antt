@@ -413,7 +413,7 @@ module _ (w : Setting) (ready : IsSettled w) where
           (set_stands w ready Varying c4 I32 n own s (set_stands w ready Uniform c3 I64 n sum s
           (set_stands w ready Varying c2 I32 n each s (set_stands w ready Uniform c1 I32 n ones s st))))))
 
-      -- what is in slot n stays behind the numbers of the lanes
+      -- what is in slot n stays after the numbers of the lanes
       later : Spares w (n + 1) c5 c8
       later = spares_on w (n + 1) c5 c6 c8 (set_spares w ready Uniform c5 I32 (n + 1) (n + 1) short (omega arith))
           (spares_on w (n + 1) c6 c7 c8 (set_spares w ready Varying c6 I32 (n + 1) (n + 1) many (omega arith))

@@ -23,7 +23,7 @@ use Rattle.isp_masks_code.specs.Spots.{Spot}
 use Rattle.isp_masks_code.specs.StmtRuns.{AreThree, EntersAt, Inside, StmtOk, StmtRuns}
 use Rattle.isp_masks_code.proofs.Unions.{union_nobody}
 
--- a part behind a test of a rate: behind a varying one it keeps a slot, in a c-form two
+-- a part after a test of a rate: after a varying one it keeps a slot, in a c-form two
 abbrev pub part_spot : Form → Rate → ℕ → Spot → Spot
 part_spot f r k spot = record spot { on = k; slot = part_slot f r spot.slot }
 

@@ -1,4 +1,4 @@
--- A function's body behind the code that keeps its constants, which the body's own unit of work pays.
+-- A function's body after the code that keeps its constants, which the body's own unit of work pays.
 use Rattle.std.proofs.Common.{◌≡◌, ◌≢◌, ◌≤◌, ℕ, ◌+◌, ◌*◌, List, [], ◌∷◌, ◌++◌, length, true, refl, ap, ◌∙◌, subst, arith, length-append}
 use Rattle.isp_base.specs.Sets.{Mask, any}
 use Rattle.isp_base.specs.declared.types.Elem.{Elem}

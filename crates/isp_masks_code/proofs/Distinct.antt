@@ -398,7 +398,7 @@ module _ (w : Setting) (ready : IsSettled w) (spot : Spot) (i : ℕ) (t : Elem) 
 -- ---- the values first, then the turns
 
 module _ (w : Setting) (ready : IsSettled w) (spot : Spot) (i : ℕ) (t : Elem) (e : TExpr) where
-  -- the code of the values, and all of it, told the code of the body
+  -- the code of the values, and all of it, given the code of the body
   abbrev values_code : ℕ → ℕ → List Instr
   values_code pc p = operand_of w.layout Varying e spot.on spot.slot (expr_code w.layout e pc p spot.on spot.slot)
 
@@ -406,7 +406,7 @@ module _ (w : Setting) (ready : IsSettled w) (spot : Spot) (i : ℕ) (t : Elem) 
   whole_code pc p code =
       unique_code (values_of w.layout (elem_in e) i spot.slot) (values_code pc p) (operand w.layout Varying e spot.slot) pc spot.on spot.slot code
 
-  -- what it means, told what the body means
+  -- what it means, given what the body means
   abbrev meant : (Mask → State → Res) → Mask → State → Res
   meant body a s =
       with_value (value (gang_of w) w.frame (calls_of w) e a (tick s)) (λ m s1. rounds body a (unique_rounds (gang_of w) (elem_in e) t i (spread a m)) s1)

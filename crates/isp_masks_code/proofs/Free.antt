@@ -101,7 +101,7 @@ body_of : (o : Option ℕ) (w : Within) → InBody o (in_foreach w)
 body_of None w = tt
 body_of (Some i) w = refl
 
--- the last index has a number below those behind the ranges
+-- the last index has a number below those after the ranges
 last_before : (v : Scope) (n : ℕ) (rs : List TRange) → RangesAt v n rs → IsBefore (last_index_of rs) (number_after n rs)
 last_before v n [] at i e = absurd (cc)
 last_before v n (r ∷ []) at i e =

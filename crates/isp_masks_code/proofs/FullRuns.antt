@@ -40,7 +40,7 @@ use Rattle.isp_masks_code.proofs.Numbered.{any_run}
 use Rattle.isp_masks_code.proofs.RangesHeld.{gang, round_after}
 use Rattle.isp_masks_code.proofs.Sweeps.{IsNotLess, Low, Passes, low_all, low_on, next_low, next_place, passes_after}
 
--- ---- whether a run has all lanes: its place is not behind the last such place
+-- ---- whether a run has all lanes: its place is not after the last such place
 
 abbrev fits : ℕ → ℤ → ℤ → Bool
 fits g end z = not (int_lt (end -ℤ pos g) z)
@@ -55,7 +55,7 @@ fits_not : (b : Bool) → not b ≡ false → b ≡ true
 fits_not true e = refl
 fits_not false e = absurd (cc)
 
--- behind a run that has not all there is no other
+-- after a run that has not all there is no other
 fits_last : (g : ℕ) (end z : ℤ) → fits g end z ≡ false → int_lt (z +ℤ pos g) end ≡ false
 fits_last g end z e = let f = fits_not (int_lt (end -ℤ pos g) z) e in grind (arith, ints, f)
 
@@ -363,7 +363,7 @@ module _ (w : Setting) (ready : IsSettled w) (none : w.layout.run ≡ None) (n h
         (y.0, 1, omega arith, y.1, y.2, record { is = subst (λ k. HasBegun k (z +ℤ pos g) s y.0) to y.3; limited = ap (number I64) y.4 ∙ limited })
     stepped false ea z s c low was t limited = set_all (z +ℤ pos g) s c (next_low g z low) t limited
 
-    -- ---- behind a body all lanes are on again
+    -- ---- after a body all lanes are on again
 
     refilled : (kept : Bool) (at_end : ℕ) → AreAt w.routine.code at_end (refill kept h) → (c : Conf) → At w c at_end → (kept ≡ true → c.masks h ≡ everyone g)
         → (c1 : Conf) × (k : ℕ) × (k ≤ 1) × Comes w c k c1 × At w c1 (at_end + length (refill kept h)) × Low w m c c1 × (c1.masks h ≡ everyone g) × (c1.scalars ≡ c.scalars) × ((s : State) → Stands w s c → Stands w s c1)
@@ -463,7 +463,7 @@ module _ (w : Setting) (ready : IsSettled w) (none : w.layout.run ≡ None) (n h
     abbrev later : ℕ → ℤ → List Round
     later k z = map round (from_on g k (z +ℤ pos g))
 
-    -- what is so of so many runs behind one that has all lanes
+    -- what is so of so many runs after one that has all lanes
     abbrev Again : ℕ → ℤ → Type 0
     Again k z =
         (s : State) (c : Conf) (q : ℕ) → CountsTo g k (z +ℤ pos g) x.end → full z ≡ true → IsNotLess z → FullBegun z s c → 6 + 32 * k + q ≤ 32 * s.work

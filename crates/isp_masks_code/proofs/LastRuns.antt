@@ -39,7 +39,7 @@ use Rattle.isp_masks_code.proofs.Sweeps.{IsNotLess, Low, Passes, low_on, next_lo
 
 -- ---- the register of the place
 
--- behind a body the index counts as before, where it counts lanes at all
+-- after a body the index counts as before, where it counts lanes at all
 abbrev pub Counted : Bool → ℤ → Mask → Lanes → Type 0
 Counted false z a v = CountsFrom z a v
 Counted true z a v = Unit {0}
@@ -396,7 +396,7 @@ module _ (w : Setting) (ready : IsSettled w) (none : w.layout.run ≡ None) (n h
   run_go c pc pc' k q a b (Trapped t s) go bad f = failed_less w ready c k q t s bad
   run_go c pc pc' k q a b (Cut s) go cut f = stopped_less w ready w.turns c k q s cut
 
-  -- what comes behind it is told how many steps it took
+  -- what comes after it is told how many steps it took
   pub body_part : (body : Mask → State → Res) (code : ℕ → List Instr) (top pc' k q : ℕ) (z : ℤ) (s : State) (c : Conf) (rest : State → Res)
       → RunBodyRuns w i h code body → AreAt w.routine.code top (code top) → int_lt z x.end ≡ true → Begun top z s c → k + q ≤ 32 * s.work
       → ((s1 : State) (g u ct rt : Mask) (c1 : Conf) (j : ℕ) → body (members z) (begins z s) ≡ Went s1 g u ct rt → Comes w c j c1 → Ran (top + length (code top)) z s1 g c c1 → j + (k + q) ≤ 32 * s1.work → Passes w c1 pc' m (j + q) (rest s1))

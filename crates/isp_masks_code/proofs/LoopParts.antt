@@ -1,4 +1,4 @@
--- The parts of a loop: its beginning, its end, and the masks of a turn, which are cleared before it and joined behind it.
+-- The parts of a loop: its beginning, its end, and the masks of a turn, which are cleared before it and joined after it.
 use Rattle.std.proofs.Common.{◌≡◌, ◌≢◌, ℕ, suc, ◌+◌, ◌*◌, ◌<◌, ◌≤◌, List, [], ◌∷◌, length, Bool, true, false, refl, sym, ap, ◌∙◌, subst, arith}
 use Rattle.isp_base.specs.Sets.{Mask, nobody, union, without, all as all_of}
 use Rattle.isp_code.specs.Conf.{Conf}

@@ -86,7 +86,7 @@ module _ (w : Setting) (ready : IsSettled w) where
   first_runs (Some (t_first_declare xs sp)) pc p k n q a s c fit has places b = items_run w ready xs pc p k n q a (tick s) c fit has places (enters_part w ready pc k n q q a s c (omega arith) b)
   first_runs (Some (t_first_simple x)) pc p k n q a s c fit has places b = simple_runs w ready x pc p k n q a s c fit has places b
 
-  -- what stands behind the places of a body and a step
+  -- what stands after the places of a body and a step
   behind_step : (x : TStmt) (o : Option TSimple) (z : Numbers) (ps : List Span) → AreNamed w.code z (stmt_places w.layout x ++ (step_places w.layout o ++ ps)) (stmt_texts x) → AreAt w.code.places (test_place w.layout x o z) ps
   behind_step x o z ps names =
       let px = stmt_places w.layout x in
@@ -176,7 +176,7 @@ module _ (w : Setting) (ready : IsSettled w) where
       go (Fails t s1) bad = failed_less w ready c 2 (1 + q) t s1 (subst (λ z. Failed w c z t s1) three_is bad)
       go (Stops s1) cut = stopped_less w ready w.turns c 2 (1 + q) s1 (subst (λ z. Stopped w w.turns c z s1) three_is cut)
 
-  -- what a `for` means behind its first part
+  -- what a `for` means after its first part
   abbrev looped : Option TExpr → TStmt → Option TSimple → Mask → State → Res
   looped o x step a s1 =
       let test = test_part (gang_of w) w.frame (calls_of w) o in

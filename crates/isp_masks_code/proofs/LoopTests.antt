@@ -42,7 +42,7 @@ module _ (w : Setting) (ready : IsSettled w) where
 
     -- ---- the test
 
-    -- what goes on behind a test, for those that pass
+    -- what goes on after a test, for those that pass
     abbrev pub KeptRuns : ℕ → (ℕ → List Instr) → ℕ → ℕ → (Mask → Mask → State → Res) → Type 0
     KeptRuns t rest past end turn =
         (kept returned : Mask) (s : State) (c : Conf) (pc q : ℕ) → AreAt w.routine.code pc (rest pc) → pc + length (rest pc) ≡ past

@@ -102,7 +102,7 @@ module _ (w : Setting) (ready : IsSettled w) (e : Exits) (spot : Spot) (three : 
     abbrev turns_from : ℕ → List Instr
     turns_from top = tested_code wide e r x n top test_code body_code step_code
 
-    -- turns with the test behind each, from one on
+    -- turns with the test after each, from one on
     all_kept : (past : ℕ) → AreAt w.routine.code past last → KeptRuns w ready wide e spot three all w.turns turns_from past (past + length last) (turns_here w.turns)
     all_kept past at_end kept returned s c top q has to i some inside used =
         kept_runs w ready wide e spot three all past end body_code behind test body step run_body (λ T s1. (is T s1).0) (λ T s1. (is T s1).1)

@@ -44,7 +44,7 @@ index_is z a old numbers few are = fun_ext (λ p. at p (a p) refl)
     at p true e = rw e (ap Some (ap (op_bits op.Add I32 (wrap I32 z)) (are p e) ∙ index_bits z p (few p e)))
     at p false e = rw e refl
 
--- the index of a run, and so much more
+-- the index of a run, and that much more
 pub next_is : (z : ℤ) (g : ℕ) (a : Mask) (v counts : Lanes) → g ≤ widest → ((p : ℕ) → a p ≡ true → v p ≡ wrap I32 (z +ℤ pos p))
     → ((p : ℕ) → a p ≡ true → counts p ≡ wrap I32 (pos g))
     → map2 (op_bits op.Add I32) (on a v) (on a counts) ≡ on a (λ p. wrap I32 ((z +ℤ pos g) +ℤ pos p))

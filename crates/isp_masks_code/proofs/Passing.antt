@@ -98,7 +98,7 @@ more_counted r (holds.Value t) m n le = go (same_rate r t.rate)
 more_counted r (holds.Given t) m n le = le
 more_counted r (holds.Local t k) m n le = le
 
--- every other name comes behind those of the first n
+-- every other name comes after those of the first n
 other_number : (r : Rate) (n : ℕ) (vs : List Declared) (more : List Row) (k : ℕ) (x : Name)
     → ((v : ℕ) (w : Declared) → slice_get (take n vs) v ≡ Some w → HasRate r w.holds → name_number (Variable (k + v)) ≢ name_number x)
     → value_count r (take n vs) ≤ number_in (value_rows r k vs ++ more) x

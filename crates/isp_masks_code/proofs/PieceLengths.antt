@@ -1,4 +1,4 @@
--- How many instructions small pieces of the code of statements have, told how many their parts have at most.
+-- How many instructions small pieces of the code of statements have, given how many their parts have at most.
 use Rattle.std.proofs.Common.{ℕ, ◌+◌, ◌*◌, ◌≤◌, List, [], ◌∷◌, ◌++◌, length, Bool, true, false, arith, length-append}
 use Rattle.isp_base.specs.declared.types.Rate.{Rate}
 use Rattle.isp_base.specs.declared.types.Rate.TheVariants.{Uniform, Varying}
@@ -207,7 +207,7 @@ unique_long v values x pc k n a body fa =
     let p = pc + length begin in
     omega (arith, length-append begin (rounds_code (value_code v n) n p body), length-append values both, rounds_long (value_code v n) n p a body fa)
 
--- ---- ranges, told the indices of those outside
+-- ---- ranges, given the indices of those outside
 
 refill_long : (kept : Bool) (h : ℕ) → length (refill kept h) ≤ 1
 refill_long true h = omega arith

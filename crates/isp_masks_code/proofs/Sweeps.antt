@@ -128,7 +128,7 @@ next_low k z low = omega (arith, ints, low)
 
 -- What is asked of a range, from the test of its place on: where a number is below the end, the code inside does its rounds.
 pub record IsSweep (w : Setting) (body : Mask → State → Res) (all : Mask) (m u k : ℕ) (end : ℤ) (inside : ℕ → List Instr) (turn : ℤ → List Round) (cost extra top stop : ℕ) (c0 : Conf) : Type 1 where
-  -- what is so behind a test that a number passes
+  -- what is so after a test that a number passes
   pub Good : ℤ → Conf → Type 0
   pub code : AreAt w.routine.code (top + 1 + 1) (inside (top + 1 + 1) ++ compute Uniform plain.Add (wide w.layout m) (wide w.layout m) (wide w.layout u) 0 ∷ instr.Jump top ∷ [])
   pub stops : top + 1 + 1 + length (inside (top + 1 + 1)) + 1 + 1 ≡ stop
@@ -152,7 +152,7 @@ module _ (w : Setting) (ready : IsSettled w) (body : Mask → State → Res) (al
     pub place : number I64 (c.scalars (wide w.layout m)) ≡ z
     pub stands : Stands w s c
 
-  -- behind a turn the place goes on, and it is tested again
+  -- after a turn the place goes on, and it is tested again
   next_turn : (z : ℤ) (s1 : State) (c : Conf) (d q : ℕ) (rest : State → Res) → IsNotLess z → int_lt z end ≡ true → Low w m c0 c
       → number I64 (c.scalars (wide w.layout m)) ≡ z → (ok : DoneOk w c (top + 1 + 1 + length (inside (top + 1 + 1))) (m + 1) (d + q) s1)
       → ((c6 : Conf) → InSweep (z +ℤ pos k) s1 c6 → Passes w c6 stop m (ok.steps + 2 + q) (rest s1)) → Passes w c stop m q (rest s1)

@@ -1,4 +1,4 @@
--- The turns of a loop: a turn, the test behind it, and what stands between two turns; by induction on the turns that are
+-- The turns of a loop: a turn, the test after it, and what stands between two turns; by induction on the turns that are
 -- left.
 use Rattle.std.proofs.Common.{◌≡◌, ◌≢◌, ℕ, zero, suc, ◌+◌, ◌*◌, ◌<◌, ◌≤◌, List, [], ◌∷◌, ◌++◌, length, Bool, true, false, refl, sym, ap, ◌∙◌, subst, arith, length-append}
 use Rattle.std.specs.Prelude.{not, if◌then◌else◌, ◌||◌}
@@ -121,7 +121,7 @@ module _ (w : Setting) (ready : IsSettled w) where
         ends : p2 + length join ≡ pc + length (turn_code wide e pc n code)
         ends = omega (arith, length-append clear (code p1 ++ join), length-append (code p1) join)
 
-        -- behind the body, before those that continued come back
+        -- after the body, before those that continued come back
         behind_body : (g b ct rt : Mask) (s1 : State) (z : ℕ) (c1 : Conf) → (ok : StmtOk w c1 p2 (body_spot n) z s1 g ct rt)
             → c1.masks k ≡ all → Gone w ready wide e spot three all e.returns returned c1 → Leave e (Went s1 g b ct rt) → InLoop w ready wide e spot three all p2 g (union returned rt) s1 ok.conf
         behind_body g b ct rt s1 z c1 ok ek gone leave = record {
@@ -165,7 +165,7 @@ module _ (w : Setting) (ready : IsSettled w) where
             (live_in kept g b ct rt s1 pa) (λ none. ap (union g) (lv.1 (none_of e.breaks e.continues e.returns none).1) ∙ union_nobody g
             ∙ whole e kept g b ct rt s1 pa lv none) (omega (arith, r.bound, j.few)))
 
-    -- what stands behind a turn is asked: the step and the test for those that are live, if there are any, and the next turn;
+    -- what stands after a turn is asked: the step and the test for those that are live, if there are any, and the next turn;
     -- else the end
     abbrev pub Behind : ℕ → (ℕ → List Instr) → ℕ → ℕ → (Mask → Mask → State → Res) → Type 0
     Behind m code past end next =
@@ -259,7 +259,7 @@ module _ (w : Setting) (ready : IsSettled w) where
     TopRuns t top end value =
         (q : ℕ) (live returned : Mask) (s : State) (c : Conf) → InLoop w ready wide e spot three all top live returned s c → Inside w live → any (gang_of w) live ≡ true → q ≤ 32 * s.work → StmtRuns w t c end spot q (value live returned s)
 
-    -- what leads back to the next turn, behind the step
+    -- what leads back to the next turn, after the step
     abbrev pub BackRuns : ℕ → (ℕ → List Instr) → ℕ → ℕ → (Mask → Mask → State → Res) → Type 0
     BackRuns m back past end next =
         (live returned : Mask) (s : State) (c : Conf) (pc q : ℕ) → AreAt w.routine.code pc (back pc) → pc + length (back pc) ≡ past

@@ -1,5 +1,5 @@
 -- What the code of statements asks for: what its parts ask for, the result's register where a value is returned, for a
--- varying test a mask and a slot behind it, in a c-form and with an `else` two, and for a loop three masks and slots behind them.
+-- varying test a mask and a slot after it, in a c-form and with an `else` two, and for a loop three masks and slots after them.
 use Rattle.std.specs.Prelude.{ℕ, ◌+◌, List, [], ◌∷◌, Option, Some, None}
 use Rattle.isp_base.specs.declared.types.Elem.{Elem}
 use Rattle.isp_base.specs.declared.types.Elem.TheVariants.{Bool as Truth, I32, I64}
@@ -15,11 +15,11 @@ use Rattle.isp_lower_code.specs.Rows.{Result, Variable, Place}
 use Rattle.isp_masks_code.specs.Prints.{own_rates}
 use Rattle.isp_masks_code.specs.Ranges.{places_slot, runs_slot}
 
--- a mask, and the slot behind it
+-- a mask, and the slot after it
 abbrev pub mask_asks : ℕ → Ask
 mask_asks n = Both (Number (n + 1)) (MaskOf n)
 
--- the parts behind a test: by a varying one they keep a mask, in a c-form two
+-- the parts after a test: by a varying one they keep a mask, in a c-form two
 abbrev pub part_asks : Form → Rate → ℕ → Ask
 part_asks f Uniform n = Nothing
 part_asks Plain Varying n = mask_asks n
@@ -43,7 +43,7 @@ abbrev pub answer_asks : Option Ty → TExpr → ℕ → Ask
 answer_asks None x n = expr_asks x n
 answer_asks (Some t) x n = Both (Register t.rate Result t.elem) (operand_asks t.rate x n)
 
--- a loop's own masks, behind which its parts have their slots
+-- a loop's own masks, after which its parts have their slots
 abbrev pub loop_asks : ℕ → Ask
 loop_asks n = Both (Number (n + 3)) (Both (MaskOf n) (Both (MaskOf (n + 1)) (MaskOf (n + 2))))
 
@@ -111,7 +111,7 @@ abbrev pub result_asks : Option Ty → Ask
 result_asks None = Nothing
 result_asks (Some t) = Register t.rate Result t.elem
 
--- ---- statements, told what their parts ask for in a slot
+-- ---- statements, given what their parts ask for in a slot
 
 abbrev pub if_asks : Form → TExpr → ℕ → (ℕ → Ask) → Ask
 if_asks f e n parts =
@@ -121,7 +121,7 @@ abbrev pub if_else_asks : TExpr → ℕ → (ℕ → Ask) → Ask
 if_else_asks e n parts =
     Both (expr_asks e n) (Both (parts_asks (type_of e).rate n) (parts (parts_slot (type_of e).rate n)))
 
--- a `for` behind its first part
+-- a `for` after its first part
 abbrev pub turns_asks : Option TExpr → Option TSimple → ℕ → (ℕ → Ask) → Ask
 turns_asks e step n body =
     Both (loop_asks n) (Both (test_part_asks e (n + 3)) (Both (step_asks step (n + 3)) (body (n + 3))))

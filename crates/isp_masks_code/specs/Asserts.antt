@@ -25,7 +25,7 @@ fails_code Uniform x pc p k n = guard (jump_on jump.True x) pc (λ pc1. fail k p
 fails_code Varying x pc p k n = where_so n x k ∷ the_others n k n ∷ fail n p ∷ []
 
 module _ (l : Layout) where
-  -- the trap's place comes behind those of the test
+  -- the trap's place comes after those of the test
   abbrev pub assert_places : TExpr → Span → List Span
   assert_places x c = expr_places l x ++ c ∷ []
 

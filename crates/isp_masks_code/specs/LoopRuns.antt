@@ -18,7 +18,7 @@ use Rattle.isp_masks_code.specs.Spots.{Spot, body_spot}
 use Rattle.isp_masks_code.specs.StmtRuns.{AreThree, EntersAt, StmtRuns}
 use Rattle.isp_masks_code.specs.declared.exits.Exits.{Exits}
 
--- ---- what is asked of the parts: each is code that is told where it begins
+-- ---- what is asked of the parts: each is code that is given where it begins
 
 module _ (w : Setting) (n : ℕ) where
   -- a test under mask n leaves four steps, and its value in register x
@@ -51,7 +51,7 @@ pub record LoopsRun (w : Setting) (wide : Bool) (e : Exits) (spot : Spot) (a : M
       → TestRuns w spot.slot r x test_code test → BodyRuns w spot.slot body_code body → IsBody e body
       → AreAt w.routine.code pc (while_code wide e r x pc spot entry_code test_code body_code) → EntersAt w pc spot a s c q
       → StmtRuns w w.turns c (pc + length (while_code wide e r x pc spot entry_code test_code body_code)) spot (1 + q) (while_turns (gang_of w) test body no_step a w.turns (tick s))
-  -- behind its first part
+  -- after its first part
   pub for_loop : (r : Rate) (x pc q : ℕ) (s : State) (c : Conf) (entry_code test_code body_code step_code : ℕ → List Instr)
       (test : Mask → State → Val Payload) (body : Mask → State → Res) (step : Mask → State → Val Done) → TestRuns w spot.slot r x entry_code test
       → TestRuns w spot.slot r x test_code test → BodyRuns w spot.slot body_code body → StepRuns w spot.slot step_code step → IsBody e body

@@ -1,4 +1,4 @@
--- The code of loops, told the code of its test and of its body. Of the first free slot n on, mask n has those that run, mask
+-- The code of loops, given the code of its test and of its body. Of the first free slot n on, mask n has those that run, mask
 -- n + 1 those that continued in a turn, mask n + 2 those that returned; mask k keeps the set that entered until the end. Masks
 -- for those that continue or return are used only where the body lets somebody do so.
 use Rattle.std.specs.Prelude.{ℕ, ◌+◌, List, [], ◌∷◌, ◌++◌, Option, Some, None, Bool, true, false}
@@ -73,7 +73,7 @@ abbrev pub again_code : Rate → ℕ → ℕ → ℕ → List Instr
 again_code Uniform x n top = jump_on jump.True x top ∷ []
 again_code Varying x n top = where_so n x n ∷ instr.JumpIf jump.On (mask_register n) top ∷ []
 
--- behind a turn, for those that are live: the step, and what leads back
+-- after a turn, for those that are live: the step, and what leads back
 abbrev pub next_code : Exits → ℕ → ℕ → (ℕ → List Instr) → (ℕ → List Instr) → List Instr
 next_code e n pc step back = live_code (nobody_leaves e) n pc (λ pc1. two pc1 (step pc1) back)
 
@@ -93,7 +93,7 @@ abbrev pub loop_code : Exits → ℕ → Spot → (ℕ → List Instr) → List 
 loop_code e pc spot turns =
     two pc (enter_code e spot.on spot.slot) (λ top. two top (turns top) (λ pc1. loop_end_code e spot.on spot.returned spot.slot))
 
--- turns from one on, with the test behind each
+-- turns from one on, with the test after each
 abbrev pub tested_code : Bool → Exits → Rate → ℕ → ℕ → ℕ → (ℕ → List Instr) → (ℕ → List Instr) → (ℕ → List Instr) → List Instr
 tested_code wide e r x n top test body step =
     two top (turn_code wide e top n body) (λ pc. next_code e n pc step (λ pc1. test pc1 ++ again_code r x n top))

@@ -35,7 +35,7 @@ HasRate r (holds.Value t) = t.rate ≡ r
 HasRate r (holds.Given t) = ⊥
 HasRate r (holds.Local t n) = ⊥
 
--- The parameters that are values of a rate have the first registers of its class; every other register comes behind them.
+-- The parameters that are values of a rate have the first registers of its class; every other register comes after them.
 pub record PassedFirst (h : TFunction) (l : Layout) : Type 0 where
   pub value : (r : Rate) (v : ℕ) (x : Variable) → slice_get (params_of h) v ≡ Some x → HasRate r x.holds → l.variable r v ≡ value_count r (take v (params_of h))
   pub other : (r : Rate) (v : ℕ) → ((x : Variable) → slice_get (params_of h) v ≡ Some x → HasRate r x.holds → ⊥) → value_count r (params_of h) ≤ l.variable r v

@@ -1,6 +1,6 @@
--- The code of `foreach`, told the code of its body, which stands twice: for the runs that have all lanes, and for the one behind
--- them. Slots n and n + 1 have what all runs use; then each range has two slots, for its start and its end, and behind these two
--- for its place and its index; slot h, behind all, is the first of the body's masks.
+-- The code of `foreach`, given the code of its body, which stands twice: for the runs that have all lanes, and for the one after
+-- them. Slots n and n + 1 have what all runs use; then each range has two slots, for its start and its end, and after these two
+-- for its place and its index; slot h, after all, is the first of the body's masks.
 use Rattle.std.specs.Prelude.{ℕ, ◌+◌, List, [], ◌∷◌, ◌++◌, length, Bool, true, false}
 use Rattle.isp_base.specs.declared.operators.Compare.TheVariants.{Less, LessOrEqual}
 use Rattle.isp_base.specs.declared.types.Elem.TheVariants.{Bool as Truth, I32, I64}
@@ -23,7 +23,7 @@ use Rattle.isp_lower_code.specs.Spans.{expr_places}
 use Rattle.isp_lower_code.specs.Layout.{Layout, mask_register, register}
 use Rattle.isp_masks_code.specs.Rounds.{fill_mask}
 
--- the slot of the first range's place, and the slot behind the last's
+-- the slot of the first range's place, and the slot after the last's
 abbrev pub places_slot : ℕ → List TRange → ℕ
 places_slot n rs = n + 1 + 1 + length rs + length rs
 
@@ -41,7 +41,7 @@ sum_lanes d x k = instr.Scalar (register Uniform d) (scalar.Reduce reduction.Add
 abbrev pub lane_numbers : ℕ → ℕ → Instr
 lane_numbers d k = instr.Vector (register Varying d) (vector.Index (mask_register k))
 
--- The code of a body, told where it begins: in runs that have all lanes, and in the last one; and whether nobody leaves it.
+-- The code of a body, given where it begins: in runs that have all lanes, and in the last one; and whether nobody leaves it.
 pub record RunBodies : Type 0 where
   pub full : ℕ → List Instr
   pub rest : ℕ → List Instr
@@ -58,7 +58,7 @@ abbrev pub next_from : Bool → ℕ → ℕ → ℕ
 next_from true first step = step + 1
 next_from false first step = first
 
--- Mask h has all lanes again, behind a body that somebody may leave.
+-- Mask h has all lanes again, after a body that somebody may leave.
 abbrev pub refill : Bool → ℕ → List Instr
 refill true h = []
 refill false h = fill_mask h ∷ []
@@ -148,7 +148,7 @@ module _ (l : Layout) where
   full_code alone kept own i x m n h body pc =
       fill_mask h ∷ two (pc + 1) own (λ step. two step (index_step alone i n h step) (λ top. body top ++ (refill kept h ++ full_back x m n (next_from alone (pc + 1) step))))
 
-  -- ---- and the run behind them, under those lanes of it that there are
+  -- ---- and the run after them, under those lanes of it that there are
 
   abbrev pub rest_run : List Instr → ℕ → ℕ → ℕ → (ℕ → List Instr) → ℕ → List Instr
   rest_run own x e h body pc =

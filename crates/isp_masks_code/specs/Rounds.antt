@@ -1,4 +1,4 @@
--- The code of statements whose body runs over sets of its own: `unmasked`, `foreach_active` and `foreach_unique`, told the code of
+-- The code of statements whose body runs over sets of its own: `unmasked`, `foreach_active` and `foreach_unique`, given the code of
 -- the body.
 -- Mask k keeps the set that came to them, which goes on afterwards.
 use Rattle.std.specs.Prelude.{ℕ, ◌+◌, List, [], ◌∷◌, ◌++◌}
@@ -73,7 +73,7 @@ abbrev pub value_code : Values → ℕ → List Instr
 value_code v n =
     lowest_mask (n + 1) n ∷ reduce reduction.Min v.one v.all (n + 1) ∷ convert Uniform v.index v.one 0 ∷ splat v.each v.one n ∷ compare Varying Equal v.same v.all v.each n ∷ where_so (n + 1) v.same n ∷ the_others n n (n + 1) ∷ []
 
--- told the code of the values, and the register x where it leaves them
+-- given the code of the values, and the register x where it leaves them
 abbrev pub unique_code : Values → List Instr → ℕ → ℕ → ℕ → ℕ → (ℕ → List Instr) → List Instr
 unique_code v values x pc k n body =
     two pc (values ++ (copy Varying v.all x k ∷ copy_mask n k ∷ [])) (λ pc1. rounds_code (value_code v n) n pc1 body)

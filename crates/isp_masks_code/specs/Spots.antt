@@ -1,4 +1,4 @@
--- Where the code of a statement works, and the numbers of what it names: of both it is told what is free.
+-- Where the code of a statement works, and the numbers of what it names: of both it is given what is free.
 use Rattle.std.specs.Prelude.{ℕ, ◌+◌, List, length}
 use Rattle.isp_base.specs.declared.types.Span.{Span}
 
@@ -34,6 +34,6 @@ pub record Numbers : Type 0 where
   pub place : ℕ
   pub text : ℕ
 
--- behind some places
+-- after some places
 abbrev pub past : List Span → Numbers → Numbers
 past ps z = record z { place = z.place + length ps }

@@ -1,4 +1,4 @@
--- The code of statements, as a function of their trees. It is told the instruction pc where it begins, the numbers z of the next
+-- The code of statements, as a function of their trees. It is given the instruction pc where it begins, the numbers z of the next
 -- place in the source and the next text, and where it works: three masks and the first free slot (Spots).
 use Rattle.std.specs.Prelude.{ℕ, ◌+◌, List, [], ◌∷◌, ◌++◌, length, Option, Some, None, Bool, true, false}
 use Rattle.isp_base.specs.declared.types.Rate.{Rate}
@@ -46,7 +46,7 @@ rest_code true xs k pc code = code pc
 rest_code false t_no_stmts k pc code = []
 rest_code false (t_stmt_then x xs) k pc code = guard (jump_off k) pc code
 
--- ---- choices: code of a part is told where it begins, and its spot
+-- ---- choices: code of a part is given where it begins, and its spot
 
 -- Mask n gets those of mask k for which the test in register x is true, and k keeps the others; the first part runs for
 -- mask n if it has any, then comes the rest, for mask k; in the end k has those that went on from either.
@@ -68,13 +68,13 @@ abbrev pub left_code : Jump → ℕ → ℕ → ℕ → ℕ → List Instr
 left_code j x k co n = where_so n x k ∷ the_others k k n ∷ jumped_code j n co
 
 -- A c-form: mask n gets those of mask k for which the test is true. Where it has all lanes, these are all of mask k, and a jump
--- leads to the first part. Else mask n + 1 gets the others, and mask k those of mask n. The first part runs for mask k. Behind it
+-- leads to the first part. Else mask n + 1 gets the others, and mask k those of mask n. The first part runs for mask k. After it
 -- nobody is left where mask n has all lanes: a jump leads past the rest. Mask k ends as above.
 abbrev pub wide_code : ℕ → ℕ → ℕ → ℕ → (ℕ → List Instr) → (ℕ → List Instr) → List Instr
 wide_code x pc k n first rest =
     where_so n x k ∷ jump_all n (pc + 1 + 1 + 1 + 1 + 1) ∷ the_others (n + 1) k n ∷ copy_mask k n ∷ two (pc + 1 + 1 + 1 + 1) (guard (jump_off k) (pc + 1 + 1 + 1 + 1) first) (λ pc1. guard (jump_all n) pc1 (λ pc2. rest pc2 ++ unite k k (n + 1) ∷ []))
 
--- told how the part is left
+-- given how the part is left
 abbrev pub if_code : Leaving → Form → Rate → ℕ → ℕ → Spot → (ℕ → Spot → List Instr) → List Instr
 if_code v f Uniform x pc spot first = guard (jump_on jump.False x) pc (λ pc1. first pc1 spot)
 if_code v Coherent Varying x pc spot first =
@@ -85,7 +85,7 @@ if_code (Always j) Plain Varying x pc spot first = left_code j x spot.on spot.co
 if_code Maybe Plain Varying x pc spot first =
     parted_code x pc spot.on spot.slot (λ pc1. first pc1 (under spot.slot spot)) (λ pc1. [])
 
--- told whether nobody leaves the parts
+-- given whether nobody leaves the parts
 abbrev pub if_else_code : Bool → Form → Rate → ℕ → ℕ → Spot → (ℕ → Spot → List Instr) → (ℕ → Spot → List Instr) → List Instr
 if_else_code b f Uniform x pc spot first second = choice (jump_on jump.False x) pc (λ pc1. first pc1 spot) (λ pc1. second pc1 spot)
 if_else_code b Coherent Varying x pc spot first second =
@@ -171,12 +171,12 @@ abbrev mutual
   stmts_places l (t_stmt_then x xs) = stmt_places l x ++ stmts_places l xs
 
 module _ (l : Layout) where
-  -- the numbers behind a statement
+  -- the numbers after a statement
   abbrev pub behind : TStmt → Numbers → Numbers
   behind x z =
       record { place = z.place + length (stmt_places l x); text = z.text + length (stmt_texts x) }
 
-  -- and the place behind its step, where it is the body of a loop
+  -- and the place after its step, where it is the body of a loop
   abbrev pub test_place : TStmt → Option TSimple → Numbers → ℕ
   test_place x step z = (behind x z).place + length (step_places l step)
 
@@ -256,7 +256,7 @@ module _ (l : Layout) (answer : Option Ty) where
   turning_code wide e test step x n top z =
       two top (turn_code wide e top n (body_code x n z)) (λ pc. next_code e n pc (λ pc1. step_code l step pc1 (behind l x z).place n (n + 3)) (λ pc1. back_code l test pc1 (test_place l x step z) n top))
 
-  -- a `while`, and a `for` behind its first part
+  -- a `while`, and a `for` after its first part
   abbrev pub turns_code : Form → Option TExpr → Option TSimple → TStmt → ℕ → Numbers → Spot → List Instr
   turns_code f None step x pc z spot =
       let n = spot.slot in

@@ -38,7 +38,7 @@ fn bound(r: &mut Reserve, x: &TypedExpr, slot: Slot) -> Result<(), AllocError>
     Ok(())
 }
 
-/// The bounds of ranges, from left to right, two slots for each; and the slot behind them.
+/// The bounds of ranges, from left to right, two slots for each; and the slot after them.
 pub(crate) fn bounds(r: &mut Reserve, all: &[TypedRange], slot: Slot) -> Result<Slot, AllocError>
     requires { HasNumbers (bounds_asks (ranges_of all.now) slot.number) }
     ensures number { IfOk result (λ n. n.number ≡ slot.number + length (ranges_of all.now) + length (ranges_of all.now)) }
@@ -70,7 +70,7 @@ fn place(r: &mut Reserve, x: &TypedRange, slot: Slot) -> Result<Slot, AllocError
     Ok(second)
 }
 
-/// The places of ranges, two slots for each; and the slot behind them.
+/// The places of ranges, two slots for each; and the slot after them.
 pub(crate) fn places(r: &mut Reserve, all: &[TypedRange], slot: Slot) -> Result<Slot, AllocError>
     requires { HasNumbers (places_asks (ranges_of all.now) slot.number) }
     ensures number { IfOk result (λ n. n.number ≡ slot.number + length (ranges_of all.now) + length (ranges_of all.now)) }

@@ -135,7 +135,7 @@ fn printed(r: &mut Reserve, all: &[TypedExpr], slot: Slot) -> Result<(), AllocEr
     Ok(())
 }
 
-/// A mask, and the slot behind it.
+/// A mask, and the slot after it.
 fn behind(r: &mut Reserve, slot: Slot) -> Slot
     requires { HasNumbers (mask_asks slot.number) }
     ensures number { result.number ≡ slot.number + 1 }
@@ -146,7 +146,7 @@ fn behind(r: &mut Reserve, slot: Slot) -> Slot
     next
 }
 
-/// Two masks, and the slot behind them.
+/// Two masks, and the slot after them.
 fn behind_two(r: &mut Reserve, slot: Slot) -> Slot
     requires { HasNumbers (Both (mask_asks slot.number) (mask_asks (slot.number + 1))) }
     ensures number { result.number ≡ slot.number + 1 + 1 }
@@ -157,7 +157,7 @@ fn behind_two(r: &mut Reserve, slot: Slot) -> Slot
     last
 }
 
-/// The slot of the parts behind a test.
+/// The slot of the parts after a test.
 fn part(r: &mut Reserve, form: Form, rate: Rate, slot: Slot) -> Slot
     requires { HasNumbers (part_asks form rate slot.number) }
     ensures number { result.number ≡ part_slot form rate slot.number }
@@ -356,7 +356,7 @@ fn range_loop(
     Ok(())
 }
 
-/// A `for` behind its first part.
+/// A `for` after its first part.
 #[cycle(stmt)]
 fn turns(
     r: &mut Reserve,

@@ -187,7 +187,7 @@ unfolding digits number_to wrap_to
 unique = refl
 
 -- x = programIndex & 1; foreach_unique (v in x) { if (programIndex == 0) continue; x = 5; } x = x + 1: the value is taken
--- once, so 3, whose x is 5 only behind the second turn, has its turn; who continued goes on behind the statement
+-- once, so 3, whose x is 5 only after the second turn, has its turn; who continued goes on after the statement
 unique_once : answers (set 1 (join op.And index (number 1)) ∷ t_foreach_unique at 0 3 I32 (varying 1)
     (block (if_then (test Equal index (number 0)) (continue ∷ []) ∷ set 1 (number 5) ∷ [])) at ∷ set 1 (plus (varying 1) (number 1)) ∷ give ∷ []) 9
     ≡ gives 1 6 6 6

@@ -10,7 +10,7 @@ no_run gang some = div-eq_of_lt (omega (arith, some))
 one_gang_more : (gang n : ℕ) → 0 < gang → (n + gang) / gang ≡ suc (n / gang)
 one_gang_more gang n some = omega (arith, add-div_right n some)
 
--- where a run is taken, there is one run less behind it
+-- where a run is taken, there is one run less after it
 pub one_run : (gang x y : ℕ) → 0 < gang → (x ≡ y + gang) ⊎ ((0 < x) × (x ≤ gang) × (y ≡ 0)) → runs_for gang x ≡ suc (runs_for gang y)
 one_run gang x y some (inl e) =
     let same : x + (gang - 1) ≡ (y + (gang - 1)) + gang = omega (arith, e, some) in

@@ -88,7 +88,7 @@ mutual
 
 -- ---- the law
 
--- what ends has so much more work
+-- what ends has that much more work
 abbrev pub GivesAfter : {A : Type 0} → ℕ → State → Val A → Type 0
 GivesAfter n s (Gives x s1) = s1.work ≡ s.work + n
 GivesAfter n s (Fails t s1) = Unit {0}

@@ -66,7 +66,7 @@ fn push_names(page: &mut String, names: &[&str]) -> Result<(), AllocError> {
     page.push_str(if names.is_empty() { "nothing" } else { "" })
 }
 
-/// What is said of a fault that has no place, by the words by which docs/FAULTS.md has it, with a name behind them where there is one.
+/// What is said of a fault that has no place, by the words by which docs/FAULTS.md has it, with a name after them where there is one.
 pub fn fault_message<'n, 't>(
     alloc: Global,
     fault: &str,
@@ -81,7 +81,7 @@ pub fn fault_message<'n, 't>(
     Ok(message)
 }
 
-/// Writes the sentence and the remedy of a fault, by what stands at its place, behind a page.
+/// Writes the sentence and the remedy of a fault, by what stands at its place, after a page.
 pub fn push_advice(
     page: &mut String,
     fault: &str,

@@ -32,7 +32,7 @@ impl<'n, 't> Message<'n, 't> {
         }
     }
 
-    /// The message for people: `FILE:LINE:COLUMN: FAULT` with the line and carets, `FILE: FAULT`, or `isp: FAULT`; behind it what it means
+    /// The message for people: `FILE:LINE:COLUMN: FAULT` with the line and carets, `FILE: FAULT`, or `isp: FAULT`; after it what it means
     /// and the fix, each where there is one.
     pub fn text(&self, alloc: Global) -> Result<String, AllocError> {
         let mut page = String::new(alloc);

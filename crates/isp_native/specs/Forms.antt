@@ -44,7 +44,7 @@ is_pure_write (instr.Vector d i) = is_pure i
 is_pure_write i = false
 
 module _ (code : Listing) (rows : Rows) (c : Conf) (h : Routine) (i : Instr) where
-  -- behind a step lanes that are off may have become anything
+  -- after a step lanes that are off may have become anything
   abbrev pub MayForget : Reading → Type 0
   MayForget w =
       (a : Conf) → act code h c i ≡ Go a → (old : Lanes) → Alike code rows a (record a { vectors = put a.vectors w.vector (λ p. if sets code c w.lanes p then a.vectors w.vector p else old p) })

@@ -20,7 +20,7 @@ use Rattle.isp_native.specs.declared.counts.Counts.{Counts}
 use Rattle.isp_native.specs.Forms.{AreRight, Forms, all_kept, form_line}
 use Rattle.isp_native.specs.Words.{byte_text, c_type, capital, small}
 
--- the texts of a list one behind the other, each with its number, from a number on; and of the numbers below one
+-- the texts of a list one after the other, each with its number, from a number on; and of the numbers below one
 abbrev pub numbered : {A : Type 0} → (ℕ → A → List ℕ) → ℕ → List A → List ℕ
 numbered f n [] = []
 numbered f n (x ∷ xs) = f n x ++ numbered f (suc n) xs
@@ -99,7 +99,7 @@ register_line w r n t = (w ++ c_type t) ++ (r ++ (decimal n ++ codes ")\n"))
 abbrev pub mask_line : ℕ → List ℕ
 mask_line n = codes "MASK(m" ++ (decimal n ++ codes ")\n")
 
--- `L3: VADD(v0, v1, v2, m0);`: each instruction is one line, behind its number, in its form
+-- `L3: VADD(v0, v1, v2, m0);`: each instruction is one line, after its number, in its form
 abbrev pub code_line : Forms → ℕ → ℕ → Instr → List ℕ
 code_line forms f n i = (codes "L" ++ decimal n) ++ (codes ": " ++ (form_line (forms f n i) i ++ codes "\n"))
 

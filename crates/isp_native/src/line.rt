@@ -1,6 +1,6 @@
 //! What ends the line of an instruction.
 
-/// The operand behind the registers.
+/// The operand after the registers.
 #[derive(Clone, Copy)]
 pub enum Tail {
     Nothing,

@@ -75,7 +75,7 @@ impl Page {
         self.number(words::small(register.class), u64::from(register.number))
     }
 
-    /// A register behind others.
+    /// A register after others.
     pub(crate) fn behind(&mut self, register: Register) -> Result<(), AllocError>
         ensures { OnOk result (self.new ≡ self.old ++ lines.behind register) }
     {
@@ -83,7 +83,7 @@ impl Page {
         self.register(register)
     }
 
-    /// Registers behind others.
+    /// Registers after others.
     pub(crate) fn all_behind(&mut self, registers: &[Register]) -> Result<(), AllocError>
         ensures { OnOk result (self.new ≡ self.old ++ flat_map lines.behind registers.now) }
     {

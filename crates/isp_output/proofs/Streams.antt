@@ -130,7 +130,7 @@ wrote n old now stop g told output was is such h =
     behind : (xs ys : List ℕ) → drop (length xs) (xs ++ ys) ≡ ys
     behind xs ys = grind (arith, common_steps)
 
--- ---- stretches one behind the other
+-- ---- stretches one after the other
 
 pub started : (b : ℕ) (a : Kept) → Made (b - b) a a
 started b a = let e : b - b ≡ 0 = omega arith in rw e (record { state_is = refl; code_same = refl; given_same = refl })

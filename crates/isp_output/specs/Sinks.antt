@@ -7,7 +7,7 @@ abbrev pub refuses : Result ℕ SinkFault → List ℕ → Bool
 refuses (Ok n) bytes = (n == 0) && not (length bytes == 0)
 refuses (Err e) bytes = true
 
--- the bytes held, where they are told, and these behind them
+-- the bytes held, where they are told, and these after them
 abbrev pub adds : List ℕ → Option (List ℕ) → Option (List ℕ)
 adds bytes held = option_map (λ h. h ++ bytes) held
 

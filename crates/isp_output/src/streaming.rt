@@ -32,7 +32,7 @@ fn stretch<const N: usize, W: Sink>(
     Ok(stop)
 }
 
-/// Runs at most `budget` instructions, as `Machine::run` does, and writes what they add to the output: behind each 4,096
+/// Runs at most `budget` instructions, as `Machine::run` does, and writes what they add to the output: after each 4,096
 /// instructions, and at the stop. `SinkFault` where a write fails or takes no byte, which ends the run; then the beginning of
 /// what was added has gone out.
 pub fn stream<const N: usize, W: Sink>(

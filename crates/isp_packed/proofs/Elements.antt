@@ -45,7 +45,7 @@ element_wrong p e n t bs room more =
     element_there p e n t bs room
     ∙ when_false (nat_lt (little_number n bs) (2 ^ width t)) (Ok (little_number n bs)) (Err (OutOfRange p e)) (le-ltb (little_number n bs) (2 ^ width t) more)
 
--- ---- the elements that fit, and those behind the first
+-- ---- the elements that fit, and those after the first
 
 first_fits : (n : ℕ) (t : Elem) (c : ℕ) (bs : List ℕ) → EachFits n t (suc c) bs → n ≤ length bs → little_number n bs < 2 ^ width t
 first_fits n t c bs fits room =
@@ -58,7 +58,7 @@ rest_fits n t c bs fits room k less whole =
     let left = length-drop n bs in
     subst (λ (l : List ℕ). little_number n l < 2 ^ width t) (next_drop n k bs) (fits (suc k) (omega arith) (omega (arith, more, left)))
 
--- ---- the first of the elements, and those behind it
+-- ---- the first of the elements, and those after it
 
 pub step_ok : (p e c n : ℕ) (t : Elem) (bs : List ℕ) (x : ℕ) (xs : List ℕ) → element_of p e n t bs ≡ Ok x → elements_of p (suc e) c n t (drop n bs) ≡ Ok xs
     → elements_of p e (suc c) n t bs ≡ Ok (x ∷ xs)

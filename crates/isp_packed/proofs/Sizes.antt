@@ -80,7 +80,7 @@ width_whole U32 other = refl
 width_whole I64 other = refl
 width_whole U64 other = refl
 
--- behind its first word
+-- after its first word
 pub array_within : (a : Row) (t : Elem) (m n : ℕ) → a.elem ≡ t → size t * length a.bits ≤ m → m + 8 ≡ n → length (packed_array a) ≤ n
 array_within a t m n type room all =
     let whole = length_array a in
@@ -93,7 +93,7 @@ counted None v n over same =
     elim (cases_lt v (2 ^ 64)) [ inl few ↦ absurd (over few) | inr many ↦ subst (λ (x : ℕ). 2 ^ 64 ≤ x) same many ]
 counted (Some x) v n is same = is.1 ∙ same
 
--- an array whose elements alone take so much
+-- an array whose elements alone take that much
 pub array_over : (a : Row) (n : ℕ) → n ≡ size a.elem * length a.bits → (n < 2 ^ 64 → ⊥) → 2 ^ 64 ≤ length (packed_array a)
 array_over a n same over =
     elim (cases_lt n (2 ^ 64)) [ inl few ↦ absurd (over few) | inr many ↦ (let whole = length_array a in omega (arith, whole, same, many)) ]

@@ -1,4 +1,4 @@
--- What is written behind what was written before.
+-- What is written after what was written before.
 use Rattle.std.proofs.Common.{◌≡◌, ℕ, suc, ◌+◌, ◌-◌, ◌^◌, ◌<◌, ◌≤◌, List, [], ◌∷◌, ◌++◌, length, take, drop, get_or, Option, refl, sym, ap, ap₂, ◌∙◌, inl, inr, arith, append_assoc, append-nil, drop-drop, drop_at, take_at, length-append, mod-eq_of_lt}
 use Rattle.std.proofs.lemmas.Bool.{cases_lt}
 use Rattle.std.proofs.lemmas.Grind.{flat_map-append}
@@ -14,7 +14,7 @@ use Rattle.isp_packed.specs.Packing.{packed_answer, packed_array, packed_result}
 abbrev pub Written : List ℕ → List ℕ → List ℕ → Type 0
 Written f old now = now ≡ f ++ drop (length f) old
 
--- p in the place of k bytes behind f
+-- p in the place of k bytes after f
 pub placed : (f p old now : List ℕ) (a k : ℕ) → length f ≡ a → length p ≡ k → Written f old now → put_mid a k now p ≡ (f ++ p) ++ drop (length (f ++ p)) old
 placed f p old now a k here long before =
     let front : take a now ≡ f = ap (take a) before ∙ take_at f (drop (length f) old) a here in
@@ -23,7 +23,7 @@ placed f p old now a k here long before =
     let behind : drop k (drop a now) ≡ drop (length (f ++ p)) old = ap (drop k) last ∙ drop-drop k (length f) old ∙ ap (λ (i : ℕ). drop i old) both in
     ap₂ (λ (x y : List ℕ). x ++ (p ++ y)) front behind ∙ sym (append_assoc f p (drop (length (f ++ p)) old))
 
--- a write that begins with p, to all that is behind f
+-- a write that begins with p, to all that is after f
 pub appended : (f p old now part : List ℕ) (a k : ℕ) → a ≡ length f → Written f old now → part ≡ drop a now → length now ≤ a + k
     → put_mid a k now (p ++ drop (length p) part) ≡ (f ++ p) ++ drop (length (f ++ p)) old
 appended f p old now part a k here before whole far =
@@ -82,7 +82,7 @@ answer_too_long rs r i a w b less is before one over =
     let part = part_bytes rs r i a less is in
     elim (cases_lt (w + b) (2 ^ 64)) [ inl few ↦ absurd (over few) | inr many ↦ omega (arith, part, before, one, many) ]
 
--- one array more has room behind the first i
+-- one array more has room after the first i
 pub room_for_one : (rs : List Row) (i : ℕ) (a : Row) (end m n : ℕ) → i < length rs → a ≡ get_or rs i a → end ≡ length (flat_map packed_array (take i rs)) → m ≡ n
     → length (flat_map packed_array rs) ≤ n → length (packed_array a) ≤ m - end
 room_for_one rs i a end m n less is here same room =

@@ -34,7 +34,7 @@ abbrev pub packed_argument : Argument → List ℕ
 packed_argument (AValue v) = packed_value v
 packed_argument (AnArray a) = packed_array a
 
--- one argument behind the other
+-- one argument after the other
 abbrev pub packed_of : List Argument → List ℕ
 packed_of xs = flat_map packed_argument xs
 

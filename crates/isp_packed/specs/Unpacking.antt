@@ -51,7 +51,7 @@ argument_of p q bs = if q.is_array then array_of p q.elem bs else value_of p q.e
 
 -- ---- the whole list
 
--- from parameter p on: each argument begins behind the bytes of the one before
+-- from parameter p on: each argument begins after the bytes of the one before
 abbrev pub arguments_of : ℕ → List Parameter → List ℕ → Result (List Argument) PackedFault
 arguments_of p [] [] = Ok []
 arguments_of p [] (b ∷ bs) = Err Long

@@ -11,7 +11,7 @@ use byteorder::{ByteOrder, LittleEndian};
 use isp_base::{Array, Cells, Value, low_bits};
 
 /// Writes the arrays of an answer and then its result at the beginning of `into`, and gives the number
-/// of bytes that they take. The bytes behind them stay.
+/// of bytes that they take. The bytes after them stay.
 ///
 /// The form is that of arguments: for each array 8 bytes with the number of its elements, then the
 /// elements; for the result 8 bytes, its bits, zero above the width. So an answer whose arrays are as
@@ -75,7 +75,7 @@ fn put_answer(arrays: &[Array], returned: Option<Value>, into: &mut [u8])
     put_result(returned, &mut into[end..]);
 }
 
-// Each array behind the one before; where the last one ends.
+// Each array after the one before; where the last one ends.
 fn put_arrays(arrays: &[Array], into: &mut [u8]) -> usize
     requires { length (flat_map packed_array arrays.now) ≤ length into.old }
     ensures end { result ≡ length (flat_map packed_array arrays.now) }

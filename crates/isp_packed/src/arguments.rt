@@ -25,7 +25,7 @@ pub(crate) const WORD: usize = 8;
 ///
 /// The first fault in the order of the bytes is answered: `Short` where they end before a parameter
 /// does, `OutOfRange` for a number that the type does not have, `TooLong` for an array of more than
-/// 2^63 - 1 elements, `Long` for bytes behind the last parameter. `Memory` takes the place of what
+/// 2^63 - 1 elements, `Long` for bytes after the last parameter. `Memory` takes the place of what
 /// would follow.
 pub fn unpack(alloc: Global, signature: &Signature, bytes: &[u8]) -> Result<Bound, PackedFault>
     ensures ok { IfOk result (λ b. unpacked_of signature.now.params.items bytes.now
@@ -99,7 +99,7 @@ fn array(
     Ok(Argument::Array(array))
 }
 
-// The bytes behind those of an argument.
+// The bytes after those of an argument.
 fn behind<'a>(argument: &Argument, bytes: &'a [u8]) -> &'a [u8]
     requires { length (packed_argument argument.now) ≤ length bytes.now }
     ensures { result.now ≡ drop (length (packed_argument argument.now)) bytes.now }

@@ -14,7 +14,7 @@ pub enum PackedFault {
     /// The bytes end before the parameter does.
     #[error("the bytes end before parameter {parameter} does")]
     Short { parameter: usize },
-    /// There are bytes behind those of the last parameter.
+    /// There are bytes after those of the last parameter.
     #[error("there are bytes behind the last parameter")]
     Long,
     /// A number that the type of the parameter does not have: a bool above 1, or bits above the

@@ -16,7 +16,7 @@ ends_line b = (b == 13) || (b == 10)
 abbrev pub begins_char : ℕ → Bool
 begins_char b = nat_lt b 128 || not (nat_lt b 192)
 
--- behind the last line feed before the place
+-- after the last line feed before the place
 abbrev pub line_start : List ℕ → ℕ → ℕ
 line_start text at = at - suffix_len (λ b. not (is_feed b)) (take at text)
 

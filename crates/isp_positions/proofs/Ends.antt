@@ -1,4 +1,4 @@
--- Whether a line ends behind a byte, and what is left of a text.
+-- Whether a line ends after a byte, and what is left of a text.
 use Rattle.std.proofs.Common.{◌≡◌, ◌≤◌, ◌<◌, ◌+◌, ◌-◌, ◌*◌, ℕ, Bool, List, [], ◌∷◌, true, false, zero, suc, not, length, take, drop, get_or, refl, ap, sym, ◌∙◌, arith}
 use Rattle.std.specs.List.{suffix_len, sum_by}
 use Rattle.std.proofs.lemmas.List.Sums.{suffix_len_is}

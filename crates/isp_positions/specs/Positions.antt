@@ -5,11 +5,11 @@
 use Rattle.std.specs.Prelude.{ℕ, ◌+◌, ◌-◌, ◌==◌, ◌||◌, ◌&&◌, List, [], ◌∷◌, Bool, true, false, not, nat_lt, take, drop, get_or, slice_range, zero, suc, if◌then◌else◌}
 use Rattle.std.specs.List.{count_by, suffix_len, sum_by}
 
--- a line ends behind a line feed, and behind a carriage return that no line feed follows
+-- a line ends after a line feed, and after a carriage return that no line feed follows
 abbrev pub ends_line : ℕ → ℕ → Bool
 ends_line b next = (b == 10) || ((b == 13) && not (next == 10))
 
--- for each byte, whether a line ends behind it
+-- for each byte, whether a line ends after it
 abbrev pub line_ends : List ℕ → List Bool
 line_ends [] = []
 line_ends (b ∷ rest) = ends_line b (get_or rest 0 0) ∷ line_ends rest
@@ -32,7 +32,7 @@ character_of text at = units (slice_range text (line_start text at) at)
 
 -- ---- from a place to a byte
 
--- where a line begins: behind so many line ends, or at the end of the text
+-- where a line begins: after so many line ends, or at the end of the text
 abbrev pub start_of_line : ℕ → List Bool → ℕ
 start_of_line zero ends = 0
 start_of_line (suc n) [] = 0

@@ -24,7 +24,7 @@ pub fn position_of(text: &[u8], at: usize) -> Position
     }
 }
 
-/// Whether a line ends behind a byte.
+/// Whether a line ends after a byte.
 #[tactic(auto, using(crate::proofs::Ends::ends_at))]
 pub(crate) fn ends_line(text: &[u8], at: usize) -> bool
     requires { at < length text.now }

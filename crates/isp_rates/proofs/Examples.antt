@@ -28,7 +28,7 @@ int r = ty_of r I32
 abbrev variable : Rate → Variable
 variable r = record { holds = Value (int r); constant = false }
 
--- void f(uniform int x, int y) { .. }, behind which stands uniform int g(uniform int x) { return x; }
+-- void f(uniform int x, int y) { .. }, after which stands uniform int g(uniform int x) { return x; }
 abbrev program : List TStmt → Program
 program ss = record {
   gang = W4;

@@ -89,7 +89,7 @@ fn argument(found: &mut Vec<usize>, x: &TypedArgument) -> Result<(), AllocError>
     }
 }
 
-/// Finds a call, behind those in its arguments.
+/// Finds a call, after those in its arguments.
 #[cycle(calls)]
 fn call(found: &mut Vec<usize>, x: &TypedCall) -> Result<(), AllocError>
     ensures { IfOk result (λ u. found.new.items ≡ found.old.items ++ call_calls (call_of x.now)) }

@@ -188,7 +188,7 @@ then_given a b c k y g h =
       masks_are = h.masks_are ∙ ap (λ m. masks_with m y) g.masks_are;
     }
 
--- the second side's slot is the one behind the first's
+-- the second side's slot is the one after the first's
 pub second_is : (r : Rate) (n : ℕ) → first_slot r (first_slot r n) ≡ second_slot r n
 second_is Uniform n = refl
 second_is Varying n = omega arith

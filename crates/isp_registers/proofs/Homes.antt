@@ -22,7 +22,7 @@ array_apart (holds.Value t) n rows = refl
 array_apart (holds.Given t) n rows = refl
 array_apart (holds.Local t m) n rows = refl
 
--- the row of one more variable, if it has one, is behind those so far
+-- the row of one more variable, if it has one, is after those so far
 pub one_value : (r : Rate) (vs : List declared.Variable) (n : ℕ) (d : declared.Variable) (new old all : List Row) → n < length vs → new ≡ old ++ value_row r (get_or vs n d).holds n []
     → old ++ value_rows r n (drop n vs) ≡ all → new ++ value_rows r (n + 1) (drop (n + 1) vs) ≡ all
 one_value r vs n d new old all low e i =

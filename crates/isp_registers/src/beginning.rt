@@ -92,7 +92,7 @@ pub fn no_registers(alloc: Global) -> Registers
 }
 
 /// The registers with which a function begins: one for each of its variables, in their order, each the next of its class,
-/// so parameters have the first; what it gives back has the one behind them.
+/// so parameters have the first; what it gives back has the one after them.
 pub fn begin(
     alloc: Global,
     variables: &[Variable],

@@ -41,7 +41,7 @@ impl Slot {
         }
     }
 
-    /// The slot so many behind this one.
+    /// The slot so many after this one.
     pub fn plus(self, count: u32) -> Slot
         requires { self.number + count < 4294967296 }
         ensures { result ≡ record { number = self.number + count } }
@@ -51,7 +51,7 @@ impl Slot {
         }
     }
 
-    /// The slot behind this one.
+    /// The slot after this one.
     pub fn next(self) -> Slot
         requires { self.number + 1 < 4294967296 }
         ensures { result ≡ record { number = self.number + 1 } }

@@ -71,7 +71,7 @@ fn row_at(rows: &[RegisterRow], place: usize) -> Option<RegisterRow>
     rows.get(place).copied()
 }
 
-/// One more register behind the others.
+/// One more register after the others.
 fn append(rows: &mut Vec<RegisterRow>, row: RegisterRow) -> Result<(), AllocError>
     ensures ok { OnOk result (rows.new.items ≡ rows.old.items ++ row ∷ []) }
     ensures err { OnErr result (rows.new.items ≡ rows.old.items) }

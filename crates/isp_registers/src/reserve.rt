@@ -264,7 +264,7 @@ impl Reserve {
         Ok(())
     }
 
-    /// A choice: its sides work in slots behind those of a varying test.
+    /// A choice: its sides work in slots after those of a varying test.
     #[cycle(expr)]
     fn choice(
         &mut self,
@@ -585,7 +585,7 @@ impl Reserve {
         }
     }
 
-    /// The slot behind that of a place's index.
+    /// The slot after that of a place's index.
     fn beyond(&mut self, place: &TypedPlace, slot: Slot) -> Slot
         requires { HasNumbers (Number (beyond (place_of place.now) slot.number)) }
         ensures number { result.number ≡ beyond (place_of place.now) slot.number }
@@ -675,7 +675,7 @@ impl Reserve {
     }
 }
 
-/// The slot behind that of a varying test.
+/// The slot after that of a varying test.
 fn side(rate: Rate, slot: Slot) -> Slot
     requires { rate ≡ Varying → slot.number + 1 < 4294967296 }
     ensures { result.number ≡ first_slot rate slot.number }

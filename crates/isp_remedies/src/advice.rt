@@ -26,7 +26,7 @@ pub fn advice_on(fault: &str) -> Option<Advice> {
 }
 
 impl Advice {
-    // What a section says behind its words.
+    // What a section says after its words.
     fn of(body: &'static str) -> Advice {
         let (said, rows) = body.split_once("\n@ ").unwrap_or((body, ""));
         let (sentence, fix) = said.split_once("\nFix: ").unwrap_or((said, ""));

@@ -60,7 +60,7 @@ impl<'a> Spot<'a> {
         }))
     }
 
-    /// Whether the place is as a row says: one of some tokens, and behind each `? ` what has to hold around it.
+    /// Whether the place is as a row says: one of some tokens, and after each `? ` what has to hold around it.
     pub(crate) fn fits(&self, when: &str) -> bool {
         let (at, around) = when.split_once("\n? ").unwrap_or((when, ""));
         self.begins_with(at) && self.meets_all(around)
@@ -125,7 +125,7 @@ impl<'a> Spot<'a> {
             && matches!(self.back(2).spelling, "" | ";" | "{" | "}" | ")")
     }
 
-    // The first token behind the last `;`, `{` or `}`.
+    // The first token after the last `;`, `{` or `}`.
     fn start(&self) -> Seen<'a> {
         let tokens = self.before.as_slice();
         match tokens.iter().rposition(|token| ends_statement(token)) {

@@ -1,4 +1,4 @@
--- A text in the room for a line: the zeros behind it, and how much of a line it is.
+-- A text in the room for a line: the zeros after it, and how much of a line it is.
 use Rattle.std.proofs.Common.{arith, Bool, true, Option, Some, None, [], inl, inr, ⊎_elim, ◌<◌, ◌≡◌, ◌≤◌, ◌+◌, ◌-◌, ℕ, List, length, length-take-le, drop, take, replicate, ap, sym, subst, ◌∙◌}
 use Rattle.std.proofs.lemmas.Bool.{cases_lt}
 use Rattle.std.proofs.lemmas.List.{drop-drop, drop-replicate, take_all}
@@ -6,14 +6,14 @@ use Rattle.std.proofs.lemmas.Slice.{drop-put_mid}
 use Rattle.isp_engine.specs.Told.{Told}
 use borrow.Rule.Slice.PartMut.{put_mid}
 
--- bytes that are written behind the text leave zeros behind them
+-- bytes that are written after the text leave zeros after them
 pub zeros_behind : (n k m : ℕ) (xs ys : List ℕ) → n ≤ length xs → length ys ≡ k → k ≡ m → drop n xs ≡ replicate (128 - n) 0
     → drop (n + k) (put_mid n m xs ys) ≡ replicate (128 - (n + k)) 0
 zeros_behind n k m xs ys le len same zeros =
     drop-put_mid n m xs ys (n + k) (omega arith) le (len ∙ same)
     ∙ sym (drop-drop k n xs) ∙ ap (drop k) zeros ∙ drop-replicate k (128 - n) 0 ∙ ap (λ z. replicate z 0) (omega arith)
 
--- a text and what is written behind it have room where their bytes have
+-- a text and what is written after it have room where their bytes have
 pub fits : (n k : ℕ) (xs : List ℕ) → n ≤ 127 → length xs ≡ 128 → length (take n xs) + k ≤ 127 → n + k ≤ 127
 fits n k xs le len short = subst (λ z. z + k ≤ 127) (length-take-le n xs (omega arith)) short
 

@@ -6,10 +6,10 @@ pub record Written : Type 0 where
   pub text : List ℕ
   pub failed : Bool
 
--- a text in a room for 128 bytes, with zeros behind it
+-- a text in a room for 128 bytes, with zeros after it
 abbrev pub padded : List ℕ → List ℕ
 padded text = text ++ replicate (128 - length text) 0
 
--- a line in a report: 127 bytes of it at most, so that a zero stands behind them
+-- a line in a report: 127 bytes of it at most, so that a zero stands after them
 abbrev pub line_bytes : List ℕ → List ℕ
 line_bytes line = padded (take 127 line)

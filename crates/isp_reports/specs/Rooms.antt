@@ -5,7 +5,7 @@ use Rattle.isp_reports.specs.declared.refusal.Refusal.{Refusal}
 use Rattle.isp_reports.specs.declared.refusal.Refusal.TheVariants.{Short}
 use Rattle.isp_reports.specs.declared.report.Report.{Report}
 
--- the bytes, and behind them what the room held there
+-- the bytes, and after them what the room held there
 abbrev pub fronted : List ℕ → List ℕ → List ℕ
 fronted bytes room = bytes ++ drop (length bytes) room
 

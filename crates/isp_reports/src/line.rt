@@ -15,7 +15,7 @@ pub(crate) const LINE: usize = 128;
 /// The greatest number of bytes that a line has.
 const MOST: usize = 127;
 
-/// As many bytes of a line as it has room for, with zeros behind them.
+/// As many bytes of a line as it has room for, with zeros after them.
 #[derive(Drop)]
 struct Line {
     bytes: [u8; LINE],
@@ -73,7 +73,7 @@ impl Line {
         count
     }
 
-    // The line, with zeros behind it.
+    // The line, with zeros after it.
     fn into_bytes(self) -> [u8; LINE]
         ensures bytes { result ≡ padded self.text }
         ensures short { length self.text ≤ 127 }
@@ -104,7 +104,7 @@ pub(crate) fn no_line() -> [u8; LINE]
     [0; LINE]
 }
 
-/// The line of a refusal, as much of it as there is room for, with zeros behind it.
+/// The line of a refusal, as much of it as there is room for, with zeros after it.
 pub(crate) fn line_of(refusal: &Refusal<'_>) -> [u8; LINE]
     ensures { result ≡ line_bytes (line_of refusal.now) }
 {

@@ -20,7 +20,7 @@ pub struct Report {
     pub result: u64,
     /// What is told by numbers.
     pub why: Why,
-    /// The line of standard error, at most 127 bytes of it, and zeros behind it. Nothing where the status is 0.
+    /// The line of standard error, at most 127 bytes of it, and zeros after it. Nothing where the status is 0.
     pub line: [u8; LINE],
 }
 
@@ -108,7 +108,7 @@ pub fn done(used: usize, returned: u64, report: &mut Report) -> u8
     0
 }
 
-/// A call that is refused, or stopped behind so many bytes; how it ends.
+/// A call that is refused, or stopped after so many bytes; how it ends.
 pub fn refuse(refusal: &Refusal<'_>, used: usize, report: &mut Report) -> u8
     ensures { Refuses refusal.now used report.new result }
 {

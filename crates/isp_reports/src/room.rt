@@ -5,7 +5,7 @@ ghost use Rattle.isp_reports.specs.Rooms.{Gives, fronted};
 use crate::refusal::Refusal;
 use crate::report::{Report, done, refuse};
 
-/// Writes bytes at the front of a room, where it has room for them; whether it has. The bytes behind them stay.
+/// Writes bytes at the front of a room, where it has room for them; whether it has. The bytes after them stay.
 pub fn put(bytes: &[u8], room: &mut [u8]) -> bool
     ensures whole { result ≡ true → (length bytes.now ≤ length room.old) × (room.new ≡ fronted bytes.now room.old) }
     ensures short { result ≡ false → (length room.old < length bytes.now) × (room.new ≡ room.old) }

@@ -27,7 +27,7 @@ abbrev pub GivesLength : List (List ℕ × List ℕ) → Option ℕ → Type 0
 GivesLength [] given = given ≡ None
 GivesLength ((name, value) ∷ rest) given = (IsLengthName name × (given ≡ number value)) ⊎ (¬ (IsLengthName name) × GivesLength rest given)
 
--- the bytes begin with a header of some fields, behind which the content starts
+-- the bytes begin with a header of some fields, after which the content starts
 pub record HasHeader (bytes : List ℕ) (start : ℕ) (size : Option ℕ) : Type 0 where
   pub fields : List Field
   pub last : LineEnd

@@ -51,7 +51,7 @@ pub fn first_message(bytes: &[u8]) -> Result<Framed, FrameFault>
     }
 }
 
-// So many bytes behind a header, if they are all there.
+// So many bytes after a header, if they are all there.
 fn content(bytes: &[u8], start: usize, size: usize) -> Framed
     requires { HasHeader bytes.now start (Some size) }
     ensures { Frames bytes.now (Ok result) }

@@ -76,7 +76,7 @@ answer_line s arrays x = []
 abbrev pub page_of : List (Bor (List ℕ)) → TFunction → BoundReport → List ℕ
 page_of outs h r = r.output.items ++ answer_line r.stop (shown outs h.parameters h.variables r.arrays.items) r.result
 
--- how the program ends behind it
+-- how the program ends after it
 abbrev pub end_of_stop : Stop → Result ⊤ RunStop
 end_of_stop stop.Ended = Ok tt
 end_of_stop (stop.Trapped t) = Err (Trapped t)

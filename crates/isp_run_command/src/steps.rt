@@ -24,7 +24,7 @@ use isp_run_words::{GivenFault, Output, RunWords, Words, bind_words};
 use isp_typed::TypedFunction;
 use std::alloc::{AllocError, Global};
 
-/// What a run shows, and how the program ends behind it.
+/// What a run shows, and how the program ends after it.
 #[derive(Drop)]
 pub(crate) struct Page<'a> {
     pub(crate) bytes: Vec<u8>,
@@ -167,7 +167,7 @@ pub(crate) fn shown_page<'a>(
     })
 }
 
-// How the program ends behind a run that stopped so.
+// How the program ends after a run that stopped so.
 fn end_of<'a>(stop: Stop) -> Result<(), RunStop<'a>>
     ensures { result ≡ end_of_stop stop }
 {

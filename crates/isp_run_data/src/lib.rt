@@ -1,4 +1,4 @@
-//! The files of a run: what is read before it, and what is written and shown behind it.
+//! The files of a run: what is read before it, and what is written and shown after it.
 #![tactic(auto)]
 
 mod reading;

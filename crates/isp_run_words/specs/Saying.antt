@@ -1,5 +1,5 @@
 -- What a word of a run says.
---     Says text v       what the text behind the `=` stands for
+--     Says text v       what the text after the `=` stands for
 --     IsWord w r        the name and the value of a word, or that it is none
 --     IsOutput w r      the name of an array, the file that it goes to and its format
 use Rattle.std.specs.Prelude.{◌≡◌, ◌≢◌, ◌⊎◌, ℕ, ◌+◌, ◌-◌, ◌*◌, ◌<◌, ◌^◌, List, [], ◌∷◌, ◌++◌, length, codes, bytes_eq, get_or, Bool, true, false, ◌&&◌, ◌||◌, ◌==◌, eqb, nat_lt, nat_le, Option, Some, None, if◌then◌else◌}
@@ -34,7 +34,7 @@ abbrev pub begun : Option ℕ → ℕ
 begun None = 0
 begun (Some n) = n
 
--- with a digit behind it
+-- with a digit after it
 abbrev pub grown_of : Option ℕ → ℕ → Option ℕ
 grown_of n c = if nat_lt c 48 || nat_lt 57 c then None else (if nat_lt (begun n * 10) (2 ^ 64) then within (begun n * 10 + (c - 48)) else None)
 
@@ -46,7 +46,7 @@ abbrev pub numbered : ℕ → Option ℕ → Option LengthsRead
 numbered p None = None
 numbered p (Some n) = Some (record { product = p; number = Some n })
 
--- what was read, with a byte behind it
+-- what was read, with a byte after it
 abbrev pub step_of : LengthsRead → ℕ → Option LengthsRead
 step_of r c = if c == 42 then starred (times_of r.product r.number) else numbered r.product (grown_of r.number c)
 
@@ -63,7 +63,7 @@ product_of r (c ∷ cs) = step_of r c >>? (λ s. product_of s cs)
 abbrev pub lengths_of : List ℕ → Option ℕ
 lengths_of text = product_of (record { product = 1; number = None }) text
 
--- what stands behind `zeros(`
+-- what stands after `zeros(`
 abbrev pub IsLengths : List ℕ → Option ℕ → Type 0
 IsLengths rest (Some n) = (inner : List ℕ) × (rest ≡ inner ++ 41 ∷ []) × (lengths_of inner ≡ Some n)
 IsLengths rest None = ((inner : List ℕ) → rest ≢ inner ++ 41 ∷ []) ⊎ ((inner : List ℕ) × (rest ≡ inner ++ 41 ∷ []) × (lengths_of inner ≡ None))
@@ -85,7 +85,7 @@ Says text (Literal t) = (is_input text ≡ false) × (t.now ≡ text) × ((rest 
 abbrev pub Lacks : ℕ → List ℕ → Type 0
 Lacks c text = (i : ℕ) → i < length text → get_or text i 0 ≢ c
 
--- a name, `=`, and what stands behind
+-- a name, `=`, and what stands after
 abbrev pub Parts : List ℕ → List ℕ → List ℕ → Type 0
 Parts word name text = (word ≡ name ++ 61 ∷ text) × Lacks 61 name
 

@@ -94,7 +94,7 @@ fn format_of(file: &str) -> Option<Format>
     None
 }
 
-// The parts before and behind the first `=`.
+// The parts before and after the first `=`.
 fn parts(word: &str) -> Option<(&str, &str)>
     ensures { MatchOption result (Lacks 61 word.now) (λ x. Parts word.now x.0.now x.1.now) }
 {
@@ -122,7 +122,7 @@ fn before_bracket(text: &str) -> Option<&str>
     text.strip_suffix(')')
 }
 
-// What stands behind `zeros(`.
+// What stands after `zeros(`.
 fn lengths(rest: &str) -> Option<usize>
     ensures { IsLengths rest.now result }
 {
@@ -153,7 +153,7 @@ fn product(text: &[u8]) -> Option<usize>
     times(read.product, read.number)
 }
 
-// What was read, with a byte behind it.
+// What was read, with a byte after it.
 fn step(read: LengthsRead, byte: u8) -> Option<LengthsRead>
     ensures { result ≡ step_of read byte }
 {
@@ -178,7 +178,7 @@ fn times(product: usize, number: Option<usize>) -> Option<usize>
     product.checked_mul(number?)
 }
 
-// A number with a digit behind it.
+// A number with a digit after it.
 fn grown(number: Option<usize>, digit: u8) -> Option<usize>
     ensures { result ≡ grown_of number digit }
 {

@@ -56,7 +56,7 @@ module _ (program : Program) (code : Listing) (f : ℕ) (h : TFunction) (g : Rou
   later : (m : ℕ) → budget ≤ m → IsPrefix out (out_of (came m))
   later m le = subst (λ z. IsPrefix z (out_of (came m))) (sym out_is) (grows code (rows xs) budget m start le)
 
-  -- a run that is over stands at some number of instructions: before the budget is used up, or behind it
+  -- a run that is over stands at some number of instructions: before the budget is used up, or after it
   so_far_of : (n m : ℕ) → IsOver (run n) → came m ≡ run n → IsPrefix out (out_of (run n))
   so_far_of n m ended e =
       ⊎_elim

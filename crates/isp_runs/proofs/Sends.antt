@@ -85,7 +85,7 @@ module _ (code : Listing) (entry : List ℕ) (xs : List Argument) (b : ℕ) (old
   sends_first : MadeSome b old now → (o n : Option (List ℕ)) → TookFirst (out_now now) o n → SendsFirst code ps f g xs b o n
   sends_first s o n h = (s.0, s.1, first_sent ps (outcome_after code f g xs s.0) o n (subst (λ z. TookFirst z o n) (out_after s.0 s.2) h))
 
-  -- the sink failed, or memory was refused behind all output so far
+  -- the sink failed, or memory was refused after all output so far
   pub cut : MadeSome b old now → (o n : Option (List ℕ)) (fl : Bool) → Adds old now (λ bytes. TookSome bytes o n fl) → SendsFirst code ps f g xs b o n × (fl ≡ true)
   cut s o n fl h = let k = output (λ bytes. TookSome bytes o n fl) h in (sends_first s o n k.0, k.1)
 

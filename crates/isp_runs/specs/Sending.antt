@@ -26,7 +26,7 @@ answer_bytes (Some s) = string_bytes s ++ 10 ∷ []
 abbrev pub report_bytes : Report → List ℕ
 report_bytes r = r.output.items ++ answer_bytes r.answer
 
--- ---- an outcome: the output, and behind an end the answer and a line feed
+-- ---- an outcome: the output, and after an end the answer and a line feed
 
 abbrev pub sent : List Parameter → Outcome → List ℕ
 sent ps (Ends arrays answer out) = out ++ (answer_text ps arrays answer ++ 10 ∷ [])

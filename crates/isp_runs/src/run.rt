@@ -79,7 +79,7 @@ fn write_answer<W: Sink>(answer: &Option<String>, out: &mut W) -> Result<(), Sin
 }
 
 // Runs the function that is exported under a name from arguments that it takes. The report is made before the answer
-// goes out, so that behind a whole answer memory is not wanted.
+// goes out, so that after a whole answer memory is not wanted.
 fn run<const N: usize, W: Sink>(
     alloc: Global,
     order: &Order<'_>,
@@ -152,7 +152,7 @@ pub fn execute(
 }
 
 /// Runs as `execute` does, and writes to `out` while the program runs: its output, and where the run ended the answer
-/// and a line feed behind it. What is new of the output goes out behind each 4,096 instructions and at the stop.
+/// and a line feed after it. What is new of the output goes out after each 4,096 instructions and at the stop.
 ///
 /// 50 and 70 to 76 as `execute` answers them; then nothing goes out. 81 WriteFailed where a write of `out` failed or took
 /// no byte, which ends the run; it comes exactly where `out.failed()` became true. 0: memory was refused. After 81 and

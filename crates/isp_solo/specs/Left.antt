@@ -18,7 +18,7 @@ abbrev pub rows_over : List Row → (ℕ → ℕ → Option ℕ) → List Row
 rows_over [] w = []
 rows_over (r ∷ rs) w = row_over r (w 0) ∷ rows_over rs (λ b. w (suc b))
 
--- the rows behind the runs of the first n instances
+-- the rows after the runs of the first n instances
 abbrev pub rows_left : (ℕ → Answer ℕ) → List Row → ℕ → List Row
 rows_left run rs zero = rs
 rows_left run rs (suc n) = rows_over (rows_left run rs n) (reached (run n)).wrote

@@ -10,7 +10,7 @@ array_place (AValue v ∷ xs) b = suc (array_place xs b)
 array_place (AnArray r ∷ xs) zero = 0
 array_place (AnArray r ∷ xs) (suc b) = suc (array_place xs b)
 
--- behind an argument, which array it is of those that follow; nothing where it is the argument
+-- after an argument, which array it is of those that follow; nothing where it is the argument
 abbrev pub passed : Argument → ℕ → Option ℕ
 passed (AValue v) b = Some b
 passed (AnArray r) zero = None

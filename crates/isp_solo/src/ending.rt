@@ -55,7 +55,7 @@ fn place_of(arguments: &[Argument], store: usize) -> usize
     arguments.len()
 }
 
-// How many arrays are left to be passed behind an argument; None where it is the array itself.
+// How many arrays are left to be passed after an argument; None where it is the array itself.
 fn pass(argument: &Argument, left: usize) -> Option<usize>
     ensures { result ≡ passed argument.now left }
 {

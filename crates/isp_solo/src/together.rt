@@ -33,7 +33,7 @@ impl Together {
         })
     }
 
-    /// Behind the run of one more instance, which gave a value.
+    /// After the run of one more instance, which gave a value.
     pub fn add(
         &mut self,
         alloc: Global,

@@ -55,7 +55,7 @@ module _ (w : World) (closed : ℕ → Bool) (v v1 : Scope) (a : Mask) where
     moved : (s : State) (σ : ℕ → Alone) → Acts w closed v1 a (λ p. own p (σ p)) σ (f s) s.uniforms → Acts w closed v1 a (λ p. own2 p (σ p)) σ (f s) s.uniforms
     moved s σ ok = record { s = ok.s; after = ok.after; is = ok.is; alone = λ p. subst (λ r. AnswersAlone (a p) r (σ p) tt (ok.after p)) (sym (e p (σ p))) (ok.alone p); quiet = ok.quiet; own_quiet = ok.own_quiet; same = ok.same; stands = ok.stands }
 
-  -- behind a value
+  -- after a value
   pub act_after : {A B : Type 0} (R : A → (ℕ → B) → Type 0) (f : State → Val A) (own : ℕ → Alone → Answer B) (go : A → State → Val Done) (own_go : ℕ → B → Alone → Answer Done)
       → Sim w v a R f own → ((p : ℕ) (y : B) → Up reached (own_go p y)) → ((x : A) (y : ℕ → B) → R x y → ActSim w closed v v1 a (go x) (λ p. own_go p (y p)))
       → ActSim w closed v v1 a (λ s. bind (f s) go) (λ p s. and_then (own p s) (own_go p))
@@ -77,7 +77,7 @@ module _ (w : World) (closed : ℕ → Bool) (v v1 : Scope) (a : Mask) where
           stands = ok2.stands;
         }
 
-  -- behind another one, which may declare what is known here
+  -- after another one, which may declare what is known here
   pub act_then : (v2 : Scope) (f g : State → Val Done) (own own_g : ℕ → Alone → Answer Done) → ActSim w closed v v1 a f own → ((p : ℕ) → Up reached (own_g p)) → ActSim w closed v1 v2 a g own_g
       → ActSim w closed v v2 a (λ s. bind (f s) (λ _ s1. g s1)) (λ p s. and_then (own p s) (λ _ s1. own_g p s1))
   act_then v2 f g own own_g first up next = record { go = λ s σ st sa ends. join s σ ends (first.go s σ st sa (λ p. first_ends (w.last p) (a p) (own p (σ p)) (λ u s1. own_g p s1) (λ u. up p) (ends p))) } where

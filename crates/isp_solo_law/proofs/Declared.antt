@@ -118,7 +118,7 @@ module _ (fs : List TFunction) (vars : List Variable) (answer : Option Ty) where
         then_own n (number_after_stmt n x) (number_after_stmts (number_after_stmt n x) xs) (stmt_own x c v n f.0 (λ z b. d z (inl b)) i.0)
         (all_own xs c (scope_after_stmt v n x) (number_after_stmt n x) f.1 (λ z b. d z (inr b)) i.1)
 
--- the variables behind the parameters
+-- the variables after the parameters
 pub declared_own : (fs : List TFunction) (g : TFunction) (c : Control) → FineBlock fs g.variables g.answer g.body → ((d : Dependence) → BlockDepends c g.body d → ⊥) → ScopedFunction g
     → (k : ℕ) → length g.params ≤ k → OwnAt (slice_get g.variables k)
 declared_own fs g c f d scoped k l = go (cases_lt k (length g.variables)) where

@@ -1,4 +1,4 @@
--- Statements that all leave one way behind a value: by a return, and by going on.
+-- Statements that all leave one way after a value: by a return, and by going on.
 use Rattle.std.proofs.Common.{◌≡◌, ℕ, inl, Bool, true, false, refl, sym, ap, ◌∙◌, true≢false}
 use Rattle.std.specs.Prelude.{Option, Some, None, ◌&&◌, if◌then◌else◌}
 use Rattle.isp_base.specs.Sets.{Mask, nobody}

@@ -197,7 +197,7 @@ pub not_both : (x y : Bool) → (x && y) ≡ false → (x ≡ false) ⊎ (y ≡ 
 not_both true y e = inr e
 not_both false y e = inl refl
 
--- who stands behind a loop did not break out of it
+-- who stands after a loop did not break out of it
 pub from_wider : (w : World) (here : Here) (v v1 : Scope) (a : Mask) (own : ℕ → End) (σ : ℕ → Alone) (res : Res) (u : ℕ → ℕ) → Leaves w here v v no_ways a own σ res u → Leaves w here v1 v no_ways a own σ res u
 from_wider w here v v1 a own σ res u ok = record {
   s = ok.s;

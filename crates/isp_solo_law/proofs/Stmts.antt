@@ -1,4 +1,4 @@
--- Statements put together: behind a value, behind an assignment, branches of a uniform test, loops, jumps.
+-- Statements put together: after a value, after an assignment, branches of a uniform test, loops, jumps.
 use Rattle.std.proofs.Common.{◌≡◌, ℕ, ◌⊎◌, inl, inr, Bool, true, false, refl, sym, ap, ◌∙◌, subst, true≢false}
 use Rattle.std.specs.Prelude.{◌&&◌, ◌||◌, not}
 use Rattle.isp_base.specs.Sets.{Mask, nobody, without}
@@ -20,7 +20,7 @@ use Rattle.isp_solo_law.proofs.Loops.{LeavesIf, with_first, with_next, with_alon
 use Rattle.isp_solo_law.proofs.Branches.{widens_left, widens_right, in_other_words}
 
 module _ (w : World) (here : Here) (v : Scope) (a : Mask) where
-  -- ---- behind a value
+  -- ---- after a value
 
   pub with_sim : {A B : Type 0} (R : A → (ℕ → B) → Type 0) (v1 : Scope) (z : Ways) (f : State → Val A) (own : ℕ → Alone → Answer B) (go : A → State → Res) (own_go : ℕ → B → Alone → End)
       → Sim w v a R f own → ((p : ℕ) (y : B) → Up left_at (own_go p y)) → ((x : A) (y : ℕ → B) → R x y → StmtSim w here v v1 z a (go x) (λ p. own_go p (y p)))
@@ -58,7 +58,7 @@ module _ (w : World) (here : Here) (v : Scope) (a : Mask) where
           stands = ok2.stands;
         }
 
-  -- behind an assignment or a declaration: what it declares is known in what follows, not behind that
+  -- after an assignment or a declaration: what it declares is known in what follows, not after that
   pub with_act : (v1 v2 : Scope) (f : State → Val Done) (own : ℕ → Alone → Answer Done) (go : State → Res) (own_go : ℕ → Alone → End) → ((k : ℕ) → v k ≡ true → v2 k ≡ true)
       → ActSim w here.closed v v1 a f own → ((p : ℕ) → Up left_at (own_go p)) → StmtSim w here v1 v2 no_ways a go own_go → StmtSim w here v v no_ways a (λ s. with_value (f s) (λ u s1. go s1)) (λ p s. with_answer (own p s) (λ u s1. own_go p s1))
   with_act v1 v2 f own go own_go wider first up next = record { go = λ s σ st sa top ends. join s σ top ends (first.go s σ st sa (λ p. with_first (w.last p) (a p) (own p (σ p)) (λ u s1. own_go p s1) (λ u. up p) (ends p))) } where

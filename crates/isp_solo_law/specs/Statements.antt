@@ -90,7 +90,7 @@ LeavesWithin last (Does s how) = Within last s
 LeavesWithin last (Dies t s) = ⊥
 LeavesWithin last (Lasts s) = ⊥
 
--- Uniforms may be assigned, not the closed ones; behind it the members have the gang's again, those in scope v1.
+-- Uniforms may be assigned, not the closed ones; after it the members have the gang's again, those in scope v1.
 pub record Acts (w : World) (closed : ℕ → Bool) (v1 : Scope) (a : Mask) (own : ℕ → Answer Done) (σ : ℕ → Alone) (f : Val Done) (u : ℕ → ℕ) : Type 0 where
   pub s : State
   pub after : ℕ → Alone

@@ -25,7 +25,7 @@ pub fn acts_agree()
 {}
 
 /// A loop over a set is ended by each member as it ends it alone, if its test, its body and its step are such. Where instances
-/// do not part in the loop, those that go on behind it have the gang's uniform variables.
+/// do not part in the loop, those that go on after it have the gang's uniform variables.
 pub fn loops_agree()
     ensures { LoopsAgree }
 {}

@@ -5,7 +5,7 @@ use Rattle.isp_base.specs.declared.signature.Argument.{Argument}
 use Rattle.isp_typed.specs.Typed.{Program}
 use Rattle.isp_solo_meaning.specs.Runs.{solo_run, after}
 
--- the arrays behind the runs of these instances, each over what the one before it left
+-- the arrays after the runs of these instances, each over what the one before it left
 abbrev pub one_by_one : Program → ℕ → ℕ → List Argument → List ℕ → (ℕ → ℕ → ℕ) → ℕ → ℕ → ℕ
 one_by_one program f most xs [] m = m
 one_by_one program f most xs (p ∷ ps) m = one_by_one program f most xs ps (after (solo_run program f most xs m p) m)

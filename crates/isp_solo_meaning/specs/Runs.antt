@@ -33,6 +33,6 @@ value_of (Has x s) = x
 value_of (Bad t s) = 0
 value_of (Long s) = 0
 
--- the arrays behind a run that began with m
+-- the arrays after a run that began with m
 abbrev pub after : Answer ℕ → (ℕ → ℕ → ℕ) → ℕ → ℕ → ℕ
 after r m b e = or_old ((reached r).wrote b e) (m b e)

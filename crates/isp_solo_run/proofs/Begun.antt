@@ -115,7 +115,7 @@ opening_names vs ps start sizes names n o h k v =
     get_or_past (x ∷ xs) zero d h = absurd (omega (arith, h))
     get_or_past (x ∷ xs) (suc v) d h = get_or_past xs v d (omega (arith, h))
 
--- the sizes of the stores that were open, and of the new ones behind them
+-- the sizes of the stores that were open, and of the new ones after them
 pub sizes_after : (start more : List ℕ) (b : ℕ) → values_of (start ++ more) b ≡ (if nat_lt b (length start) then values_of start b else slice_index more (b - length start))
 sizes_after start more b = ⊎_elim (λ (h : b < length start). within start b h ∙ sym (ap (λ t. if t then values_of start b else slice_index more (b - length start)) (is_below b (length start) h)))
     (λ (h : length start ≤ b). behind start b h ∙ sym (ap (λ t. if t then values_of start b else slice_index more (b - length start)) (not_below b (length start) h))) (cases_lt b (length start))

@@ -42,7 +42,7 @@ module _ (old : Single) (b : Bounds) where
   one_found r x before (Bad t s) = refl
   one_found r x before (Long s) = refl
 
-  -- the bounds behind this range
+  -- the bounds after this range
   abbrev others : Store → Alone → Answer (List Meaning.Range)
   others r s = bounds (bound_in old.setting) old.setting.instance r.frame (calls_in old.setting r.left) (ranges_of b.rest.now) s
 

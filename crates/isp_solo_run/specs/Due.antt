@@ -87,7 +87,7 @@ module _ (c : Setting) (l : ℕ) where
   abbrev pub turn_due : TStmt → ℕ
   turn_due x = two (run_due x) 0
 
-  -- a loop from a turn on, from its test on, from behind its body on
+  -- a loop from a turn on, from its test on, from after its body on
   abbrev pub turns_due : Turning → ℕ
   turns_due t =
       turns_most (run_due (stmt_of t.body.now)) (test_most call_due (option_map (λ x. expr_of x.now) t.test)) (step_most call_due (option_map (λ x. simple_of x.now) t.step)) t.left

@@ -57,7 +57,7 @@ impl Touch {
     }
 }
 
-/// The elements of an array behind the run of one more instance.
+/// The elements of an array after the run of one more instance.
 pub fn join(touches: &mut [Touch], array: &Shared, instance: usize)
     ensures long { length touches.new ≡ length touches.old }
     ensures each { (e : ℕ) → e < length touches.old → touch_in touches.new e

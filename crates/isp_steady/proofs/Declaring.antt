@@ -76,7 +76,7 @@ module _ (home : Where) (vars : List Variable) (known : ℕ → Known) (scalars 
   abbrev Goal : Rate → Known → Val Payload → Type 0
   Goal r k w = LearnsBy (behind_it k) (bind w (λ m s1. Gives tt (written r v a m s1)))
 
-  -- what is known is so behind the value
+  -- what is known is so after the value
   behind_value : (m : Payload) (s2 : State) → KeepsBy (loads x) (tick s) (Gives m s2) → AreAsKnown vars known scalars a s2
   behind_value m s2 keeps w = still_is (known w) (elem_at vars w) (scalars w) (s.varying w) (s2.varying w) a (λ e. keeps.1 w (unset w e)) (are w)
 
@@ -152,7 +152,7 @@ pub right_of : (b c : Bool) → (b || c) ≡ false → c ≡ false
 right_of true c e = absurd (cc)
 right_of false c e = e
 
--- what is learned is not set by the code behind
+-- what is learned is not set by the code after
 value_unset : (sets : ℕ → Bool) (v : ℕ) (k : Known) → is_known (if sets v then Unknown else k) ≡ true → sets v ≡ false
 value_unset sets v k e = by (sets v) refl e
   where

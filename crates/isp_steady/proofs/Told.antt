@@ -1,4 +1,4 @@
--- What a steady or a linear expression comes to, told without a set: its value for programIndex 0, each known variable being its
+-- What a steady or a linear expression comes to, given without a set: its value for programIndex 0, each known variable being its
 -- scalar.
 use Rattle.std.specs.Prelude.{◌≡◌, ℕ, ◌%◌, ◌^◌, List, [], ◌∷◌, Bool, true, false, if◌then◌else◌, slice_get}
 use Rattle.std.proofs.Common.{refl, sym, ap, subst}

@@ -1,4 +1,4 @@
--- What is known before a statement is known wherever its body runs, each time, and behind a statement what is known there: of a body nothing
+-- What is known before a statement is known wherever its body runs, each time, and after a statement what is known there: of a body nothing
 -- counts but what it does where all is as known, so another that does the same there may stand in its place. A `foreach` begins with its
 -- indices alone, and an `unmasked` with nothing known.
 use Rattle.std.specs.Prelude.{◌≡◌, ℕ, List, Option}

@@ -1,6 +1,6 @@
--- What is known of a declared variable: what is known of its value, where the code behind it does not set it again.
---     ItemIsKnown     it is so behind its declaration
---     BehindIsKnown   and behind each statement of a list what was known and what is learned there
+-- What is known of a declared variable: what is known of its value, where the code after it does not set it again.
+--     ItemIsKnown     it is so after its declaration
+--     BehindIsKnown   and after each statement of a list what was known and what is learned there
 use Rattle.std.specs.Prelude.{◌≡◌, ℕ, Option, List, [], ◌∷◌, Bool, true, false, if◌then◌else◌}
 use Rattle.isp_base.specs.Maps.{put}
 use Rattle.isp_base.specs.Sets.{Mask, any}
@@ -32,7 +32,7 @@ abbrev pub known_at : Rate → (ℕ → Known) → TExpr → Known
 known_at Uniform known x = Unknown
 known_at Varying known x = known_value (steady known x) (linear known x)
 
--- What is known behind an item, where the code behind it sets these variables.
+-- What is known after an item, where the code after it sets these variables.
 abbrev pub learned : (ℕ → Bool) → (ℕ → Known) → TItem → ℕ → Known
 learned sets known (t_with_value v t x sp) = put known v (if sets v then Unknown else known_at t.rate known x)
 learned sets known (t_plain v t sp) = put known v Unknown
@@ -74,12 +74,12 @@ ItemIsKnown =
 
 -- ---- statements of a list
 
--- behind some items
+-- after some items
 abbrev pub items_learned : (ℕ → Bool) → (ℕ → Known) → List TItem → ℕ → Known
 items_learned sets known [] = known
 items_learned sets known (x ∷ xs) = items_learned sets (learned (either (items_set xs) sets) known x) xs
 
--- behind a statement, where the rest of its list sets these
+-- after a statement, where the rest of its list sets these
 abbrev pub behind : (ℕ → Bool) → (ℕ → Known) → TStmt → ℕ → Known
 behind sets known (t_declare xs sp) = items_learned sets known xs
 behind sets known x = known
@@ -88,7 +88,7 @@ behind sets known x = known
 abbrev pub AreKnown : List Variable → (ℕ → Known) → Mask → State → Type 0
 AreKnown vars known a s = (scalars : ℕ → ℕ) × AreAsKnown vars known scalars a s
 
--- Where neither the statement nor the rest of its list sets a variable that is known before, this is so of what is known behind it too.
+-- Where neither the statement nor the rest of its list sets a variable that is known before, this is so of what is known after it too.
 pub record BehindIsKnown : Type 0 where
   pub known : (w : Where) (vars : List Variable) (answer : Option Ty) (known : ℕ → Known) (x : TStmt) (rest : TStmts) (a : Mask) (s : State)
       → FineStmt w.program.functions vars answer x

@@ -139,7 +139,7 @@ pub record Conversions : Type 0 where
 
 -- ---- programs
 
--- void f(uniform int a[]) over variables a, i and k, with another function behind it
+-- void f(uniform int a[]) over variables a, i and k, with another function after it
 abbrev pub entry : List TStmt → TFunction
 entry xs =
     record {
@@ -177,7 +177,7 @@ added = assign (t_variable 2 (int Varying) at) (join Add (read Varying 2) (read 
 abbrev pub kept_at : TExpr → TStmt
 kept_at i = assign (item_of Uniform 0 i) (read Varying 2)
 
--- what is known of k behind its declaration, where these statements follow
+-- what is known of k after its declaration, where these statements follow
 abbrev pub known_then : List TStmt → Known
 known_then xs = behind (all_assign (t_stmts xs)) (known_indices (1 ∷ [])) seven 2
 

@@ -9,13 +9,13 @@ pub fn indices_are_known()
     ensures { IndicesAreKnown }
 {}
 
-/// Behind a declared item the variable is steady or linear as its value is, where the code behind sets it no more: its scalar is
+/// After a declared item the variable is steady or linear as its value is, where the code after sets it no more: its scalar is
 /// what the scalar expression gives. Of a variable that is set again, and of one without a value, nothing is known.
 pub fn item_is_known()
     ensures { ItemIsKnown }
 {}
 
-/// Behind each statement of a list what was known is so, and what its declarations tell; and the rest of the list sets nothing
+/// After each statement of a list what was known is so, and what its declarations tell; and the rest of the list sets nothing
 /// that is known there.
 pub fn behind_is_known()
     ensures { BehindIsKnown }

@@ -79,7 +79,7 @@ rank_off a p off = ap (rank a) (add-one p) ∙ ap (λ b. rank a p + (if b then 1
 pub all_placed : (n count : ℕ) (at : ℕ → ℤ) (bs : List Bool) (xs : List ℕ) → length bs ≡ n → Placed count at (flag_of bs) xs n → (p : ℕ) → flag_of bs p ≡ true → (lane_of xs p ≡ unsigned_abs (at p)) × (lane_of xs p < count)
 all_placed n count at bs xs long placed p is = placed p (on_there bs n p long is) is
 
--- what the lanes of a set have, told by other words
+-- what the lanes of a set have, given by other words
 pub on_same : (a : Mask) (x y : Lanes) → ((p : ℕ) → a p ≡ true → x p ≡ y p) → on a x ≡ on a y
 on_same a x y same = fun_ext (λ p. by p (a p) refl)
   where

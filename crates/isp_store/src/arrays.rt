@@ -102,7 +102,7 @@ impl Arrays {
         Ok(())
     }
 
-    /// Drops the local arrays behind the first `count`, those that were opened last.
+    /// Drops the local arrays after the first `count`, those that were opened last.
     pub fn close_locals(&mut self, count: usize)
         ensures { self.new ≡ record self.old { rows = take (self.old.params + count) self.old.rows } }
     {
@@ -265,7 +265,7 @@ impl Arrays {
 
 // Consecutive elements.
 impl Arrays {
-    /// In each lane of the mask the element that is as many behind an index as the lane's number says.
+    /// In each lane of the mask the element that is as many after an index as the lane's number says.
     ///
     /// Index where one is outside, with the lowest such lane, and then nothing changes.
     pub fn load_run<const N: usize>(
@@ -296,7 +296,7 @@ impl Arrays {
         Ok(())
     }
 
-    /// Each lane of the mask writes its value as many elements behind an index as the lane's number says.
+    /// Each lane of the mask writes its value as many elements after an index as the lane's number says.
     ///
     /// Index where one is outside, with the lowest such lane, and then nothing changes.
     pub fn store_run<const N: usize>(

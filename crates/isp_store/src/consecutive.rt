@@ -12,7 +12,7 @@ use crate::index::IndexTrap;
 use isp_base::{Elem, number};
 use isp_lanes::LaneMask;
 
-// The place so many elements behind an index, or none where it is not among the first `count`.
+// The place so many elements after an index, or none where it is not among the first `count`.
 fn place_behind(count: usize, index: u64, offset: u64) -> Option<u64>
     requires { offset ≤ 64 }
     ensures place { IfSome result (λ e. e ≡ unsigned_abs (number I64 index +ℤ pos offset)) }
@@ -40,7 +40,7 @@ pub(crate) fn is_whole<const N: usize>(count: usize, index: u64, mask: &LaneMask
     mask.all() && index < 1 << 63 && index <= count && N as u64 <= count - index
 }
 
-// For each lane of the mask the place that is as many behind an index as the lane's number says.
+// For each lane of the mask the place that is as many after an index as the lane's number says.
 //
 // Index where one is outside, with the lowest such lane.
 #[inline(always)]
@@ -67,7 +67,7 @@ pub(crate) fn run_places<const N: usize>(
     Ok(())
 }
 
-// For each lane of the mask the place that is as many behind an index as lower lanes are in the mask; and how many lanes
+// For each lane of the mask the place that is as many after an index as lower lanes are in the mask; and how many lanes
 // there are.
 //
 // Index where one is outside, with the lowest such lane.

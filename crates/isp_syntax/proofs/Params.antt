@@ -333,7 +333,7 @@ allowed_same : (why : Why) (n : ℕ) → Allowed why n n
 allowed_same Unexpected n = omega arith
 allowed_same TooDeep n = refl
 
--- what was not `void` alone is not, with the same first token behind what was read
+-- what was not `void` alone is not, with the same first token after what was read
 void_same : (t : Token) (used after more : List Token) → head after ≡ head more → only_void (t ∷ (used ++ after)) ≡ only_void (t ∷ (used ++ more))
 void_same t [] after more h = ap (λ (b : Bool). is_mark mark.Void t.kind && b) (starts_same mark.ParenClose after more h)
 void_same t (u ∷ used) after more h = refl

@@ -42,7 +42,7 @@ cut low (t ∷ a) b high l = let c = cut t.span.end a b high l.2 in record { at 
 pub in_text : (low : ℕ) (s : Span) (high : ℕ) → Within low s high → high ≤ longest → InText s
 in_text low s high w h = (w.some, omega (arith, w.upto))
 
--- from one to another behind it
+-- from one to another after it
 pub within_to : (low : ℕ) (s : Span) (a b : ℕ) (t : Span) (high : ℕ) → Within low s a → a ≤ b → Within b t high → Within low (span_to s t) high
 within_to low s a b t high v le w = record { from = v.from; some = omega (arith, v.some, v.upto, w.from, w.some); upto = w.upto }
 

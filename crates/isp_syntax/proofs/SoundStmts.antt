@@ -133,7 +133,7 @@ simple_in low high (is_change_before c o a t i) l =
     let s = within_to low o o.end o.end (span_of t) high l.0 (omega arith) target.place in
     record { is = (target.is, in_text low (span_to o (span_of t)) high s (line_end o.end a high l.2)); place = s; few = omega (arith, target.few) }
 
--- the first part and the step of a `for`: a node more, and the sign behind it is a token more
+-- the first part and the step of a `for`: a node more, and the sign after it is a token more
 maybe_first_in : (low : ℕ) (ts : List Token) (x : Option First) (high : ℕ) → IsMaybe IsFirst ts x → InLine low ts high → IfAny IsSoundFirst x × (nodes_of_option nodes_of_first x ≤ suc (length ts))
 maybe_first_in low ts None high i l = (tt, omega arith)
 maybe_first_in low ts (Some f) high i l = first_in i l
@@ -175,7 +175,7 @@ values_in low ts xs high i l = all_in _ IsSoundExpr span_of nodes one low ts xs 
 
 -- ---- statements
 
--- from the first of some tokens to the end of what stands behind it
+-- from the first of some tokens to the end of what stands after it
 begun : (low : ℕ) (k : Span) (b : ℕ) (s : Span) (high : ℕ) → Within low k k.end → k.end ≤ b → Within b s high → Within low (span_to k s) high
 begun low k b s high w le v = within_to low k k.end b s high w le v
 
@@ -183,7 +183,7 @@ begun low k b s high w le v = within_to low k k.end b s high w le v
 closed : (a : ℕ) (t : Token) (high : ℕ) → InLine a (t ∷ []) high → Within a t.span high
 closed a t high l = wider a t.span t.span.end high l.0 (line_up t.span.end [] high l.2)
 
--- `"(" expr ")"` and what follows, behind a place
+-- `"(" expr ")"` and what follows, after a place
 record Tested (low : ℕ) (o c : Span) (ts a : List Token) (x : Expr) (high : ℕ) : Type 0 where
   pub test : IsSoundExpr x
   pub few : nodes x ≤ length ts

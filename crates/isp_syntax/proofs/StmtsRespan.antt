@@ -117,7 +117,7 @@ next_value_respan ts x i us e =
 values_respan : Respans (AreBehindCommas (IsExpr loosest)) (deepest_of depth)
 values_respan = all_respan _ depth next_value_respan
 
--- tokens in brackets, and what stands behind
+-- tokens in brackets, and what stands after
 in_brackets : (o c : Span) (ts a us : List Token) → Same us (at mark.ParenOpen o ∷ (ts ++ at mark.ParenClose c ∷ a))
     → (p : Span) × (q : Span) × (vs : List Token) × (b : List Token) × (us ≡ at mark.ParenOpen p ∷ (vs ++ at mark.ParenClose q ∷ b)) × Same vs ts
     × Same b a

@@ -13,8 +13,8 @@
 //!
 //! Then comes what must come out: `work` the work of the run; `refused` and the fault of the source, `accepted` where no entry is run, `unbound` and the fault of the
 //! arguments, `ends` and the answer, `traps` with the kind, the instance and the arrays as an answer without a result, or `cut`. Lines
-//! behind it may say other turns and what must come out then. `alone` says that the instances, each run alone one by one, end with the same answer; where they
-//! do, in any record, it has to be the gang's, from 0 up and from the last down. Behind `alone` may stand what the instances come to, by itself: `ends` or `traps` as
+//! after it may say other turns and what must come out then. `alone` says that the instances, each run alone one by one, end with the same answer; where they
+//! do, in any record, it has to be the gang's, from 0 up and from the last down. After `alone` may stand what the instances come to, by itself: `ends` or `traps` as
 //! above, `cut` and the instance, `clash` with the places of the parameter and the element, or `rule` and the number of the rule that the entry breaks, at the
 //! place in the source.
 //!

@@ -37,7 +37,7 @@ impl Found {
         self.ending.as_str().starts_with("trap ")
     }
 
-    /// Whether so much went out: all that is written, and behind an end its answer and a line feed; where it goes on, the beginning.
+    /// Whether that much went out: all that is written, and after an end its answer and a line feed; where it goes on, the beginning.
     pub(crate) fn sends(&self, bytes: &[u8]) -> bool {
         if self.ending.as_str() == "cut " {
             return self.output.as_slice().starts_with(bytes);

@@ -48,7 +48,7 @@ fn main(rt: HostRuntime) -> io::Result<()> {
     Ok(())
 }
 
-// Tries the files of one kind, behind the first word.
+// Tries the files of one kind, after the first word.
 fn all_of(rt: &HostRuntime, words: &[String], kind: Kind) -> io::Result<Tried> {
     let mut tried = Tried::new(rt.alloc());
     for word in words.iter().skip(1) {

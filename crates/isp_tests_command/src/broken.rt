@@ -17,7 +17,7 @@ fn code_text(rt: &impl Abort, alloc: Global) -> String {
     image.text(alloc).expect(rt, "memory")
 }
 
-// Whether code text may end so: behind the line feed of its first line, of a place, a text or the end of a function.
+// Whether code text may end so: after the line feed of its first line, of a place, a text or the end of a function.
 fn may_end(front: &str) -> bool {
     let Some(lines) = front.strip_suffix('\n') else {
         return false;

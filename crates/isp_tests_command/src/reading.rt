@@ -84,7 +84,7 @@ fn a_few_bytes_at_a_time(rt: HostRuntime) {
     }
 }
 
-// A read that a signal broke off is made again, whichever it is. Where a read fails nothing is read behind it, though there is more.
+// A read that a signal broke off is made again, whichever it is. Where a read fails nothing is read after it, though there is more.
 #[test]
 fn broken_off_and_failing(rt: HostRuntime) {
     let alloc = rt.alloc();

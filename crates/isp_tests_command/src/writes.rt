@@ -147,7 +147,7 @@ fn without_an_end(rt: HostRuntime) {
     ends_with_the_sink(&rt, alloc, &source);
 }
 
-// No answer goes out behind a trap, and the report has none.
+// No answer goes out after a trap, and the report has none.
 #[test]
 fn trap(rt: HostRuntime) {
     let alloc = rt.alloc();

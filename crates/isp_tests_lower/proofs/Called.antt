@@ -102,7 +102,7 @@ module _ (p : Program) (f : TFunction) (is : IsFunction variables f) (e1 e2 e3 e
   code_is : (draft_of e4).code ≡ (draft_of e2).code ++ instr.Return None ∷ []
   code_is = ap (λ (d : Draft). d.code) return_is ∙ ap (λ (d : Draft). d.code ++ instr.Return None ∷ []) fresh_is
 
-  -- a part that no call behind the tree's changes
+  -- a part that no call after the tree's changes
   stays : {A : Type 0} (part : Draft → A) → part (draft_of e4) ≡ part (draft_of e3) → part (draft_of e3) ≡ part (draft_of e2) → part (draft_of e2) ≡ part (draft_of e1)
       → part (draft_of e4) ≡ part (draft_of e1)
   stays part a b c = a ∙ b ∙ c

@@ -142,7 +142,7 @@ module _ (f g : TFunction) (d : Draft) (is : IsFunction variables g) (j : HasJum
     few = jump_few;
   }
 
--- and so with code behind it
+-- and so with code after it
 module _ (f g : TFunction) (n : ℕ) (d : Draft) (c : HasCode f g n d) where
   pub code_begun : IsBegun d
   code_begun = ap is_some c.heading

@@ -58,7 +58,7 @@ pub record HasFew (n : ℕ) (d : Draft) : Type 0 where
   pub vectors : length d.rows.vectors ≤ n
   pub arrays : length d.rows.arrays ≤ n
 
--- the second function has its jump, then code that a text can have, and not more than so much of anything; the first is closed
+-- the second function has its jump, then code that a text can have, and not more than that much of anything; the first is closed
 pub record HasCode (f g : TFunction) (n : ℕ) (d : Draft) : Type 0 where
   pub program : Program
   pub heading : d.heading ≡ Some (heading_of g)

@@ -65,6 +65,6 @@ pub record AreTrees (f g : TFunction) (x : TExpr) (s : TSimple) : Type 0 where
   pub sum : x ≡ sum
   pub assignment : s ≡ assignment
 
--- both work for the lanes of mask 0, in slots behind the function's three masks
+-- both work for the lanes of mask 0, in slots after the function's three masks
 abbrev pub site : Site
 site = record { mask = record { number = 0 }; slot = record { number = 3 } }

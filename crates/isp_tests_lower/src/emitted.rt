@@ -15,13 +15,13 @@ use isp_registers::{MaskNumber, Slot};
 use isp_typed::{TypedExpr, TypedFunction, TypedSimple};
 use std::alloc::{AllocError, Global};
 
-/// The lanes of mask 0, and slots behind the three masks of the function.
+/// The lanes of mask 0, and slots after the three masks of the function.
 const SITE: Site = Site {
     mask: MaskNumber { number: 0 },
     slot: Slot { number: 3 },
 };
 
-/// The code of a function in which `x + 1` is written, and a register is taken behind it. Its first instructions give the value.
+/// The code of a function in which `x + 1` is written, and a register is taken after it. Its first instructions give the value.
 pub fn sum_code(
     alloc: Global,
     checked: &Checked,

@@ -1,4 +1,4 @@
-//! A register and a mask that only instructions name are not given: the numbers behind them are.
+//! A register and a mask that only instructions name are not given: the numbers after them are.
 ghost use Rattle.isp_typed.specs.Views.{function_of};
 ghost use Rattle.isp_tests_lower.specs.Trees.{IsFunction, variables};
 

@@ -24,7 +24,7 @@ use std::test::Fail;
 
 const PLACE: Span = Span { start: 3, end: 5 };
 
-/// The lanes of mask 0, and slots behind the three masks of the function.
+/// The lanes of mask 0, and slots after the three masks of the function.
 const SITE: Site = Site {
     mask: MaskNumber { number: 0 },
     slot: Slot { number: 3 },
@@ -74,7 +74,7 @@ impl Trial {
         Ok(())
     }
 
-    // Behind a call, by whether it was refused.
+    // After a call, by whether it was refused.
     fn closes(&mut self, refused: bool, hoard: &mut Hoard) {
         hoard.ample();
         self.refused = self.refused || refused;

@@ -48,7 +48,7 @@ fn argument(alloc: Global, word: &str) -> Option<Argument> {
     }
 }
 
-/// The arguments: of each word the type, and the bits of its value or, behind `[]`, of its elements. None where a word says no such thing.
+/// The arguments: of each word the type, and the bits of its value or, after `[]`, of its elements. None where a word says no such thing.
 pub(crate) fn bound(alloc: Global, words: &str) -> Option<Bound> {
     let mut arguments = Vec::new(alloc);
     for word in words.split_whitespace() {

@@ -1,6 +1,6 @@
 //! Runs of code, step by step, and what is seen of each.
 //!
-//! A record is the lines from `=== ` and its name on: what its functions do, each line behind a dot; the functions as code text, without the first line,
+//! A record is the lines from `=== ` and its name on: what its functions do, each line after a dot; the functions as code text, without the first line,
 //! the places and the texts; a line `--`; and a line for each run of `f`. A run has, with a bar between two of them, the gangs that make it; the arguments,
 //! by type and bits; how it is looked at; what is seen; and what stands in the places `…` of the functions. How it is looked at:
 //!
@@ -8,7 +8,7 @@
 //! - `writes`: the same of how it stopped and the output alone;
 //! - `registers`: the same of where it stands and some registers;
 //! - `parts`: after 0, 1, 2 .. instructions, and when it goes on from there to the last of them;
-//! - `turns`: behind how it ends, the instruction that comes next and the scalars 0, 3 and 4, after 0, 1, 2 .. instructions, and from each of these on.
+//! - `turns`: after how it ends, the instruction that comes next and the scalars 0, 3 and 4, after 0, 1, 2 .. instructions, and from each of these on.
 mod calls;
 mod consecutive;
 mod crossed;

@@ -55,7 +55,7 @@ fn items(alloc: Global, array: &Array) -> Result<Vec<u64>, AllocError> {
     Ok(items)
 }
 
-/// The elements of each array, behind a space.
+/// The elements of each array, after a space.
 pub(crate) fn elements(alloc: Global, arrays: &[Array]) -> Result<String, AllocError> {
     let mut text = String::new(alloc);
     for array in arrays {

@@ -13,14 +13,7 @@ pub(crate) struct Shelf<'a> {
     alloc: Global,
     files: Vec<(&'a str, Vec<u8>)>,
     closed: Vec<&'a str>,
-    written: RefCell<Vec<Written>>,
-}
-
-/// A file that was written.
-#[derive(Drop)]
-struct Written {
-    name: String,
-    bytes: Vec<u8>,
+    written: RefCell<Vec<(String, Vec<u8>)>>,
 }
 
 impl<'a> Shelf<'a> {
@@ -61,23 +54,22 @@ impl<'a> Shelf<'a> {
     }
 
     fn keep(&self, name: &str, bytes: &[u8]) -> Result<(), AllocError> {
-        let mut copy = Vec::new(self.alloc);
-        copy.extend_from_slice(bytes)?;
+        let copy = Vec::from_slice(self.alloc, bytes)?;
         let name = String::from_str(self.alloc, name)?;
         if let Ok(mut written) = self.written.try_borrow_mut() {
-            written.push(Written { name, bytes: copy })?;
+            written.push((name, copy))?;
         }
         Ok(())
     }
 }
 
-fn push_written(shown: &mut String, file: &Written) -> Result<(), AllocError> {
+fn push_written(shown: &mut String, file: &(String, Vec<u8>)) -> Result<(), AllocError> {
     if !shown.is_empty() {
         shown.push_str(" ")?;
     }
-    shown.push_str(file.name.as_str())?;
+    shown.push_str(file.0.as_str())?;
     shown.push_str("=")?;
-    for byte in &file.bytes {
+    for byte in &file.1 {
         write!(shown, "{byte:02x}")?;
     }
     Ok(())
@@ -85,9 +77,7 @@ fn push_written(shown: &mut String, file: &Written) -> Result<(), AllocError> {
 
 impl SourceFiles for Shelf<'_> {
     fn read(&self, alloc: Global, name: &str) -> Result<String, FileFault> {
-        let Some(bytes) = self.find(name) else {
-            return Err(FileFault::CannotRead);
-        };
+        let bytes = self.find(name).ok_or(FileFault::CannotRead)?;
         match str::from_utf8(bytes.as_slice()) {
             Ok(text) => String::from_str(alloc, text).map_err(|_| FileFault::Memory),
             Err(_) => Err(FileFault::CannotRead),
@@ -97,14 +87,8 @@ impl SourceFiles for Shelf<'_> {
 
 impl DataFiles for Shelf<'_> {
     fn read_bytes(&self, alloc: Global, name: &str) -> Result<Vec<u8>, DataFault> {
-        let Some(bytes) = self.find(name) else {
-            return Err(DataFault::CannotRead);
-        };
-        let mut copy = Vec::new(alloc);
-        match copy.extend_from_slice(bytes) {
-            Ok(()) => Ok(copy),
-            Err(_) => Err(DataFault::Memory),
-        }
+        let bytes = self.find(name).ok_or(DataFault::CannotRead)?;
+        Vec::from_slice(alloc, bytes).map_err(|_| DataFault::Memory)
     }
 
     fn write_bytes(&self, _alloc: Global, name: &str, bytes: &[u8]) -> bool {

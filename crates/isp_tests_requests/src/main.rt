@@ -5,7 +5,7 @@
 //! - `.` how what comes out was found, for the reader alone;
 //! - `file` a file's name and its text, where `␤` is a line feed, and a place may stand between `⟦` and `⟧`;
 //! - `data` a file's name and its bytes in hexadecimal digits, `closed` the name of a file that cannot be written;
-//! - `words` the words behind `isp`, `ispx` those behind `ispx`;
+//! - `words` the words after `isp`, `ispx` those after `ispx`;
 //! - `kept` a file's name and how its text begins: the text is what the words before write, and there is no such file where it begins otherwise;
 //! - `status` the exit status, `out` what goes to standard output, or `bytes` its bytes in hexadecimal digits, `err` the line on standard error,
 //!   without its line feed; in `out` and `err` the first `⟦⟧` stands for the place of the file that was written last, as `S..E`;
@@ -41,7 +41,7 @@ fn main(rt: HostRuntime) -> io::Result<()> {
     )
 }
 
-// Tries the files that are named behind the first word.
+// Tries the files that are named after the first word.
 fn all_of(rt: &HostRuntime, words: &[String]) -> io::Result<Tried> {
     let mut tried = Tried {
         count: 0,

@@ -89,10 +89,8 @@ impl<'a> Record<'a> {
     // A file of bytes, in hexadecimal digits.
     fn put_data(&mut self, rest: &'a str) -> Result<(), AllocError> {
         let (name, digits) = parted(rest, ' ');
-        match decode(self.alloc, digits) {
-            Ok(bytes) => self.files.put(name, bytes),
-            Err(_) => Ok(()),
-        }
+        let bytes = decode(self.alloc, digits).unwrap_or(Vec::new(self.alloc));
+        self.files.put(name, bytes)
     }
 
     // What the words before write, if it begins as is said, is the text of a file.

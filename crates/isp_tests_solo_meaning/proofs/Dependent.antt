@@ -130,7 +130,7 @@ result : Leaves (entry (give (t_call (t_called 1 (t_arguments (t_by_value index 
 unfolding digits number_to wrap_to
 result = (refl, refl)
 
--- Scopes: if (programIndex == 0) { uniform int u = 1; } a[programIndex] = u; where u is read behind its block. No
+-- Scopes: if (programIndex == 0) { uniform int u = 1; } a[programIndex] = u; where u is read after its block. No
 -- restriction is broken, since a declaration is no assignment; no text has this tree.
 out_of_scope : Both (if_then (test Equal index (number 0)) (t_declare (t_with_value 1 (ty_of Uniform I32) (number 1) at ∷ []) at ∷ []) ∷ give (uniform 1) ∷ []) (1 ∷ 1 ∷ 1 ∷ 1 ∷ []) (1 ∷ 0 ∷ 0 ∷ 0 ∷ [])
 unfolding digits number_to wrap_to

@@ -27,7 +27,7 @@ array_of bits = AnArray (row_of bits)
 abbrev pub alone : List TFunction → List Argument → ℕ → Answer ℕ
 alone fs xs p = solo_run (gang_of_four fs) 0 9 xs (bound xs) p
 
--- the arrays behind these instances, one by one
+-- the arrays after these instances, one by one
 abbrev pub together : List TFunction → List Argument → List ℕ → List Row
 together fs xs ps = rows_now (rows xs) (one_by_one (gang_of_four fs) 0 9 xs ps (bound xs))
 
@@ -74,6 +74,6 @@ flags (suc n) f = f 0 ∷ flags n (λ e. f (suc e))
 abbrev pub read_flags : Program → ℕ → ℕ → List Argument → (p b n : ℕ) → List Bool
 read_flags program f most xs p b n = flags n ((reached (solo_run program f most xs (bound xs) p)).read b)
 
--- the arrays behind these instances, one by one
+-- the arrays after these instances, one by one
 abbrev pub arrays_behind : Program → ℕ → ℕ → List Argument → List ℕ → List Row
 arrays_behind program f most xs ps = rows_now (rows xs) (one_by_one program f most xs ps (bound xs))

@@ -23,7 +23,7 @@ impl Marked {
     }
 }
 
-/// What stands before and behind a sign, nothing behind it where it is not there.
+/// What stands before and after a sign, nothing after it where it is not there.
 pub fn parted(text: &str, sign: char) -> (&str, &str) {
     text.split_once(sign).unwrap_or((text, ""))
 }

@@ -1,4 +1,4 @@
--- Behind the end of a run nothing more is counted and no line more is written.
+-- After the end of a run nothing more is counted and no line more is written.
 use Rattle.std.proofs.Common.{◌≡◌, refl, sym, ap, ◌∙◌, subst, ℕ, zero, suc, ◌+◌, ◌-◌, ◌≤◌, [], ◌++◌, arith, Bool}
 use Rattle.std.proofs.lemmas.List.{append-nil}
 use Rattle.isp_base.specs.declared.trap.Trap.{Trap}
@@ -8,7 +8,7 @@ use Rattle.isp_code.specs.Machine.{advance, after}
 use Rattle.isp_machine.specs.Kept.{Kept, state}
 use Rattle.isp_machine.specs.Runs.{IsEnded, IsRunning, IsTrapped, Made, conf}
 use Rattle.isp_traces.specs.Steps.{line_between, lines}
-use Rattle.isp_traces.specs.Tallies.{in_function, is_kind, nothing}
+use Rattle.isp_traces.specs.Tallies.{in_function, in_group, is_kind, nothing}
 use Rattle.isp_traces.specs.declared.tallies.Counts.{Counts}
 use Rattle.isp_traces.specs.reader.Adding.{plus}
 use Rattle.isp_traces.proofs.Ranges.{lines_more}
@@ -72,6 +72,7 @@ module _ (code : Listing) (s : State) (m : ℕ) (over : IsOver (after code m s))
         functions_are = λ f low. are.functions_are f low ∙ sym (same_tally (in_function f) k);
         kind_count = are.kind_count;
         kinds_are = λ j. are.kinds_are j ∙ sym (same_tally (is_kind j) k);
+        groups_are = λ g low. are.groups_are g low ∙ sym (same_tally (in_group c.groups.of_places.items g) k);
       }
 
   pub counts_later : (b : ℕ) (c : Counts) → m ≤ b → AreSums code s m c → AreSums code s b c

@@ -11,7 +11,7 @@ use Rattle.isp_code.specs.Listing.{Listing}
 use Rattle.isp_code.specs.Machine.{after}
 use Rattle.isp_traces.specs.Executed.{as_executed, executed, instr_at, next}
 use Rattle.isp_traces.specs.Kinds.{number_of}
-use Rattle.isp_traces.specs.Tallies.{AreCounts, all_kinds, in_function, is_kind, is_masked, lanes_used, nothing, tally_of}
+use Rattle.isp_traces.specs.Tallies.{AreCounts, all_kinds, in_function, in_group, is_kind, is_masked, lanes_used, nothing, tally_of}
 use Rattle.isp_traces.specs.declared.counting.Executed.{Executed}
 use Rattle.isp_traces.specs.declared.kinds.Kind.TheVariants.{Scalars}
 use Rattle.isp_traces.specs.declared.tallies.Counts.{Counts}
@@ -79,10 +79,12 @@ number_at (suc (suc (suc (suc (suc (suc (suc (suc n)))))))) low = absurd (omega 
 pub sums_counted : (code : Listing) (s : State) (m : ℕ) (c : Counts) → AreSums code s m c → AreCounts code s m c
 sums_counted code s m c are =
     let of_function : ℕ → Tally = λ f. tally_of (filter (in_function f) (executed code s m)) in
+    let of_group : ℕ → Tally = λ g. tally_of (filter (in_group c.groups.of_places.items g) (executed code s m)) in
     let of_number : ℕ → Tally = λ j. tally_of (filter (is_kind (get_or all_kinds j Scalars)) (executed code s m)) in
     record {
       total_is = are.total_is ∙ sum_is code every s m ∙ ap tally_of (filter_every (executed code s m));
       functions_are = fill_by_all of_function c.functions.items (length code.routines) nothing are.function_count (λ f low. are.functions_are f low ∙ sum_is code (in_function f) s m);
       kinds_are = fill_by_all of_number c.kinds.items 8 nothing are.kind_count
           (λ j low. ap (λ (i : ℕ). get_or c.kinds.items i nothing) (sym (number_at j low)) ∙ are.kinds_are (get_or all_kinds j Scalars) ∙ sum_is code (is_kind (get_or all_kinds j Scalars)) s m);
+      groups_are = fill_by_all of_group c.groups.tallies.items (length c.groups.tallies.items) nothing refl (λ g low. are.groups_are g low ∙ sum_is code (in_group c.groups.of_places.items g) s m);
     }

@@ -110,7 +110,7 @@ traced w budget f b old now stop text is_first is_behind so =
     let at = subst (λ (k : ℕ). Lined w.lanes k (behind w budget) old now stop text) is_first (subst (λ (k : ℕ). Lined w.lanes f k old now stop text) is_behind so) in
     record { steps = at.made; stops = at.stops; lines_are = at.lines_are }
 
--- the parts of a line, one behind the other
+-- the parts of a line, one after the other
 pub line_pushed : (old t1 t2 t3 before after : List ℕ) → t1 ≡ old ++ before → t2 ≡ t1 ++ after → t3 ≡ t2 ++ 10 ∷ [] → t3 ≡ old ++ (before ++ after ++ 10 ∷ [])
 line_pushed old t1 t2 t3 before after h1 h2 h3 = one_more old (before ++ after) t2 t3 (10 ∷ []) (one_more old before t1 t2 after h1 h2) h3
 

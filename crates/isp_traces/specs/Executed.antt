@@ -12,6 +12,7 @@ use Rattle.isp_code.specs.declared.register.Class.TheVariants as class
 use Rattle.isp_code.specs.declared.register.Register.{Register}
 use Rattle.isp_machine.specs.Seen.{has_register}
 use Rattle.isp_traces.specs.Kinds.{kind_of}
+use Rattle.isp_traces.specs.Named.{place_of}
 use Rattle.isp_traces.specs.Operands.{under}
 use Rattle.isp_traces.specs.declared.counting.Executed.{Executed}
 
@@ -32,10 +33,10 @@ abbrev pub lanes_on : Listing → Conf → Option Register → Option ℕ
 lanes_on code c None = None
 lanes_on code c (Some k) = Some (rank (mask_held code c k) (gang_width code.gang))
 
--- an instruction as it is counted: its function, its kind, and how many lanes are on in the mask under which it stands
+-- an instruction as it is counted: its function, its kind, the place that it names, and how many lanes are on in the mask under which it stands
 abbrev pub as_executed : Listing → Conf → Option Instr → Option Executed
 as_executed code c None = None
-as_executed code c (Some i) = Some (record { function = c.home.fn; kind = kind_of i; on = lanes_on code c (under i) })
+as_executed code c (Some i) = Some (record { function = c.home.fn; kind = kind_of i; place = place_of i; on = lanes_on code c (under i) })
 
 -- what is executed next; at an end nothing
 abbrev pub next : Listing → State → Option Executed

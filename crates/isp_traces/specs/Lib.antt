@@ -1,4 +1,5 @@
 pub mod Kinds
+pub mod Named
 pub mod Operands
 pub mod Executed
 pub mod Tallies

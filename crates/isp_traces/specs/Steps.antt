@@ -1,7 +1,7 @@
 -- A run as lines, one for each step:
 --     3 share L3: mtest m3 v2 m0 m0=1111 -> m3=1110
 -- the number of the step, the function, the number of the instruction, its line of code text, the masks that it reads as
--- they are before it, and behind an arrow what it wrote: a mask, or a vector where lanes are wanted.
+-- they are before it, and after an arrow what it wrote: a mask, or a vector where lanes are wanted.
 use Rattle.std.specs.Prelude.{ℕ, zero, suc, List, [], ◌∷◌, ◌++◌, codes, Option, Some, None, Bool, true, false, ◌&&◌, if◌then◌else◌, slice_get, slice_index_or}
 use Rattle.std.specs.Fmt.{decimal}
 use Rattle.std.specs.List.{flat_map, range_with_len}

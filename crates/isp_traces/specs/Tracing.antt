@@ -13,7 +13,7 @@ use Rattle.isp_traces.specs.Steps.{lines}
 use Rattle.isp_traces.specs.declared.runs.Traced.{Traced}
 use Rattle.isp_traces.specs.declared.tracing.Window.{Window}
 
--- the number of the first step that has a line, and that behind the last one
+-- the number of the first step that has a line, and that after the last one
 abbrev pub first : Window → ℕ → ℕ
 first w budget = min w.from budget
 
@@ -31,7 +31,7 @@ StopsAs Memory s = ⊥
 abbrev pub MadeUpTo : ℕ → Kept → Kept → Type 0
 MadeUpTo b old now = (k : ℕ) × (k ≤ b) × Made k old now
 
--- the machine behind these steps, and their lines
+-- the machine after these steps, and their lines
 pub record TraceGives (w : Window) (budget : ℕ) (old now : Kept) (stop : Stop) (text : List ℕ) : Type 0 where
   pub steps : Made (behind w budget) old now
   pub stops : StopsAs stop (state now)

@@ -5,20 +5,24 @@ ghost use Rattle.isp_machine.specs.Seen.{seen_conf};
 ghost use Rattle.isp_traces.specs.Counting.{CountGives};
 ghost use Rattle.isp_traces.specs.Operands.{under};
 ghost use Rattle.isp_traces.specs.Executed.{as_executed, instr_at, instr_in, lanes_on};
+ghost use Rattle.isp_traces.specs.Tallies.{IsGrouped};
 
 use crate::kinds::{Kind, kind_of};
 use crate::masks::under;
-use crate::tallies::Counts;
+use crate::named::place_of;
+use crate::tallies::{Counts, Grouping};
 use isp_code::{Function, Instr};
 use isp_machine::{Machine, Stop};
 use isp_verify::Verified;
 use std::alloc::{AllocError, Global};
 
-/// An instruction as it is counted: its function, its kind, and how many lanes are on in the mask under which it stands.
+/// An instruction as it is counted: its function, its kind, the place that it names, and how many lanes are on in the mask
+/// under which it stands.
 #[derive(Clone, Copy)]
 pub(crate) struct Executed {
     pub(crate) function: usize,
     pub(crate) kind: Kind,
+    pub(crate) place: Option<u32>,
     pub(crate) on: Option<u32>,
 }
 
@@ -50,6 +54,7 @@ fn next_executed<const N: usize>(
         Some(instr) => Some(Executed {
             function: spot.function,
             kind: kind_of(instr),
+            place: place_of(instr),
             on: on_under(machine, instr),
         }),
     }
@@ -66,7 +71,7 @@ fn on_under<const N: usize>(machine: &Machine<'_, N>, instr: &Instr) -> Option<u
 }
 
 /// As many instructions as `budget` says, but none past an end, as `Machine::run` makes them, and what they come to.
-/// `code` is the code of the machine.
+/// `code` is the code of the machine. Those that name places are also counted by groups of these.
 ///
 /// Where memory is refused in the midst of the run it stands before the instruction that wanted it, and the counts are of
 /// those before. 0 where memory for the counts is refused; then nothing is run.
@@ -75,13 +80,15 @@ pub fn count<const N: usize>(
     machine: &mut Machine<'_, N>,
     code: &Verified,
     budget: u64,
+    grouping: Grouping,
 ) -> Result<(Stop, Counts), AllocError>
     requires { machine.old.code ≡ code.now }
     ensures gives { IfOk result (λ r. CountGives budget machine.old machine.new r.0 r.1) }
+    ensures grouped { IfOk result (λ r. IsGrouped grouping r.1.groups) }
     ensures same { OnErr result (machine.new ≡ machine.old) }
 {
     let functions = code.code().functions();
-    let mut counts = Counts::nothing(alloc, functions.len())?;
+    let mut counts = Counts::nothing(alloc, functions.len(), grouping)?;
     let mut stop = machine.run(0);
     for done in 0..budget {
         match stop {

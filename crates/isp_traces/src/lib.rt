@@ -5,6 +5,7 @@ mod counting;
 mod kinds;
 mod lines;
 mod masks;
+mod named;
 mod runs;
 mod tallies;
 mod texts;
@@ -12,7 +13,7 @@ mod tracing;
 
 pub use counting::count;
 pub use kinds::{Kind, kind_of};
-pub use runs::{Counted, Traced, count_run, trace_run};
-pub use tallies::{Counts, Tally};
-pub use texts::counts_line;
+pub use runs::{Counted, Traced, count_grouped, count_run, trace_run};
+pub use tallies::{Counts, Grouping, Groups, Tally};
+pub use texts::{counts_line, lines_line};
 pub use tracing::{Window, trace};

@@ -113,7 +113,7 @@ fn push_flag(text: &mut Vec<u8>, on: bool) -> Result<(), AllocError>
     text.extend_from_slice(if on { b"1" } else { b"0" })
 }
 
-// The mask that an instruction wrote, behind an arrow.
+// The mask that an instruction wrote, after an arrow.
 pub(crate) fn push_new_mask<const N: usize>(
     text: &mut Vec<u8>,
     machine: &Machine<'_, N>,
@@ -130,7 +130,7 @@ pub(crate) fn push_new_mask<const N: usize>(
     Ok(())
 }
 
-// The vector that an instruction wrote, behind an arrow: ` -> v3=[1,2,_,4]`.
+// The vector that an instruction wrote, after an arrow: ` -> v3=[1,2,_,4]`.
 pub(crate) fn push_vector<const N: usize>(
     text: &mut Vec<u8>,
     machine: &Machine<'_, N>,

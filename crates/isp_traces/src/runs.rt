@@ -4,10 +4,11 @@ ghost use Rattle.isp_base.specs.Types.{gang_width};
 ghost use Rattle.isp_machine.specs.Starts.{NoEntryFor};
 ghost use Rattle.isp_machine.specs.declared.stop.StartFault.TheVariants.{Memory, NoEntry};
 ghost use Rattle.isp_traces.specs.Counting.{CountedRun, EntryFor};
+ghost use Rattle.isp_traces.specs.Tallies.{IsGrouped};
 ghost use Rattle.isp_traces.specs.Tracing.{TracedRun};
 
 use crate::counting::count;
-use crate::tallies::Counts;
+use crate::tallies::{Counts, Grouping};
 use crate::tracing::{Window, trace};
 use isp_base::{Array, Bound, Gang, Value};
 use isp_machine::{Machine, StartFault, Stop};
@@ -25,7 +26,7 @@ pub struct Counted {
     pub counts: Counts,
 }
 
-/// How a traced run stands behind the last step that has a line, and the lines.
+/// How a traced run stands after the last step that has a line, and the lines.
 #[derive(Debug, Drop)]
 pub struct Traced {
     pub stop: Stop,
@@ -47,11 +48,28 @@ pub fn count_run(
     ensures none { IfErr result (λ e. e ≡ NoEntry → NoEntryFor code.now entry.now bound.arguments.items) }
     ensures memory { IfErr result (λ e. e ≡ Memory → EntryFor code.now entry.now bound.arguments.items) }
 {
+    count_grouped(alloc, code, entry, bound, budget, Grouping::none(alloc))
+}
+
+/// The same, and those that name a place are also counted by groups of places.
+pub fn count_grouped(
+    alloc: Global,
+    code: &Verified,
+    entry: &str,
+    bound: Bound,
+    budget: u64,
+    grouping: Grouping,
+) -> Result<Counted, StartFault>
+    ensures counted { IfOk result (CountedRun code.now entry.now bound.arguments.items budget) }
+    ensures grouped { IfOk result (λ r. IsGrouped grouping r.counts.groups) }
+    ensures none { IfErr result (λ e. e ≡ NoEntry → NoEntryFor code.now entry.now bound.arguments.items) }
+    ensures memory { IfErr result (λ e. e ≡ Memory → EntryFor code.now entry.now bound.arguments.items) }
+{
     match code.gang() {
-        Gang::W4 => count_for::<4>(alloc, code, entry, bound, budget),
-        Gang::W8 => count_for::<8>(alloc, code, entry, bound, budget),
-        Gang::W16 => count_for::<16>(alloc, code, entry, bound, budget),
-        Gang::W32 => count_for::<32>(alloc, code, entry, bound, budget),
+        Gang::W4 => count_for::<4>(alloc, code, entry, bound, budget, grouping),
+        Gang::W8 => count_for::<8>(alloc, code, entry, bound, budget, grouping),
+        Gang::W16 => count_for::<16>(alloc, code, entry, bound, budget, grouping),
+        Gang::W32 => count_for::<32>(alloc, code, entry, bound, budget, grouping),
     }
 }
 
@@ -61,9 +79,11 @@ fn count_for<const N: usize>(
     entry: &str,
     bound: Bound,
     budget: u64,
+    grouping: Grouping,
 ) -> Result<Counted, StartFault>
     requires { N ≡ gang_width code.now.gang }
     ensures counted { IfOk result (CountedRun code.now entry.now bound.arguments.items budget) }
+    ensures grouped { IfOk result (λ r. IsGrouped grouping r.counts.groups) }
     ensures none { IfErr result (λ e. e ≡ NoEntry → NoEntryFor code.now entry.now bound.arguments.items) }
     ensures memory { IfErr result (λ e. e ≡ Memory → EntryFor code.now entry.now bound.arguments.items) }
 {
@@ -71,7 +91,7 @@ fn count_for<const N: usize>(
         Ok(machine) => machine,
         Err((_bound, fault)) => return Err(fault),
     };
-    let (stop, counts) = count(alloc, &mut machine, code, budget)?;
+    let (stop, counts) = count(alloc, &mut machine, code, budget, grouping)?;
     if let Stop::Memory = stop {
         return Err(StartFault::Memory);
     }

@@ -1,7 +1,8 @@
 //! What the instructions of a run come to.
-ghost use Rattle.std.specs.Prelude.{◌≡◌, ◌<◌, ◌≤◌, IfOk, IfSome, length, replicate, get_or, slice_set};
+ghost use Rattle.std.specs.Prelude.{◌≡◌, ◌<◌, ◌≤◌, ℕ, [], IfOk, IfSome, length, replicate, get_or, slice_set};
+ghost use Rattle.isp_traces.specs.Named.{group_of};
 ghost use Rattle.isp_traces.specs.Tallies.{lanes_of, nothing};
-ghost use Rattle.isp_traces.specs.reader.Adding.{Adds, AddsIf, HasRoom, HaveRoom, one, plus};
+ghost use Rattle.isp_traces.specs.reader.Adding.{Adds, AddsIf, HasRoom, HaveRoom, added_there, one, plus};
 
 use crate::counting::Executed;
 use std::alloc::{AllocError, Global};
@@ -50,13 +51,62 @@ impl Tally {
     }
 }
 
-/// What the instructions of a run come to: all of them, those of each function, by its number, and those of each
-/// kind, in the order of `Kind::ALL`.
+/// Places of the source in groups, as those of one line are: the group of each place, by its number, and how many groups there
+/// are, numbered from 0. A place that has no group here, or one that is not there, is in none.
+#[derive(Debug, Drop)]
+pub struct Grouping {
+    pub of_places: Vec<usize>,
+    pub count: usize,
+}
+
+impl Grouping {
+    /// No groups.
+    pub fn none(alloc: Global) -> Grouping
+        ensures { (result.of_places.items ≡ []) × (result.count ≡ 0) }
+    {
+        Grouping {
+            of_places: Vec::new(alloc),
+            count: 0,
+        }
+    }
+}
+
+/// The group of each place, and what the instructions that name a place of each group come to.
+#[derive(Debug, Drop)]
+pub struct Groups {
+    pub of_places: Vec<usize>,
+    pub tallies: Vec<Tally>,
+}
+
+impl Groups {
+    // Groups in which no instruction is counted yet.
+    fn nothing(alloc: Global, grouping: Grouping) -> Result<Groups, AllocError>
+        ensures places { IfOk result (λ g. g.of_places ≡ grouping.of_places) }
+        ensures tallies { IfOk result (λ g. g.tallies.items ≡ replicate grouping.count nothing) }
+    {
+        Ok(Groups {
+            of_places: grouping.of_places,
+            tallies: nothings(alloc, grouping.count)?,
+        })
+    }
+
+    // The group of a place.
+    fn of(&self, place: Option<u32>) -> Option<usize>
+        ensures { result ≡ group_of self.now.of_places.items place }
+    {
+        let place = place?;
+        self.of_places.get(place as usize).copied()
+    }
+}
+
+/// What the instructions of a run come to: all of them, those of each function, by its number, those of each kind, in
+/// the order of `Kind::ALL`, and those of each group of places.
 #[derive(Debug, Drop)]
 pub struct Counts {
     pub total: Tally,
     pub functions: Vec<Tally>,
     pub kinds: Vec<Tally>,
+    pub groups: Groups,
 }
 
 // So many times nothing.
@@ -79,17 +129,36 @@ fn add_at(tallies: &mut [Tally], at: usize, on: Option<u32>)
     tallies[at] = tally;
 }
 
+// The same in the tally of a number that is there, if there is a number.
+fn add_there(tallies: &mut [Tally], number: Option<usize>, on: Option<u32>)
+    requires room { (p : ℕ) → p < length tallies.old → HasRoom (get_or tallies.old p nothing) }
+    ensures { tallies.new ≡ added_there tallies.old number on }
+{
+    if let Some(number) = number {
+        if number < tallies.len() {
+            add_at(tallies, number, on);
+        }
+    }
+}
+
 impl Counts {
-    // Those of no instruction, of code with so many functions.
-    pub(crate) fn nothing(alloc: Global, functions: usize) -> Result<Counts, AllocError>
+    // Those of no instruction, of code with so many functions, and of groups of places.
+    pub(crate) fn nothing(
+        alloc: Global,
+        functions: usize,
+        grouping: Grouping,
+    ) -> Result<Counts, AllocError>
         ensures total { IfOk result (λ c. c.total ≡ nothing) }
         ensures functions { IfOk result (λ c. c.functions.items ≡ replicate functions nothing) }
         ensures kinds { IfOk result (λ c. c.kinds.items ≡ replicate 8 nothing) }
+        ensures groups { IfOk result (λ c. c.groups.tallies.items ≡ replicate grouping.count nothing) }
+        ensures places { IfOk result (λ c. c.groups.of_places ≡ grouping.of_places) }
     {
         Ok(Counts {
             total: Tally::nothing(),
             functions: nothings(alloc, functions)?,
             kinds: nothings(alloc, 8)?,
+            groups: Groups::nothing(alloc, grouping)?,
         })
     }
 
@@ -102,6 +171,8 @@ impl Counts {
         self.total.add(executed.on);
         add_at(&mut self.functions, executed.function, executed.on);
         add_at(&mut self.kinds, executed.kind.number(), executed.on);
+        let group = self.groups.of(executed.place);
+        add_there(&mut self.groups.tallies, group, executed.on);
     }
 
     // The same where there is one.

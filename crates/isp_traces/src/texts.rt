@@ -4,7 +4,8 @@ ghost use Rattle.std.specs.Fmt.{decimal};
 ghost use Rattle.isp_base.specs.Prints.{comma};
 ghost use Rattle.isp_code.specs.Listing.{routine_of};
 ghost use Rattle.isp_traces.specs.Tallies.{nothing};
-ghost use Rattle.isp_traces.specs.Texts.{counts_text, kind_names, member_text, members_text, routine_name, tally_text};
+ghost use Rattle.isp_base.specs.Types.{gang_width};
+ghost use Rattle.isp_traces.specs.Texts.{busy_text, counts_text, kind_names, line_text, lines_text, member_text, members_text, routine_name, tally_text};
 
 use crate::kinds::Kind;
 use crate::tallies::{Counts, Tally};
@@ -31,6 +32,54 @@ pub fn counts_line(alloc: Global, code: &Verified, counts: &Counts) -> Result<Ve
     push_kinds(&mut text, width, &counts.kinds)?;
     text.extend_from_slice(b"}}\n")?;
     Ok(text)
+}
+
+/// The counts by lines of a run that was counted by groups of which each has the places of one line, the first line first, as one line
+/// of JSON with its line feed: `{"lines":{"3":{"instructions":..,"masked":..,"lanes_on":..,"lanes":..}}}`. A member is the
+/// number of a line, from 1; lines in which no instruction names a place have none.
+pub fn lines_line(alloc: Global, code: &Verified, counts: &Counts) -> Result<Vec<u8>, AllocError>
+    ensures { IfOk result (λ v. v.items ≡ lines_text (gang_width code.now.gang) counts.now.groups.tallies.items) }
+{
+    gang_laws();
+    let width = code.gang().width();
+    let mut text = Vec::from_slice(alloc, b"{\"lines\":{")?;
+    push_lines(&mut text, width, &counts.groups.tallies)?;
+    text.extend_from_slice(b"}}\n")?;
+    Ok(text)
+}
+
+// Each busy line's number and what its instructions come to.
+fn push_lines(text: &mut Vec<u8>, width: usize, tallies: &[Tally]) -> Result<(), AllocError>
+    requires { width ≤ 64 }
+    ensures { OnOk result (text.new.items ≡ text.old.items ++ busy_text width tallies.now (length tallies.now)) }
+{
+    let mut busy = 0;
+    for line in 0..tallies.len() {
+        push_line(text, width, busy, line, tally_at(tallies, line))?;
+        if tally_at(tallies, line).instructions > 0 {
+            busy += 1;
+        }
+    }
+    Ok(())
+}
+
+// The line of a number, from 0, if it is busy, after so many busy ones.
+fn push_line(
+    text: &mut Vec<u8>,
+    width: usize,
+    busy: usize,
+    line: usize,
+    tally: Tally,
+) -> Result<(), AllocError>
+    requires wide { width ≤ 64 }
+    requires low { line < 18446744073709551615 }
+    ensures { OnOk result (text.new.items ≡ text.old.items ++ line_text width busy line tally) }
+{
+    if tally.instructions > 0 {
+        let mut buffer = Buffer::new();
+        push_member(text, width, busy, buffer.format(line + 1), tally)?;
+    }
+    Ok(())
 }
 
 // Each function's name and what its instructions come to.

@@ -25,7 +25,7 @@ pub struct Window {
 }
 
 impl Window {
-    // The number of the first step that has a line, and that behind the last one.
+    // The number of the first step that has a line, and that after the last one.
     fn steps(self, budget: u64) -> (u64, u64)
         ensures first { result.0 ≡ first self budget }
         ensures behind { result.1 ≡ behind self budget }
@@ -142,7 +142,7 @@ fn push_before<const N: usize>(
     push_read(text, machine, code, shown.instr)
 }
 
-// What is shown of a step behind which control goes on.
+// What is shown of a step after which control goes on.
 fn push_after<const N: usize>(
     text: &mut Vec<u8>,
     machine: &Machine<'_, N>,

@@ -56,7 +56,7 @@ mutual
     variable : Word → Place
     element : (array : Word) (index : Expr) (span : Span) → Place
 
-  -- a value, or a place behind `&`
+  -- a value, or a place after `&`
   pub data Argument : Type 0 where
     by_value : Expr → Argument
     by_reference : (place : Place) (span : Span) → Argument

@@ -7,7 +7,7 @@ use Rattle.isp_lex.specs.Lexing.{IsWord}
 use Rattle.isp_typed.specs.Scoped.{ScopedFunction, IsScoped}
 use Rattle.isp_typed.specs.Samples.{scoped, out_of_scope, ScopesOfSamples}
 
--- the read of u, behind the block in which it is declared
+-- the read of u, after the block in which it is declared
 fails : IsScoped out_of_scope → ⊥
 fails h = grind (arith, (All-head ScopedFunction _ [] h.each).body.1.0.1)
 

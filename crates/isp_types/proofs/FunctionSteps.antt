@@ -30,7 +30,7 @@ use Rattle.isp_types.specs.reader.Lists.{fault_of, param_fault, function_of_part
 use Rattle.isp_types.proofs.Functions.{program_right}
 use Rattle.isp_types.proofs.Joined.{joined, joined_step, beside_assoc}
 
--- what stands behind words that are found or not
+-- what stands after words that are found or not
 behind_words : {A B : Type 0} (v : Result A Fault) (r : Result B Fault) → made second (both v r) ≡ beside (fault_of v) r
 behind_words (Ok a) (Ok b) = refl
 behind_words (Ok a) (Err e) = refl
@@ -45,7 +45,7 @@ three_beside seen t m v r =
     ∙ ap (beside seen) (beside_assoc (first_of t m) (fault_of v) r ∙ (beside_assoc t m (beside (fault_of v) r) ∙ ap (λ z. beside t (beside m z)) (sym (behind_words v r))))
 
 module _ (gang : Gang) (hs : List Heading) where
-  -- the rest of a body behind one more parameter
+  -- the rest of a body after one more parameter
   pub params_step : (answer : Result (Option Ty) Fault) (ns : List Binding) (vars : List Variable) (rest more : List rust_param.Param) (b : Block) (total : Result TBlock Fault) (seen : Option Fault) (p : rust_param.Param)
       → rest ≡ p ∷ more
       → beside seen (judge_body gang hs answer ns vars (map read_param rest) b) ≡ total
@@ -65,7 +65,7 @@ module _ (gang : Gang) (hs : List Heading) where
       joined_step a (judge_function gang hs (fault_unless (is_free taken f.word.name) (fault NameTwice f.word.span)) (read_function f)) (judge_functions gang hs (taken ++ f.word.name ∷ []) (map read_function more))
       ∙ subst (λ (z : List rust_function.Function). joined a (judge_functions gang hs taken (map read_function z)) ≡ total) split h
 
--- the names behind one more parameter
+-- the names after one more parameter
 pub params_names_step : (ns : List Binding) (vars : List Variable) (rest more : List rust_param.Param) (total : List Binding) (p : rust_param.Param) → rest ≡ p ∷ more
     → params_names ns vars (map read_param rest) ≡ total → params_names (param_names ns vars (read_param p)) (vars ++ param_variable (read_param p) ∷ []) (map read_param more) ≡ total
 params_names_step ns vars rest more total p split e = subst (λ (z : List rust_param.Param). params_names ns vars (map read_param z) ≡ total) split e

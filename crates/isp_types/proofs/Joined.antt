@@ -10,7 +10,7 @@ use Rattle.isp_typed.proofs.Verdicts.{both_found}
 use Rattle.isp_exprs.specs.Rules.{pair_then}
 use Rattle.isp_exprs.specs.reader.Lists.{and_one}
 
--- one list behind another, each with its fault
+-- one list after another, each with its fault
 abbrev pub joined : {E : Type 0} → Result (List E) Fault → Result (List E) Fault → Result (List E) Fault
 joined a r = made (λ p. p.0 ++ p.1) (both a r)
 
@@ -25,7 +25,7 @@ joined_step (Err a) (Ok t) (Err r) = refl
 joined_step (Err a) (Err t) (Ok r) = refl
 joined_step (Err a) (Err t) (Err r) = ap (λ z. Err z) (earlier_assoc a t r)
 
--- nothing before, and nothing behind
+-- nothing before, and nothing after
 pub joined_first : {E : Type 0} (r : Result (List E) Fault) → joined (Ok []) r ≡ r
 joined_first (Ok r) = refl
 joined_first (Err e) = refl
@@ -38,7 +38,7 @@ pub joined_last : {E : Type 0} (a : Result (List E) Fault) → joined a (Ok []) 
 joined_last (Ok a) = ap (λ z. Ok z) (append_none a)
 joined_last (Err e) = refl
 
--- one more behind what is seen by a view
+-- one more after what is seen by a view
 pub pushed : {A B : Type 0} (view : A → B) (a : Result (List A) Fault) (t : Result A Fault) (xs : List A) (x : A) → both a t ≡ Ok (xs, x)
     → Ok (map view (xs ++ x ∷ [])) ≡ made and_one (both (made (map view) a) (made view t))
 pushed view a t xs x e = ap (λ z. Ok z) (map-append view xs (x ∷ [])) ∙ both_found (map view) view and_one a t xs x e
@@ -73,7 +73,7 @@ pub viewed_step : {A B C D : Type 0} (view : D → C) (g : B → C) (read : A �
     → map view so_far ≡ map g (map read (take i xs)) → view y ≡ g (read x) → map view (so_far ++ y ∷ []) ≡ map g (map read (take (i + 1) xs))
 viewed_step view g read xs i x so_far y h e p q = map-append view so_far (y ∷ []) ∙ done_step g read xs i x (map view so_far) (view y) h e p q
 
--- the same behind another list
+-- the same after another list
 pub behind_step : {A B C : Type 0} (g : B → C) (read : A → B) (xs : List A) (i : ℕ) (x : A) (before so_far : List C) → i < length xs → x ≡ get_or xs i x
     → so_far ≡ before ++ map g (map read (take i xs)) → so_far ++ g (read x) ∷ [] ≡ before ++ map g (map read (take (i + 1) xs))
 behind_step g read xs i x before so_far h e p =

@@ -58,7 +58,7 @@ module _ (Q : Known → Type 0) where
           no e = cc
       go (Some b) is e = found_all (StandsFor Q) (λ b. bytes_eq b.name w.name) (reverse ns) b (reversed_all (StandsFor Q) ns scope) is k e
 
-  -- one more name, for the variable behind those there are
+  -- one more name, for the variable after those there are
   pub known_added : (ns : List Binding) (vars : List Variable) (w : List ℕ) (v : Variable) → AllKnown Q ns → Q (record { number = length vars; variable = v }) → AllKnown Q (with_name ns vars w (Ok v))
   known_added ns vars w v scope q = All-append (StandsFor Q) ns _ scope (All-cons (StandsFor Q) _ [] (λ k e. subst Q (ok_is _ k e) q) (none_known Q))
     where

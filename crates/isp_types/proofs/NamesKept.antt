@@ -1,4 +1,4 @@
--- Names and statements only add names behind those there are.
+-- Names and statements only add names after those there are.
 use Rattle.std.proofs.Common.{◌≡◌, refl, sym, ap, ◌∙◌, ◌++◌, append_assoc, take, drop}
 use Rattle.std.specs.Prelude.{List, [], ◌∷◌, length, Option, Some, None, Result}
 use Rattle.std.proofs.Math.Seq.{take-append_seam}
@@ -12,7 +12,7 @@ use Rattle.isp_exprs.specs.declared.words.ValueWords.{ValueWords}
 use Rattle.isp_exprs.specs.Words.{value_said}
 use Rattle.isp_types.specs.Numbering.{item_names, item_variables, items_names, first_names, range_names, names_after}
 
--- one list is another with more behind it
+-- one list is another with more after it
 pub record Grown {A : Type 0} (before after : List A) : Type 0 where
   pub more : List A
   pub is : after ≡ before ++ more

@@ -12,7 +12,7 @@ use Rattle.isp_exprs.specs.declared.scope.Binding.{Binding}
 use Rattle.isp_exprs.specs.Callees.{Heading}
 use Rattle.isp_types.specs.reader.JudgeStmts.{judge_test, judge_simple, judge_stmt}
 
--- what is made of two parts, behind so many variables
+-- what is made of two parts, after so many variables
 pub joined_parts : {A B T : Type 0} (make : ℕ → A × B → T) (r : Result T Fault) (n k : ℕ) (f g : Result A Fault) (d e : Result B Fault)
     → r ≡ made (make n) (both f d) → n ≡ k → f ≡ g → d ≡ e → r ≡ made (make k) (both g e)
 joined_parts make r n k f g d e a b c h = cc

@@ -37,7 +37,7 @@ sized_item s a = t_with_size a s
 
 module _ (gang : Gang) (hs : List Heading) where
   module _ (r : Result ValueWords Fault) (start : ℕ) where
-    -- A name is new in its scope, and counts from behind its initial value on; 21 at the later of two equal names.
+    -- A name is new in its scope, and counts from after its initial value on; 21 at the later of two equal names.
     abbrev pub item_typing : List Binding → List Variable → Item → Typing TItem
     item_typing ns vars (plain w) =
         provided (is_new w.name start ns) (fault NameTwice w.span) (exactly (t_plain (length vars) (type_declared (or_nothing r)) w.span))

@@ -41,7 +41,7 @@ variable_for false w = value_variable w
 abbrev pub param_variable : Param → Variable
 param_variable p = variable_for p.is_array (param_words p)
 
--- the names behind a parameter, and behind several
+-- the names after a parameter, and after several
 abbrev pub param_names : List Binding → List Variable → Param → List Binding
 param_names ns vars p = with_name ns vars p.word.name (declared (value_said p.ty) (param_variable p))
 
@@ -118,7 +118,7 @@ module _ (gang : Gang) (hs : List Heading) where
       (made second (both (given (value_said p.ty))
       (body_typing answer (param_names ns vars p) (vars ++ param_variable p ∷ []) ps b))))
 
-  -- a function behind earlier ones, of which the names are given; 21 at a name that is taken
+  -- a function after earlier ones, of which the names are given; 21 at a name that is taken
   abbrev pub function_typing : List (List ℕ) → Function → Typing TFunction
   function_typing earlier f = made (function_made gang hs f) (provided (is_free earlier f.word.name) (fault NameTwice f.word.span)
       (both (given (answer_said f.answer)) (body_typing (answer_said f.answer) [] [] f.params f.body)))

@@ -1,4 +1,4 @@
--- What items declare, and which names and variables there are behind items and behind a statement.
+-- What items declare, and which names and variables there are after items and after a statement.
 --     ns   the names in scope        vars   the variables that were declared so far, numbered where they stand in the text
 --     hs   the functions of the program, as callers see them
 use Rattle.std.specs.Prelude.{ℕ, List, [], ◌∷◌, ◌++◌, false, Option, Some, None, Result, Ok, Err}
@@ -53,7 +53,7 @@ item_variable gang v (plain w) = value_variable v
 item_variable gang v (with_value w x s) = value_variable v
 item_variable gang v (with_size w n s) = record { holds = holds.Local (type_declared v) (size_number gang n); constant = v.constant }
 
--- ---- behind items
+-- ---- after items
 
 -- the names and variables after items, of which the words of the type are given
 module _ (gang : Gang) (r : Result ValueWords Fault) where
@@ -108,7 +108,7 @@ abbrev pub or_active : Result Variable Fault → Variable
 or_active (Ok v) = v
 or_active (Err f) = active_index
 
--- a name counts behind its declaration, to the end of the scope
+-- a name counts after its declaration, to the end of the scope
 abbrev pub names_after : Gang → List Binding → List Variable → Stmt → List Binding
 names_after gang ns vars (declare d s) = declaration_names gang ns vars d
 names_after gang ns vars s = ns

@@ -226,7 +226,7 @@ fn declare(
     Ok(part)
 }
 
-/// One more item behind the others.
+/// One more item after the others.
 fn push(
     so_far: Verdict<Vec<TypedItem>>,
     part: Verdict<Box<TypedItem>>,

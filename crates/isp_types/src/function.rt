@@ -258,7 +258,7 @@ fn take(alloc: Global, taken: &mut BTreeSet<String>, name: &Name) -> Result<(), 
     Ok(())
 }
 
-/// One more function behind the others.
+/// One more function after the others.
 fn push(
     so_far: Verdict<Vec<TypedFunction>>,
     part: Verdict<TypedFunction>,

@@ -16,7 +16,7 @@ pub fn boxed<T: Drop>(alloc: Global, found: Verdict<T>) -> Result<Verdict<Box<T>
     }
 }
 
-/// One more behind the others.
+/// One more after the others.
 pub fn push<T: Drop>(
     so_far: Verdict<Vec<T>>,
     part: Verdict<T>,
@@ -32,7 +32,7 @@ pub fn push<T: Drop>(
     }
 }
 
-/// One more behind the others, out of its box.
+/// One more after the others, out of its box.
 pub fn push_boxed<T: Drop>(
     so_far: Verdict<Vec<T>>,
     part: Verdict<Box<T>>,

@@ -326,7 +326,7 @@ pub fn braces(statements: Verdict<Vec<TypedStmt>>, span: Span) -> Verdict<TypedB
     Ok(TypedBlock { statements, span })
 }
 
-/// One more statement behind the others.
+/// One more statement after the others.
 pub fn push(
     so_far: Verdict<Vec<TypedStmt>>,
     part: Verdict<TypedStmt>,

@@ -140,7 +140,7 @@ take_long [] (suc k) h = refl
 take_long (y ∷ ys) zero h = absurd (let z : ⊥ = omega arith in z)
 take_long (y ∷ ys) (suc k) h = ap (λ z. y ∷ z) (take_long ys k (omega arith))
 
--- the text behind k of them
+-- the text after k of them
 pub record SoFar (p : Program) (k : ℕ) (text : List ℕ) : Type 0 where
   pub lines : List ℕ
   pub verdicts : AreVerdicts p (take k (exported_names p)) lines

@@ -57,7 +57,7 @@ moved false true false d = refl
 moved false false true d = refl
 moved false false false d = refl
 
--- one more parameter behind others
+-- one more parameter after others
 pub differ_last : (ys : List Param) (x : Param) → names_differ (ys ++ x ∷ []) ≡ (names_differ ys && not (list_any (is_named x.name) ys))
 differ_last [] x = refl
 differ_last (y ∷ ys) x =

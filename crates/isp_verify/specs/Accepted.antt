@@ -1,4 +1,4 @@
--- What code has that is accepted, told of headers and of lines, and not of faults.
+-- What code has that is accepted, given of headers and of lines, and not of faults.
 use Rattle.std.specs.Prelude.{◌≡◌, ℕ, take, Some, None, true, slice_get}
 use Rattle.isp_code.specs.Fine.{AllFine, CallsFine}
 use Rattle.isp_code.specs.Listing.{Listing, Routine}

@@ -419,7 +419,7 @@ impl<'a> Checker<'a> {
         }
     }
 
-    // What stores or loads the lanes of a mask one behind the other.
+    // What stores or loads the lanes of a mask one after the other.
     fn packed(&self, instr: &Instr) -> Option<Rule>
         requires { IsTrue (is_packed instr.now) }
         ensures { result ≡ operands_fault self.now.code.now (routine_of self.now.function.now) (operands instr.now) }

@@ -57,7 +57,7 @@ fn param_elems(alloc: Global, class: Class, params: &[Param]) -> Result<Vec<Elem
     Ok(elems)
 }
 
-// The types of the local arrays behind those of the parameters.
+// The types of the local arrays after those of the parameters.
 fn push_locals(arrays: &mut Vec<Elem>, locals: &[Local]) -> Result<(), AllocError>
     ensures { OnOk result (arrays.new.items ≡ arrays.old.items ++ map local_elem locals.now) }
 {

@@ -181,7 +181,7 @@ module _ (w : Setting) (ready : IsSettled w) (covered : IsCovered w) (thin : All
   higher k l c (Trapped t s) h = h
   higher k l c (OutOfFuel s) h = h
 
-  -- heads lie one behind the other
+  -- heads lie one after the other
   heads_below : (d k : ℕ) → k + d ≡ w.rungs → w.heads k ≤ w.heads w.rungs
   heads_below zero k e = let same : k ≡ w.rungs = omega arith in subst (λ j. w.heads k ≤ w.heads j) same (omega arith)
   heads_below (suc d) k e = let up = ready.heads_up k (omega arith) in let more = heads_below d (suc k) (omega arith) in omega arith
@@ -204,7 +204,7 @@ module _ (w : Setting) (ready : IsSettled w) (covered : IsCovered w) (thin : All
           (subst (λ m. Gone k c (run fuel call (span w (w.rungs - suc k) (w.heads k) m) s)) (let e : suc (w.heads (suc k) - w.heads k - 1) ≡ w.heads (suc k) - w.heads k = omega (arith, up) in e)
           (last_spans k all (w.heads (suc k) - w.heads k - 1) (w.heads k) (omega (arith, up, ends)) c s st.stands))
 
-  -- nothing is done behind the loop
+  -- nothing is done after the loop
   whole_on : (c : Conf) (r : Result) (go : State → Result) → Whole (the_machine w) (w.local Counter) w.rungs fuel fuel c r → Whole (the_machine w) (w.local Counter) w.rungs fuel fuel c (then_to r go)
   whole_on c (Fell s) go h = absurd (let low = h.stands.low in omega arith)
   whole_on c (Branched d s) go h = absurd h

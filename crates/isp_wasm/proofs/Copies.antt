@@ -271,7 +271,7 @@ module _ (v : Setting) (g : Routine) (f : ℕ) (names : ℕ → ℕ) (local : Pl
 
   -- ---- they lie apart
 
-  -- arrays that the function opens, one behind the other
+  -- arrays that the function opens, one after the other
   order : (x y : ℕ) (k l : Local) (from to : ℕ) → slice_get g.locals x ≡ Some k → x < y → from ≤ t + bytes_in (gang u) (take x g.locals) + local_bytes (gang u) k → t + bytes_in (gang u) (take y g.locals) ≤ to → from ≤ to
   order x y k l from to has up a b = let le = part_before (gang u) g.locals x k y has up in omega (arith, le, a, b)
 

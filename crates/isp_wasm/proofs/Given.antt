@@ -66,7 +66,7 @@ module _ (w : Setting) (l : ℕ → ℕ) (k : Register) where
   abbrev pub part_got : ℕ → ℕ → ℕ
   part_got j r = if nat_lt j (parts w (shape w (vector_register r))) then value l (part_under w k (vector_register r) j) else 0
 
-  -- behind so many scalars, vectors and arrays
+  -- after so many scalars, vectors and arrays
   pub record Gives (qs : List Place) (ys : List ℕ) (xs : List Register) (r v a : ℕ) : Type 0 where
     pub scalars : (i : ℕ) → At qs ys (Scalar (r + i)) ≡ from 0 scalar_got (slice_get (numbers class.Scalar xs) i)
     pub vectors : (i j : ℕ) → At qs ys (Vector (v + i) j) ≡ from 0 (part_got j) (slice_get (numbers class.Vector xs) i)

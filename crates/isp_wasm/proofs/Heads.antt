@@ -30,7 +30,7 @@ module _ (is : List Instr) where
   past zero pc d h = h
   past (suc k) pc d h = h
 
-  -- all are at or behind the first one, as the end is
+  -- all are at or after the first one, as the end is
   low : (n pc d : ℕ) → pc + n ≤ d → (k : ℕ) → pc ≤ slice_index_or (heads_from is n pc) k d
   low zero pc d h k = past k pc d (omega (arith, h))
   low (suc n) pc d h k = low_once (is_head is pc) pc d (heads_from is n (suc pc)) (omega (arith, h)) (low n (suc pc) d (omega (arith, h))) k

@@ -28,7 +28,7 @@ element_is x h = ap unsigned_abs (number_low x h)
 
 -- ---- an index and a small number
 
--- a lane's number behind an index, as a whole number and in 64 bits
+-- a lane's number after an index, as a whole number and in 64 bits
 index_is_pos : (x p : ℕ) → x < 2 ^ 63 → p < 32 → number I64 x +ℤ pos p ≡ pos ((x + p) % 2 ^ 64)
 index_is_pos x p h l = ap (λ z. z +ℤ pos p) (number_low x h) ∙ (let e : pos x +ℤ pos p ≡ pos (x + p) = omega (arith, ints) in e) ∙ ap pos (sym (mod-eq_of_lt (let lt : x + p < 2 ^ 64 = omega arith in lt)))
 

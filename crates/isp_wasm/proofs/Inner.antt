@@ -146,7 +146,7 @@ module _ (w : Setting) (of : IsOf w) (x : Call) (pc : ℕ) (has : slice_get w.ro
 
     -- ---- arrays
 
-    -- its arrays lie behind those of the caller
+    -- its arrays lie after those of the caller
     bytes_are : function_bytes w.code c.home.fn ≡ bytes_in (gang w) w.routine.locals
     bytes_are = ap (λ (h : Home). function_bytes w.code h.fn) st.home_is ∙ ap (bytes_if (gang w)) of.settled.found
 

@@ -122,7 +122,7 @@ module _ (w : Setting) (ready : IsSettled w) (fuel n k : ℕ) (call : ℕ → Li
       set : AreSet w (place.Mask d.number) (parts w I8x16) (λ j. Local (w.local (Fresh j))) (record s { locals = fresh.locals }) (second (record s { locals = fresh.locals }))
       set = are_set w ready fuel call (place.Mask d.number) (λ i j e. cc) (λ j. Local (w.local (Fresh j))) (record s { locals = fresh.locals }) (λ j l same. same (Fresh j) (λ i q e. cc)) (parts w I8x16)
 
-      -- past the gang no lane is on, before as behind
+      -- past the gang no lane is on, before as after
       past : (j i : ℕ) → i < 16 → (j < parts w I8x16) ⊎ (parts w I8x16 ≤ j) → lane I8x16 i (set.locals (w.local (place.Mask d.number j))) ≡ flags 8 (x (j * 16 + i))
       past j i l (inl m) = ap (lane I8x16 i) (set.set_to j m) ∙ fresh.lanes j i m l (omega arith)
       past j i l (inr m) =

@@ -201,7 +201,7 @@ array_is (p ∷ ps) r a i rs h = array_once p.kind p.elem (param_elems class.Arr
 -- ---- all
 
 module _ (lanes : ℕ) (h : Routine) where
-  -- what stands behind the four first, and what behind the fresh parts, the scalars and the vectors
+  -- what stands after the four first, and what after the fresh parts, the scalars and the vectors
   fresh_row : List Place
   fresh_row = row (parts_for lanes wasm.I64x2) Fresh
 

@@ -52,7 +52,7 @@ module _ (w : Setting) (c : Conf) (a : ℕ) (f : ℕ → Lanes) where
           ∙ sym (ap (λ (z : ℕ → Lanes). z e r) (put_same c.own a h i is))
       by i r at low (inr ne) = ap (λ (z : ℕ → Lanes). z e r) (put_other c.own a g i ne ∙ sym (put_other c.own a h i ne))
 
-  -- before the first, and behind the last
+  -- before the first, and after the last
   pub none_yet : (b e : ℕ) → all_of w c b e ≡ all_of w (with_own (upto 0)) b e
   none_yet b e = alike c.own (put c.own a (upto 0)) b e (λ i r at low. by i r (cases_eq i a))
     where

@@ -95,7 +95,7 @@ module _ (w : Setting) (fuel : ℕ) (call : ℕ → List ℕ → State → Resul
   comma_wrote zero s = ap (λ o. Fell (record s { out = o })) (sym (append-nil s.out))
   comma_wrote (suc p) s = refl
 
-  -- two texts one behind the other
+  -- two texts one after the other
   joined : (s : State) (a b : List ℕ) → Fell (record s { out = (s.out ++ a) ++ b }) ≡ Fell (record s { out = s.out ++ (a ++ b) })
   joined s a b = ap (λ o. Fell (record s { out = o })) (append_assoc s.out a b)
 

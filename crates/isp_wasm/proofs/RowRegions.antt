@@ -38,7 +38,7 @@ place_in_part U32 b x k = omega arith
 place_in_part I64 b x k = omega arith
 place_in_part U64 b x k = omega arith
 
--- a part ends before the elements behind it
+-- a part ends before the elements after it
 pub part_ends : (t : Elem) (x n : ℕ) → x + count (shape_of t) ≤ n → x * bytes_of t + 16 ≤ n * bytes_of t
 part_ends Truth x n h = omega (arith, h)
 part_ends I8 x n h = omega (arith, h)
@@ -89,7 +89,7 @@ module _ (w : Setting) (ready : IsSettled w) (at : ℕ) (arrays : ℕ → Lanes)
     abbrev pub memory_with : ℕ → ℕ
     memory_with = wasm.stored 16 (begin_at x) v memory
 
-    -- an element is before the part, behind it, or one of its
+    -- an element is before the part, after it, or one of its
     data Which (e : ℕ) : Type 0 where
       beside : (e < x) ⊎ (x + count (shape_of kind_at) ≤ e) → Which e
       within : (k : ℕ) → k < count (shape_of kind_at) → e ≡ x + k → Which e

@@ -102,7 +102,7 @@ brightened : memory_of (called (code_in (module_of brighten)) 40 0 (passed sampl
 unfolding packed digit wrap_to
 brightened = refl
 
--- where there are to be twelve pixels, the second row ends behind the array: in its lane 1, at bytes 531 to 540 of the source
+-- where there are to be twelve pixels, the second row ends after the array: in its lane 1, at bytes 531 to 540 of the source
 abbrev pub report_in : Result → Option Report
 report_in (Trapped r s) = r
 report_in r = None

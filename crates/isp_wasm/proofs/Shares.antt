@@ -1,4 +1,4 @@
--- The arrays that a function opens and that all lanes share: where each begins, and that they lie one behind the other.
+-- The arrays that a function opens and that all lanes share: where each begins, and that they lie one after the other.
 use Rattle.std.proofs.Common.{◌≡◌, ℕ, zero, suc, ◌+◌, ◌*◌, ◌<◌, ◌≤◌, List, [], ◌∷◌, length, take, Some, Bool, true, false, refl, sym, ap, ap₂, ◌∙◌, subst, arith}
 use Rattle.std.specs.Prelude.{slice_get, slice_index, slice_index_or}
 use Rattle.isp_base.specs.declared.types.Elem.TheVariants.{Bool as Truth}
@@ -103,7 +103,7 @@ module _ (lanes : ℕ) where
   pub one_copy : (l : Local) → is_per_instance l.sharing ≡ false → l.size * bytes_of l.elem ≤ local_bytes lanes l
   one_copy l e = subst (λ b. l.size * bytes_of l.elem ≤ copies lanes b * (l.size * bytes_of l.elem)) (sym e) (let n = l.size * bytes_of l.elem in let le : n ≤ 1 * n = omega arith in le)
 
-  -- one lies behind all of those before it, and before all of those behind it
+  -- one lies after all of those before it, and before all of those after it
   pub part_before : (ls : List Local) (i : ℕ) (l : Local) (j : ℕ) → slice_get ls i ≡ Some l → i < j → bytes_in lanes (take i ls) + local_bytes lanes l ≤ bytes_in lanes (take j ls)
   part_before [] i l j e up = absurd cc
   part_before (x ∷ ls) i l zero e up = absurd (omega (arith, up))

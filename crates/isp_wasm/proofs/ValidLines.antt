@@ -747,7 +747,7 @@ module _ (w : Setting) (local : ℕ → Option ValueType) (functions : List Func
   mask_of_call c None f = mask_last c.arguments c.mask (f.1).1
   mask_of_call c (Some x) f = mask_last c.arguments c.mask ((f.1).1).1
 
-  -- behind so many labels, of which the last is the loop's
+  -- after so many labels, of which the last is the loop's
   pub line_valid : Gives w.routine.returns → (n k : ℕ) → k < n → (i : Instr) → ((c : Call) → i ≡ instr.Call c → CallFine w.code w.routine c → IsM c.mask → C n (call_code w c)) → Fine (operands i) → CallsFine w.code w.routine i → C n (code_of w k i)
   line_valid g n k h (instr.Scalar d i) called f fits = scalars_valid n d i f
   line_valid g n k h (instr.Vector d i) called f fits = vectors_valid n d i f

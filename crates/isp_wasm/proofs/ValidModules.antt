@@ -177,7 +177,7 @@ module _ (code : Listing) (h : Routine) (f : ℕ) (accepted : IsFine code) (foun
   abbrev last : List Place
   last = Depth ∷ Top ∷ array_places (length h.locals) (length (param_elems class.Array h.params))
 
-  -- behind the four first
+  -- after the four first
   own_has : (p : Place) → Has (row (parts_for lanes I64x2) Fresh ++ (row (length h.scalars) (λ r. Scalar (passed + r)) ++ (vector_places lanes (vectors_of h) 0 ++ (mask_places h.masks 0 ++ last)))) p → Has places p
   unfolding places lanes passed
   own_has p has = has_right qs (own_places (gang_width code.gang) h) p (suc (suc (suc (suc has.0))), has.1)

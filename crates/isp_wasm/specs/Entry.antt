@@ -47,7 +47,7 @@ module _ (w : Setting) where
   IsPassed a = (i : ℕ) → i < length w.routine.locals → a ≢ passed w.routine + i
 
   -- A host calls it: the arguments of WebAssembly are its first locals, and all others are 0. An array is an address and a
-  -- count, and its elements are in memory. Those that it opens lie one behind the other, where the stack begins.
+  -- count, and its elements are in memory. Those that it opens lie one after the other, where the stack begins.
   pub record IsCalled (xs : List Argument) (arguments : List ℕ) (s : State) : Type 0 where
     pub home_is : (first xs).home ≡ w.home
     pub alone : w.waiting ≡ []

@@ -39,11 +39,11 @@ passed (AnArray a ∷ xs) [] = []
 passed (AnArray a ∷ xs) (b ∷ at) = b ∷ length a.bits ∷ passed xs at
 
 module _ (code : Listing) (xs : List Argument) (at : List ℕ) where
-  -- behind the last byte of an array
+  -- after the last byte of an array
   abbrev pub array_end : ℕ → ℕ
   array_end b = slice_index at b + length (row_bits (rows xs) b) * bytes_of (row_elem (rows xs) b)
 
-  -- The memory has the module's first bytes. Behind them lies each array, in bytes of its own, element by element, the lowest
+  -- The memory has the module's first bytes. After them lies each array, in bytes of its own, element by element, the lowest
   -- byte first. Nothing is written yet.
   pub record IsLaidOut (s : State) : Type 0 where
     pub begins : HasMemory (module_of code) s
@@ -76,8 +76,8 @@ module _ (code : Listing) (xs : List Argument) (at : List ℕ) where
         stack = stack_in h s;
       }
 
-  -- Arrays that functions open lie from the address on that the host has set, behind the texts and the arrays that it passes;
-  -- and wherever the run comes to, all that are open leave a byte of the memory behind them.
+  -- Arrays that functions open lie from the address on that the host has set, after the texts and the arrays that it passes;
+  -- and wherever the run comes to, all that are open leave a byte of the memory after them.
   pub record HasRoom (f : ℕ) (h : Routine) (s : State) : Type 0 where
     pub texts : length (module_of code).memory ≤ s.globals 17
     pub arrays : (b : ℕ) → b < length at → array_end b ≤ s.globals 17

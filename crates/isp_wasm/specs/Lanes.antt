@@ -1,4 +1,4 @@
--- Arrays of which each lane has its own, as stores: they come behind those of the machine, one for each array and lane.
+-- Arrays of which each lane has its own, as stores: they come after those of the machine, one for each array and lane.
 use Rattle.std.specs.Prelude.{ℕ, suc, ◌+◌, ◌-◌, ◌*◌, ◌/◌, ◌%◌, take, Option, Some, None, ◌&&◌, if◌then◌else◌, nat_lt, slice_get}
 use Rattle.isp_base.specs.declared.types.Elem.{Elem}
 use Rattle.isp_base.specs.declared.types.Elem.TheVariants.{Bool as Truth}
@@ -22,7 +22,7 @@ store_at w a p = if is_per_lane w.routine (array_register a) then suc (w.home.op
 abbrev pub with_lanes : {A : Type 0} → ℕ → (ℕ → A) → (ℕ → A) → ℕ → A
 with_lanes n shared own b = if nat_lt b (suc n) then shared b else own (b - suc n)
 
--- number k of those behind is array k / 32 of lane k % 32: how it is declared, if there is one
+-- number k of those after is array k / 32 of lane k % 32: how it is declared, if there is one
 abbrev pub own_local : ℕ → Routine → ℕ → Option Local
 own_local lanes h k =
     if is_per_lane h (array_register (k / 32)) && nat_lt (k % 32) lanes then slice_get h.locals (k / 32 - passed h) else None

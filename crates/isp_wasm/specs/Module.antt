@@ -39,7 +39,7 @@ heads_from is (suc n) pc = if is_head is pc then pc ∷ heads_from is n (suc pc)
 abbrev pub heads_of : List Instr → List ℕ
 heads_of is = heads_from is (length is) 0
 
--- ---- memory: the texts, one behind the other
+-- ---- memory: the texts, one after the other
 
 abbrev pub joined : List (List ℕ) → List ℕ
 joined [] = []
@@ -156,7 +156,7 @@ module _ (code : Listing) where
   inner_functions f (h ∷ hs) = inner_function h f ∷ inner_functions (suc f) hs
 
   -- A function for each one of the code, in order, which a host may call; of those that are not exported or not covered there is
-  -- nothing. Where there are calls, behind them another one for each, which others call.
+  -- nothing. Where there are calls, after them another one for each, which others call.
   abbrev pub module_of : Module
   module_of =
       record {

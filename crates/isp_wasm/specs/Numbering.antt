@@ -1,4 +1,4 @@
--- The numbers of locals as sums, for who writes them: what specs/Locals.antt says of a list, told place by place.
+-- The numbers of locals as sums, for who writes them: what specs/Locals.antt says of a list, given place by place.
 use Rattle.std.specs.Prelude.{◌≡◌, ℕ, zero, suc, ◌+◌, ◌*◌, ◌<◌, List, [], ◌∷◌, length, slice_index_or}
 use Rattle.isp_base.specs.declared.types.Elem.{Elem}
 use Rattle.isp_base.specs.declared.types.Elem.TheVariants.{Bool as Truth}

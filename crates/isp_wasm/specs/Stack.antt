@@ -1,4 +1,4 @@
--- Where the arrays lie that functions open: from an address on that the host sets, those of each call behind those of the call
+-- Where the arrays lie that functions open: from an address on that the host sets, those of each call after those of the call
 -- that waits for it.
 use Rattle.std.specs.Prelude.{ℕ, suc, ◌+◌, ◌-◌, ◌*◌, ◌<◌, List, [], ◌∷◌, Option, Some, None, Bool, true, false, not, ◌||◌, nat_lt, slice_get, slice_index, slice_index_or, if◌then◌else◌}
 use Rattle.std.specs.List.{list_any}
@@ -67,7 +67,7 @@ abbrev pub start : Option ℕ → ℕ
 start None = 0
 start (Some a) = a
 
--- so much further up
+-- that much further up
 abbrev pub moved_up : Option ℕ → ℕ → Option ℕ
 moved_up None n = None
 moved_up (Some a) n = Some (a + n)
@@ -110,7 +110,7 @@ with_starts n begins starts b = if nat_lt b n then begins b else slice_index sta
 abbrev pub with_elems : ℕ → (ℕ → Elem) → List Elem → ℕ → Elem
 with_elems n elems ts b = if nat_lt b n then elems b else slice_index_or ts (b - n) Truth
 
--- the memory where they are opened from an address on: zeros there, and in one byte behind the last
+-- the memory where they are opened from an address on: zeros there, and in one byte after the last
 abbrev pub opened_memory : ℕ → ℕ → List Local → (ℕ → ℕ) → ℕ → ℕ
 opened_memory lanes t [] memory = memory
 opened_memory lanes t (l ∷ ls) memory = cleared (suc (bytes_in lanes (l ∷ ls))) t memory

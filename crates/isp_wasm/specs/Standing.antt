@@ -63,7 +63,7 @@ module _ (w : Setting) where
     pub text_room : (t : ℕ) → w.text_at t + length (text w t) ≤ size
     pub rest : (a : ℕ) → IsBeside a → memory a ≡ w.before a
 
-  -- What each store has: those of the machine, and behind them, one for each lane, the arrays of its own.
+  -- What each store has: those of the machine, and after them, one for each lane, the arrays of its own.
   abbrev pub all_of : Conf → ℕ → Lanes
   all_of c b = if nat_lt b (suc w.home.opened) then c.arrays b else (λ e. c.own ((b - suc w.home.opened) / 32) e ((b - suc w.home.opened) % 32))
 
@@ -141,7 +141,7 @@ module _ (w : Setting) where
     pub out_is : s.out ≡ conf.out
     pub keeps : Keeps (shared_of w) conf.arrays s.memory s.size
 
-  -- the machine comes to where all arrays that are open leave no byte of the memory behind them
+  -- the machine comes to where all arrays that are open leave no byte of the memory after them
   pub record IsFull (c : Conf) : Type 0 where
     pub conf : Conf
     pub steps : ℕ
@@ -166,7 +166,7 @@ module _ (w : Setting) where
   abbrev pub Goes : ℕ → Conf → Conf → Type 0
   Goes n x y = after w.code n (machine.Runs x) ≡ machine.Runs y
 
-  -- behind the last rung nothing stands
+  -- after the last rung nothing stands
   pub record StandsBefore (k : ℕ) (c : Conf) (s : State) : Type 0 where
     pub low : k < w.rungs
     pub stands : Stands w (w.heads k) c s

@@ -206,7 +206,7 @@ module _ (w : Setting) where
   abbrev pub opened_bytes : Register → ℕ
   opened_bytes a = local_size (slice_get w.routine.locals (a.number - passed w.routine)) * bytes_of (elem w a)
 
-  -- where an array begins, as a lane finds it: where each lane has its own, behind those of lower lanes
+  -- where an array begins, as a lane finds it: where each lane has its own, after those of lower lanes
   abbrev pub base_if : Bool → Register → ℕ → Expr
   base_if true a p = Two (Of wasm.I32 Add) (Local (w.local (Base a.number))) (Const32 (p * opened_bytes a))
   base_if false a p = Local (w.local (Base a.number))
@@ -467,7 +467,7 @@ module _ (w : Setting) where
   abbrev pub arguments_of : Call → List Expr
   arguments_of k = plus waiting_calls 1 ∷ Local (w.local Top) ∷ (listed (parts w I8x16) (mask_local k.mask) ++ passed_all k.mask k.arguments)
 
-  -- functions that others call come behind as many as the code has
+  -- functions that others call come after as many as the code has
   abbrev pub called_number : Call → ℕ
   called_number k = length w.code.routines + k.function
 
@@ -541,11 +541,11 @@ module _ (w : Setting) where
   span depth pc zero = Skip
   span depth pc (suc n) = Then (code_at depth (slice_get w.routine.code pc)) (span depth (pc + 1) n)
 
-  -- the code from a head to the next one; from rung k the loop is behind the labels of all higher rungs
+  -- the code from a head to the next one; from rung k the loop is after the labels of all higher rungs
   abbrev pub rung : ℕ → Code
   rung k = span (w.rungs - suc k) (w.heads k) (w.heads (suc k) - w.heads k)
 
-  -- control does not come behind the loop; a function that gives something back is to end so
+  -- control does not come after the loop; a function that gives something back is to end so
   abbrev pub function_code : Code
   function_code = Then (dispatched (w.local Counter) rung w.rungs) Unreachable
 
@@ -559,7 +559,7 @@ module _ (w : Setting) where
       (Then (Set (w.local (Count a)) (Const64 l.size))
       (Then (Set (w.local Top) (Two (Of wasm.I32 Add) (Local (w.local Top)) (Const32 (local_bytes (gang w) l)))) (arrays_code ls (suc a))))
 
-  -- Their bytes are zeroed, and one behind them: where there is no room for them, that traps.
+  -- Their bytes are zeroed, and one after them: where there is no room for them, that traps.
   abbrev pub begin_code : List Opened → Code
   begin_code [] = Skip
   begin_code (l ∷ ls) = Then (Clear (Local (w.local Top)) (Const32 (suc (bytes_in (gang w) (l ∷ ls))))) (arrays_code (l ∷ ls) (passed w.routine))

@@ -52,7 +52,7 @@ module _ (w : Setting) where
     pub stored_as : w.elems (w.home.named a.number) ≡ t
     pub low : w.home.named a.number < w.home.opened
 
-  -- an array of which each lane has its own, one behind the other
+  -- an array of which each lane has its own, one after the other
   pub record IsOwn (a : Register) (t : Elem) : Type 0 where
     pub own : is_per_lane w.routine a ≡ true
     pub elem_is : elem w a ≡ t

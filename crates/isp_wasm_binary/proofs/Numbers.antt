@@ -8,7 +8,7 @@ use Rattle.isp_wasm_binary.specs.Numbers.{groups, u32, is_small, last, signed_gr
 
 -- ---- unsigned
 
--- the number that bytes begin with, and what is behind it
+-- the number that bytes begin with, and what is after it
 abbrev pub Read : Type 0
 Read = ℕ × List ℕ
 

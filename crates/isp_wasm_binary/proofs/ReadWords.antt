@@ -49,7 +49,7 @@ simd_words =
     (shapes (λ s. Binary_word (CompareLanes s Eq)) (shapes (λ s. Binary_word (CompareLanes s Ne)) (shapes (λ s. Binary_word (CompareLanes s LtU)) (shapes (λ s. Binary_word (CompareLanes s LtS))
     (Binary_word (Bits And) ∷ Binary_word (Bits Or) ∷ Binary_word (Bits Xor) ∷ [])))))))))))
 
--- ---- the instruction that bytes begin with, and what is behind it
+-- ---- the instruction that bytes begin with, and what is after it
 
 abbrev Step : Type 0
 Step = Option (Word × List ℕ)
@@ -75,7 +75,7 @@ found f (w ∷ ws) n r = choose (nat_eq (f w) n) (Some (w, r)) (found f ws n r)
 abbrev opcode : Word → ℕ
 opcode w = first (word_bytes w)
 
--- behind 0xFD
+-- after 0xFD
 abbrev simd_number : Word → ℕ
 simd_number w = (read_groups 4 (rest (word_bytes w))).0
 
@@ -166,7 +166,7 @@ memory_step b r =
     (choose (nat_eq b 0x36) (memarg Bytes4 Store_word r)
     (choose (nat_eq b 0x37) (memarg Bytes8 Store_word r) None)))))))
 
--- a block has its type behind it
+-- a block has its type after it
 abbrev typed : Step → Step
 typed (Some (Block_word, b ∷ r)) = Some (Block_word, r)
 typed (Some (Loop_word, b ∷ r)) = Some (Loop_word, r)

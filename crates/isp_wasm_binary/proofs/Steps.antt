@@ -100,7 +100,7 @@ signed_more w x h e = more_signed 8 w x e ∙ ap (λ t. (128 + x % 128) ∷ t) (
 pub signed_rest : (w x : ℕ) → Within 9 w x → is_small w x ≡ false → Within 9 (w - 7) (x / 128)
 signed_rest w x h e = wider 8 (w - 7) (x / 128) (behind 8 w x h e)
 
--- ---- bytes that are written one behind the other
+-- ---- bytes that are written one after the other
 
 pub behind_byte : (o n t : List ℕ) (b : ℕ) → n ≡ o ++ b ∷ [] → n ++ t ≡ o ++ b ∷ t
 behind_byte o n t b e = ap (λ l. l ++ t) e ∙ append_assoc o (b ∷ []) t

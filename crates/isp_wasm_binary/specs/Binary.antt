@@ -46,7 +46,7 @@ is_same I64 I64 = true
 is_same V128 V128 = true
 is_same t u = false
 
--- locals of a type that stand one behind the other are a group
+-- locals of a type that stand one after the other are a group
 abbrev pub one_more : Bool → ValueType → Group → List Group → List Group
 one_more true t g gs = record g { count = suc g.count } ∷ gs
 one_more false t g gs = record { count = 1; type = t } ∷ g ∷ gs
@@ -78,7 +78,7 @@ abbrev pub pieces_of : List ℕ → List Piece
 pieces_of [] = []
 pieces_of (b ∷ bs) = record { at = 0; has = b ∷ bs } ∷ []
 
--- behind its first bytes, until a host says where
+-- after its first bytes, until a host says where
 abbrev pub stack_of : Module → Global
 stack_of m = record { type = I32; changes = true; first = length m.memory }
 

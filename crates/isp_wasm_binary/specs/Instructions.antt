@@ -1,4 +1,4 @@
--- The bytes of code: chapter 5.4 of the core specification of WebAssembly 2.0. An operator stands behind its operands.
+-- The bytes of code: chapter 5.4 of the core specification of WebAssembly 2.0. An operator stands after its operands.
 use Rattle.std.specs.Prelude.{ℕ, ◌+◌, List, [], ◌∷◌, ◌++◌, Option, Some, None, Bool, true, false, ◌&&◌, if◌then◌else◌, nat_eq}
 use Rattle.std.specs.List.{flat_map}
 use Rattle.isp_wasm_meaning.specs.Syntax.{Size, Division, Unary, Binary, Expr, Const32, Const64, Const128, Local, One, Two, Select, Bitselect}
@@ -19,7 +19,7 @@ pub data Access : Type 0 where
 abbrev pub access : ℕ → Access
 access n = if nat_eq n 1 then Bytes1 else (if nat_eq n 2 then Bytes2 else (if nat_eq n 4 then Bytes4 else (if nat_eq n 8 then Bytes8 else (if nat_eq n 16 then Bytes16 else NoAccess n))))
 
--- An instruction, as the standard has them one behind the other.
+-- An instruction, as the standard has them one after the other.
 pub data Word : Type 0 where
   Const32_word : ℕ → Word
   Const64_word : ℕ → Word

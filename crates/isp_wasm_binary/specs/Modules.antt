@@ -22,7 +22,7 @@ pub record Group : Type 0 where
   pub count : ℕ
   pub type : ValueType
 
--- the number of its type, its locals behind the parameters, and its code
+-- the number of its type, its locals after the parameters, and its code
 pub record Body : Type 0 where
   pub type : ℕ
   pub locals : List Group

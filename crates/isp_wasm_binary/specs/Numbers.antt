@@ -18,7 +18,7 @@ is_small w x = nat_lt x 64 || nat_le (2 ^ w) (x + 64)
 abbrev pub last : ℕ → ℕ → List ℕ
 last w x = (if nat_lt x (2 ^ (w - 1)) then x else x + 128 - 2 ^ w) ∷ []
 
--- 5.2.2 sN, signed LEB128, of a number given by its w bits; behind each byte 7 fewer are left
+-- 5.2.2 sN, signed LEB128, of a number given by its w bits; after each byte 7 fewer are left
 unfoldable pub signed_groups : ℕ → ℕ → ℕ → List ℕ
 signed_groups zero w x = last w x
 signed_groups (suc k) w x = elim (is_small w x) [ true ↦ last w x | false ↦ (128 + x % 128) ∷ signed_groups k (w - 7) (x / 128) ]

@@ -9,7 +9,7 @@ use Rattle.isp_wasm_binary.specs.Instructions.{Word, Const32_word, Const64_word,
 use Rattle.isp_wasm_binary.specs.Instructions.{Block_word, Loop_word, If_word, Else_word, End_word, Br_word, BrTable_word, Return_word, Call_word, Unreachable_word, GetGlobal_word, SetGlobal_word, Fill_word, access, is_nothing, host_write, host_trap, host_print, hosts}
 use Rattle.isp_wasm_binary.specs.Modules.{Global, Piece, Sections, sections_bytes}
 
--- ---- the instructions of folded code, one behind the other
+-- ---- the instructions of folded code, one after the other
 
 -- a shuffle names 16 bytes
 abbrev pub sixteen : Binary → Binary

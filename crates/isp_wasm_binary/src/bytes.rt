@@ -1,4 +1,4 @@
-//! Bytes that are written one behind the other.
+//! Bytes that are written one after the other.
 ghost use Rattle.std.specs.Prelude.{◌≡◌, ◌++◌, ◌∷◌, [], ◌^◌, ◌+◌, ◌*◌, ◌<◌, ◌≤◌, true, OnOk};
 ghost use Rattle.isp_wasm_binary.specs.Numbers as numbers;
 

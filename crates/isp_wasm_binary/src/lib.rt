@@ -19,7 +19,7 @@ pub fn numbers_are_said()
     ensures { NumbersAreSaid }
 {}
 
-/// Sections that differ have other bytes; the code of functions counts by its instructions, one behind the other.
+/// Sections that differ have other bytes; the code of functions counts by its instructions, one after the other.
 pub fn sections_tell()
     ensures { SectionsTell }
 {}

@@ -1,4 +1,4 @@
-//! Instructions, one behind the other.
+//! Instructions, one after the other.
 ghost use Rattle.std.specs.Prelude.{◌≡◌, ◌++◌, ◌∷◌, [], OnOk, slice_index};
 ghost use Rattle.std.specs.List.{flat_map};
 ghost use Rattle.isp_wasm_meaning.specs.Digits.{packed};
@@ -237,7 +237,7 @@ impl Bytes {
         self.unsigned(label)
     }
 
-    /// To the label that a value names, and where there are not so many, to the label behind all.
+    /// To the label that a value names, and where there are not so many, to the label after all.
     pub fn br_table(&mut self, count: u32) -> Result<(), AllocError>
         ensures { OnOk result (self.new ≡ self.old ++ word_bytes (instructions.BrTable_word (counting count 0) count)) }
     {
@@ -264,7 +264,7 @@ impl Bytes {
         self.byte(0x0F)
     }
 
-    /// A call of a function, by its number behind the host's.
+    /// A call of a function, by its number after the host's.
     pub fn call(&mut self, function: u32) -> Result<(), AllocError>
         ensures { OnOk result (self.new ≡ self.old ++ word_bytes (instructions.Call_word function)) }
     {

@@ -1,4 +1,4 @@
-//! The bytes of a module, and behind them a section with the text of its code.
+//! The bytes of a module, and after them a section with the text of its code.
 ghost use Rattle.std.specs.Prelude.{◌≡◌, ◌++◌, codes, None, IfOk, IfErr, OnOk};
 ghost use Rattle.isp_asm.specs.Spelling.{text_of};
 ghost use Rattle.isp_wasm_binary.specs.Modules as modules;
@@ -56,7 +56,7 @@ fn section(alloc: Global, code: &Code) -> Result<Vec<u8>, Stopped>
     Ok(section.into_vec())
 }
 
-// The module, and the section behind it.
+// The module, and the section after it.
 fn with_text(alloc: Global, made: Vec<u8>, code: &Code) -> Result<Vec<u8>, Stopped>
     ensures { IfOk result (λ v. v.items ≡ made.items ++ text_section code.now) }
 {
@@ -66,7 +66,7 @@ fn with_text(alloc: Global, made: Vec<u8>, code: &Code) -> Result<Vec<u8>, Stopp
     Ok(file)
 }
 
-/// The file of the module of WebAssembly that accepted code is: its bytes, by `module` of isp_wasm_module, and behind them a
+/// The file of the module of WebAssembly that accepted code is: its bytes, by `module` of isp_wasm_module, and after them a
 /// section `isp` that has the text of the code (docs/MACHINE.md). An engine passes over it; a host reads there for which gang
 /// the code is, and what each function takes and gives back.
 ///

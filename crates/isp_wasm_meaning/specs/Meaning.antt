@@ -165,7 +165,7 @@ pub record Report : Type 0 where
   pub end : ℕ
   pub instance : ℕ
 
--- it goes on behind the code, at the label of so many blocks around it, or behind the function; it traps, as the host was
+-- it goes on after the code, at the label of so many blocks around it, or after the function; it traps, as the host was
 -- told or not; or it makes more turns and calls than it was given
 pub data Result : Type 0 where
   Fell : State → Result
@@ -217,7 +217,7 @@ then_to (Returned v s) go = Returned v s
 then_to (Trapped t s) go = Trapped t s
 then_to (OutOfFuel s) go = OutOfFuel s
 
--- 4.4.8 block, if: behind it, and its label is number 0 inside
+-- 4.4.8 block, if: after it, and its label is number 0 inside
 abbrev pub behind : Result → Result
 behind (Fell s) = Fell s
 behind (Branched zero s) = Fell s
@@ -290,7 +290,7 @@ left (Returned v s) = Returned v s
 left (Trapped t s) = Trapped t s
 left (OutOfFuel s) = OutOfFuel s
 
--- 4.4.10 A call of a function of a module: locals behind the arguments are 0. One number is the fuel of the loops, and calls
+-- 4.4.10 A call of a function of a module: locals after the arguments are 0. One number is the fuel of the loops, and calls
 -- have one less.
 abbrev pub called : (ℕ → Code) → ℕ → ℕ → List ℕ → State → Result
 called module_code zero f xs s = OutOfFuel s

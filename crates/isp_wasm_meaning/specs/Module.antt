@@ -9,7 +9,7 @@
 --     memory 0    as many pages as its first bytes need and one more, without a most; exported as "isp.memory"
 --     global 0    i32, which never changes: how many first bytes there are; exported as "isp.base"
 --     globals 1 to 16    v128, which change: what a function gave back that is a vector
---     global 17    i32, which the host sets: behind the last byte of the arrays that it passed; exported as "isp.stack"
+--     global 17    i32, which the host sets: after the last byte of the arrays that it passed; exported as "isp.stack"
 use Rattle.std.specs.Prelude.{ℕ, List, [], length, ◌≡◌, ◌≤◌, Option, None, slice_index_or}
 use Rattle.isp_wasm_meaning.specs.Syntax.{Code, Unreachable}
 use Rattle.isp_wasm_meaning.specs.Meaning.{State, bytes}
@@ -21,7 +21,7 @@ pub data ValueType : Type 0 where
   V128 : ValueType
 
 -- A function: the bytes of the name that it is exported by, if it is; the types of what it takes and gives, and of its other
--- locals, whose numbers come behind those of the parameters; and what it does.
+-- locals, whose numbers come after those of the parameters; and what it does.
 pub record Function : Type 0 where
   pub export : Option (List ℕ)
   pub params : List ValueType
@@ -29,7 +29,7 @@ pub record Function : Type 0 where
   pub locals : List ValueType
   pub code : Code
 
--- The functions, by the number that a call has, which in the binary comes behind those of the imports; and the first bytes
+-- The functions, by the number that a call has, which in the binary comes after those of the imports; and the first bytes
 -- of the memory.
 pub record Module : Type 0 where
   pub functions : List Function

@@ -141,7 +141,7 @@ module _ (local : ℕ → Option ValueType) where
 
   -- in a module with these functions
   module _ (functions : List Function) (result : Option ValueType) where
-    -- behind so many labels
+    -- after so many labels
     abbrev pub is_valid : ℕ → Code → Bool
     is_valid depth Skip = true
     is_valid depth Unreachable = true
@@ -164,7 +164,7 @@ module _ (local : ℕ → Option ValueType) where
     is_valid depth (SetGlobal g e) = changes g && of_type e (global_type g)
     is_valid depth (Clear a n) = has_type a I32 && has_type n I32
 
--- behind it anything may stand
+-- after it anything may stand
 abbrev pub ends_there : Code → Bool
 ends_there Unreachable = true
 ends_there (Br k) = true

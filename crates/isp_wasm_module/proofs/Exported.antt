@@ -34,7 +34,7 @@ past : {A B : Type 0} (g : A → B) (hs : List A) (more : List B) → drop (leng
 past g [] more = refl
 past g (h ∷ hs) more = past g hs more
 
--- behind the functions that a host may call none has a name
+-- after the functions that a host may call none has a name
 pub none_exported : (code : Listing) (n : ℕ) → n ≡ length code.routines → names n (drop n (module_of code).functions) ≡ []
 none_exported code n e =
     ap (λ m. names n (drop m (module_of code).functions)) e
@@ -45,7 +45,7 @@ none_exported code n e =
     by true = unnamed code n 0 code.routines
     by false = refl
 
--- what is written behind the last of them
+-- what is written after the last of them
 pub functions_end : (code : Listing) (n : ℕ) (a whole : List ℕ) → n ≡ length code.routines
     → a ++ flat_map export_bytes (names n (drop n (module_of code).functions)) ≡ whole → a ≡ whole
 functions_end code n a whole e g = sym (append-nil a) ∙ ap (λ l. a ++ flat_map export_bytes l) (sym (none_exported code n e)) ∙ g

@@ -1,4 +1,4 @@
-//! The code of a function: rungs, each behind the label that jumps to it, in a loop.
+//! The code of a function: rungs, each after the label that jumps to it, in a loop.
 ghost use Rattle.std.specs.Prelude.{◌≡◌, ◌++◌, ◌+◌, ◌-◌, ◌^◌, ◌<◌, ◌≤◌, length, OnOk};
 ghost use Rattle.isp_wasm.specs.Entry.{entry_code};
 ghost use Rattle.isp_wasm.specs.Templates as templates;

@@ -227,7 +227,7 @@ fn lanes_taken(
     }
 }
 
-// The number of a function that others call: behind the host's, and as many as the code has.
+// The number of a function that others call: after the host's, and as many as the code has.
 fn number_of(kernel: &Kernel, function: u32) -> Result<u32, Refusal>
     ensures { IfOk result (λ n. n ≡ hosts + (length kernel.now.code.routines + function)) }
 {

@@ -151,7 +151,7 @@ fn inner(alloc: Global, kernel: &Kernel) -> Result<Bytes, Stopped>
     Ok(out)
 }
 
-/// A number behind so many others.
+/// A number after so many others.
 pub(crate) fn number_and(number: usize, others: u32) -> Result<u32, Stopped>
     ensures { IfOk result (λ n. n ≡ others + number) }
 {
@@ -204,7 +204,7 @@ pub(crate) fn push_bodies(alloc: Global, out: &mut Bytes, code: &Verified) -> Re
     Ok(())
 }
 
-/// Appends the number of each function's type: its own, behind those of the host's.
+/// Appends the number of each function's type: its own, after those of the host's.
 #[tactic(auto, using(crate::proofs::Written::more_numbers, crate::proofs::Written::none_left))]
 pub(crate) fn push_type_numbers(out: &mut Bytes, code: &Verified) -> Result<(), Stopped>
     ensures { OnOk result (out.new ≡ out.old ++ flat_map modules.type_bytes (binary.bodies 0 (module_of code.now).functions)) }

@@ -14,7 +14,7 @@ use isp_wasm_binary::Bytes;
 use isp_wasm_write::Part;
 use std::alloc::{AllocError, Global};
 
-/// The texts, one behind the other.
+/// The texts, one after the other.
 #[tactic(auto, using(crate::proofs::Memories::one_joined))]
 pub(crate) fn texts(alloc: Global, code: &Code) -> Result<Vec<u8>, AllocError>
     ensures { IfOk result (λ v. v.items ≡ joined code.now.texts) }

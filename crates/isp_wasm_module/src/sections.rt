@@ -156,7 +156,7 @@ fn written(alloc: Global, code: &Verified) -> Result<Vec<u8>, Stopped>
 
 /// The module of WebAssembly of accepted code, as its bytes.
 ///
-/// It exports each exported function of the code by its name, the memory as `isp.memory`, the address behind the code's
+/// It exports each exported function of the code by its name, the memory as `isp.memory`, the address after the code's
 /// texts as `isp.base`, and as `isp.stack` the address from which on the host lets functions open arrays. The host gives
 /// `isp.write`, `isp.trap`, and four functions that write a value. An array is an i32 address and an i64 count, a scalar its
 /// bits without a sign.

@@ -89,7 +89,7 @@ fn push_types(out: &mut Bytes, types: &[ValueType]) -> Result<(), Stopped>
     Ok(())
 }
 
-// One behind the other.
+// One after the other.
 fn push_each(out: &mut Bytes, types: &[ValueType]) -> Result<(), AllocError>
     ensures { OnOk result (out.new ≡ out.old ++ flat_map modules.value_type (map typed types.now)) }
 {

@@ -1,4 +1,4 @@
--- Folded code that is valid is valid as its instructions, one behind the other: control, memory, and what goes to locals.
+-- Folded code that is valid is valid as its instructions, one after the other: control, memory, and what goes to locals.
 use Rattle.std.proofs.Common.{◌≡◌, ◌≢◌, ◌⊎◌, inl, inr, ⊎_elim, ℕ, zero, suc, ◌+◌, ◌^◌, ◌<◌, List, [], ◌∷◌, ◌++◌, Option, Some, None, Bool, true, false, ◌&&◌, refl, sym, ap, ◌∙◌, subst, append_assoc, append-nil, arith}
 use Rattle.std.specs.Prelude.{◌||◌, slice_get, nat_lt, nat_eq}
 use Rattle.std.specs.List.{list_all, flat_map}
@@ -231,7 +231,7 @@ module _ (c : Context) (functions : List Function) (result : Option ValueType) (
   either true b e = inl refl
   either false b e = inr e
 
-  -- behind such code the stack is any
+  -- after such code the stack is any
   pub leaps : (n : ℕ) (a : Code) → is_valid local functions result n a ≡ true → ends_there a ≡ true → (ws : List Word) (st any to : List ValueType) → Typed n ws any to → Typed n (code_words a ++ ws) st to
   leaps n Unreachable h e ws st any to rest = unreachable st rest
   leaps n (Br k) h e ws st any to rest = br st (label local result n k h) rest

@@ -1,4 +1,4 @@
--- Folded code that is valid is valid as its instructions, one behind the other.
+-- Folded code that is valid is valid as its instructions, one after the other.
 use Rattle.std.proofs.Common.{◌≡◌, ℕ, List, [], ◌∷◌, ◌++◌, length, Option, Some, None, Bool, true, false, ◌&&◌, refl, sym, ap, subst, append_assoc, arith}
 use Rattle.std.specs.Prelude.{slice_get, slice_index, nat_lt, nat_eq}
 use Rattle.std.specs.List.{list_all}

@@ -33,7 +33,7 @@ all_at p [] k x h e = absurd (let no : ⊥ = cc in no)
 all_at p (a ∷ xs) zero x h e = subst (λ z. p z ≡ true) (same_some a x e) (both (p a) (list_all p xs) h).0
 all_at p (a ∷ xs) (suc k) x h e = all_at p xs k x (both (p a) (list_all p xs) h).1 e
 
--- behind six others
+-- after six others
 sixth : (f : ℕ) → hosts + f ≡ suc (suc (suc (suc (suc (suc f)))))
 sixth f = omega arith
 

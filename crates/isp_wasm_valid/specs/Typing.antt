@@ -1,4 +1,4 @@
--- Which instructions are valid, one behind the other: chapter 3.3 of the core specification of WebAssembly 2.0.
+-- Which instructions are valid, one after the other: chapter 3.3 of the core specification of WebAssembly 2.0.
 --     IsTyped    an instruction takes these values from the stack, and gives those
 --     AreTyped   instructions make one stack of another
 use Rattle.std.specs.Prelude.{◌≡◌, ℕ, ◌^◌, ◌<◌, List, [], ◌∷◌, ◌++◌, Option, Some, None, true, slice_get}
@@ -57,7 +57,7 @@ module _ (c : Context) where
   -- From one stack to another. What goes with a branch to each label is told by ls, the innermost first: to the end of a block or to the
   -- beginning of a loop nothing, since a block has the empty type.
   pub data AreTyped : List (List ValueType) → List Word → (from to : List ValueType) → Type 0 where
-    -- 3.3.9 none; one, and those behind it
+    -- 3.3.9 none; one, and those after it
     none : {ls : List (List ValueType)} {st : List ValueType} → AreTyped ls [] st st
     next : {ls : List (List ValueType)} {w : Word} {ws : List Word} {takes gives to : List ValueType} (st : List ValueType)
         → IsTyped w takes gives → AreTyped ls ws (onto gives st) to → AreTyped ls (w ∷ ws) (onto takes st) to
@@ -71,7 +71,7 @@ module _ (c : Context) where
     if_else : {ls : List (List ValueType)} {inside other ws : List Word} {st to : List ValueType}
         → AreTyped ([] ∷ ls) inside [] [] → AreTyped ([] ∷ ls) other [] [] → AreTyped ls ws st to
         → AreTyped ls (If_word ∷ (inside ++ Else_word ∷ (other ++ End_word ∷ ws))) (I32 ∷ st) to
-    -- 3.3.8 behind these the stack is any
+    -- 3.3.8 after these the stack is any
     unreachable : {ls : List (List ValueType)} {ws : List Word} {any to : List ValueType} (st : List ValueType)
         → AreTyped ls ws any to → AreTyped ls (Unreachable_word ∷ ws) st to
     br : {ls : List (List ValueType)} {k : ℕ} {ws : List Word} {ts any to : List ValueType} (st : List ValueType)

@@ -1,4 +1,4 @@
--- Lists that are appended one behind the other.
+-- Lists that are appended one after the other.
 use Rattle.std.proofs.Common.{◌≡◌, ℕ, List, ◌++◌, append_assoc}
 
 pub two_more : (o a b : List ℕ) → (o ++ a) ++ b ≡ o ++ (a ++ b)

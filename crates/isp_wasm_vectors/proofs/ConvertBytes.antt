@@ -1,4 +1,4 @@
--- The bytes behind lanes that are made those of another type.
+-- The bytes after lanes that are made those of another type.
 use Rattle.std.proofs.Common.{◌≡◌, ℕ, List, ◌++◌, ◌-◌, ◌^◌, ◌<◌, ◌≤◌, Bool, true, false, refl, sym, arith, append-nil, append_assoc, lit≤}
 use Rattle.std.specs.Prelude.{if◌then◌else◌, nat_lt, []}
 use Rattle.isp_base.specs.Values.{width}

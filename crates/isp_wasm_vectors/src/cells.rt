@@ -25,7 +25,7 @@ pub(crate) fn begin_cell(out: &mut Bytes, elem: Elem) -> Result<(), AllocError>
     }
 }
 
-/// Behind it.
+/// After it.
 pub(crate) fn end_cell(out: &mut Bytes, elem: Elem) -> Result<(), AllocError>
     ensures { OnOk result (out.new ≡ out.old ++ tails.cell_tail elem) }
 {
@@ -49,7 +49,7 @@ pub(crate) fn begin_lane(
     Ok(begin_cell(out, kernel.elem(register))?)
 }
 
-/// Behind it.
+/// After it.
 pub(crate) fn end_lane(
     kernel: &Kernel,
     out: &mut Bytes,

@@ -61,7 +61,7 @@ fn value_bits(elem: Elem, shape: Shape) -> [u8; 16]
     }
 }
 
-// Behind a part of lanes that were of a type: the bits of its values alone, where those of the other are wider.
+// After a part of lanes that were of a type: the bits of its values alone, where those of the other are wider.
 #[tactic(auto, using(crate::proofs::ConvertBytes::value_fits))]
 fn masked(out: &mut Bytes, from: Elem, to: Elem) -> Result<(), AllocError>
     ensures { OnOk result (out.new ≡ out.old ++ tails.masked_tail from to) }

@@ -45,7 +45,7 @@ fn unit(out: &mut Bytes, fold: &Fold) -> Result<(), AllocError>
     }
 }
 
-// Behind two values: the operator.
+// After two values: the operator.
 fn joined(out: &mut Bytes, op: Scan, elem: Elem) -> Result<(), AllocError>
     ensures { OnOk result (out.new ≡ out.old ++ join_tail op elem) }
 {

@@ -64,7 +64,7 @@ pub(crate) fn lane_or_zero(
     Ok(out.select()?)
 }
 
-// Behind a number: the number modulo a power of two.
+// After a number: the number modulo a power of two.
 fn low_bits(out: &mut Bytes, count: u8) -> Result<(), AllocError>
     requires { 0 < count }
     ensures { OnOk result (out.new ≡ out.old ++ and_tail (count - 1)) }

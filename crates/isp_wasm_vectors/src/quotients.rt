@@ -103,7 +103,7 @@ fn begin_put(kernel: &Kernel, out: &mut Bytes, to: Target) -> Result<(), Refusal
     }
 }
 
-// Behind it.
+// After it.
 fn end_put(kernel: &Kernel, out: &mut Bytes, to: Target) -> Result<(), Refusal>
     ensures { OnOk result (out.new ≡ out.old ++ quotients.put_tail (setting kernel.now) to) }
 {

@@ -24,7 +24,7 @@ pub row_long : (n : ℕ) (p : ℕ → places.Place) → length (row n p) ≡ n
 row_long zero p = refl
 row_long (suc n) p = ap suc (row_long n (λ j. p (suc j)))
 
--- one more place behind a row
+-- one more place after a row
 pub row_step : (before : List places.Place) (p : ℕ → places.Place) (n : ℕ) (got : List Place) (x : Place)
     → map place_of got ≡ before ++ row n p → place_of x ≡ p n → map place_of (got ++ x ∷ []) ≡ before ++ row (n + 1) p
 row_step before p n got x e f =

@@ -77,7 +77,7 @@ impl<'a> Kernel<'a> {
         self.lanes_on(out, self.mask_parts())
     }
 
-    /// Appends a jump to the rung that is to go on, behind the labels of all rungs.
+    /// Appends a jump to the rung that is to go on, after the labels of all rungs.
     pub fn dispatch_line(&self, out: &mut Bytes) -> Result<(), Refusal>
         ensures { OnOk result (out.new ≡ out.old ++ code_bytes (wasm.BrTable (counting (setting self.now).rungs 0) (setting self.now).rungs (wasm.Local ((setting self.now).local places.Counter)))) }
     {

@@ -46,7 +46,7 @@ fn is_marked(marks: &[bool], number: usize) -> bool
     }
 }
 
-// An instruction's number behind the others, if a rung begins there.
+// An instruction's number after the others, if a rung begins there.
 fn push_head(heads: &mut Vec<u64>, number: usize, is_head: bool) -> Result<(), AllocError>
     ensures items { OnOk result (heads.new.items ≡ heads.old.items ++ (if is_head then number ∷ [] else [])) }
     ensures few { OnOk result (length heads.new.items ≤ length heads.old.items + 1) }

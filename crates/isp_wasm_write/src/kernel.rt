@@ -224,7 +224,7 @@ impl<'a> Kernel<'a> {
         self.heads.len() as u32
     }
 
-    /// The instruction where a rung begins; behind the last rung, the number of instructions.
+    /// The instruction where a rung begins; after the last rung, the number of instructions.
     #[tactic(auto, using(crate::proofs::RungHeads::within))]
     pub fn head(&self, rung: u32) -> usize
         ensures is { result ≡ (setting self.now).heads rung }

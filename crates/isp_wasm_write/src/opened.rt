@@ -152,7 +152,7 @@ impl<'a> Kernel<'a> {
         Ok(out.binary(Binary::Of(Size::I32, Whole::Add))?)
     }
 
-    /// Appends where an array begins, as a lane finds it. Where each lane has its own, the copy of lane 1 is behind that of lane 0.
+    /// Appends where an array begins, as a lane finds it. Where each lane has its own, the copy of lane 1 is after that of lane 0.
     pub fn base_at(&self, out: &mut Bytes, array: Register, lane: u8) -> Result<(), Refusal>
         ensures { OnOk result (out.new ≡ out.old ++ expr_bytes (templates.base_at (setting self.now) array lane)) }
     {

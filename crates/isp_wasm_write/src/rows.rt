@@ -81,7 +81,7 @@ pub fn below_part(out: &mut Bytes, elem: Elem, left: Part, right: Part) -> Resul
     out.binary(Binary::CompareLanes(shape_of(elem), less_of(elem)))
 }
 
-/// Behind a part: its bits, each turned.
+/// After a part: its bits, each turned.
 pub(crate) fn turned(out: &mut Bytes) -> Result<(), AllocError>
     ensures { OnOk result (out.new ≡ out.old ++ (expr_bytes rows.ones ++ binary_bytes (wasm.Bits wasm.Xor))) }
 {
@@ -157,7 +157,7 @@ pub fn unary_part(out: &mut Bytes, op: UnaryOp, elem: Elem, part: Part) -> Resul
     }
 }
 
-/// Appends, behind a part of lanes half as wide as a shape's, that its low ones are made as wide where `place` is even, else its high ones.
+/// Appends, after a part of lanes half as wide as a shape's, that its low ones are made as wide where `place` is even, else its high ones.
 pub fn half(out: &mut Bytes, shape: Shape, place: u32) -> Result<(), AllocError>
     ensures { OnOk result (out.new ≡ out.old ++ half_tail (named.shape shape) place) }
 {

@@ -18,7 +18,7 @@ use isp_code::Plain;
 use isp_wasm_binary::{Binary, Bitwise, Bytes, Shift, Size, Test, Unary, Whole};
 use std::alloc::AllocError;
 
-// Behind a value of 8 or 16 bits with a sign: the sign.
+// After a value of 8 or 16 bits with a sign: the sign.
 fn sign(out: &mut Bytes, elem: Elem) -> Result<(), AllocError>
     ensures { OnOk result (out.new ≡ out.old ++ tails.sign_tail elem) }
 {
@@ -36,7 +36,7 @@ fn and(out: &mut Bytes, number: u32) -> Result<(), AllocError>
     out.binary(Binary::BitsOf(Size::I32, Bitwise::And))
 }
 
-/// Behind a number: its low bits, of as many as a value has.
+/// After a number: its low bits, of as many as a value has.
 pub fn cut(out: &mut Bytes, elem: Elem) -> Result<(), AllocError>
     ensures { OnOk result (out.new ≡ out.old ++ tails.cut_tail elem) }
 {
@@ -47,7 +47,7 @@ pub fn cut(out: &mut Bytes, elem: Elem) -> Result<(), AllocError>
     }
 }
 
-// Behind a shift's amount: the amount modulo the bits of the value.
+// After a shift's amount: the amount modulo the bits of the value.
 fn amount(out: &mut Bytes, elem: Elem) -> Result<(), AllocError>
     ensures { OnOk result (out.new ≡ out.old ++ tails.amount_tail elem) }
 {
@@ -85,7 +85,7 @@ fn whole(
     cut(out, elem)
 }
 
-// The first of two values where the comparison behind them holds, else the second.
+// The first of two values where the comparison after them holds, else the second.
 fn one_of(
     out: &mut Bytes,
     elem: Elem,
@@ -255,7 +255,7 @@ pub fn compare(
     }
 }
 
-// Behind a number: the number as one of another size, with its sign.
+// After a number: the number as one of another size, with its sign.
 fn sized(out: &mut Bytes, elem: Elem, from: Size, to: Size) -> Result<(), AllocError>
     ensures { OnOk result (out.new ≡ out.old ++ tails.sized_tail elem (named.size from) (named.size to)) }
 {

@@ -4,11 +4,12 @@ ghost use Rattle.clap.specs.Values.{kind_of};
 ghost use Rattle.isp_engine.specs.Told.{Told};
 ghost use Rattle.isp_workbench.specs.Requests.{Answered, Commands, WordsRefused};
 
-use crate::explain::explain;
 use clap::Error;
 use clap::error::ErrorKind;
+use isp_case_command::test;
 use isp_code_commands::{c_file, count, trace, wasm_file};
 use isp_engine::{Failure, Sink, SourceFiles, tell_end, write_text};
+use isp_explain_command::explain;
 use isp_run_command::{run, show};
 use isp_run_words::DataFiles;
 use ispx_command_line::{Request, read_words};
@@ -17,9 +18,10 @@ use std::alloc::{AllocError, Global};
 /// Does what `words` ask for, the first of which is the program's name, and answers the exit status.
 ///
 /// `run [--gang G] [--budget B] [--out NAME=FILE].. [--json] SOURCE ENTRY [NAME=VALUE]..` runs ENTRY with the arguments that words and
-/// files give, and says on `err` what went wrong. `explain [--gang G] [--budget B] SOURCE [ENTRY ARGUMENTS]` does what `isp check` or
+/// files give, and says on `err` what went wrong. `test [--gang G] [--budget B] SOURCE` runs the cases of SOURCE.tests at each gang, and
+/// writes a line for each that differs. `explain [--gang G] [--budget B] SOURCE [ENTRY ARGUMENTS]` does what `isp check` or
 /// `isp run` does, with the same output and the same status, and says on `err` what went wrong, where, and what to write instead.
-/// `count [--gang G] [--budget B] SOURCE ENTRY ARGUMENTS` does what `isp run` does, and writes behind the answer a line of JSON with
+/// `count [--gang G] [--budget B] SOURCE ENTRY ARGUMENTS` does what `isp run` does, and writes after the answer a line of JSON with
 /// what the instructions come to. `trace`, with the same words and `[--from N] [--count M] [--lanes]`, writes the line of each step in
 /// a window of the run. `c [--gang G] [--header] FILE` writes the code of a text, or with a gang that of a source, as a C file, and
 /// `wasm [--gang G] FILE` as a module of WebAssembly. Of these four a line goes to `err` where the status is not 0.
@@ -56,6 +58,7 @@ fn answer<F: SourceFiles + DataFiles, O: Sink, E: Sink>(
 {
     match request {
         Request::Run(wanted) => run(alloc, wanted, files, out, err),
+        Request::Test(wanted) => test(alloc, wanted, files, out, err),
         Request::Explain(wanted) => explain(alloc, wanted, files, out, err),
         Request::Count(wanted) => tell_end(count(alloc, wanted, files, out), err),
         Request::Trace(wanted) => tell_end(trace(alloc, wanted, files, out), err),

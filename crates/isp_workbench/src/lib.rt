@@ -2,7 +2,5 @@
 #![tactic(auto)]
 
 mod commands;
-mod done;
-mod explain;
 
 pub use commands::command;

@@ -3,4 +3,6 @@
 
 mod words;
 
-pub use words::{CRequest, Call, ExplainRequest, Request, TraceRequest, WasmRequest, read_words};
+pub use words::{
+    CRequest, Call, CountRequest, ExplainRequest, Request, TestRequest, TraceRequest, WasmRequest, read_words,
+};

@@ -38,6 +38,21 @@ pub struct WasmRequest<'a> {
     pub file: &'a str,
 }
 
+/// The cases of a source are run, at a gang or where there is none at each, and each for so many instructions at most.
+#[derive(Clone, Copy, Debug)]
+pub struct TestRequest<'a> {
+    pub gang: Option<Gang>,
+    pub budget: u64,
+    pub source: &'a str,
+}
+
+/// An entry of a source is run and its instructions are counted, and by lines of the source too where these are wanted.
+#[derive(Clone, Copy, Debug)]
+pub struct CountRequest<'a> {
+    pub run: RunRequest<'a>,
+    pub lines: bool,
+}
+
 /// An entry of a source is run, and `count` of its steps from number `from` on are shown; with the lanes that each wrote where
 /// these are wanted.
 #[derive(Clone, Copy, Debug)]
@@ -52,8 +67,9 @@ pub struct TraceRequest<'a> {
 #[derive(Debug, Drop)]
 pub enum Request<'a> {
     Run(RunWords<'a>),
+    Test(TestRequest<'a>),
     Explain(ExplainRequest<'a>),
-    Count(RunRequest<'a>),
+    Count(CountRequest<'a>),
     Trace(TraceRequest<'a>),
     C(CRequest<'a>),
     Wasm(WasmRequest<'a>),
@@ -81,13 +97,21 @@ fn misfit(alloc: Global) -> Result<Error, Error> {
 
 fn chosen<'a>(name: &str, inner: &ArgMatches<'a>) -> Option<Request<'a>> {
     match name {
+        "test" => Some(Request::Test(TestRequest {
+            gang: gang_of(inner),
+            budget: inner.get_one::<u64>("budget").unwrap_or(u64::MAX),
+            source: inner.get_str("SOURCE")?,
+        })),
         "explain" => Some(Request::Explain(ExplainRequest {
             gang: gang_of(inner)?,
             budget: inner.get_one::<u64>("budget")?,
             source: inner.get_str("SOURCE")?,
             call: call_of(inner),
         })),
-        "count" => Some(Request::Count(run_of(inner)?)),
+        "count" => Some(Request::Count(CountRequest {
+            run: run_of(inner)?,
+            lines: inner.get_flag("lines"),
+        })),
         "trace" => Some(Request::Trace(TraceRequest {
             run: run_of(inner)?,
             from: inner.get_one::<u64>("from")?,
@@ -170,11 +194,12 @@ fn ispx<'a>(alloc: Global) -> Result<Command<'a>, Error> {
         .bin_name("ispx")?
         .version(VERSION)
         .about(
-            "Runs kernels, explains what is refused, shows what a run does, and writes kernels as C and WebAssembly",
+            "Runs and tests kernels, explains what is refused, shows what a run does, and writes kernels as C and WebAssembly",
         )
         .subcommand_required(true);
     let shown = named
         .subcommand(run_words(alloc)?)?
+        .subcommand(test(alloc)?)?
         .subcommand(explain(alloc)?)?
         .subcommand(count(alloc)?)?
         .subcommand(trace(alloc)?)?;
@@ -185,9 +210,7 @@ fn run_words<'a>(alloc: Global) -> Result<Command<'a>, AllocError> {
     Command::new(alloc, "run")
         .about("Runs ENTRY of SOURCE with values from the command line and from files")
         .arg(gang(alloc).default_value("16"))?
-        .arg(number(alloc, "budget", "B").help(
-            "Instructions that may run; as many as it takes unless given",
-        ))?
+        .arg(free_budget(alloc))?
         .arg(output(alloc))?
         .arg(
             Arg::new(alloc, "json")
@@ -206,6 +229,23 @@ fn run_words<'a>(alloc: Global) -> Result<Command<'a>, AllocError> {
                 .help("Exported function to call"),
         )?
         .arg(values(alloc))
+}
+
+fn test<'a>(alloc: Global) -> Result<Command<'a>, AllocError> {
+    Command::new(alloc, "test")
+        .about("Runs the cases of SOURCE.tests, and shows those that differ")
+        .arg(gang(alloc).help("Instances that run together; each gang in turn unless given"))?
+        .arg(free_budget(alloc))?
+        .arg(
+            named(alloc, "SOURCE")
+                .required(true)
+                .help("File with the kernels, text in ISPC"),
+        )
+}
+
+// The instructions that may run, where that is no number unless one is given.
+fn free_budget<'a>(alloc: Global) -> Arg<'a> {
+    number(alloc, "budget", "B").help("Instructions that may run; as many as it takes unless given")
 }
 
 fn output<'a>(alloc: Global) -> Arg<'a> {
@@ -246,6 +286,12 @@ fn count<'a>(alloc: Global) -> Result<Command<'a>, AllocError> {
         alloc,
         "count",
         "Does what `isp run` does, and counts the instructions and the lanes that they use",
+    )?
+    .arg(
+        Arg::new(alloc, "lines")
+            .long("lines")
+            .help("The accesses, divisions, assertions and calls of each line, too")
+            .action(ArgAction::SetTrue),
     )
 }
 

@@ -1,4 +1,4 @@
--- What lines say, one behind the other: the code so far, and the function that has begun. No part of the promise.
+-- What lines say, one after the other: the code so far, and the function that has begun. No part of the promise.
 use Rattle.std.specs.Prelude.{◌≡◌, ℕ, false, true, List, [], ◌∷◌, ◌++◌, length, map, None}
 use Rattle.isp_base.specs.declared.types.Gang.TheVariants.{W4}
 use Rattle.isp_code.specs.Listing.{Listing, Routine, routine_of}
@@ -26,7 +26,7 @@ nothing_drafted = record { last = kind.Start; code = record { gang = W4; places 
 abbrev pub drafted : Draft → Drafted
 drafted d = record { last = d.last; code = d.code; begun = routine_of d.begun }
 
--- what is there behind a further line
+-- what is there after a further line
 abbrev pub taken : Line → Drafted → Drafted
 taken (says.Isp g) d = record { last = kind.Isp; code = record { gang = g; places = []; texts = []; routines = [] }; begun = d.begun }
 taken (says.Place s) d = record d { last = kind.Place; code = record d.code { places = d.code.places ++ s ∷ [] } }
@@ -81,7 +81,7 @@ NoLocals h = (h.locals ≡ []) × NoScalars h
 abbrev pub NoParams : Routine → Type 0
 NoParams h = (h.params ≡ []) × NoLocals h
 
--- what comes behind a line has not come yet, and a function that has begun can be written
+-- what comes after a line has not come yet, and a function that has begun can be written
 abbrev pub Ordered : Kind → Listing → Routine → Type 0
 Ordered kind.Start c h = (c.places ≡ []) × (c.texts ≡ [])
 Ordered kind.Isp c h = (c.texts ≡ []) × (c.routines ≡ [])

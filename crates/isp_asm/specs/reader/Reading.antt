@@ -44,7 +44,7 @@ ending_of (Back x) = ending.Back
 abbrev pub has_registers : Shape → ℕ → Bool
 has_registers s n = (n == s.fewest) || (s.more && (n == suc s.fewest))
 
--- what is wrong with the words behind a first word
+-- what is wrong with the words after a first word
 abbrev pub behind_fault : Head → List (List ℕ) → Option Rule
 behind_fault h ws = operands_fault h (forms_at h (length ws)) ws
 
@@ -115,7 +115,7 @@ line_head says.End = head.End
 abbrev pub line_kind : Line → Kind
 line_kind l = kind_of (line_head l)
 
--- a line that can be written may stand behind those that are seen
+-- a line that can be written may stand after those that are seen
 pub record Stands (s : Seen) (l : Line) : Type 0 where
   pub fits : line_fits l ≡ true
   pub follows : may_follow s.last (line_kind l) ≡ true

@@ -126,7 +126,7 @@ argument_at expr target ts = either_at (is_mark mark.And) (both (mark_at mark.An
 unfoldable pub arguments_at : Reader Expr → Reader Place → Reader (List Argument × Span)
 arguments_at expr target ts = both (listed_at mark.ParenClose (argument_at expr target)) (mark_at mark.ParenClose) ts
 
--- what may stand behind a name
+-- what may stand after a name
 pub data Suffix : Type 0 where
   by_nothing : Suffix
   by_index : Expr × Span → Suffix
@@ -171,22 +171,22 @@ abbrev pub bracket_of : Span → (TypeTree × (Span × Expr)) ⊎ (Expr × Span)
 bracket_of o (inl c) = cast c.0 c.1.1 (span_to o (span_of c.1.1))
 bracket_of o (inr b) = brackets b.0 (span_to o b.1)
 
--- a type, a closing bracket and what is cast, behind an opening bracket
+-- a type, a closing bracket and what is cast, after an opening bracket
 unfoldable pub cast_at : (ℕ → Reader Expr) → Span → Reader Expr
 cast_at inner o ts = both type_at (both (mark_at mark.ParenClose) (inner zero)) ts >>= λ p. Ok (bracket_of o (inl p.0), p.1)
 
--- an expression and a closing bracket, behind an opening bracket
+-- an expression and a closing bracket, after an opening bracket
 unfoldable pub closed_at : (ℕ → Reader Expr) → Span → Reader Expr
 closed_at inner o ts = both (inner loosest) (mark_at mark.ParenClose) ts >>= λ p. Ok (bracket_of o (inr p.0), p.1)
 
--- what stands behind an opening bracket: a type and what is cast to it, or an expression
+-- what stands after an opening bracket: a type and what is cast to it, or an expression
 unfoldable pub bracket_at : (ℕ → Reader Expr) → Span → Reader Expr
 bracket_at inner o ts = either_at begins_type (both type_at (both (mark_at mark.ParenClose) (inner zero))) (both (inner loosest) (mark_at mark.ParenClose)) ts >>= λ p. Ok (bracket_of o p.0, p.1)
 
 abbrev pub prefix_of : Prefix → Span → Expr → Expr
 prefix_of p s x = prefix p x (span_to s (span_of x))
 
--- an operand behind an operator that stands before it
+-- an operand after an operator that stands before it
 abbrev pub prefixed_at : (ℕ → Reader Expr) → Prefix → Span → Reader Expr
 prefixed_at inner p s ts = inner zero ts >>= λ x. Ok (prefix_of p s x.0, x.1)
 

@@ -66,7 +66,7 @@ size_from (Some v) s = size.Number v s
 unfoldable pub size_at : Reader Size
 size_at ts = sign_at size_of ts >>= λ p. Ok (size_from p.0.0 p.0.1, p.1)
 
--- what goes on with an item behind its name
+-- what goes on with an item after its name
 abbrev pub is_item_sign : TokenKind → Bool
 is_item_sign k = is_mark mark.Assign k || is_mark mark.BracketOpen k
 
@@ -195,7 +195,7 @@ unfoldable pub head_at : ℕ → Reader Head
 head_at n ts = both (mark_at mark.ParenOpen) (both (maybe_closed_at mark.Semicolon (first_part_at n)) (both (maybe_closed_at mark.Semicolon (expr_at n loosest)) (maybe_closed_at mark.ParenClose (step_part_at n)))) ts
     >>= λ p. Ok (record { first = p.0.1.0.0; test = p.0.1.1.0.0; step = p.0.1.1.1.0 }, p.1)
 
--- an expression behind a mark
+-- an expression after a mark
 unfoldable pub behind_at : Mark → ℕ → Reader Expr
 behind_at m n ts = both (mark_at m) (expr_at n loosest) ts >>= λ p. Ok (p.0.1, p.1)
 
@@ -220,7 +220,7 @@ abbrev pub more_ranges : Option (Span × (Range × Option (Span × Range))) → 
 more_ranges None = []
 more_ranges (Some r) = r.1.0 ∷ last_range r.1.1
 
--- behind ranges that were read before
+-- after ranges that were read before
 abbrev pub with_last : List Range → Read (Option (Span × Range)) → Read (List Range)
 with_last front read = read >>= λ p. Ok (front ++ last_range p.0, p.1)
 
@@ -265,7 +265,7 @@ values_at n ts = until_at mark.ParenClose (behind_at mark.Comma n) (suc (length 
 unfoldable pub do_end_at : ℕ → Reader (Expr × Span)
 do_end_at n ts = both (mark_at mark.While) (both (test_at n) (mark_at mark.Semicolon)) ts >>= λ p. Ok (p.0.1, p.1)
 
--- ---- statements without statements in them, behind their first token
+-- ---- statements without statements in them, after their first token
 
 unfoldable pub declare_at : ℕ → Reader Stmt
 declare_at n ts = both (declaration_at n) (mark_at mark.Semicolon) ts >>= λ p. Ok (declare p.0.0 (span_to p.0.0.span p.0.1), p.1)
@@ -286,7 +286,7 @@ print_at n s ts = both (mark_at mark.ParenOpen) (both (sign_at text_of) (both (v
 unfoldable pub assert_at : ℕ → Span → Reader Stmt
 assert_at n s ts = both (closed_test_at n) (mark_at mark.Semicolon) ts >>= λ p. Ok (assert p.0.0.0 (span_to s p.0.0.1) (span_to s p.0.1), p.1)
 
--- ---- statements with statements in them, behind their first token
+-- ---- statements with statements in them, after their first token
 
 unfoldable pub stmts_at : Reader Stmt → Reader (List Stmt)
 stmts_at stmt ts = until_at mark.BraceClose stmt (suc (length ts)) ts

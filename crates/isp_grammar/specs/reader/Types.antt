@@ -59,7 +59,7 @@ type_by more (by.Qualifier q) s qs t ts = more q
 type_by more (by.Base b) s qs t ts = Ok (record { qualifiers = qs; base = Some b; span = span_to s t.span }, ts)
 type_by more by.Other s qs t ts = type_end s qs (t ∷ ts)
 
--- the rest of a type, behind these qualifiers at that place
+-- the rest of a type, after these qualifiers at that place
 unfoldable pub type_more : Span → List Qualifier → Reader TypeTree
 type_more s qs [] = type_end s qs []
 type_more s qs (t ∷ ts) = type_by (λ q. type_more (span_to s t.span) (qs ++ q ∷ []) ts) (type_word_of t.kind) s qs t ts

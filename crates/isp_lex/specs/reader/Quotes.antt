@@ -28,7 +28,7 @@ pub record Says (text : List ℕ) (at : ℕ) (bytes : List ℕ) : Type 0 where
 abbrev pub goes_on : ℕ → Bool
 goes_on b = is_plain b || (b == 34 || b == 92)
 
--- or, behind a backslash, with this one
+-- or, after a backslash, with this one
 abbrev pub is_some : Option ℕ → Bool
 is_some None = false
 is_some (Some b) = true

@@ -105,8 +105,8 @@ decreases-expression::passed l = 8 * typed_nodes (expr_of l.x.now) + 4
 abbrev pub decreases-expression::argument : goal.decreases-expression::argument
 decreases-expression::argument l = 8 * argument_nodes (argument_of l.x.now) + 5
 
--- whatever comes behind the arguments that are left comes behind all of them; what they ask for is there; and their registers stand
--- behind those of the arguments before
+-- whatever comes after the arguments that are left comes after all of them; what they ask for is there; and their registers stand
+-- after those of the arguments before
 abbrev pub invariant-expression::arguments-loop-place : goal.invariant-expression::arguments-loop-place
 invariant-expression::arguments-loop-place l =
     ((h : Body) → Appends l.b h (λ pc p. arguments_code (layout l.on) (drop l.place ((layout l.on).rates l.function))

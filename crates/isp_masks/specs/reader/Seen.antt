@@ -6,7 +6,7 @@ use Rattle.isp_typed.specs.Typed.{t_unmasked, t_jump, t_return, t_print, t_asser
 use Rattle.isp_masks_code.specs.Exits.{exits_of}
 use Rattle.isp_masks.specs.declared.seen.Seen.{Seen}
 
--- a statement, told what was seen of its parts
+-- a statement, given what was seen of its parts
 abbrev pub seen_with : TStmt → List Seen → List Seen
 seen_with x parts = record { exits = exits_of x; size = 1 + length parts } ∷ parts
 

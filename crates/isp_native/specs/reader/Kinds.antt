@@ -5,7 +5,7 @@ use Rattle.isp_code.specs.declared.instr.Instr.TheVariants as instr
 use Rattle.isp_code.specs.declared.instr.VectorInstr.{VectorInstr}
 use Rattle.isp_code.specs.declared.instr.VectorInstr.TheVariants as vector
 
--- stores, and what stores or loads lanes one behind the other
+-- stores, and what stores or loads lanes one after the other
 abbrev pub is_access : Instr → Bool
 is_access (instr.Store a i y k p) = true
 is_access (instr.Scatter a i y k p) = true

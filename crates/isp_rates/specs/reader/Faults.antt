@@ -33,7 +33,7 @@ of_each g (a ∷ rest) = first_of (g a) (of_each g rest)
 abbrev pub mismatch : Rate → Rate → Span → Option Fault
 mismatch wanted given s = fault_unless (goes_to wanted given) (fault VaryingToUniform s)
 
--- behind the fault of an expression the demand on it
+-- after the fault of an expression the demand on it
 abbrev pub demand : Rate → TExpr → Option Fault → Option Fault
 demand wanted x (Some e) = Some e
 demand wanted x None = mismatch wanted (type_of x).rate (span_of x)

@@ -94,7 +94,7 @@ fn parameter(rt: &impl Abort, alloc: Global, name: &str, elem: Elem, is_array: b
     }
 }
 
-// The parameter that a word names with its type; `[]` stands behind the type of an array.
+// The parameter that a word names with its type; `[]` stands after the type of an array.
 fn worded(rt: &impl Abort, alloc: Global, word: &str) -> Parameter {
     let (name, kind) = parted(word, ':');
     let array = kind.strip_suffix("[]");

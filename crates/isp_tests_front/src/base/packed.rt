@@ -13,7 +13,7 @@ use std::process::Abort;
 use std::test::Fail;
 use table::TABLE;
 
-// The parameter of a number, of the type that a word names; `[]` stands behind the type of an array.
+// The parameter of a number, of the type that a word names; `[]` stands after the type of an array.
 fn parameter(rt: &impl Abort, alloc: Global, number: usize, word: &str) -> Parameter {
     let array = word.strip_suffix("[]");
     let elem = elem_named(array.unwrap_or(word)).expect(rt, "a type of another name");
@@ -88,7 +88,7 @@ fn of_the_table(rt: HostRuntime) {
     assert_eq!(rt; lines, 52);
 }
 
-// A result has 8 bytes, zero above its width; with fewer bytes than are wanted nothing is written, and bytes behind the
+// A result has 8 bytes, zero above its width; with fewer bytes than are wanted nothing is written, and bytes after the
 // answer stay.
 #[test]
 fn room_for_an_answer(rt: HostRuntime) {

@@ -71,7 +71,7 @@ fn was_read(touched: &Arrays, store: usize, place: usize) -> bool {
     }
 }
 
-// One more word, behind a space where others came before.
+// One more word, after a space where others came before.
 fn push_word(text: &mut String, word: &str) -> Result<(), AllocError> {
     if !text.is_empty() {
         text.push(' ')?;

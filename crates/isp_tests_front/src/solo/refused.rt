@@ -65,7 +65,7 @@ fn breaks_rule_1(report: Result<SoloReport, EvalFault>) -> bool {
     }
 }
 
-// That is told where no memory is given.
+// That is given where no memory is given.
 #[test]
 fn refused_without_memory(rt: HostRuntime) {
     let alloc = rt.alloc();

@@ -25,7 +25,7 @@ impl Line {
         }
     }
 
-    /// A word behind a blank.
+    /// A word after a blank.
     pub fn word(&mut self, text: &str) {
         self.add(" ");
         self.add(text);
@@ -42,14 +42,14 @@ impl Line {
         self.add(")");
     }
 
-    /// A number behind a blank.
+    /// A number after a blank.
     pub fn number(&mut self, number: u64) {
         if write!(self.text, " {number}").is_err() {
             self.refused = true;
         }
     }
 
-    /// A place behind a blank, as `3..5`.
+    /// A place after a blank, as `3..5`.
     pub fn place(&mut self, span: Span) {
         if write!(self.text, " {span}").is_err() {
             self.refused = true;

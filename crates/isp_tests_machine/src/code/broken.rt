@@ -49,7 +49,7 @@ const HEADERS: [(&str, Rule); 6] = [
     ("isp 01 gang 32\n", Rule::NotCanonical),
 ];
 
-// Whether a text may stop here: behind a whole line that is the head, a place, a text or the end of a function.
+// Whether a text may stop here: after a whole line that is the head, a place, a text or the end of a function.
 fn may_stop(front: &str) -> bool {
     let Some(lines) = front.strip_suffix('\n') else {
         return false;
@@ -59,10 +59,10 @@ fn may_stop(front: &str) -> bool {
     LAST_WORDS.iter().any(|known| *known == word)
 }
 
-// The words of the lines behind which a text may stop.
+// The words of the lines after which a text may stop.
 const LAST_WORDS: [&str; 4] = ["isp", "place", "text", "end"];
 
-// What is told of a text that begins as one of these and stops behind `front`: 60 at the line that is not there, if it may not stop there.
+// What is told of a text that begins as one of these and stops after `front`: 60 at the line that is not there, if it may not stop there.
 fn cut_fault(front: &str) -> Option<AsmFault> {
     if may_stop(front) {
         return None;

@@ -2,7 +2,7 @@
 use super::runs::{counts, run_of};
 use isp_tests_support::parted;
 
-/// Each line: a run, and its counts, or how they begin where `…` stands behind it.
+/// Each line: a run, and its counts, or how they begin where `…` stands after it.
 ///
 /// share is the kernel of docs/TOUR.md, counted by hand. Its 16 instructions are 3 under m0, 8 under m3, and 5 without a mask: mtest,
 /// joff, two of const, and ret. Of the 4 lanes all are on in m0 and 3 in m3, so 3 * 4 + 8 * 3 = 36 of 11 * 4 = 44. The first 5

@@ -5,7 +5,7 @@ use isp_traces::Window;
 use std::alloc::Global;
 use std::process::Abort;
 
-/// Each record: its name; how many steps come before the window, how many are in it and whether lanes are shown, with the run behind the
+/// Each record: its name; how many steps come before the window, how many are in it and whether lanes are shown, with the run after the
 /// bar; and the lines.
 const TRACES: &str = "=== the whole run of the kernel of docs/TOUR.md, by hand
 0 100 lanes|share 4 1000 i32[]:10,20,30 i32:3

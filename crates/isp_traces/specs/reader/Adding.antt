@@ -1,6 +1,7 @@
 -- How an instruction is added to counts.
-use Rattle.std.specs.Prelude.{◌≡◌, ℕ, ◌+◌, ◌*◌, ◌<◌, ◌≤◌, ◌^◌, List, length, get_or, slice_set, Option, Some, None}
+use Rattle.std.specs.Prelude.{◌≡◌, ℕ, ◌+◌, ◌*◌, ◌<◌, ◌≤◌, ◌^◌, List, length, get_or, slice_set, nat_lt, if◌then◌else◌, Option, Some, None}
 use Rattle.isp_traces.specs.Kinds.{number_of}
+use Rattle.isp_traces.specs.Named.{group_of}
 use Rattle.isp_traces.specs.Tallies.{nothing}
 use Rattle.isp_traces.specs.declared.counting.Executed.{Executed}
 use Rattle.isp_traces.specs.declared.kinds.Kind.{Kind}
@@ -27,15 +28,23 @@ pub record HaveRoom (c : Counts) : Type 0 where
   pub functions : (f : ℕ) → f < length c.functions.items → HasRoom (get_or c.functions.items f nothing)
   pub kinds : (k : Kind) → HasRoom (get_or c.kinds.items (number_of k) nothing)
   pub kind_count : length c.kinds.items ≡ 8
+  pub groups : (g : ℕ) → g < length c.groups.tallies.items → HasRoom (get_or c.groups.tallies.items g nothing)
 
 -- one more instruction in tally number `at` of a list
 abbrev pub added : List Tally → ℕ → Option ℕ → List Tally
 added ts at on = slice_set ts at (plus (get_or ts at nothing) (one on))
 
+-- the same in the tally of a number that is there, if there is a number
+abbrev pub added_there : List Tally → Option ℕ → Option ℕ → List Tally
+added_there ts None on = ts
+added_there ts (Some p) on = if nat_lt p (length ts) then added ts p on else ts
+
 pub record Adds (e : Executed) (old now : Counts) : Type 0 where
   pub total : now.total ≡ plus old.total (one e.on)
   pub functions : now.functions.items ≡ added old.functions.items e.function e.on
   pub kinds : now.kinds.items ≡ added old.kinds.items (number_of e.kind) e.on
+  pub of_places : now.groups.of_places.items ≡ old.groups.of_places.items
+  pub groups : now.groups.tallies.items ≡ added_there old.groups.tallies.items (group_of old.groups.of_places.items e.place) e.on
 
 abbrev pub AddsIf : Option Executed → Counts → Counts → Type 0
 AddsIf None old now = now ≡ old

@@ -25,7 +25,7 @@ use Rattle.isp_types.specs.Statements.{first_typing, stmt_typing, block_typing, 
 use Rattle.isp_types.proofs.fine.Passed.{no_ok}
 use Rattle.isp_types.proofs.fine.Simples.{no_all, array_bounds}
 
--- one list is another with what is declared behind it
+-- one list is another with what is declared after it
 pub record Declares (before after : List Variable) : Type 0 where
   pub more : List Variable
   pub is : after ≡ before ++ more

@@ -9,7 +9,7 @@ use Rattle.isp_exprs.specs.Scopes.{named, with_name}
 use Rattle.isp_types.proofs.Meanings.{AllKnown, none_known, known_named, known_added}
 use Rattle.isp_types.proofs.NamesKept.{Grown}
 
--- a list that grows behind keeps what it has
+-- a list that grows after keeps what it has
 get_first : {A : Type 0} (xs ys : List A) (k : ℕ) (x : A) → slice_get xs k ≡ Some x → slice_get (xs ++ ys) k ≡ Some x
 get_first [] ys k x e = absurd (no e)
   where
@@ -47,6 +47,6 @@ no_names all = none_known (IsVariable all)
 pub named_is : (all : List Variable) (ns : List Binding) → InScope all ns → (w : Word) (k : Known) → named ns w ≡ Ok k → slice_get all k.number ≡ Some k.variable
 named_is all = known_named (IsVariable all)
 
--- one more name, for the variable behind those there are
+-- one more name, for the variable after those there are
 pub name_added : (all : List Variable) (ns : List Binding) (vars : List Variable) (w : List ℕ) (v : Variable) → InScope all ns → Grown (vars ++ v ∷ []) all → InScope all (with_name ns vars w (Ok v))
 name_added all ns vars w v scope g = known_added (IsVariable all) ns vars w v scope (get_next vars v all g)

@@ -31,7 +31,7 @@ pub one_longer : {A : Type 0} (xs : List A) (x : A) (n : ℕ) → n ≡ length x
 one_longer [] x n e = ap suc e
 one_longer (y ∷ xs) x n e = ap suc (e ∙ one_longer xs x (length xs) refl)
 
--- one more name, for the variable behind those there are
+-- one more name, for the variable after those there are
 pub scope_added : (v : Scope) (ns : List Binding) (vars : List Variable) (n : ℕ) (w : List ℕ) (x : Variable) → AllIn v ns → n ≡ length vars → AllIn (declared n v) (with_name ns vars w (Ok x))
 scope_added v ns vars n w x scope e =
     known_added (IsIn (declared n v)) ns vars w x (known_mapped (IsIn v) (IsIn (declared n v)) (λ k. declared_before n v k.number) ns scope)

@@ -42,7 +42,7 @@ sized_number gang k w n a e = go (nat_lt 0 (size_number gang n) && nat_lt (size_
     go false q = absurd (no_ok (rw q at e))
     go true q = ap (λ (z : ArrayVariable). z.number) (sym (ok_is _ a (rw q at e)))
 
--- what items come to: each with its number, the number behind them, and the names there
+-- what items come to: each with its number, the number after them, and the names there
 abbrev pub ItemsDone : Scope → ℕ → List Binding → List Variable → List TItem → Type 0
 ItemsDone v n ns vars ts = ItemsAt v n ts × (number_after n ts ≡ length vars) × AllIn (scope_after v n ts) ns
 

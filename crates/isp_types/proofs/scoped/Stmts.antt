@@ -26,7 +26,7 @@ use Rattle.isp_types.proofs.scoped.Names.{AllIn, one_longer, scope_added}
 use Rattle.isp_types.proofs.scoped.Exprs.{converted_in, expr_in}
 use Rattle.isp_types.proofs.scoped.Simples.{FirstDone, simple_in, values_in, declaration_at, first_at, ranges_at}
 
--- what statements come to: they are scoped, with the number behind them and the names there
+-- what statements come to: they are scoped, with the number after them and the names there
 abbrev StmtDone : Scope → ℕ → List Binding → List Variable → TStmt → Type 0
 StmtDone v n ns vars t = StmtAt v n t × (number_after_stmt n t ≡ length vars) × AllIn (scope_after_stmt v n t) ns
 

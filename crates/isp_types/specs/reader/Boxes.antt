@@ -39,7 +39,7 @@ boxed_bodies p = (boxed_stmt p.0, boxed_stmt p.1)
 abbrev pub boxed_step_and_body : Option (Box TypedSimple) × Box TypedStmt → Option TSimple × TStmt
 boxed_step_and_body p = (option_map boxed_simple p.0, boxed_stmt p.1)
 
--- what stands behind the first part of a `for`: its test, its step and its body
+-- what stands after the first part of a `for`: its test, its step and its body
 abbrev pub boxed_behind_first : Option (Box TypedExpr) × (Option (Box TypedSimple) × Box TypedStmt) → Option TExpr × (Option TSimple × TStmt)
 boxed_behind_first p = (option_map boxed_of p.0, boxed_step_and_body p.1)
 

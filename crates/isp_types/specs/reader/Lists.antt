@@ -41,7 +41,7 @@ module _ (gang : Gang) (hs : List Heading) (ns : List Binding) where
   abbrev pub judge_step_and_body : Option Simple → Result TStmt Fault → Result (Option TSimple × TStmt) Fault
   judge_step_and_body p body = both (perhaps (judge_simple gang hs ns) p) body
 
-  -- what stands behind the first part of a `for`: its test, its step and the verdict on its body
+  -- what stands after the first part of a `for`: its test, its step and the verdict on its body
   abbrev pub judge_behind_first : Option Expr → Option Simple → Result TStmt Fault → Result (Option TExpr × (Option TSimple × TStmt)) Fault
   judge_behind_first x p body = both (perhaps (judge_test gang hs ns) x) (judge_step_and_body p body)
 
@@ -61,7 +61,7 @@ fault_of (Err f) = Some f
 abbrev pub param_fault : List Binding → Param → Option Fault
 param_fault ns p = first_of (first_of (twice p.word 0 ns) (fault_unless (param_fits p) (fault Mismatch p.word.span))) (fault_of (value_said p.ty))
 
--- The fault of parameters, whatever the body: beside the verdict on a body behind them it gives the verdict on the body with them.
+-- The fault of parameters, whatever the body: beside the verdict on a body after them it gives the verdict on the body with them.
 abbrev pub IsParamsFault : List Binding → List Variable → List Param → List Binding → List Variable → Option Fault → Type 0
 IsParamsFault ns vars ps after more o = (gang : Gang) (hs : List Heading) (answer : Result (Option Ty) Fault) (b : Block)
     → beside o (judge_block gang hs answer after 0 more b) ≡ judge_body gang hs answer ns vars ps b

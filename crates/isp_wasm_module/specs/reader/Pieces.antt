@@ -67,7 +67,7 @@ pub record IsWritten (code : Listing) (f : ℕ) (k : Written) : Type 0 where
 
 -- ---- sections, some at a time
 
--- behind which bytes the memory is free; the parts of a vector; where arrays may lie
+-- after which bytes the memory is free; the parts of a vector; where arrays may lie
 abbrev pub globals_of : ℕ → List Global
 globals_of n = record { type = I32; changes = false; first = n } ∷ (results 16 ++ record { type = I32; changes = true; first = n } ∷ [])
 

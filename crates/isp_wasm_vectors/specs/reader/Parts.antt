@@ -60,7 +60,7 @@ module _ (w : Setting) where
   abbrev pub one_of : Elem → Register × Register → Register × Register → ℕ → Expr
   one_of t ds cs j = Bitselect (vector_local w ds.0 j) (vector_local w ds.1 j) (below t cs j)
 
-  -- a row, with zeros behind its parts, and as lanes of a shape
+  -- a row, with zeros after its parts, and as lanes of a shape
   abbrev pub row_expr : Row → ℕ → Expr
   row_expr (row.Lanes x) = vector_local w x
   row_expr (row.NotZero x) = compare_row compare.NotEqual (elem w x) (vector_local w x) (λ j. Const128 0)

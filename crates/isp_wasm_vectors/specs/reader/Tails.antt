@@ -1,4 +1,4 @@
--- What stands before and behind a value that becomes a lane, or that an operator takes.
+-- What stands before and after a value that becomes a lane, or that an operator takes.
 use Rattle.std.specs.Prelude.{ℕ, List, [], ◌++◌, ◌-◌, ◌/◌, ◌%◌, ◌^◌, if◌then◌else◌, nat_lt}
 use Rattle.isp_base.specs.Values.{width}
 use Rattle.isp_base.specs.declared.types.Elem.{Elem}
@@ -23,7 +23,7 @@ abbrev pub cell_tail : Elem → List ℕ
 cell_tail Truth = binary_bytes (Of wasm.I32 Sub)
 cell_tail t = []
 
--- behind lanes of a type that are made those of another
+-- after lanes of a type that are made those of another
 abbrev pub masked_tail : Elem → Elem → List ℕ
 masked_tail t u = if nat_lt (width t) (width u) then expr_bytes (Const128 (of_lanes (shape_of u) (λ i. 2 ^ width t - 1))) ++ binary_bytes (Bits And) else []
 
@@ -44,7 +44,7 @@ module _ (w : Setting) where
       let n = count (shape w d) in
       cell_tail (elem w d) ++ (binary_bytes (Replace (shape w d) (p % n)) ++ word_bytes (Set_word (w.local (Vector d.number (p / n)))))
 
--- an operator of scans behind two values
+-- an operator of scans after two values
 abbrev pub join_tail : Scan → Elem → List ℕ
 join_tail scan.Add t = binary_bytes (Of (size_of t) Add) ++ cut_tail t
 join_tail scan.And t = binary_bytes (BitsOf (size_of t) And)

@@ -81,7 +81,7 @@ module _ (w : Setting) where
   abbrev pub laned : Register → VectorInstr → ℕ → Expr
   laned d is = by_lane w (elem w d) (lane_of d is)
 
-  -- what is behind the lanes before it
+  -- what is after the lanes before it
   abbrev pub placed_tail : Register → VectorInstr → ℕ → ℕ → List ℕ
   placed_tail d is first n =
       cell_head (elem w d) ++ (expr_bytes (lane_of d is (first + n)) ++ (cell_tail (elem w d) ++ binary_bytes (Replace (shape w d) n)))

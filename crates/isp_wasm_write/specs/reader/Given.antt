@@ -20,7 +20,7 @@ param_width c lanes kind.Scalar t = 1
 param_width c lanes kind.Array t = 2
 param_width c lanes kind.Vector t = vector_width c lanes t
 
--- the places of a parameter, and of those behind it; so many scalars, vectors and arrays come before
+-- the places of a parameter, and of those after it; so many scalars, vectors and arrays come before
 abbrev pub giving : Caller → ℕ → ParamKind → Elem → (ℕ → ℕ → ℕ → List Place) → (scalars vectors arrays : ℕ) → List Place
 giving c lanes kind.Scalar t more r v a = Scalar r ∷ more (suc r) v a
 giving c lanes kind.Array t more r v a = Base a ∷ Count a ∷ more r v (suc a)

@@ -1,4 +1,4 @@
--- What a type adds behind a value, to put its sign back or to cut it off.
+-- What a type adds after a value, to put its sign back or to cut it off.
 use Rattle.std.specs.Prelude.{ℕ, List, [], ◌++◌, ◌-◌, ◌^◌, ◌%◌, if◌then◌else◌, nat_eq}
 use Rattle.isp_base.specs.declared.types.Elem.{Elem}
 use Rattle.isp_base.specs.declared.types.Elem.TheVariants.{I8, U8, I16, U16, I32}

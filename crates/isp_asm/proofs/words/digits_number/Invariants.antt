@@ -3,7 +3,7 @@ use Rattle.std.specs.Str.{all_ascii_digits}
 use Rattle.std.specs.Str.Parse.{digits_value, digits_value_after}
 use Rattle.isp_asm.proofs.words.digits_number.Given as goal
 
--- the rest is digits, and read behind the number so far it gives the number
+-- the rest is digits, and read after the number so far it gives the number
 abbrev pub invariant-loop-digit : goal.invariant-loop-digit
 invariant-loop-digit l = record {
   digits : all_ascii_digits (drop l.digit-index l.digits) ≡ true;

@@ -17,4 +17,4 @@ returns-clause-ok g c =
     let holds = g.F.SourceFiles.holds c.args.files.now in
     let source : holds c.args.wanted.now.source.now (Some c.as_str.result.now) = rw c.as_str.ensures.value c.in_ok-source.ensures.source in
     let files : Reads holds c.args.wanted.now.source.now c.args.wanted.now.arguments.now = record { text = c.as_str.result.now; json = string_bytes c.in_ok-source.json; has_text = source; has_json = c.in_ok-source.ensures.json } in
-    record { files = files; json_is = refl; image = c.in_ok-image.ensures.ok }
+    (record { files = files; json_is = refl; image = c.in_ok-image.ensures.ok }, c.as_str.ensures.value)

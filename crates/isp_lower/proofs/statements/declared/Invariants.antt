@@ -6,7 +6,7 @@ use Rattle.isp_lower_code.specs.Items.{items_code, items_places}
 use Rattle.isp_lower.specs.declared.types.Body.{Body}
 use Rattle.isp_lower.proofs.statements.declared.Given as goal
 
--- whatever comes behind the items that are left comes behind all of them; and what they ask for is there
+-- whatever comes after the items that are left comes after all of them; and what they ask for is there
 abbrev pub invariant-loop-x : goal.invariant-loop-x
 invariant-loop-x l =
     ((c : Body) → Appends l.b c (λ pc p. items_code (layout l.on) (items_of (drop l.x-index l.items)) pc p l.site.mask.number l.site.slot.number)

@@ -1,4 +1,4 @@
--- Whatever comes behind the constants that are left comes behind all of them; these are kept, and what they ask for is there.
+-- Whatever comes after the constants that are left comes after all of them; these are kept, and what they ask for is there.
 use Rattle.std.proofs.Common.{◌≡◌, [], drop, true}
 use Rattle.isp_lower.specs.Emitted.{Appends, Present, layout}
 use Rattle.isp_lower.specs.declared.types.Body.{Body}

@@ -1,4 +1,4 @@
--- The rest is no longer than the text, and whoever writes what stands behind the word that was said last has written all.
+-- The rest is no longer than the text, and whoever writes what stands after the word that was said last has written all.
 use Rattle.std.proofs.Common.{◌≡◌, ◌≤◌, drop, length}
 use Rattle.isp_lower.specs.declared.types.Body.{Body}
 use Rattle.isp_masks.specs.Printed.{first_word, told_at}

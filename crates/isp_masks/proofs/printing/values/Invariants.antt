@@ -1,5 +1,5 @@
--- Whatever comes behind the values that are left comes behind all of them; what they ask for is there; and their rates and
--- registers stand behind those of the values before.
+-- Whatever comes after the values that are left comes after all of them; what they ask for is there; and their rates and
+-- registers stand after those of the values before.
 use Rattle.std.proofs.Common.{◌≡◌, ◌++◌, drop}
 use Rattle.isp_typed.specs.Views.{exprs_of}
 use Rattle.isp_lower.specs.Emitted.{Appends, Present, layout}

@@ -1,4 +1,4 @@
--- Whatever comes behind the bounds that are left comes behind all of them; and what these ask for is there.
+-- Whatever comes after the bounds that are left comes after all of them; and what these ask for is there.
 use Rattle.std.proofs.Common.{drop}
 use Rattle.isp_typed.specs.Views.{ranges_of}
 use Rattle.isp_lower.specs.Emitted.{Appends, Present, layout}

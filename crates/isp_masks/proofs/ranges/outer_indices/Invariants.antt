@@ -1,4 +1,4 @@
--- Whatever comes behind the indices that are left comes behind all of them.
+-- Whatever comes after the indices that are left comes after all of them.
 use Rattle.std.proofs.Common.{drop, []}
 use Rattle.isp_lower.specs.Emitted.{Appends}
 use Rattle.isp_lower.specs.declared.types.Body.{Body}

@@ -1,6 +1,6 @@
 //! Bytes and what they hold, by hand.
 
-/// A line each: the types of the parameters, `[]` behind that of an array; the bytes; and what they hold, the value as the
+/// A line each: the types of the parameters, `[]` after that of an array; the bytes; and what they hold, the value as the
 /// result, or the fault.
 pub(super) const TABLE: &str = "bool;0 0 0 0 0 0 0 0;{\"arrays\":{},\"result\":false}
 bool;1 0 0 0 0 0 0 0;{\"arrays\":{},\"result\":true}

@@ -1,4 +1,4 @@
--- Behind its return the code can be a text.
+-- After its return the code can be a text.
 use Rattle.std.proofs.Common.{arith}
 use Rattle.isp_tests_lower.proofs.Drafted.{can_be_written, code_begun, jump_is, jump_there, return_added}
 use Rattle.isp_tests_lower.proofs.written.finish.Goals as goal

@@ -1,4 +1,4 @@
--- The second function has what the assignment asks for, and code that a text can have behind it.
+-- The second function has what the assignment asks for, and code that a text can have after it.
 use Rattle.std.proofs.Common.{arith}
 use Rattle.isp_tests_lower.proofs.Drafted.{assignment_added, assignment_fine, assignment_numbers, assignment_own, assignment_rated, assignment_room, code_begun, code_mask}
 use Rattle.isp_tests_lower.proofs.written.put_assignment.Goals as goal

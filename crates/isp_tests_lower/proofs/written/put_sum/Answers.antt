@@ -1,4 +1,4 @@
--- The second function has what the sum asks for, and code that a text can have behind it.
+-- The second function has what the sum asks for, and code that a text can have after it.
 use Rattle.isp_tests_lower.proofs.Drafted.{jump_begun, jump_code, jump_mask, sum_added, sum_fine, sum_numbers, sum_own, sum_rated, sum_room}
 use Rattle.isp_tests_lower.proofs.written.put_sum.Goals as goal
 

@@ -12,6 +12,7 @@ returns g c =
     record {
       counted = counted_run c.args.code.now c.args.entry.now xs c.args.budget _ _ c.in_ok-stop.stop c.in_ok-stop.counts _ starts c.in_default.not-Memory gives refl c.result-result.ensures
           (c.into_rest-rest.ensures.arrays (rows xs) (sym (all.given_same ∙ starts.given_are))) c.into_rest-rest.ensures.output refl;
+      grouped = c.in_ok-stop.ensures.grouped;
       none = tt;
       memory = tt;
     }

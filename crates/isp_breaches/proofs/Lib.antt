@@ -1,0 +1,6 @@
+mod Listed
+mod Walks
+mod Steps
+mod InOrder
+mod First
+mod Examples

@@ -1,0 +1,3 @@
+-- What the functions of the code give. Nothing here is promised: proofs/ ties it to the rules.
+pub mod Within
+pub mod Lists

@@ -1,0 +1,3 @@
+pub mod Stopping
+pub mod Showing
+pub mod Testing

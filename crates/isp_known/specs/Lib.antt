@@ -1,0 +1,4 @@
+pub mod reader
+pub mod Notes
+pub mod Places
+pub mod Shown

@@ -1,0 +1,3 @@
+mod Ids
+mod Lasts
+mod Texts

@@ -1,0 +1,5 @@
+pub mod reader
+pub mod Deeds
+pub mod Sent
+pub mod Texts
+pub mod Connections

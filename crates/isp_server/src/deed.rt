@@ -1,0 +1,29 @@
+//! What a message asks the server to do.
+use crate::refusal::Refusal;
+use serde_json::Value;
+
+/// A document by its URI, with its whole text.
+#[derive(Clone, Copy)]
+pub(crate) struct Document<'v> {
+    pub uri: &'v str,
+    pub text: &'v str,
+}
+
+/// What the server has to do.
+#[derive(Clone, Copy)]
+pub(crate) enum Deed<'v> {
+    /// The request of this id is refused; where it has none that can be told, the id is null.
+    Refuse(Option<&'v Value>, Refusal),
+    /// `initialize` of this id is answered.
+    Introduce(&'v Value),
+    /// `shutdown` of this id is answered.
+    ShutDown(&'v Value),
+    /// The document has this text from now on.
+    Hold(Document<'v>),
+    /// The document of this URI is closed.
+    Release(&'v str),
+    /// The server ends.
+    Leave,
+    /// A notification is ignored.
+    Ignore,
+}

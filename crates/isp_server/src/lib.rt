@@ -1,0 +1,17 @@
+//! A language server over what it is handed: one connection, message by message.
+#![tactic(auto)]
+
+mod asked;
+mod deed;
+mod diagnostics;
+mod frame;
+mod params;
+mod phase;
+mod refusal;
+mod sent;
+mod server;
+
+pub use frame::framed;
+pub use phase::Phase;
+pub use refusal::Refusal;
+pub use server::{Next, Reply, Server};

@@ -1,0 +1,46 @@
+//! Why a request is refused.
+ghost use Rattle.std.specs.Prelude.{◌≡◌};
+ghost use Rattle.isp_server.specs.Sent.{code_of, name_of};
+
+/// Why a request is refused: four errors of JSON-RPC 2.0, and one of the language server protocol.
+#[derive(Clone, Copy, Debug, PartialEq, Eq)]
+pub enum Refusal {
+    /// The content is no JSON.
+    ParseError,
+    /// It is no call, its id is none, or the phase of the connection has no such request.
+    InvalidRequest,
+    /// The method is not known.
+    MethodNotFound,
+    /// The method does not take such parameters.
+    InvalidParams,
+    /// `initialize` has not come.
+    ServerNotInitialized,
+}
+
+impl Refusal {
+    /// Its number in the protocol.
+    pub fn code(self) -> i32
+        ensures { result ≡ code_of self }
+    {
+        match self {
+            Refusal::ParseError => -32700,
+            Refusal::InvalidRequest => -32600,
+            Refusal::MethodNotFound => -32601,
+            Refusal::InvalidParams => -32602,
+            Refusal::ServerNotInitialized => -32002,
+        }
+    }
+
+    /// Its name in the protocol.
+    pub fn name(self) -> &'static str
+        ensures { result.now ≡ name_of self }
+    {
+        match self {
+            Refusal::ParseError => "ParseError",
+            Refusal::InvalidRequest => "InvalidRequest",
+            Refusal::MethodNotFound => "MethodNotFound",
+            Refusal::InvalidParams => "InvalidParams",
+            Refusal::ServerNotInitialized => "ServerNotInitialized",
+        }
+    }
+}
