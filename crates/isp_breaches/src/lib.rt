@@ -12,4 +12,5 @@ mod stmt;
 mod within;
 
 pub use laws::order_laws;
+pub use ordered::put_in_order;
 pub use program::breaches;

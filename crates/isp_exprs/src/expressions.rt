@@ -1,14 +1,14 @@
 //! Expressions.
 ghost use Rattle.std.specs.Prelude.{◌≡◌, IfOk, Ok, drop};
 ghost use Rattle.isp_tree.specs.Views.{argument_of as read_argument, arguments_of as read_arguments, expr_of as read_expr, place_of as read_place};
-ghost use Rattle.isp_tree.specs.Tree.{listed};
+ghost use Rattle.isp_tree.specs.Tree.{listed, span_of_argument};
 ghost use Rattle.isp_typed.specs.Typed.{t_constant, t_place, t_program_index};
-ghost use Rattle.isp_typed.specs.Verdicts.{both, made};
+ghost use Rattle.isp_typed.specs.Verdicts.{both, found, made};
 ghost use Rattle.isp_typed.specs.Views.{place_of};
 ghost use Rattle.isp_exprs.specs.Passing.{h_value, handed_element, handed_reference};
-ghost use Rattle.isp_exprs.specs.Calls.{first_want};
+ghost use Rattle.isp_exprs.specs.Calls.{first_want, suits};
 ghost use Rattle.isp_exprs.specs.reader.Judge.{judge, judge_argument, judge_arguments, judge_call_of, judge_place};
-ghost use Rattle.isp_exprs.specs.reader.Lists.{and_one};
+ghost use Rattle.isp_exprs.specs.reader.Lists.{and_one, fault_of};
 ghost use Rattle.isp_exprs.specs.reader.Parts.{boxed_of, called_of, handed_of, list_passed, passed_of};
 
 use crate::callee::{Headers, Want, asked_past, unless_unknown};
@@ -22,6 +22,7 @@ use crate::values::{
 };
 use crate::words::value_said;
 use isp_base::{Gang, Span, Value};
+use isp_lex::Fault;
 use isp_tree::{Argument, Expr, Place, Word};
 use isp_typed::{TypedExpr, TypedPlace, Verdict, both};
 use std::alloc::{AllocError, Global};
@@ -96,7 +97,7 @@ fn handed_element(
 }
 
 /// What is asked in a place, where `past` is asked past the last.
-fn want_at(past: Want, wants: &[Want], place: usize) -> Want
+pub fn want_at(past: Want, wants: &[Want], place: usize) -> Want
     ensures { result ≡ first_want past (drop place wants.now) }
 {
     match wants.get(place) {
@@ -286,5 +287,22 @@ pub fn expr(
             let otherwise = expr(setting, scope, otherwise)?;
             choice(alloc, test, then, otherwise, *span)
         }
+    }
+}
+
+/// The fault of an argument where something is asked of it: its own, or the first of its parts. The rules
+/// are in docs/LANGUAGE.md, Names and types.
+pub fn argument_fault(
+    setting: &Setting,
+    scope: &Scope,
+    want: Want,
+    x: &Argument,
+) -> Result<Option<Fault>, AllocError>
+    ensures { IfOk result (λ o. o ≡ fault_of (found (suits want (span_of_argument (read_argument x.now))) (judge_argument setting.now.gang setting.now.headers.now scope.now (read_argument x.now)))) }
+{
+    let handed = argument(setting, scope, x)?;
+    match suits(setting.alloc, want, x.span(), handed)? {
+        Ok(_) => Ok(None),
+        Err(fault) => Ok(Some(fault)),
     }
 }

@@ -10,9 +10,9 @@ mod scope;
 mod values;
 mod words;
 
-pub use callee::{Callee, Header, Headers, Want, library_named};
+pub use callee::{Callee, Header, Headers, Want, asked_past, library_named, unless_unknown};
 pub use calls::Called;
-pub use expressions::{Setting, call, expr};
+pub use expressions::{Setting, argument_fault, call, expr, place, want_at};
 pub use places::{element_target, mismatch, variable_target};
 pub use scope::{Binding, Known, Scope};
 pub use values::converted;

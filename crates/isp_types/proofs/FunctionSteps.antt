@@ -25,8 +25,8 @@ use Rattle.isp_exprs.specs.Rules.{second}
 use Rattle.isp_types.specs.Functions.{param_variable, param_names, params_names, param_fits, heading, is_free, variables_of, function_made, program_made, IsProgram, Breach}
 use Rattle.isp_types.specs.reader.JudgeStmts.{twice}
 use Rattle.isp_types.specs.reader.JudgeFunctions.{judge_body, judge_function, judge_functions}
-use Rattle.isp_exprs.specs.reader.Lists.{and_one}
-use Rattle.isp_types.specs.reader.Lists.{fault_of, param_fault, function_of_parts}
+use Rattle.isp_exprs.specs.reader.Lists.{and_one, fault_of}
+use Rattle.isp_types.specs.reader.Lists.{param_fault, function_of_parts}
 use Rattle.isp_types.proofs.Functions.{program_right}
 use Rattle.isp_types.proofs.Joined.{joined, joined_step, beside_assoc}
 

@@ -103,7 +103,7 @@ fn item_variable(gang: Gang, words: ValueWords, item: &Item) -> Variable
 }
 
 /// A local array, of 1 to 65,536 elements. 22 Mismatch at another size.
-fn array_sized(gang: Gang, number: usize, words: ValueWords, size: Size) -> Verdict<ArrayVariable>
+pub fn array_sized(gang: Gang, number: usize, words: ValueWords, size: Size) -> Verdict<ArrayVariable>
     ensures { result ≡ array_sized gang number words size }
 {
     let count = size_number(gang, size);
@@ -194,7 +194,7 @@ fn item(
 }
 
 /// A declared item, whose name and variable join the others.
-fn declare(
+pub fn declare_item(
     setting: &Setting,
     scope: &mut Scope,
     start: usize,
@@ -253,7 +253,7 @@ fn items(
 {
     let mut done = Ok(Vec::new(setting.alloc));
     for x in all {
-        let part = declare(setting, scope, start, variables, words, x)?;
+        let part = declare_item(setting, scope, start, variables, words, x)?;
         done = push(done, part)?;
     }
     Ok(done)

@@ -11,8 +11,8 @@ ghost use Rattle.isp_exprs.specs.reader.Headings.{heading_of};
 ghost use Rattle.isp_types.specs.reader.Boxes.{listed_functions};
 ghost use Rattle.isp_types.specs.reader.JudgeFunctions.{judge_function, judge_functions};
 ghost use Rattle.isp_types.specs.reader.Settings.{within};
-ghost use Rattle.isp_exprs.specs.reader.Lists.{and_one};
-ghost use Rattle.isp_types.specs.reader.Lists.{IsParamsFault, fault_of, function_of_parts, name_fault, param_fault};
+ghost use Rattle.isp_exprs.specs.reader.Lists.{and_one, fault_of};
+ghost use Rattle.isp_types.specs.reader.Lists.{IsParamsFault, function_of_parts, name_fault, param_fault};
 
 use crate::declaration::{declared, or_nothing, twice, value_variable};
 use crate::gathered;
@@ -60,7 +60,7 @@ fn param_want(p: &Param) -> Want
 }
 
 /// An array parameter is uniform.
-fn param_fits(p: &Param) -> bool
+pub fn param_fits(p: &Param) -> bool
     ensures { result ≡ param_fits (read_param p.now) }
 {
     match value_said(&p.ty) {
@@ -132,7 +132,7 @@ fn words_fault(words: Verdict<ValueWords>) -> Option<Fault>
 }
 
 /// A parameter, whose name and variable join the others, and the first of its faults.
-fn declare(
+pub fn declare_parameter(
     alloc: Global,
     scope: &mut Scope,
     variables: &mut Vec<Variable>,
@@ -165,7 +165,7 @@ fn declare_all(
 {
     let mut seen = None;
     for p in all {
-        let fault = declare(alloc, scope, variables, p)?;
+        let fault = declare_parameter(alloc, scope, variables, p)?;
         seen = first(seen, fault);
     }
     Ok(seen)
@@ -235,7 +235,7 @@ fn function(
 }
 
 /// The fault of a function whose name the library has or an earlier function.
-fn name_fault(word: &Word, taken: &BTreeSet<String>) -> Option<Fault>
+pub fn name_fault(word: &Word, taken: &BTreeSet<String>) -> Option<Fault>
     ensures { result ≡ name_fault word.now (contains_text taken.now word.now.name) }
 {
     let is_taken = taken.contains(word.name.as_str());
@@ -249,7 +249,7 @@ fn name_fault(word: &Word, taken: &BTreeSet<String>) -> Option<Fault>
 }
 
 /// One more name that is taken.
-fn take(alloc: Global, taken: &mut BTreeSet<String>, name: &Name) -> Result<(), AllocError>
+pub fn take(alloc: Global, taken: &mut BTreeSet<String>, name: &Name) -> Result<(), AllocError>
     ensures { IfOk result (λ _. (w : List ℕ)
         → contains_text taken.new w ≡ cond (bytes_eq name.now w) true (contains_text taken.old w)) }
 {

@@ -10,5 +10,9 @@ mod program;
 mod simple;
 mod stmt;
 
+pub use declaration::{array_sized, declare_item, or_nothing, twice};
+pub use function::{declare_parameter, name_fault, param_fits, take};
 pub use isp_typed::{Program, Typed, TypedFunction};
-pub use program::resolve;
+pub use parts::{active_index, agrees, foreach_index, places, unique_value};
+pub use program::{headers, resolve};
+pub use simple::target;

@@ -162,7 +162,7 @@ pub fn behind_first(
 }
 
 /// The index of a `foreach`: a constant varying int32.
-fn index() -> Variable
+pub fn foreach_index() -> Variable
     ensures { result ≡ index }
 {
     Variable {
@@ -335,7 +335,7 @@ pub fn ranges(
     for (r, bounds) in all.iter().zip(found) {
         let seen = twice(scope, start, &r.word);
         let number = variables.len();
-        let variable = index();
+        let variable = foreach_index();
         let part = range_made(setting.alloc, number, beside(seen, bounds), r.span)?;
         variables.push(variable)?;
         scope.push(setting.alloc, &r.word.name, Ok(Known { number, variable }))?;
@@ -370,7 +370,7 @@ fn values(
 }
 
 /// How many places a text has for values.
-fn places(text: &Text) -> usize
+pub fn places(text: &Text) -> usize
     ensures { result ≡ places text.now }
 {
     text.as_slice().iter().filter(|c| **c == b'%').count()
@@ -398,7 +398,8 @@ pub fn printed(
     Ok(beside(seen, found))
 }
 
-fn agrees(answer: Verdict<Option<Ty>>, has_value: bool) -> bool
+/// Whether a value that is given back, or none, agrees with what the function gives back.
+pub fn agrees(answer: Verdict<Option<Ty>>, has_value: bool) -> bool
     ensures { result ≡ agrees_with answer has_value }
 {
     match answer {

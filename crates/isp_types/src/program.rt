@@ -15,7 +15,7 @@ use isp_typed::{Program, Typed};
 use std::alloc::{AllocError, Global};
 
 /// The functions as callers see them.
-fn headers(alloc: Global, all: &[Function]) -> Result<Headers, AllocError>
+pub fn headers(alloc: Global, all: &[Function]) -> Result<Headers, AllocError>
     ensures { IfOk result (λ h. h ≡ map heading (map read_function all.now)) }
 {
     let mut done = Headers::new(alloc);

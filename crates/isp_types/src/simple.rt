@@ -32,7 +32,7 @@ fn no_place(value: Verdict<Box<TypedExpr>>, span: Span) -> Verdict<TypedPlace>
 }
 
 /// What is assigned.
-fn target(setting: &Setting, scope: &Scope, x: &Expr) -> Result<Verdict<TypedPlace>, AllocError>
+pub fn target(setting: &Setting, scope: &Scope, x: &Expr) -> Result<Verdict<TypedPlace>, AllocError>
     ensures { IfOk result (λ v. made place_of v ≡ within setting.now judge_target scope.now (read_expr x.now)) }
 {
     match x {

@@ -19,6 +19,7 @@ use Rattle.isp_exprs.specs.Callees.{Heading, library_named}
 use Rattle.isp_types.specs.Declarations.{array_sized, with_initial, sized_item}
 use Rattle.isp_types.specs.Functions.{param_fits, parameter_of, param_span, is_export}
 use Rattle.isp_exprs.specs.reader.Judge.{judge}
+use Rattle.isp_exprs.specs.reader.Lists.{fault_of}
 use Rattle.isp_types.specs.reader.JudgeStmts.{twice, judge_test, judge_simple, judge_block}
 use Rattle.isp_types.specs.reader.JudgeFunctions.{judge_body}
 
@@ -52,10 +53,6 @@ module _ (gang : Gang) (hs : List Heading) (ns : List Binding) where
   judge_item_with seen k v (with_size w n s) = made (sized_item s) (beside seen (array_sized gang k v n))
 
 -- ---- functions
-
-abbrev pub fault_of : {A : Type 0} → Result A Fault → Option Fault
-fault_of (Ok a) = None
-fault_of (Err f) = Some f
 
 -- the first fault of a parameter
 abbrev pub param_fault : List Binding → Param → Option Fault

@@ -14,8 +14,8 @@ loop-r-preserved c =
     let r = c.in-Some.r.now in
     let t = one_more c.loop-r.r-iterator c.next.new.self c.next.result (c.in-Some.r, c.in-Some.bounds) c.in-Some.is c.next.ensures.steps in
     let number : c.len-number.result ≡ length c.loop-r.variables.items = c.len-number.ensures ∙ c.loop-r.variables.ok.0 in
-    let names = rw (number, c.index-variable.ensures) at c.in_ok-push-2.ensures.ok in
-    let variables = rw c.index-variable.ensures at c.in_ok-push.ensures.items in
+    let names = rw (number, c.foreach_index-variable.ensures) at c.in_ok-push-2.ensures.ok in
+    let variables = rw c.foreach_index-variable.ensures at c.in_ok-push.ensures.items in
     let bounds = first_agrees bounds_of judge _ _ _ _ c.in-Some.bounds (read_range r) t.1 (ap (map read_range) t.0) h.bounds in
     let part = rw (number, c.beside.ensures, c.twice-seen.ensures, c.len-start.ensures) at c.in_ok-part.ensures ∙ bounds_part _ (length c.loop-r.variables.items) r.span _ c.in-Some.bounds _ bounds in
     record {

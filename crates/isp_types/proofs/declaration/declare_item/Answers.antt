@@ -1,7 +1,7 @@
 use Rattle.std.proofs.Common.{◌∙◌}
 use Rattle.isp_tree.specs.Views.{item_of}
 use Rattle.isp_types.proofs.ItemSteps.{item_is}
-use Rattle.isp_types.proofs.declaration.declare.Goals as goal
+use Rattle.isp_types.proofs.declaration.declare_item.Goals as goal
 
 pub returns-clause-value : goal.returns-clause-value
 returns-clause-value c =
