@@ -103,7 +103,12 @@ fn item_variable(gang: Gang, words: ValueWords, item: &Item) -> Variable
 }
 
 /// A local array, of 1 to 65,536 elements. 22 Mismatch at another size.
-pub fn array_sized(gang: Gang, number: usize, words: ValueWords, size: Size) -> Verdict<ArrayVariable>
+pub fn array_sized(
+    gang: Gang,
+    number: usize,
+    words: ValueWords,
+    size: Size,
+) -> Verdict<ArrayVariable>
     ensures { result ≡ array_sized gang number words size }
 {
     let count = size_number(gang, size);
