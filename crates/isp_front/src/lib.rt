@@ -3,4 +3,4 @@
 
 mod source;
 
-pub use source::front;
+pub use source::{front, read};

@@ -15,8 +15,9 @@ use isp_tree::Tree;
 use isp_types::resolve;
 use std::alloc::Global;
 
-// The tree of a source text. 1 to 5 of the lexer, 10 to 12 of the parser.
-fn read(alloc: Global, text: &str) -> Result<Tree, SourceFault>
+/// The tree of a source text. The first refusal is answered: of the lexer 1 to 5, of the parser 10 to 12
+/// (docs/LANGUAGE.md, Lexical rules, Grammar). 0: memory was refused.
+pub fn read(alloc: Global, text: &str) -> Result<Tree, SourceFault>
     ensures found { IfOk result (λ t. HasTree text.now (tree_of t)) }
     ensures only { (tree : List Read) → HasTree text.now tree → MatchResult result (λ t. tree_of t ≡ tree) (λ e. e ≡ SourceFault.Memory) }
     ensures refused { IfErr result (λ e. (f : Fault) → e ≡ SourceFault.Refused f → IsUnread text.now f) }

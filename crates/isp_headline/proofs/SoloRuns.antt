@@ -20,7 +20,7 @@ use Rattle.isp_meaning.specs.Entries.{IsEntry}
 use Rattle.isp_meaning.specs.Payloads.{One}
 use Rattle.isp_meaning.specs.Runs.{run_of, answer_as}
 use Rattle.isp_solo_meaning.specs.Runs.{solo_run, bound, value_of}
-use Rattle.isp_solo_law.proofs.Entry.{solo_runs_agree}
+use Rattle.isp_solo_laws.proofs.Entry.{solo_runs_agree}
 use Rattle.isp_solo.specs.Report.{upward, ReportOf}
 use Rattle.isp_solo.specs.declared.report.SoloReport.{SoloReport}
 use Rattle.isp_solo.specs.declared.report.SoloReport.TheVariants as report

@@ -23,7 +23,7 @@ use Rattle.isp_solo_meaning.specs.Runs.{solo_run, bound, after, IsEnded, value_o
 use Rattle.isp_solo_meaning.specs.Touched.{Reads}
 use Rattle.isp_solo_meaning.proofs.MoreTurns.{more_turns_alone}
 use Rattle.isp_solo_meaning.proofs.Orders.{reads_decide}
-use Rattle.isp_solo_law.proofs.Turns.{each_with_its_turns}
+use Rattle.isp_solo_laws.proofs.Turns.{each_with_its_turns}
 use Rattle.isp_headline.specs.Headline.{EachStandsAlone, ComesTo, behind_each, left_by_each}
 
 -- ---- as many turns as any of the first so many instances

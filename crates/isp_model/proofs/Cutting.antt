@@ -8,7 +8,7 @@ use Rattle.isp_base.specs.Values.{width}
 use Rattle.isp_base.specs.declared.types.Elem.{Elem}
 use Rattle.isp_base.specs.declared.signature.Argument.{Argument}
 use Rattle.isp_base.specs.declared.signature.Argument.TheVariants.{Value as AValue, Array as AnArray}
-use Rattle.isp_type_soundness.specs.Cut.{cut, one_cut, rows_cut}
+use Rattle.isp_type_laws.specs.Cut.{cut, one_cut, rows_cut}
 
 pub tabulate_more : (n : ℕ) (f : Lanes) → tabulate (n + 1) f ≡ tabulate n f ++ f n ∷ []
 tabulate_more n f = let e : n + 1 ≡ suc n = omega arith in ap (λ (k : ℕ). tabulate k f) e ∙ one n f

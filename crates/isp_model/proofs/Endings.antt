@@ -10,15 +10,15 @@ use Rattle.isp_base.specs.declared.types.Value.{Value}
 use Rattle.isp_meaning.specs.Outcomes.{Val, Gives, Fails}
 use Rattle.isp_meaning.specs.Payloads.{Payload}
 use Rattle.isp_meaning.specs.Runs.{answer_as, outcome_of, state_of}
-use Rattle.isp_type_soundness.specs.Fits.{RowsFit}
+use Rattle.isp_type_laws.specs.Fits.{RowsFit}
 use Rattle.isp_gang_values.specs.Seen.{payload_of}
 use Rattle.isp_gang_values.specs.declared.computed.Computed.{Computed}
 use Rattle.isp_gang_run.specs.Runs.{IsRunOf, ended_in}
 use Rattle.isp_gang_arrays.specs.Stores.{stores_of}
 use Rattle.isp_gang_run.specs.declared.running.Ending.TheVariants as ending
 use Rattle.isp_gang_run.specs.declared.running.Run.{Run}
-use Rattle.isp_type_soundness.specs.Cut.{rows_cut}
-use Rattle.isp_type_soundness.proofs.Uncut.{fits_cut}
+use Rattle.isp_type_laws.specs.Cut.{rows_cut}
+use Rattle.isp_type_laws.proofs.Uncut.{fits_cut}
 
 module _ (t : Option Elem) (xs : List Argument) (r : Run) (v : Val Payload) (is : IsRunOf r v) (fit : RowsFit (rows xs) (state_of v).arrays) where
   rows_are : (rs : List Row) → rs ≡ rows_cut (rows xs) (stores_of r.stores.items) → rs ≡ rows_now (rows xs) (state_of v).arrays

@@ -11,13 +11,13 @@ use Rattle.isp_meaning.specs.Outcomes.{Val}
 use Rattle.isp_meaning.specs.Payloads.{Payload}
 use Rattle.isp_meaning.specs.Runs.{gives_of, meaning, outcome_of, state_of}
 use Rattle.isp_entry.specs.Entered.{BeginsWith}
-use Rattle.isp_type_soundness.specs.Fits.{GivenFits, RowsFit}
+use Rattle.isp_type_laws.specs.Fits.{GivenFits, RowsFit}
 use Rattle.isp_gang_run.specs.Runs.{HasRun, IsRunOf}
 use Rattle.isp_gang_run.specs.Starting.{ArgumentsFit}
 use Rattle.isp_gang_run.specs.declared.running.Run.{Run}
 use Rattle.isp_model.specs.Evaluated.{IsRun, IsWork, ResultFits, outcome_seen}
 use Rattle.isp_model.specs.declared.outcome.Outcome.{Outcome}
-use Rattle.isp_type_soundness.proofs.Runs.{elements_fit, result_fits}
+use Rattle.isp_type_laws.proofs.Runs.{elements_fit, result_fits}
 
 module _ (p q : Program) (same : p ≡ q) (name : List ℕ) (n : ℕ) (g : TypedFunction) where
   run_is : (xs : List Argument) (o : Outcome) (b : BeginsWith (program_of p) name xs (function_of g))

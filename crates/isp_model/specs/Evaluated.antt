@@ -4,7 +4,7 @@ use Rattle.isp_base.specs.Outcomes as base
 use Rattle.isp_base.specs.declared.signature.Argument.{Argument}
 use Rattle.isp_typed.specs.Typed.{Program}
 use Rattle.isp_meaning.specs.Runs.{run_of, work_of}
-use Rattle.isp_type_soundness.specs.Fits.{BitsFit}
+use Rattle.isp_type_laws.specs.Fits.{BitsFit}
 use Rattle.isp_gang_run.specs.Capped.{capped}
 use Rattle.isp_entry.specs.Entered.{Begins, NoneBegins}
 use Rattle.isp_entry.specs.declared.fault.EvalFault.{EvalFault}

@@ -11,7 +11,7 @@ use Rattle.isp_code.specs.Conf as machine
 use Rattle.isp_code.specs.Listing.{Listing, Routine}
 use Rattle.isp_code.specs.Machine.{first_conf, outcome_after}
 use Rattle.isp_meaning.proofs.Grown.{prefix_self, prefix_on}
-use Rattle.isp_solo_law.proofs.Entry.{solo_runs_agree}
+use Rattle.isp_solo_laws.proofs.Entry.{solo_runs_agree}
 use Rattle.isp_meaning.specs.Entries.{IsEntry, IsExport}
 use Rattle.isp_meaning.specs.Runs.{run_of}
 use Rattle.isp_typed.specs.Typed.{Program, TFunction}

@@ -10,8 +10,8 @@ use Rattle.isp_base.specs.Maps.{Lanes, or_old}
 use Rattle.isp_base.specs.Rows.{Row, Fit}
 use Rattle.isp_base.specs.Values.{width}
 use Rattle.isp_solo_meaning.specs.Answers.{Answer, reached}
-use Rattle.isp_type_soundness.specs.Cut.{cut, rows_cut}
-use Rattle.isp_type_soundness.specs.Fits.{RowsFit}
+use Rattle.isp_type_laws.specs.Cut.{cut, rows_cut}
+use Rattle.isp_type_laws.specs.Fits.{RowsFit}
 use Rattle.isp_solo.specs.Left.{row_over, rows_over, rows_left, left_by}
 use Rattle.isp_solo.proofs.Leaving.{listed, made, tabulate_at, tabulate_long, tabulate_same}
 

@@ -22,10 +22,10 @@ use Rattle.isp_solo_meaning.specs.Answers.{Answer}
 use Rattle.isp_solo_meaning.specs.OneByOne.{one_by_one}
 use Rattle.isp_solo_meaning.specs.Runs.{solo_run, bound, value_of}
 use Rattle.isp_solo_meaning.specs.Touched.{AreApart}
-use Rattle.isp_type_soundness.specs.Cut.{rows_cut}
-use Rattle.isp_type_soundness.specs.Fits.{BitsFit, GivenFits, RowsFit}
-use Rattle.isp_type_soundness.proofs.Runs.{elements_fit, result_fits}
-use Rattle.isp_solo_law.proofs.Entry.{solo_runs_agree}
+use Rattle.isp_type_laws.specs.Cut.{rows_cut}
+use Rattle.isp_type_laws.specs.Fits.{BitsFit, GivenFits, RowsFit}
+use Rattle.isp_type_laws.proofs.Runs.{elements_fit, result_fits}
+use Rattle.isp_solo_laws.proofs.Entry.{solo_runs_agree}
 use Rattle.isp_solo.specs.Left.{rows_left}
 use Rattle.isp_solo.specs.Report.{AllEnd, left_upward, upward}
 use Rattle.isp_solo.proofs.Cuts.{cut_same, left_is}

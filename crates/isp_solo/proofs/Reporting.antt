@@ -15,7 +15,7 @@ use Rattle.isp_independence.specs.Independent.{IsIndependent}
 use Rattle.isp_meaning.specs.Entries.{IsEntry}
 use Rattle.isp_solo_meaning.specs.Runs.{solo_run, bound}
 use Rattle.isp_entry.specs.Entered.{Begins}
-use Rattle.isp_type_soundness.specs.Fits.{BitsFit}
+use Rattle.isp_type_laws.specs.Fits.{BitsFit}
 use Rattle.isp_solo.specs.Came.{Came}
 use Rattle.isp_solo.specs.Left.{rows_left}
 use Rattle.isp_solo.specs.Report.{IsSoloReport, ReportFits, ReportOf, Says}

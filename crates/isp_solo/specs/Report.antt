@@ -19,7 +19,7 @@ use Rattle.isp_solo_meaning.specs.Touched.{Clash, AreApart}
 use Rattle.isp_entry.specs.Entered.{Begins, NoneBegins}
 use Rattle.isp_entry.specs.declared.fault.EvalFault.{EvalFault}
 use Rattle.isp_entry.specs.declared.fault.EvalFault.TheVariants.{Memory, NoEntry, NotIndependent}
-use Rattle.isp_type_soundness.specs.Fits.{BitsFit}
+use Rattle.isp_type_laws.specs.Fits.{BitsFit}
 use Rattle.isp_solo.specs.Places.{array_place}
 use Rattle.isp_solo.specs.declared.report.SoloReport.{SoloReport}
 use Rattle.isp_solo.specs.declared.report.SoloReport.TheVariants as report

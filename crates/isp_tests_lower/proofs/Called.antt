@@ -12,10 +12,10 @@ use Rattle.isp_code.specs.Writable.{constant_in, parts_fit}
 use Rattle.isp_code.specs.declared.instr.Instr.{Instr}
 use Rattle.isp_code.specs.declared.instr.Instr.TheVariants as instr
 use Rattle.isp_code.specs.declared.register.Class.TheVariants as class
-use Rattle.isp_emitted.specs.Called.{FinishedIsWritten, IsFinished}
-use Rattle.isp_emitted.specs.Parts.{PartsStay, SamePart}
-use Rattle.isp_emitted.specs.Staying.{RegistersGrow}
-use Rattle.isp_emitted.specs.Written.{WrittenRuns}
+use Rattle.isp_emitter_laws.specs.Called.{FinishedIsWritten, IsFinished}
+use Rattle.isp_emitter_laws.specs.Parts.{PartsStay, SamePart}
+use Rattle.isp_emitter_laws.specs.Staying.{RegistersGrow}
+use Rattle.isp_emitter_laws.specs.Written.{WrittenRuns}
 use Rattle.isp_lower.specs.Adding.{Adds, FewMore, expr_in, layout_in, simple_in}
 use Rattle.isp_lower.specs.Behind.{NextIsBehind}
 use Rattle.isp_lower.specs.Drafts.{CanBeWritten, Draft, HasAllNamed, begun, draft_of, finished, first_draft, next_register, with_instr, with_register}

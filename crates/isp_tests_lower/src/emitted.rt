@@ -7,7 +7,7 @@ ghost use Rattle.isp_tests_lower.specs.Trees.{IsFunction, assignment, sum, varia
 
 use isp_base::{Elem, Rate};
 use isp_code::{Code, Instr};
-use isp_emitted::{finished_is_written, parts_stay, registers_grow, written_runs};
+use isp_emitter_laws::{finished_is_written, parts_stay, registers_grow, written_runs};
 use isp_lower::{Emitter, Line, Site, next_is_behind};
 use isp_lower_code::{asks_are_few, code_is_written, own_is_there};
 use isp_rates::Checked;

@@ -1,5 +1,0 @@
-use Rattle.isp_emitted.proofs.Called.{finished_is_written}
-use Rattle.isp_emitted.proofs.laws.finished_is_written.Goals as goal
-
-pub returns : goal.returns
-returns c = finished_is_written c.finished_has.ensures

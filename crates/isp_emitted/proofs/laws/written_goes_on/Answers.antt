@@ -1,5 +1,0 @@
-use Rattle.isp_emitted.proofs.Written.{written_goes_on}
-use Rattle.isp_emitted.proofs.laws.written_goes_on.Goals as goal
-
-pub returns : goal.returns
-returns c = written_goes_on c.layouts_are_apart.ensures c.expressions_go_on.ensures c.assignments_go_on.ensures

@@ -1,5 +1,0 @@
-use Rattle.isp_laws.proofs.Crossed.{are_combined}
-use Rattle.isp_laws.proofs.crossings.are_combined.Goals as goal
-
-pub returns : goal.returns
-returns c = are_combined

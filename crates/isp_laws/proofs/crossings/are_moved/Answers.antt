@@ -1,5 +1,0 @@
-use Rattle.isp_laws.proofs.Crossed.{are_moved}
-use Rattle.isp_laws.proofs.crossings.are_moved.Goals as goal
-
-pub returns : goal.returns
-returns c = are_moved

@@ -1,5 +1,0 @@
-use Rattle.isp_laws.proofs.Everyone.{whoever_comes}
-use Rattle.isp_laws.proofs.everybody.whoever_comes.Goals as goal
-
-pub returns : goal.returns
-returns c = whoever_comes

@@ -1,5 +1,0 @@
-use Rattle.isp_laws.proofs.MemberWhole.{a_trap_names_a_member}
-use Rattle.isp_laws.proofs.members.a_trap_names_a_member.Goals as goal
-
-pub returns : goal.returns
-returns c = a_trap_names_a_member

@@ -1,5 +1,0 @@
-use Rattle.isp_laws.proofs.Needed.{outside_is_needed}
-use Rattle.isp_laws.proofs.rules.outside_is_needed.Goals as goal
-
-pub returns : goal.returns
-returns c = outside_is_needed

@@ -1,5 +1,0 @@
-use Rattle.isp_laws.proofs.Needed.{printing_is_needed}
-use Rattle.isp_laws.proofs.rules.printing_is_needed.Goals as goal
-
-pub returns : goal.returns
-returns c = printing_is_needed

@@ -1,5 +1,0 @@
-use Rattle.isp_laws.proofs.Needed.{return_is_needed}
-use Rattle.isp_laws.proofs.rules.return_is_needed.Goals as goal
-
-pub returns : goal.returns
-returns c = return_is_needed

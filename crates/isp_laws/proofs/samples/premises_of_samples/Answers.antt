@@ -1,5 +1,0 @@
-use Rattle.isp_laws.proofs.Sampled.{premises_of_samples}
-use Rattle.isp_laws.proofs.samples.premises_of_samples.Goals as goal
-
-pub returns : goal.returns
-returns c = premises_of_samples

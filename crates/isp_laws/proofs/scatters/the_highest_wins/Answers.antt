@@ -1,5 +1,0 @@
-use Rattle.isp_laws.proofs.Scattered.{the_highest_wins}
-use Rattle.isp_laws.proofs.scatters.the_highest_wins.Goals as goal
-
-pub returns : goal.returns
-returns c = the_highest_wins

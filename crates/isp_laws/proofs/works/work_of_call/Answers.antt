@@ -1,5 +1,0 @@
-use Rattle.isp_laws.proofs.Worked.{work_of_call}
-use Rattle.isp_laws.proofs.works.work_of_call.Goals as goal
-
-pub returns : goal.returns
-returns c = work_of_call

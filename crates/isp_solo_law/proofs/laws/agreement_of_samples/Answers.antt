@@ -1,5 +1,0 @@
-use Rattle.isp_solo_law.proofs.Sampled.{agreement_of_samples}
-use Rattle.isp_solo_law.proofs.laws.agreement_of_samples.Goals as goal
-
-pub returns : goal.returns
-returns c = agreement_of_samples

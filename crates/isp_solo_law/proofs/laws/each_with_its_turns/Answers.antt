@@ -1,5 +1,0 @@
-use Rattle.isp_solo_law.proofs.Turns.{each_with_its_turns}
-use Rattle.isp_solo_law.proofs.laws.each_with_its_turns.Goals as goal
-
-pub returns : goal.returns
-returns c = each_with_its_turns

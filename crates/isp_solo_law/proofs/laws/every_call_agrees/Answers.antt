@@ -1,5 +1,0 @@
-use Rattle.isp_solo_law.proofs.Whole.{every_call_agrees}
-use Rattle.isp_solo_law.proofs.laws.every_call_agrees.Goals as goal
-
-pub returns : goal.returns
-returns c = every_call_agrees

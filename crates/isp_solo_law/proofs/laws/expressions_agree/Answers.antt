@@ -1,5 +1,0 @@
-use Rattle.isp_solo_law.proofs.Whole.{expressions_agree}
-use Rattle.isp_solo_law.proofs.laws.expressions_agree.Goals as goal
-
-pub returns : goal.returns
-returns c = expressions_agree

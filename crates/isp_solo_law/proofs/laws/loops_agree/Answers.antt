@@ -1,5 +1,0 @@
-use Rattle.isp_solo_law.proofs.Whole.{loops_agree}
-use Rattle.isp_solo_law.proofs.laws.loops_agree.Goals as goal
-
-pub returns : goal.returns
-returns c = loops_agree

@@ -1,5 +1,0 @@
-use Rattle.isp_solo_law.proofs.Entry.{solo_runs_agree}
-use Rattle.isp_solo_law.proofs.laws.solo_runs_agree.Goals as goal
-
-pub returns : goal.returns
-returns c = solo_runs_agree

@@ -1,5 +1,0 @@
-use Rattle.isp_solo_law.proofs.Whole.{statements_agree}
-use Rattle.isp_solo_law.proofs.laws.statements_agree.Goals as goal
-
-pub returns : goal.returns
-returns c = statements_agree
