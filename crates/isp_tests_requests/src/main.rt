@@ -14,8 +14,8 @@
 //! A record is tried at its end. What it does not say is 0 or empty.
 #![tactic(auto)]
 
-mod fakes;
 mod record;
+mod shelf;
 
 use record::Record;
 use std::alloc::{AllocError, Global};

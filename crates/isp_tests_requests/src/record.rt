@@ -1,6 +1,7 @@
 //! One request, line by line.
-use crate::fakes::{Page, Shelf};
+use crate::shelf::Shelf;
 use hex::decode;
+use isp_output::Kept;
 use isp_tests_support::{Marked, number, parted, spelt_out};
 use std::alloc::{AllocError, Global};
 
@@ -31,8 +32,8 @@ enum Program {
 #[derive(Drop)]
 struct Answer {
     status: u8,
-    out: Page,
-    err: Page,
+    out: Kept,
+    err: Kept,
 }
 
 impl<'a> Record<'a> {
@@ -97,7 +98,7 @@ impl<'a> Record<'a> {
     fn keep(&mut self, rest: &'a str) -> Result<(), AllocError> {
         let (name, beginning) = parted(rest, ' ');
         let beginning = spelt_out(self.alloc, beginning)?;
-        let text = self.answer()?.out.text(self.alloc)?;
+        let text = text_of(self.alloc, &self.answer()?.out)?;
         if text.as_str().starts_with(beginning.as_str()) {
             self.files.put(name, text.into_bytes())?;
         }
@@ -122,7 +123,7 @@ impl<'a> Record<'a> {
             .split(' ')
             .map(|word| String::from_str(alloc, word))
             .try_collect(alloc)?;
-        let (mut out, mut err) = (Page::new(alloc), Page::new(alloc));
+        let (mut out, mut err) = (Kept::new(alloc), Kept::new(alloc));
         let (words, files) = (words.as_slice(), &self.files);
         let status = match self.program {
             Program::Isp => isp_engine::command(alloc, words, files, &mut out, &mut err),
@@ -138,16 +139,24 @@ impl<'a> Record<'a> {
         let left = self.files.left()?;
         let is_left = left.as_str() == self.left;
         if u64::from(status) == self.status
-            && out.is(self.out.as_slice())
-            && err.is(self.err.as_bytes())
+            && out.bytes.as_slice() == self.out.as_slice()
+            && err.bytes.as_slice() == self.err.as_bytes()
             && is_left
         {
             return Ok(None);
         }
-        let (out, err) = (out.text(alloc)?, err.text(alloc)?);
+        let (out, err) = (text_of(alloc, &out)?, text_of(alloc, &err)?);
         let difference = format!(in alloc; "{}: status {status}, {out}, {err}, {left}", self.name)?;
         Ok(Some(difference))
     }
+}
+
+// What was written, where it is a text.
+fn text_of(alloc: Global, written: &Kept) -> Result<String, AllocError> {
+    String::from_str(
+        alloc,
+        str::from_utf8(written.bytes.as_slice()).unwrap_or("no text"),
+    )
 }
 
 impl Program {

@@ -1,7 +1,5 @@
-//! Files and sinks in memory.
-ghost use Rattle.std.specs.Prelude.{◌≡◌, false};
-
-use isp_engine::{FileFault, Sink, SinkFault, SourceFiles};
+//! Files in memory.
+use isp_engine::{FileFault, SourceFiles};
 use isp_run_words::{DataFault, DataFiles};
 use std::alloc::{AllocError, Global};
 use std::cell::RefCell;
@@ -93,56 +91,5 @@ impl DataFiles for Shelf<'_> {
 
     fn write_bytes(&self, _alloc: Global, name: &str, bytes: &[u8]) -> bool {
         !self.closed.iter().any(|closed| *closed == name) && self.keep(name, bytes).is_ok()
-    }
-}
-
-/// Takes what it is written, whole.
-#[derive(Drop)]
-pub(crate) struct Page {
-    bytes: Vec<u8>,
-    has_failed: bool,
-}
-
-impl Page {
-    pub(crate) fn new(alloc: Global) -> Page
-        ensures { result.has_failed ≡ false }
-    {
-        Page {
-            bytes: Vec::new(alloc),
-            has_failed: false,
-        }
-    }
-
-    /// Whether these bytes were written.
-    pub(crate) fn is(&self, bytes: &[u8]) -> bool {
-        self.bytes.as_slice() == bytes
-    }
-
-    /// What was written, where it is a text.
-    pub(crate) fn text(&self, alloc: Global) -> Result<String, AllocError> {
-        String::from_str(
-            alloc,
-            str::from_utf8(self.bytes.as_slice()).unwrap_or("no text"),
-        )
-    }
-}
-
-impl Sink for Page {
-    ghost use Rattle.std.specs.Prelude.{Some};
-
-    ghost written = { λ p. Some p.bytes.items };
-
-    ghost has_failed = { λ p. p.has_failed };
-
-    fn write(&mut self, bytes: &[u8]) -> Result<usize, SinkFault> {
-        if self.bytes.extend_from_slice(bytes).is_err() {
-            self.has_failed = true;
-            return Err(SinkFault);
-        }
-        Ok(bytes.len())
-    }
-
-    fn failed(&self) -> bool {
-        self.has_failed
     }
 }
