@@ -1,0 +1,2 @@
+-- What the code computes with: nothing here is promised.
+pub mod Turns
