@@ -106,13 +106,23 @@ def extension():
     manifest = {
         "name": "isp-ispc",
         "displayName": "ISPC",
-        "description": "Colours for Intel ISPC sources, as isp compiles them",
-        "version": "0.2.0",
+        "description": "Colours and a language server for Intel ISPC sources, as isp compiles them",
+        "version": "0.3.0",
         "publisher": "puttlinden",
         "license": "Apache-2.0",
-        "engines": {"vscode": "^1.60.0"},
+        "engines": {"vscode": "^1.82.0"},
         "categories": ["Programming Languages"],
+        "main": "./extension.js",
+        "activationEvents": ["onLanguage:ispc"],
+        "dependencies": {"vscode-languageclient": "^9.0.1"},
         "contributes": {
+            "configuration": {
+                "title": "ISPC",
+                "properties": {
+                    "isp.path": {"type": "string", "default": "ispx", "description": "The program `ispx`, whose command `lsp` is the language server"},
+                    "isp.gang": {"type": "string", "enum": ["4", "8", "16", "32"], "default": "16", "description": "Instances that run together"},
+                },
+            },
             "languages": [{"id": "ispc", "aliases": ["ISPC"], "extensions": [".ispc"], "configuration": "./language-configuration.json"}],
             "grammars": [{"language": "ispc", "scopeName": "source.ispc", "path": "./ispc.tmLanguage.json"}],
         },
