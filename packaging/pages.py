@@ -6,6 +6,12 @@ EXAMPLE = {
     "isp": "isp run --gang 16 brighten.ispc brighten brighten.json",
     "ispx": "ispx run brighten.ispc brighten 'pixels=[0,100,250]' count=3 level=50",
 }
+# how editors are set up that `ispx lsp` serves
+EDITORS = {
+    "Neovim": "cp -r /usr/share/doc/isp/editors/vim/. ~/.config/nvim/: a file NAME.ispc has its colours then, and `ispx lsp` is started for it.",
+    "Vim": "cp -r /usr/share/doc/isp/editors/vim/. ~/.vim/ for the colours. A plugin that speaks the language server protocol wants the command `ispx lsp`.",
+    "VS Code": "cp -r /usr/share/doc/isp/editors/vscode ~/.vscode/extensions/isp-ispc, and npm install in that folder.",
+}
 
 
 def quoted(text):
@@ -75,5 +81,9 @@ def man_page(program, readme, date):
     for status, when in statuses(readme):
         lines += item(f"\\fB{status}\\fR", when + ".")
     lines += [*heading("EXAMPLES"), ".nf", quoted(EXAMPLE[program.name]), ".fi"]
+    if program.command("lsp"):
+        lines += heading("EDITORS")
+        for name, how in EDITORS.items():
+            lines += item(name, how)
     lines += [*heading("SEE ALSO"), f".BR {SEE_ALSO[program.name]} (1),", "the pages and kernels in /usr/share/doc/isp"]
     return "\n".join(lines) + "\n"

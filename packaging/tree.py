@@ -15,6 +15,7 @@ SONAME = "libisp.so.0"
 PROGRAMS = ("isp", "ispx")
 EXAMPLES = re.compile(r"examples/([\w.]+\.(ispc|json|answer|md|py)|(c|python)/[\w.]+)$")
 PAGES = re.compile(r"(README\.md|docs/[\w.]+)$")
+EDITORS = re.compile(r"editors/[\w./-]+$")
 
 
 class File(NamedTuple):
@@ -126,8 +127,8 @@ def told(release, layout, date):
 
 
 def documents(release):
-    """Returns the pages and the examples, so that the links from one to the other lead somewhere."""
-    names = [it for it in release.tracked("README.md", "docs", "examples") if PAGES.match(it) or EXAMPLES.match(it)]
+    """Returns the pages, the examples and what editors need, so that the links from one to the other lead somewhere."""
+    names = [it for it in release.tracked("README.md", "docs", "examples", "editors") if PAGES.match(it) or EXAMPLES.match(it) or EDITORS.match(it)]
     found = {f"share/doc/isp/{it}": File(content(f"{release.root}/{it}")) for it in names}
     found["share/doc/isp/copyright"] = File(content(f"{release.root}/LICENSE"))
     return found
