@@ -4,6 +4,7 @@ use hex::decode;
 use isp_output::Kept;
 use isp_tests_support::{Marked, number, parted, spelt_out};
 use std::alloc::{AllocError, Global};
+use std::io;
 
 /// What a record says.
 #[derive(Drop)]
@@ -127,7 +128,10 @@ impl<'a> Record<'a> {
         let (words, files) = (words.as_slice(), &self.files);
         let status = match self.program {
             Program::Isp => isp_engine::command(alloc, words, files, &mut out, &mut err),
-            Program::Ispx => isp_workbench::command(alloc, words, files, &mut out, &mut err),
+            Program::Ispx => {
+                let mut input = io::empty();
+                isp_workbench::command(alloc, words, files, &mut input, &mut out, &mut err)
+            }
         };
         Ok(Answer { status, out, err })
     }

@@ -1,5 +1,6 @@
 //! The whole program, over what it is handed.
 ghost use Rattle.std.specs.Prelude.{◌≡◌, false};
+ghost use Rattle.std.specs.Io.KnownBytes.{Consumes, IsAtEnd};
 ghost use Rattle.clap.specs.Values.{kind_of};
 ghost use Rattle.isp_engine.specs.Told.{Told};
 ghost use Rattle.isp_workbench.specs.Requests.{Answered, Commands, WordsRefused};
@@ -8,12 +9,15 @@ use clap::Error;
 use clap::error::ErrorKind;
 use isp_case_command::test;
 use isp_code_commands::{c_file, count, trace, wasm_file};
+use isp_command_line::VERSION;
 use isp_engine::{Failure, Sink, SourceFiles, tell_end, write_text};
 use isp_explain_command::explain;
+use isp_lsp_command::lsp;
 use isp_run_command::{run, show};
 use isp_run_words::DataFiles;
 use ispx_command_line::{Request, read_words};
 use std::alloc::{AllocError, Global};
+use std::io::Read;
 
 /// Does what `words` ask for, the first of which is the program's name, and answers the exit status.
 ///
@@ -24,36 +28,40 @@ use std::alloc::{AllocError, Global};
 /// `count [--gang G] [--budget B] SOURCE ENTRY ARGUMENTS` does what `isp run` does, and writes after the answer a line of JSON with
 /// what the instructions come to. `trace`, with the same words and `[--from N] [--count M] [--lanes]`, writes the line of each step in
 /// a window of the run. `c [--gang G] [--header] FILE` writes the code of a text, or with a gang that of a source, as a C file, and
-/// `wasm [--gang G] FILE` as a module of WebAssembly. Of these four a line goes to `err` where the status is not 0.
+/// `wasm [--gang G] FILE` as a module of WebAssembly. `lsp [--gang G]` reads messages of the language server protocol from `input` and
+/// writes what is sent after each, until the connection ends. Of these five a line goes to `err` where the status is not 0, but that
+/// of a connection which `exit` ends.
 ///
 /// Help and the version go to `out`, with status 0. Other words that are no request are refused on `err`, with status 2.
 /// Where `err` fails, or has failed before, the rest of it is lost.
-pub fn command<F: SourceFiles + DataFiles, O: Sink, E: Sink>(
+pub fn command<F: SourceFiles + DataFiles, I: Read, O: Sink, E: Sink>(
     alloc: Global,
     words: &[String],
     files: &F,
+    input: &mut I,
     out: &mut O,
     err: &mut E,
 ) -> u8
     requires { O.has_failed out.old ≡ false }
-    ensures { Commands (F.holds files.now) (F.has_bytes files.now) (O.written out.old) (O.written out.new) (O.has_failed out.new)
+    ensures { Commands (F.holds files.now) (F.has_bytes files.now) (Consumes (I.remaining input.old) (I.remaining input.new)) (IsAtEnd (I.remaining input.new)) (O.written out.old) (O.written out.new) (O.has_failed out.new)
         (λ line. Told line (E.written err.old) (E.written err.new) (E.has_failed err.new)) result }
 {
     match read_words(alloc, words) {
-        Ok(request) => answer(alloc, &request, files, out, err),
+        Ok(request) => answer(alloc, &request, files, input, out, err),
         Err(error) => refuse(alloc, &error, out, err),
     }
 }
 
-fn answer<F: SourceFiles + DataFiles, O: Sink, E: Sink>(
+fn answer<F: SourceFiles + DataFiles, I: Read, O: Sink, E: Sink>(
     alloc: Global,
     request: &Request<'_>,
     files: &F,
+    input: &mut I,
     out: &mut O,
     err: &mut E,
 ) -> u8
     requires { O.has_failed out.old ≡ false }
-    ensures { Answered (F.holds files.now) (F.has_bytes files.now) request.now (O.written out.old) (O.written out.new) (O.has_failed out.new)
+    ensures { Answered (F.holds files.now) (F.has_bytes files.now) (Consumes (I.remaining input.old) (I.remaining input.new)) (IsAtEnd (I.remaining input.new)) request.now (O.written out.old) (O.written out.new) (O.has_failed out.new)
         (λ line. Told line (E.written err.old) (E.written err.new) (E.has_failed err.new)) result }
 {
     match request {
@@ -64,6 +72,7 @@ fn answer<F: SourceFiles + DataFiles, O: Sink, E: Sink>(
         Request::Trace(wanted) => tell_end(trace(alloc, wanted, files, out), err),
         Request::C(wanted) => tell_end(c_file(alloc, wanted, files, out), err),
         Request::Wasm(wanted) => wasm_file(alloc, wanted, files, out, err),
+        Request::Lsp(wanted) => lsp(alloc, wanted.gang, VERSION, input, out, err),
     }
 }
 

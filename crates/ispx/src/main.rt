@@ -14,6 +14,14 @@ fn main(rt: HostRuntime) -> ExitCode {
     let mut out = HostOutput::new(&rt);
     let stderr = rt.stderr();
     let mut err = HostOutput::new(&stderr);
-    let status = command(rt.alloc(), words.as_slice(), &files, &mut out, &mut err);
+    let mut input = rt.reader();
+    let status = command(
+        rt.alloc(),
+        words.as_slice(),
+        &files,
+        &mut input,
+        &mut out,
+        &mut err,
+    );
     ExitCode::from(status)
 }

@@ -63,6 +63,12 @@ pub struct TraceRequest<'a> {
     pub lanes: bool,
 }
 
+/// An editor is served, and sources are judged for a gang.
+#[derive(Clone, Copy, Debug)]
+pub struct LspRequest {
+    pub gang: Gang,
+}
+
 /// What command words ask for. Sources, code and arguments are names of files.
 #[derive(Debug, Drop)]
 pub enum Request<'a> {
@@ -73,6 +79,7 @@ pub enum Request<'a> {
     Trace(TraceRequest<'a>),
     C(CRequest<'a>),
     Wasm(WasmRequest<'a>),
+    Lsp(LspRequest),
 }
 
 /// What the words ask for, or the text that the user is to see.
@@ -126,6 +133,9 @@ fn chosen<'a>(name: &str, inner: &ArgMatches<'a>) -> Option<Request<'a>> {
         "wasm" => Some(Request::Wasm(WasmRequest {
             gang: gang_of(inner),
             file: inner.get_str("FILE")?,
+        })),
+        "lsp" => Some(Request::Lsp(LspRequest {
+            gang: gang_of(inner)?,
         })),
         _ => None,
     }
@@ -194,7 +204,7 @@ fn ispx<'a>(alloc: Global) -> Result<Command<'a>, Error> {
         .bin_name("ispx")?
         .version(VERSION)
         .about(
-            "Runs and tests kernels, explains what is refused, shows what a run does, and writes kernels as C and WebAssembly",
+            "Runs and tests kernels, explains what is refused, shows what a run does, writes kernels as C and WebAssembly, and serves editors",
         )
         .subcommand_required(true);
     let shown = named
@@ -203,7 +213,8 @@ fn ispx<'a>(alloc: Global) -> Result<Command<'a>, Error> {
         .subcommand(explain(alloc)?)?
         .subcommand(count(alloc)?)?
         .subcommand(trace(alloc)?)?;
-    Ok(shown.subcommand(c(alloc)?)?.subcommand(wasm(alloc)?)?)
+    let written = shown.subcommand(c(alloc)?)?.subcommand(wasm(alloc)?)?;
+    Ok(written.subcommand(lsp(alloc)?)?)
 }
 
 fn run_words<'a>(alloc: Global) -> Result<Command<'a>, AllocError> {
@@ -362,6 +373,12 @@ fn wasm<'a>(alloc: Global) -> Result<Command<'a>, AllocError> {
         .about("Writes code as a WebAssembly module")
         .arg(gang(alloc))?
         .arg(code_file(alloc))
+}
+
+fn lsp<'a>(alloc: Global) -> Result<Command<'a>, AllocError> {
+    Command::new(alloc, "lsp")
+        .about("Serves an editor over standard input and output, by the language server protocol")
+        .arg(gang(alloc).default_value("16"))
 }
 
 // A file with code, or where there is a gang a source.
