@@ -8,7 +8,6 @@ use Rattle.std.specs.Prelude.{◌≡◌, ◌≢◌, ◌⊎◌, ℕ, List, [], Bo
 use Rattle.isp_base.specs.declared.types.Gang.{Gang}
 use Rattle.isp_code.specs.Listing.{Listing}
 use Rattle.isp_command_line.specs.declared.words.RunRequest.{RunRequest}
-use Rattle.isp_engine.specs.declared.commands.Job.{Job}
 use Rattle.isp_engine.specs.declared.failure.Failure.{Failure}
 use Rattle.isp_engine.specs.declared.failure.Failure.TheVariants.{Memory}
 use Rattle.isp_engine.specs.Commands.{Given, NotGiven, exit_status, job_of_run}
@@ -34,15 +33,15 @@ AnsweredBy ends status = (end : Result ⊤ Failure) × (status ≡ exit_status e
 -- ---- count and trace
 
 -- the files are read, and the first of them, which has this text, gives code
-abbrev pub GivenBy : Holds → Job → List ℕ → Listing → List ℕ → Type 0
-GivenBy holds job source code json = (g : Given holds job code json) × (g.files.text ≡ source)
+abbrev pub GivenBy : Holds → RunRequest → List ℕ → Listing → List ℕ → Type 0
+GivenBy holds q source code json = (g : Given holds (job_of_run q) code json) × (g.files.text ≡ source)
 
 -- the files are read, the source is compiled, and the entry is run and shown
 pub record ShownRun (shows : List ℕ → Shows) (holds : Holds) (q : RunRequest) (old new : Option (List ℕ)) (failed : Bool) (end : Result ⊤ Failure) : Type 0 where
   pub code : Listing
   pub json : List ℕ
   pub source : List ℕ
-  pub given : GivenBy holds (job_of_run q) source code json
+  pub given : GivenBy holds q source code json
   pub shown : ShowEnds (shows source) q.entry.now code json old new failed end
 
 abbrev pub ShownEnds : (List ℕ → Shows) → Holds → RunRequest → Option (List ℕ) → Option (List ℕ) → Bool → Result ⊤ Failure → Type 0
