@@ -75,16 +75,13 @@ local function ended()
   expect('one server', #vim.lsp.get_active_clients(), 1)
   client.stop()
   expect('its end', vim.wait(20000, function() return client.is_stopped() end, 10), true)
-  expect('its status', vim.wait(20000, function() return vim.g.isp_status ~= nil end, 10) and vim.g.isp_status, 0)
+  local status = room .. '/status'
+  vim.wait(20000, function() return vim.fn.getfsize(status) > 0 end, 10)
+  expect('its status', vim.fn.readfile(status), { '0' })
 end
 
 vim.opt.runtimepath:prepend(root .. '/editors/vim')
-vim.g.isp_command = { vim.env.ISPX, 'lsp' }
-local start = vim.lsp.start_client
-vim.lsp.start_client = function(config)
-  config.on_exit = function(status) vim.schedule(function() vim.g.isp_status = status end) end
-  return start(config)
-end
+vim.g.isp_command = { 'sh', '-c', '"$ISPX" lsp; echo $? >"$ROOM/status"' }
 vim.cmd('filetype plugin on')
 local fine, fault = pcall(function()
   mended()

@@ -1,2 +1,3 @@
 mod Feeds
+mod Pages
 pub mod Stories

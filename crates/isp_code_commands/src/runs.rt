@@ -74,7 +74,7 @@ fn given<'a, F: SourceFiles>(
     wanted: &RunRequest<'a>,
     files: &F,
 ) -> Result<(Image, String, String), Failure<'a>>
-    ensures ok { IfOk result (λ g. GivenBy (F.holds files.now) (job_of_run wanted.now) (string_bytes g.1) g.0 (string_bytes g.2)) }
+    ensures ok { IfOk result (λ g. GivenBy (F.holds files.now) wanted.now (string_bytes g.1) g.0 (string_bytes g.2)) }
     ensures err { IfErr result (NotGiven (F.holds files.now) (job_of_run wanted.now)) }
 {
     let (source, json) = read_both(alloc, wanted.source, wanted.arguments, files)?;

@@ -1,4 +1,4 @@
-use Rattle.std.proofs.Common.{rules, ◌≡◌, ◌∙◌, ap, sym, refl, suc, ℕ, ◌+◌, ◌^◌, ◌<◌, ◌≤◌, List, map, take, length, vec_len, arith}
+use Rattle.std.proofs.Common.{rules, ◌≡◌, ◌∙◌, ap, refl, suc, ◌+◌, ◌^◌, ◌<◌, map, take, length, vec_len, arith}
 use Rattle.std.specs.List.{range_with_len}
 use Rattle.std.proofs.Math.Seq.{take-length}
 use Rattle.isp_base.specs.declared.types.Span.{Span}
