@@ -6,7 +6,7 @@ use Rattle.std.proofs.lemmas.Bool.{eqb-true, eq-eqb}
 use Rattle.std.proofs.lemmas.List.Elements.{All-cons, All-contains, All-nil, All-weaker, Contains-append_right, filter_map-append}
 use Rattle.std.proofs.lemmas.List.{take_more}
 use Rattle.isp_known.specs.declared.note.Note.{Note}
-use Rattle.isp_known.specs.declared.note.Note.TheVariants.{Value, Declared, Used}
+use Rattle.isp_known.specs.declared.note.Note.TheVariants.{Value, Declared, Used, Index, Loaded}
 use Rattle.isp_known.specs.declared.note.Subject.{Subject}
 use Rattle.isp_known.specs.declared.note.Subject.TheVariants.{Variable, Function}
 use Rattle.isp_known.specs.Places.{Names, declaration_of, declared_at, named, named_at, or_else, places_of, same, subject_at}
@@ -30,6 +30,8 @@ found_named ns k (Used j y) x c h =
     let p = pick (eqb j k) y x h in
     let e : Used j y ≡ Used k x = cc (eqb-true j k p.0, p.1) in
     inr (subst (λ (n : Note). Contains ns n) e c)
+found_named ns k (Index j y) x c h = cc
+found_named ns k (Loaded j y) x c h = cc
 
 in_more : (n : Note) (ns : List Note) (m : Note) → Contains ns m → Contains (n ∷ ns) m
 in_more n ns m c = Contains-append_right (n ∷ []) ns m c
@@ -82,6 +84,8 @@ found_declared ns x (Declared j y) k c h =
     let e : Declared j y ≡ Declared k x = cc (same_is y x p.0, p.1) in
     subst (λ (n : Note). Contains ns n) e c
 found_declared ns x (Used j y) k c h = cc
+found_declared ns x (Index j y) k c h = cc
+found_declared ns x (Loaded j y) k c h = cc
 
 declares_by : (n : Note) (ns : List Note) (x : Subject) (k : ℕ) (o : Option ℕ) → declared_at x n ≡ o → (declaration_of x ns ≡ Some k → Contains ns (Declared k x)) → or_else o (declaration_of x ns) ≡ Some k
     → Contains (n ∷ ns) (Declared k x)
@@ -116,6 +120,8 @@ module _ (declared : Bool) (x : Subject) where
       let p = pick (same y x) j k (e ∙ h) in
       let d : Used j y ≡ Used k x = cc (same_is y x p.0, p.1) in
       inr (0, omega arith, d)
+  found_at (Index j y) ns k o e h = cc
+  found_at (Loaded j y) ns k o e h = cc
 
   places_by : (n : Note) (ns : List Note) (o : Option ℕ) → named_at declared x n ≡ o → All (Named ns) (places_of declared x ns) → All (Named (n ∷ ns)) (cons_option o (places_of declared x ns))
   places_by n ns None e h = All-weaker (Named ns) (Named (n ∷ ns)) (λ k. names_more n ns k x) (places_of declared x ns) h

@@ -9,7 +9,7 @@ use Rattle.std.proofs.lemmas.List.{take_more}
 use Rattle.isp_base.specs.declared.types.Span.{Span}
 use Rattle.isp_base.specs.declared.types.Ty.{Ty}
 use Rattle.isp_known.specs.declared.note.Note.{Note}
-use Rattle.isp_known.specs.declared.note.Note.TheVariants.{Value, Declared, Used}
+use Rattle.isp_known.specs.declared.note.Note.TheVariants.{Value, Declared, Used, Index, Loaded}
 use Rattle.isp_known.specs.declared.place.Valued.{Valued}
 use Rattle.isp_known.specs.Places.{IsAround, IsNarrowest, width}
 use Rattle.isp_known.specs.reader.Finding.{covers, is_narrower, next_best}
@@ -19,11 +19,15 @@ abbrev pub Outside : ℕ → Note → Type 0
 Outside at (Value s t) = covers at s ≡ false
 Outside at (Declared k x) = Unit {0}
 Outside at (Used k x) = Unit {0}
+Outside at (Index k x) = Unit {0}
+Outside at (Loaded k x) = Unit {0}
 
 abbrev pub NotNarrower : ℕ → Span → Note → Type 0
 NotNarrower at v (Value s t) = covers at s ≡ true → width v ≤ width s
 NotNarrower at v (Declared k x) = Unit {0}
 NotNarrower at v (Used k x) = Unit {0}
+NotNarrower at v (Index k x) = Unit {0}
+NotNarrower at v (Loaded k x) = Unit {0}
 
 -- the best of some notes
 abbrev pub Best : ℕ → List Note → Option Valued → Type 0
@@ -37,11 +41,15 @@ from_outside : (at : ℕ) (v : Span) (n : Note) → Outside at n → NotNarrower
 from_outside at v (Value s t) e = λ g. cc (e, g)
 from_outside at v (Declared k x) e = tt
 from_outside at v (Used k x) e = tt
+from_outside at v (Index k x) e = tt
+from_outside at v (Loaded k x) e = tt
 
 narrower_still : (at : ℕ) (v w : Span) → width w < width v → (n : Note) → NotNarrower at v n → NotNarrower at w n
 narrower_still at v w l (Value s t) h = λ g. let m = h g in omega (arith, l, m)
 narrower_still at v w l (Declared k x) h = tt
 narrower_still at v w l (Used k x) h = tt
+narrower_still at v w l (Index k x) h = tt
+narrower_still at v w l (Loaded k x) h = tt
 
 -- an expression around the byte, where it is narrower and where it is not
 as_narrow : (at : ℕ) (ns : List Note) (s : Span) (t : Ty) → covers at s ≡ true → (best : Option Valued) (b : Bool) → is_narrower s best ≡ b → Best at ns best
@@ -71,6 +79,8 @@ pub best_more : (at : ℕ) (ns : List Note) (n : Note) (best : Option Valued) �
 best_more at ns (Value s t) best h = around at ns s t (covers at s) refl best h
 best_more at ns (Declared k x) best h = beside at ns (Declared k x) tt best h
 best_more at ns (Used k x) best h = beside at ns (Used k x) tt best h
+best_more at ns (Index k x) best h = beside at ns (Index k x) tt best h
+best_more at ns (Loaded k x) best h = beside at ns (Loaded k x) tt best h
 
 -- ---- what the best of all notes is
 

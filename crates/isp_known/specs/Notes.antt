@@ -2,8 +2,9 @@
 --     Value s t        an expression stands there, whose value has this type
 --     Declared k x     the name that begins there declares x
 --     Used k x         the name that begins there stands for x
--- A typed tree has no place for two names, of which there is no note: the index of a `foreach_active` or a `foreach_unique`, where it
--- is declared, and the variable that a packed call loads.
+-- A typed tree has no place for two names, whose notes say where a word or a call stands:
+--     Index k x        the index of the `foreach_active` or `foreach_unique` that begins there declares x
+--     Loaded k x       the packed call that ends there loads x
 use Rattle.std.specs.Prelude.{ℕ, suc, List, [], ◌∷◌, ◌++◌, Option, Some, None}
 use Rattle.isp_base.specs.declared.types.Elem.TheVariants.{Bool as Truth, I32}
 use Rattle.isp_base.specs.declared.types.Rate.TheVariants.{Uniform, Varying}
@@ -14,7 +15,7 @@ use Rattle.isp_typed.specs.Typed.{TItem, t_plain, t_with_value, t_with_size, TSi
 use Rattle.isp_typed.specs.Typed.{TStmt, t_block, t_declare, t_simple, t_if, t_if_else, t_while, t_do, t_for, t_foreach, t_foreach_active, t_foreach_unique}
 use Rattle.isp_typed.specs.Typed.{t_unmasked, t_jump, t_return, t_print, t_assert, TBlock, t_braces, TStmts, t_no_stmts, t_stmt_then, TFunction, Program}
 use Rattle.isp_known.specs.declared.note.Note.{Note}
-use Rattle.isp_known.specs.declared.note.Note.TheVariants.{Value, Declared, Used}
+use Rattle.isp_known.specs.declared.note.Note.TheVariants.{Value, Declared, Used, Index, Loaded}
 use Rattle.isp_known.specs.declared.note.Subject.TheVariants.{Variable, Function}
 
 -- the name at the beginning of a span declares a variable of function f, or uses it
@@ -23,6 +24,13 @@ declares f k s = Declared s.start (Variable f k)
 
 abbrev pub uses : ℕ → ℕ → Span → Note
 uses f k s = Used s.start (Variable f k)
+
+-- the index of the loop with this keyword is a variable of function f, and so is what a call with this span loads
+abbrev pub indexes : ℕ → ℕ → Span → Note
+indexes f k w = Index w.start (Variable f k)
+
+abbrev pub loads : ℕ → ℕ → Span → Note
+loads f k s = Loaded s.end (Variable f k)
 
 -- of what may be left out, and of several
 abbrev pub notes_of_any : {A : Type 0} → (A → List Note) → Option A → List Note
@@ -52,7 +60,7 @@ module _ (f : ℕ) where
     expr_notes (t_call c t) = Value (call_span c) t ∷ call_notes c
     expr_notes (t_library g e xs t s) = Value s t ∷ values_notes xs
     expr_notes (t_packed_store b x s) = Value s (ty_of Uniform I32) ∷ (base_notes b ++ expr_notes x)
-    expr_notes (t_packed_load b k s) = Value s (ty_of Uniform I32) ∷ base_notes b
+    expr_notes (t_packed_load b k s) = Value s (ty_of Uniform I32) ∷ (base_notes b ++ loads f k s ∷ [])
 
     pub place_notes : TPlace → List Note
     place_notes (t_variable k t s) = Value s t ∷ uses f k s ∷ []
@@ -111,8 +119,8 @@ module _ (f : ℕ) where
     stmt_notes (t_do c n a x s) = stmt_notes a ++ expr_notes x
     stmt_notes (t_for c n i x p m a s) = notes_of_any first_notes i ++ (notes_of_any expr_notes x ++ (notes_of_any simple_notes p ++ stmt_notes a))
     stmt_notes (t_foreach w n rs a s) = notes_of_each range_notes rs ++ stmt_notes a
-    stmt_notes (t_foreach_active w n i a s) = stmt_notes a
-    stmt_notes (t_foreach_unique w n i e x a s) = expr_notes x ++ stmt_notes a
+    stmt_notes (t_foreach_active w n i a s) = indexes f i w ∷ stmt_notes a
+    stmt_notes (t_foreach_unique w n i e x a s) = indexes f i w ∷ (expr_notes x ++ stmt_notes a)
     stmt_notes (t_unmasked w b s) = block_notes b
     stmt_notes (t_jump j w s) = []
     stmt_notes (t_return w x s) = notes_of_any expr_notes x

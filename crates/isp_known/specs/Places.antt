@@ -8,7 +8,7 @@ use Rattle.std.specs.List.{filter_map, prefix_len, suffix_len}
 use Rattle.isp_base.specs.declared.types.Span.{Span}
 use Rattle.isp_lex.specs.Bytes.{is_word_byte}
 use Rattle.isp_known.specs.declared.note.Note.{Note}
-use Rattle.isp_known.specs.declared.note.Note.TheVariants.{Value, Declared, Used}
+use Rattle.isp_known.specs.declared.note.Note.TheVariants.{Value, Declared, Used, Index, Loaded}
 use Rattle.isp_known.specs.declared.note.Subject.{Subject}
 use Rattle.isp_known.specs.declared.note.Subject.TheVariants.{Variable, Function}
 use Rattle.isp_known.specs.declared.place.Valued.{Valued}
@@ -20,6 +20,8 @@ abbrev pub named : ℕ → Note → Option Subject
 named k (Value s t) = None
 named k (Declared j x) = if j == k then Some x else None
 named k (Used j x) = if j == k then Some x else None
+named k (Index j x) = None
+named k (Loaded j x) = None
 
 abbrev pub or_else : {A : Type 0} → Option A → Option A → Option A
 or_else None o = o
@@ -42,6 +44,8 @@ abbrev pub declared_at : Subject → Note → Option ℕ
 declared_at x (Value s t) = None
 declared_at x (Declared k y) = if same y x then Some k else None
 declared_at x (Used k y) = None
+declared_at x (Index k y) = None
+declared_at x (Loaded k y) = None
 
 abbrev pub declaration_of : Subject → List Note → Option ℕ
 declaration_of x [] = None
@@ -52,6 +56,8 @@ abbrev pub named_at : Bool → Subject → Note → Option ℕ
 named_at declared x (Value s t) = None
 named_at declared x (Declared k y) = if declared && same y x then Some k else None
 named_at declared x (Used k y) = if same y x then Some k else None
+named_at declared x (Index k y) = None
+named_at declared x (Loaded k y) = None
 
 -- the places at which x is named, in the order of the notes
 abbrev pub places_of : Bool → Subject → List Note → List ℕ

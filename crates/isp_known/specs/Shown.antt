@@ -18,7 +18,6 @@ use Rattle.isp_known.specs.declared.note.Note.{Note}
 use Rattle.isp_known.specs.declared.note.Subject.{Subject}
 use Rattle.isp_known.specs.declared.note.Subject.TheVariants.{Variable, Function}
 use Rattle.isp_known.specs.declared.place.Valued.{Valued}
-use Rattle.isp_known.specs.Notes.{program_notes}
 use Rattle.isp_known.specs.Places.{IsAround, IsNarrowest, subject_at, word_of}
 
 abbrev pub elem_text : Elem → List ℕ
@@ -85,9 +84,10 @@ ValueShows ns at (Some (s, shown)) = (t : Ty) × IsNarrowest ns at (record { spa
 ValueShows ns at None = (v : Valued) → ¬ (IsAround ns at v)
 
 -- of a name what it stands for
-abbrev pub WordShows : Program → ℕ → Span → Option Subject → Option (Span × List ℕ) → Type 0
-WordShows p at w (Some x) o = o ≡ option_map (λ shown. (w, shown)) (subject_text p x)
-WordShows p at w None o = ValueShows (program_notes p) at o
+abbrev pub WordShows : Program → List Note → ℕ → Span → Option Subject → Option (Span × List ℕ) → Type 0
+WordShows p ns at w (Some x) o = o ≡ option_map (λ shown. (w, shown)) (subject_text p x)
+WordShows p ns at w None o = ValueShows ns at o
 
-abbrev pub Shows : Program → List ℕ → ℕ → Option (Span × List ℕ) → Type 0
-Shows p text at o = let w = word_of text at in WordShows p at w (subject_at w.start (program_notes p)) o
+-- `ns` are the notes of the program
+abbrev pub Shows : Program → List Note → List ℕ → ℕ → Option (Span × List ℕ) → Type 0
+Shows p ns text at o = let w = word_of text at in WordShows p ns at w (subject_at w.start ns) o

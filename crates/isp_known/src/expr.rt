@@ -3,7 +3,7 @@ ghost use Rattle.std.specs.Prelude.{◌≡◌, ◌++◌, IfOk};
 ghost use Rattle.isp_typed.specs.Views.{argument_of, base_of, call_of, expr_of, place_of};
 ghost use Rattle.isp_known.specs.Notes.{argument_notes, base_notes, call_notes, expr_notes, place_notes};
 
-use crate::note::{Note, called, used, value};
+use crate::note::{Note, called, loaded, used, value};
 use isp_typed::{TypedArgument, TypedBase, TypedCall, TypedExpr, TypedPlace};
 use std::alloc::AllocError;
 
@@ -74,11 +74,12 @@ pub(crate) fn expr(found: &mut Vec<Note>, function: usize, x: &TypedExpr) -> Res
         }
         TypedExpr::PackedLoad {
             base: array,
+            variable,
             span,
-            ..
         } => {
             value(found, *span, x.ty())?;
-            base(found, function, array)
+            base(found, function, array)?;
+            loaded(found, function, *variable, *span)
         }
     }
 }

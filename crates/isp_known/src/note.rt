@@ -1,6 +1,6 @@
 //! What is known of a place of a program's text.
 ghost use Rattle.std.specs.Prelude.{◌≡◌, ◌++◌, ◌∷◌, [], OnOk};
-ghost use Rattle.isp_known.specs.Notes.{declares, uses};
+ghost use Rattle.isp_known.specs.Notes.{declares, indexes, loads, uses};
 
 use isp_base::{Span, Ty};
 use std::alloc::AllocError;
@@ -23,6 +23,10 @@ pub enum Note {
     Declared { start: usize, subject: Subject },
     /// A name begins there, which is used.
     Used { start: usize, subject: Subject },
+    /// A `foreach_active` or a `foreach_unique` begins there, whose index is declared. A typed tree has no place for its name.
+    Index { keyword: usize, subject: Subject },
+    /// A packed call ends there, which loads a variable. A typed tree has no place for its name.
+    Loaded { end: usize, subject: Subject },
 }
 
 /// Notes an expression.
@@ -60,6 +64,38 @@ pub(crate) fn used(
 {
     found.push(Note::Used {
         start: span.start,
+        subject: Subject::Variable { function, number },
+    })?;
+    Ok(())
+}
+
+/// Notes the index of a `foreach_active` or a `foreach_unique`, by the place of its keyword.
+pub(crate) fn indexed(
+    found: &mut Vec<Note>,
+    function: usize,
+    number: usize,
+    keyword: Span,
+) -> Result<(), AllocError>
+    ensures { OnOk result (found.new.items ≡ found.old.items ++ indexes function number keyword ∷ []) }
+{
+    found.push(Note::Index {
+        keyword: keyword.start,
+        subject: Subject::Variable { function, number },
+    })?;
+    Ok(())
+}
+
+/// Notes that a packed call loads a variable of a function, by the place of the call.
+pub(crate) fn loaded(
+    found: &mut Vec<Note>,
+    function: usize,
+    number: usize,
+    call: Span,
+) -> Result<(), AllocError>
+    ensures { OnOk result (found.new.items ≡ found.old.items ++ loads function number call ∷ []) }
+{
+    found.push(Note::Loaded {
+        end: call.end,
         subject: Subject::Variable { function, number },
     })?;
     Ok(())

@@ -19,7 +19,7 @@ fn named(note: Note, start: usize) -> Option<Subject>
     ensures { result ≡ named start note }
 {
     match note {
-        Note::Value { .. } => None,
+        Note::Value { .. } | Note::Index { .. } | Note::Loaded { .. } => None,
         Note::Declared { start: k, subject } | Note::Used { start: k, subject } => {
             if k == start { Some(subject) } else { None }
         }
@@ -166,7 +166,8 @@ fn next_best(at: usize, note: Note, best: Option<Valued>) -> Option<Valued>
                 best
             }
         }
-        Note::Declared { .. } | Note::Used { .. } => best,
+        Note::Declared { .. } | Note::Used { .. } | Note::Index { .. } | Note::Loaded { .. } =>
+            best,
     }
 }
 

@@ -1,7 +1,6 @@
 //! What is shown of a byte of a program's text.
 ghost use Rattle.std.specs.Prelude.{◌≡◌, ◌≤◌, ◌++◌, List, ℕ, IfOk, OnOk, length, option_map, string_bytes, take};
 ghost use Rattle.isp_typed.specs.Views.{function_of, program_of};
-ghost use Rattle.isp_known.specs.Notes.{program_notes};
 ghost use Rattle.isp_known.specs.Shown.{Shows, ValueShows, answer_text, const_text, elem_text, function_text, holds_text, listed_text, params_text, rate_text, subject_text, type_text, variable_of, variable_text};
 ghost use Rattle.isp_known.specs.reader.Views.{shown_view};
 
@@ -204,9 +203,8 @@ pub fn shown_at(
     text: &[u8],
     at: usize,
 ) -> Result<Option<Shown>, AllocError>
-    requires notes { notes.now ≡ program_notes (program_of program.now) }
-    requires there { at ≤ length text.now }
-    ensures { IfOk result (λ o. Shows (program_of program.now) text.now at (option_map shown_view o)) }
+    requires { at ≤ length text.now }
+    ensures { IfOk result (λ o. Shows (program_of program.now) notes.now text.now at (option_map shown_view o)) }
 {
     let word = word_around(text, at);
     match subject_at(notes, word.start) {

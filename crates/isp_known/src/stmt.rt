@@ -4,7 +4,7 @@ ghost use Rattle.isp_typed.specs.Views.{block_of, stmt_of};
 ghost use Rattle.isp_known.specs.Notes.{block_notes, stmt_notes};
 
 use crate::expr::expr;
-use crate::note::Note;
+use crate::note::{Note, indexed};
 use crate::simple::{given, items, ranges, simple, start, step, values};
 use isp_typed::{TypedBlock, TypedStmt};
 use std::alloc::AllocError;
@@ -60,8 +60,23 @@ fn stmt(found: &mut Vec<Note>, function: usize, s: &TypedStmt) -> Result<(), All
             ranges(found, function, all)?;
             stmt(found, function, body)
         }
-        TypedStmt::ForeachActive { body, .. } => stmt(found, function, body),
-        TypedStmt::ForeachUnique { value, body, .. } => {
+        TypedStmt::ForeachActive {
+            keyword,
+            index,
+            body,
+            ..
+        } => {
+            indexed(found, function, *index, *keyword)?;
+            stmt(found, function, body)
+        }
+        TypedStmt::ForeachUnique {
+            keyword,
+            index,
+            value,
+            body,
+            ..
+        } => {
+            indexed(found, function, *index, *keyword)?;
             expr(found, function, value)?;
             stmt(found, function, body)
         }

@@ -2,7 +2,7 @@
 use Rattle.std.specs.Prelude.{ℕ, ◌&&◌, Bool, true, not, nat_lt, Option, Some, None, if◌then◌else◌}
 use Rattle.isp_base.specs.declared.types.Span.{Span}
 use Rattle.isp_known.specs.declared.note.Note.{Note}
-use Rattle.isp_known.specs.declared.note.Note.TheVariants.{Value, Declared, Used}
+use Rattle.isp_known.specs.declared.note.Note.TheVariants.{Value, Declared, Used, Index, Loaded}
 use Rattle.isp_known.specs.declared.place.Valued.{Valued}
 use Rattle.isp_known.specs.Places.{width}
 
@@ -18,3 +18,5 @@ abbrev pub next_best : ℕ → Note → Option Valued → Option Valued
 next_best at (Value s t) best = if covers at s && is_narrower s best then Some (record { span = s; ty = t }) else best
 next_best at (Declared k x) best = best
 next_best at (Used k x) best = best
+next_best at (Index k x) best = best
+next_best at (Loaded k x) best = best
