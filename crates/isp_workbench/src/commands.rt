@@ -1,12 +1,14 @@
 //! The whole program, over what it is handed.
-ghost use Rattle.std.specs.Prelude.{◌≡◌, false};
+ghost use Rattle.std.specs.Prelude.{◌≡◌, ℕ, List, false};
 ghost use Rattle.std.specs.Io.KnownBytes.{Consumes, IsAtEnd};
 ghost use Rattle.clap.specs.Values.{kind_of};
 ghost use Rattle.isp_engine.specs.Told.{Told};
+ghost use Rattle.isp_lsp_command.specs.Ends.{LspAnswered};
 ghost use Rattle.isp_workbench.specs.Requests.{Answered, Commands, WordsRefused};
 
 use clap::Error;
 use clap::error::ErrorKind;
+use isp_base::Gang;
 use isp_case_command::test;
 use isp_code_commands::{c_file, count, trace, wasm_file};
 use isp_command_line::VERSION;
@@ -72,8 +74,23 @@ fn answer<F: SourceFiles + DataFiles, I: Read, O: Sink, E: Sink>(
         Request::Trace(wanted) => tell_end(trace(alloc, wanted, files, out), err),
         Request::C(wanted) => tell_end(c_file(alloc, wanted, files, out), err),
         Request::Wasm(wanted) => wasm_file(alloc, wanted, files, out, err),
-        Request::Lsp(wanted) => lsp(alloc, wanted.gang, VERSION, input, out, err),
+        Request::Lsp(wanted) => serve(alloc, wanted.gang, input, out, err),
     }
+}
+
+// Serves an editor, and answers the exit status.
+fn serve<I: Read, O: Sink, E: Sink>(
+    alloc: Global,
+    gang: Gang,
+    input: &mut I,
+    out: &mut O,
+    err: &mut E,
+) -> u8
+    requires { O.has_failed out.old ≡ false }
+    ensures { (version : List ℕ) × LspAnswered gang version (Consumes (I.remaining input.old) (I.remaining input.new)) (IsAtEnd (I.remaining input.new)) (O.written out.old) (O.written out.new) (O.has_failed out.new)
+        (λ line. Told line (E.written err.old) (E.written err.new) (E.has_failed err.new)) result }
+{
+    lsp(alloc, gang, VERSION, input, out, err)
 }
 
 // Shows help, or the text of refused words, and answers the exit status.

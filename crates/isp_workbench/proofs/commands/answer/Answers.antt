@@ -1,4 +1,0 @@
-use Rattle.isp_workbench.proofs.commands.answer.Goals as goal
-
-pub returns-in-Lsp : goal.returns-in-Lsp
-returns-in-Lsp g c = (_, c.lsp.ensures)
