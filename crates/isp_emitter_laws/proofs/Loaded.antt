@@ -61,7 +61,7 @@ module _ (w : Setting) (k : ℕ → Bool) where
       record { uniforms = f.uniforms; varying = f.varying; result = f.result; results = f.results; own_arrays = f.own_arrays; arrays_are = f.arrays_are; out_is = f.out_is; run = f.run; constants = f.constants }
 
   spares_back : (n : ℕ) (c d : Conf) → Spares (with_loaded w k) n c d → Spares w n c d
-  spares_back n c d f = record { scalars_stay = f.scalars_stay; vectors_stay = f.vectors_stay; fresh_scalars = f.fresh_scalars; fresh_vectors = f.fresh_vectors }
+  spares_back n c d f = record { scalars_stay = f.scalars_stay; vectors_stay = f.vectors_stay; fresh_scalars = f.fresh_scalars; fresh_vectors = f.fresh_vectors; singles_stay = f.singles_stay }
 
   pub enters_with : (pc j n : ℕ) (a : Mask) (s : State) (c : Conf) (q : ℕ) → Enters w pc j n a s c q → Enters (with_loaded w k) pc j n a s c q
   enters_with pc j n a s c q f =

@@ -43,7 +43,7 @@ module _ (w : Setting) (ready : IsSettled w) where
         comes = run.comes ∙ ap (λ o. machine.Runs (given_back o m c2)) er;
         at = record { home_is = at.home_is; waiting_is = at.waiting_is; pc_is = ap (λ z. z + 1) at.pc_is ∙ to };
         stands = record {
-          uniforms = λ x. st.uniforms x ∙ ap (λ z. z.uniforms x) (sym gives.state);
+          uniforms = λ x is. st.uniforms x is ∙ ap (λ z. z.uniforms x) (sym gives.state);
           varying = λ x. st.varying x ∙ ap (λ z. z.varying x) (sym gives.state);
           result = st.result ∙ ap (λ z. z.result) (sym gives.state);
           results = st.results ∙ ap (λ z. z.results) (sym gives.state);
@@ -53,7 +53,7 @@ module _ (w : Setting) (ready : IsSettled w) where
           run = run_each w.layout.run w.start w.members (c.scalars (w.layout.place Uniform)) s.varying s1.varying (λ i ei. ap (λ z. z.varying i) (sym gives.state)) st.run;
           constants = st.constants;
         };
-        spares = record { scalars_stay = λ e j lt. refl; vectors_stay = λ e j lt. refl; fresh_scalars = λ j. refl; fresh_vectors = λ j. refl };
+        spares = record { scalars_stay = λ e j lt. refl; vectors_stay = λ e j lt. refl; fresh_scalars = λ j. refl; fresh_vectors = λ j. refl; singles_stay = λ x is. refl };
         masks = λ r lt. refl;
         bound = run.bound;
       }

@@ -44,7 +44,7 @@ module _ (w : Setting) (ready : IsSettled w) where
       → DoneRuns w c (pc + length (assign_code w.layout z x pc p k n)) n q (simple (gang_of w) w.frame (calls_of w) (t_assign z x sp) a s)
   assign_runs (t_variable v t sv) x sp pc p k n q a s c fit has places b =
       let fx : heads x ≤ 1 = few w x n fit.2 in
-      variable_runs w ready t.rate t.elem v x pc p k n (64 + q) q a (tick (tick s)) c fit.3 fit.0 fit.1 fit.2 has
+      variable_runs w ready t.rate t.elem v x pc p k n (64 + q) q a (tick (tick s)) c fit.3 fit.0.0 fit.1 fit.2 has
       (are_front w.code.places p (expr_places w.layout x) _ places) (omega arith)
       (enters_part w ready pc k n (64 + q) (32 + q) a (tick s) c (omega arith) (enters_part w ready pc k n (32 + q) q a s c (omega arith) b))
   assign_runs (t_element y i t sv) x sp pc p k n q a s c fit has places b =

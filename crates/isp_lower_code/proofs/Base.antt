@@ -1,5 +1,13 @@
 -- Lists in a list, spare registers that stay, and steps of the machine.
-use Rattle.std.proofs.Common.{◌≡◌, ◌≢◌, ℕ, ◌+◌, ◌≤◌, List, [], ◌∷◌, ◌++◌, length, Option, Some, None, refl, ap, ◌∙◌, subst, arith, eq-eqb}
+use Rattle.std.proofs.lemmas.Option.{same_Some}
+use Rattle.isp_base.specs.declared.types.Elem.{Elem}
+use Rattle.isp_base.specs.declared.types.Rate.{Rate}
+use Rattle.isp_base.specs.declared.types.Rate.TheVariants.{Uniform, Varying}
+use Rattle.isp_typed.specs.Fine.{HoldsValue}
+use Rattle.isp_typed.specs.Typed.{ty_of}
+use Rattle.isp_typed.specs.declared.variable.Variable.{Variable}
+use Rattle.isp_lower_code.specs.Callees.{rate_held}
+use Rattle.std.proofs.Common.{◌≡◌, ◌≢◌, ℕ, ◌+◌, ◌≤◌, List, [], ◌∷◌, ◌++◌, length, Option, Some, None, refl, sym, ap, ◌∙◌, subst, arith, eq-eqb}
 use Rattle.std.specs.Prelude.{slice_get, nat_eq}
 use Rattle.std.proofs.lemmas.Bool.{ne_eqb, cond-true, cond-false}
 use Rattle.isp_base.specs.Maps.{put}
@@ -13,7 +21,7 @@ use Rattle.isp_code.specs.Lines.{act}
 use Rattle.isp_code.specs.Machine.{after, step, act_in, act_at, arrive}
 use Rattle.isp_code.proofs.Steps.{after-sum}
 use Rattle.isp_code.specs.declared.instr.Instr.{Instr}
-use Rattle.isp_lower_code.specs.Setting.{Setting, IsSettled, AreAt, At, Spares}
+use Rattle.isp_lower_code.specs.Setting.{Setting, IsSettled, IsUniform, IsVarying, OtherAt, AreAt, At, Spares}
 use Rattle.isp_lower_code.specs.Runs.{Comes}
 
 pub are_front : {A : Type 0} (xs : List A) (n : ℕ) (a b : List A) → AreAt xs n (a ++ b) → AreAt xs n a
@@ -32,11 +40,32 @@ put_same f d x = cond-true (nat_eq d d) x (f d) (eq-eqb d d refl)
 pub put_other : {A : Type 0} (f : ℕ → A) (d : ℕ) (x : A) (r : ℕ) → r ≢ d → put f d x r ≡ f r
 put_other f d x r ne = cond-false (nat_eq r d) x (f r) (ne_eqb r d ne)
 
+-- ---- uniform and varying variables
+
+-- no variable is both
+pub not_both : (vars : List Variable) (v : ℕ) → IsVarying vars v → IsUniform vars v → ⊥
+not_both vars v h g =
+    let no : Varying ≡ Uniform = ap (λ (z : Variable). rate_held z.holds) (same_Some _ _ (sym h.1.is ∙ g.1.is)) in
+    cc
+
+-- what is read or written at a rate: a uniform variable, or any varying one
+abbrev pub IsRead : Setting → Rate → ℕ → Type 0
+IsRead w Uniform v = IsUniform w.function.variables v
+IsRead w Varying v = Unit {0}
+
+pub is_read : (w : Setting) (r : Rate) (t : Elem) (v : ℕ) → HoldsValue w.function.variables v (ty_of r t) → IsRead w r v
+is_read w Uniform t v has = (t, has)
+is_read w Varying t v has = tt
+
+-- a variable that is written counts no lanes
+abbrev pub MayWrite : Setting → Rate → ℕ → Type 0
+MayWrite w r v = OtherAt w r v × IsRead w r v
+
 -- ---- spare registers of lower slots
 
 module _ (w : Setting) where
   pub spares_all : (n : ℕ) (c : Conf) → Spares w n c c
-  spares_all n c = record { scalars_stay = λ t j lt. refl; vectors_stay = λ t j lt. refl; fresh_scalars = λ j. refl; fresh_vectors = λ j. refl }
+  spares_all n c = record { scalars_stay = λ t j lt. refl; vectors_stay = λ t j lt. refl; fresh_scalars = λ j. refl; fresh_vectors = λ j. refl; singles_stay = λ v is. refl }
 
   pub spares_less : (n m : ℕ) (c c' : Conf) → n ≤ m → Spares w m c c' → Spares w n c c'
   spares_less n m c c' le k = record {
@@ -44,6 +73,7 @@ module _ (w : Setting) where
     vectors_stay = λ t j lt. k.vectors_stay t j (omega arith);
     fresh_scalars = k.fresh_scalars;
     fresh_vectors = k.fresh_vectors;
+    singles_stay = k.singles_stay;
   }
 
   pub spares_on : (n : ℕ) (c c1 c2 : Conf) → Spares w n c c1 → Spares w n c1 c2 → Spares w n c c2
@@ -52,6 +82,7 @@ module _ (w : Setting) where
     vectors_stay = λ t j lt. h.vectors_stay t j lt ∙ k.vectors_stay t j lt;
     fresh_scalars = λ j. h.fresh_scalars j ∙ k.fresh_scalars j;
     fresh_vectors = λ j. h.fresh_vectors j ∙ k.fresh_vectors j;
+    singles_stay = λ v is. h.singles_stay v is ∙ k.singles_stay v is;
   }
 
   -- ---- steps

@@ -123,7 +123,7 @@ module _ (w : Setting) (ready : IsSettled w) where
       let come : Comes w c run.steps (set_at t.rate c2 d m) = run.comes ∙ ap (λ o. machine.Runs (given_back o m c2)) er ∙ ap machine.Runs (given_is t.rate d m c2) in
       came_leaves w ready u c c2 run.steps pc pc' n q a s1 t.rate t.elem m m come (record { home_is = at.home_is; waiting_is = at.waiting_is; pc_is = at.pc_is }) to
       (record {
-        uniforms = λ x. st.uniforms x ∙ ap (λ z. z.uniforms x) (sym gives.state);
+        uniforms = λ x is. st.uniforms x is ∙ ap (λ z. z.uniforms x) (sym gives.state);
         varying = λ x. st.varying x ∙ ap (λ z. z.varying x) (sym gives.state);
         result = st.result ∙ ap (λ z. z.result) (sym gives.state);
         results = st.results ∙ ap (λ z. z.results) (sym gives.state);
@@ -133,7 +133,7 @@ module _ (w : Setting) (ready : IsSettled w) where
         run = run_each w.layout.run w.start w.members (c.scalars (w.layout.place Uniform)) s.varying s1.varying (λ i ei. ap (λ z. z.varying i) (sym gives.state)) st.run;
         constants = st.constants;
       })
-      (record { scalars_stay = λ e j lt. refl; vectors_stay = λ e j lt. refl; fresh_scalars = λ j. refl; fresh_vectors = λ j. refl }) (λ r lt. refl) run.bound
+      (record { scalars_stay = λ e j lt. refl; vectors_stay = λ e j lt. refl; fresh_scalars = λ j. refl; fresh_vectors = λ j. refl; singles_stay = λ x is. refl }) (λ r lt. refl) run.bound
       (subst (λ z. at_rate t.rate a z ≡ z) (sym gives.value) (answer_held t.rate a gives.last))
       (subst (Filled t.rate a) (sym gives.value) (answer_filled t.rate a gives.last))
   back_leaves InSlot t kc pc pc' n q a s c (Fails p s1) er at to st gives run = run

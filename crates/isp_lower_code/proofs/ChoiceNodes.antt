@@ -96,7 +96,7 @@ module _ (w : Setting) (ready : IsSettled w) where
 
   -- neither side has code
   short_on : (u : Target) (e x y : TExpr) (t : Ty) (sp : Span) → RunsHere w ready e → t.rate ≡ (type_of e).rate → stays_at w.layout t.rate x ≡ true
-      → stays_at w.layout t.rate y ≡ true → (pc p k n q rest : ℕ) (a : Mask) (s : State) (c : Conf) → ExprParts w e n
+      → stays_at w.layout t.rate y ≡ true → (pc p k n q rest : ℕ) (a : Mask) (s : State) (c : Conf) → ExprParts w (t_choose e x y t sp) n
       → AreAt w.routine.code pc (expr_code w.layout e pc p k n
       ++ select t.rate (target w.layout u t.rate t.elem n) (found w.layout e n) (found w.layout x n) (found w.layout y n) k ∷ [])
       → AreAt w.code.places p (expr_places w.layout e) → rest ≤ 5 + q → Enters w pc k n a s c q
@@ -104,21 +104,21 @@ module _ (w : Setting) (ready : IsSettled w) where
       (pc + length (expr_code w.layout e pc p k n ++ select t.rate (target w.layout u t.rate t.elem n) (found w.layout e n) (found w.layout x n)
       (found w.layout y n) k ∷ [])) n rest t.rate a (means w ready (t_choose e x y t sp) a s)
   short_on u e x y t sp ih er ex ey pc p k n q rest a s c fit has places le b =
-      let fe : heads e ≤ 1 = few w e n fit in
+      let fe : heads e ≤ 1 = few w e n fit.5 in
       short_runs w ready u t.rate t.elem (found w.layout e n) (found w.layout x n) (found w.layout y n) (means w ready x) (means w ready y) c pc k n rest a
-      (means w ready e a (tick s)) (expr_code w.layout e pc p k n) b.mask b.low b.some b.inside (there x ex) (there y ey) has
+      (means w ready e a (tick s)) (expr_code w.layout e pc p k n) b.mask b.low b.some b.inside (there x (first_slot (type_of e).rate n) fit.6 ex) (there y (second_slot (type_of e).rate n) fit.7 ey) has
       (subst (λ r. Runs w c (pc + length (expr_code w.layout e pc p k n)) n (1 + rest) (Holds r a (found w.layout e n)) (means w ready e a (tick s))) (sym er)
-      (ih pc p k n (32 + q) (1 + rest) a (tick s) c fit (are_front w.routine.code pc (expr_code w.layout e pc p k n) _ has) places (omega arith) (enters_part w ready pc k n (32 + q) q a s c (omega arith) b)))
+      (ih pc p k n (32 + q) (1 + rest) a (tick s) c fit.5 (are_front w.routine.code pc (expr_code w.layout e pc p k n) _ has) places (omega arith) (enters_part w ready pc k n (32 + q) q a s c (omega arith) b)))
     where
-      there : (z : TExpr) → stays_at w.layout t.rate z ≡ true → InPlace w t.rate (found w.layout z n) (means w ready z)
-      there z h = go (same_rate t.rate (type_of z).rate) refl h
+      there : (z : TExpr) (m : ℕ) → ExprParts w z m → stays_at w.layout t.rate z ≡ true → InPlace w t.rate (found w.layout z n) (means w ready z)
+      there z m fz h = go (same_rate t.rate (type_of z).rate) refl h
         where
           go : (d : Bool) → same_rate t.rate (type_of z).rate ≡ d → (d && stays w.layout z) ≡ true → InPlace w t.rate (found w.layout z n) (means w ready z)
-          go true ed hz = subst (λ r. InPlace w r (found w.layout z n) (means w ready z)) (sym (same_rate-is t.rate (type_of z).rate ed)) (stays_in_place w z n hz)
+          go true ed hz = subst (λ r. InPlace w r (found w.layout z n) (means w ready z)) (sym (same_rate-is t.rate (type_of z).rate ed)) (stays_in_place w z n m fz hz)
           go false ed hz = absurd (cc)
 
   pub choose_node : (u : Target) (e x y : TExpr) (t : Ty) (sp : Span) → RunsHere w ready e → is_short w.layout t.rate e x y ≡ true
-      → (pc p k n q rest : ℕ) (a : Mask) (s : State) (c : Conf) → ExprParts w e n
+      → (pc p k n q rest : ℕ) (a : Mask) (s : State) (c : Conf) → ExprParts w (t_choose e x y t sp) n
       → AreAt w.routine.code pc (expr_code w.layout e pc p k n
       ++ select t.rate (target w.layout u t.rate t.elem n) (found w.layout e n) (found w.layout x n) (found w.layout y n) k ∷ [])
       → AreAt w.code.places p (expr_places w.layout e) → rest ≤ 5 + q → Enters w pc k n a s c q
@@ -146,5 +146,5 @@ module _ (w : Setting) (ready : IsSettled w) where
           (p + length (expr_places w.layout e) + length (expr_places w.layout x)) m i))
 
       go : (z : Bool) → is_short w.layout t.rate e x y ≡ z → AreAt w.routine.code pc (code z) → Runs w c (pc + length (code z)) n rest (Holds t.rate a (w.layout.spare t.rate t.elem n)) (means w ready (t_choose e x y t sp) a s)
-      go true ez at = choose_node InSlot e x y t sp ihe ez pc p k n q rest a s c fit.5 at (are_front w.code.places p (expr_places w.layout e) _ places) (omega arith) b
+      go true ez at = choose_node InSlot e x y t sp ihe ez pc p k n q rest a s c fit at (are_front w.code.places p (expr_places w.layout e) _ places) (omega arith) b
       go false ez at = long_node e x y t sp ihe ihx ihy pc p k n q rest a s c fit at places (omega arith) b

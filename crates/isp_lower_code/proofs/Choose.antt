@@ -250,7 +250,7 @@ module _ (w : Setting) (ready : IsSettled w) where
 
   pub choose_each : (t : Elem) (c : Conf) (pc k n q : ℕ) (a : Mask) (vt : Val Payload) (va vb : Mask → State → Val Payload) (f x y : ℕ)
       (ct : List Instr) (ca cb : ℕ → ℕ → ℕ → List Instr) → c.masks k ≡ a → k < n → ((p : ℕ) → a p ≡ true → Allowed w p)
-      → Low w.layout Varying (n + 1) f → Low w.layout Varying (n + 2) x
+      → Low w Varying (n + 1) f → Low w Varying (n + 2) x
       → AreAt w.routine.code pc (two pc ct (λ p1. choose_rest (w.layout.spare Varying t n) f x y p1 k n ca cb))
       → Runs w c (pc + length ct) n (5 + q) (Holds Varying a f) vt
       → ((T : Mask) (s : State) (c1 : Conf) (pc1 z : ℕ) → AreAt w.routine.code pc1 (ca pc1 n (n + 1)) → Enters w pc1 n (n + 1) T s c1 z
@@ -392,7 +392,7 @@ module _ (w : Setting) (ready : IsSettled w) where
                   let c5 = ok3.conf in
                   let kn1 : k ≢ n + 1 = omega arith in
                   let chosen = λ (p : ℕ). if is_true (c5.vectors f p) then c5.vectors x p else c5.vectors y p in
-                  let ev : c5.vectors f ≡ v = ok3.holds.1.vectors_stay f (low_more w.layout Varying (n + 1) (n + 2) f (omega arith) low_f) ∙ ok2.holds.1.vectors_stay f low_f in
+                  let ev : c5.vectors f ≡ v = ok3.holds.1.vectors_stay f (low_more w Varying (n + 1) (n + 2) f (omega arith) low_f) ∙ ok2.holds.1.vectors_stay f low_f in
                   let eu : c5.vectors x ≡ c3.vectors x = ok3.holds.1.vectors_stay x low_x in
                   let hm : spread T m ≡ on T (c5.vectors x) = ap (spread nobody) ok2.holds.0 ∙ ap (on T) (sym eu) in
                   let hz : spread F z ≡ on F (c5.vectors y) = ap (spread nobody) ok3.holds.0 in
@@ -408,7 +408,7 @@ module _ (w : Setting) (ready : IsSettled w) where
   -- a choice by a test of either rate; the sides are taken at the slots that this leaves
   pub choose_runs : (g r : Rate) (t : Elem) (x y : TExpr) (c : Conf) (pc k n q : ℕ) (a : Mask) (vt : Val Payload) (va vb : Mask → State → Val Payload)
       (f : ℕ) (ct : List Instr) (ca cb : ℕ → ℕ → ℕ → List Instr) → Reaches g r → c.masks k ≡ a → k < n → any (gang_of w) a ≡ true
-      → ((p : ℕ) → a p ≡ true → Allowed w p) → Low w.layout g (n + 1) f → Low w.layout r (first_slot g n + 1) (operand w.layout r x (first_slot g n))
+      → ((p : ℕ) → a p ≡ true → Allowed w p) → Low w g (n + 1) f → Low w r (first_slot g n + 1) (operand w.layout r x (first_slot g n))
       → AreAt w.routine.code pc (choose_code w.layout g r t x y f pc k n ct ca cb) → Runs w c (pc + length ct) n (5 + q) (Holds g a f) vt
       → ((T : Mask) (s : State) (c1 : Conf) (pc1 z u j : ℕ) → u ≤ 3 + z → AreAt w.routine.code pc1 (ca pc1 j (first_slot g n))
       → Enters w pc1 j (first_slot g n) T s c1 z → Runs w c1 (pc1 + length (ca pc1 j (first_slot g n))) (first_slot g n) u
@@ -448,7 +448,7 @@ module _ (w : Setting) (ready : IsSettled w) where
   choose_runs Varying Uniform t x y c pc k n q a vt va vb f ct ca cb re em lk some inside low_f low_x has rt ra rb still_a still_b = absurd re
   choose_runs Varying Varying t x y c pc k n q a vt va vb f ct ca cb re em lk some inside low_f low_x has rt ra rb still_a still_b =
       choose_each t c pc k n q a vt va vb f (operand w.layout Varying x (n + 1)) (operand w.layout Varying y (n + 2)) ct ca cb em lk inside low_f
-      (low_more w.layout Varying (n + 1 + 1) (n + 2) _ (omega arith) low_x) has rt (λ T s c1 pc1 z at en. ra T s c1 pc1 z z n (omega arith) at en)
+      (low_more w Varying (n + 1 + 1) (n + 2) _ (omega arith) low_x) has rt (λ T s c1 pc1 z at en. ra T s c1 pc1 z z n (omega arith) at en)
       (λ T s c1 pc1 z at en. rb T s c1 pc1 z z (n + 1) (omega arith) at en) still_a still_b
 
   -- the test comes first

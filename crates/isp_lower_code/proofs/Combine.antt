@@ -114,6 +114,7 @@ module _ (w : Setting) (ready : IsSettled w) where
     vectors_stay = λ u i lt. refl;
     fresh_scalars = λ i. put_other c.scalars (w.layout.spare Uniform t j) (sole x) (w.layout.fresh Uniform i) (λ e. ready.apart.spare_fresh Uniform t j i (sym e));
     fresh_vectors = λ i. refl;
+    singles_stay = λ v is. put_other c.scalars (w.layout.spare Uniform t j) (sole x) (w.layout.variable Uniform v) (ready.apart.variable_spare Uniform t v j);
   }
   set_spares Varying c t n j x le = record {
     scalars_stay = λ u i lt. refl;
@@ -124,11 +125,12 @@ module _ (w : Setting) (ready : IsSettled w) where
     fresh_vectors = λ i. put_other
         c.vectors (w.layout.spare Varying t j) (over (spread nobody x) (c.vectors (w.layout.spare Varying t j))) (w.layout.fresh Varying i)
         (λ e. ready.apart.spare_fresh Varying t j i (sym e));
+    singles_stay = λ v is. refl;
   }
 
   pub set_stands : (r : Rate) (c : Conf) (t : Elem) (j : ℕ) (x : Payload) (s : State) → Stands w s c → Stands w s (set_at r c (w.layout.spare r t j) x)
   set_stands Uniform c t j x s st = record {
-    uniforms = λ v. put_other c.scalars (w.layout.spare Uniform t j) (sole x) (w.layout.variable Uniform v) (ready.apart.variable_spare Uniform t v j) ∙ st.uniforms v;
+    uniforms = λ v is. put_other c.scalars (w.layout.spare Uniform t j) (sole x) (w.layout.variable Uniform v) (ready.apart.variable_spare Uniform t v j) ∙ st.uniforms v is;
     varying = st.varying;
     result = put_other c.scalars (w.layout.spare Uniform t j) (sole x) (w.layout.result Uniform) (ready.apart.result_spare Uniform t j) ∙ st.result;
     results = st.results;

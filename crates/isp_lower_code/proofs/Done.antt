@@ -1,5 +1,5 @@
 -- What is done after code that writes variables: one thing after another, and a variable that gets a value.
-use Rattle.std.proofs.Common.{◌≡◌, ℕ, ◌+◌, ◌*◌, ◌<◌, ◌≤◌, Option, Some, None, refl, sym, ap, ◌∙◌, arith}
+use Rattle.std.proofs.Common.{◌≡◌, ℕ, ◌+◌, ◌*◌, ◌<◌, ◌≤◌, Option, Some, None, refl, sym, ap, ◌∙◌, subst, arith}
 use Rattle.std.specs.Prelude.{slice_get}
 use Rattle.isp_base.specs.Maps.{on, over}
 use Rattle.isp_base.specs.Sets.{Mask, nobody}
@@ -14,10 +14,10 @@ use Rattle.isp_meaning.specs.State.{State}
 use Rattle.isp_meaning.specs.Payloads.{Payload, Each, sole, spread}
 use Rattle.isp_meaning.specs.Outcomes.{Val, Gives, Fails, Stops, Done, bind, checked}
 use Rattle.isp_meaning.specs.Places.{written}
-use Rattle.isp_lower_code.specs.Setting.{Setting, IsSettled, At, Stands, Spares, held_at, Holds, OtherAt, IsOther}
+use Rattle.isp_lower_code.specs.Setting.{Setting, IsSettled, At, Stands, Spares, held_at, Holds, IsOther, IsVarying}
 use Rattle.isp_lower_code.specs.Runs.{Comes, Ok, Runs, DoneOk, DoneRuns}
 use Rattle.isp_lower_code.specs.Instructions.{copy, splat}
-use Rattle.isp_lower_code.proofs.Base.{put_other, comes_on, spares_on}
+use Rattle.isp_lower_code.proofs.Base.{IsRead, MayWrite, not_both, put_other, comes_on, spares_on}
 use Rattle.isp_lower_code.proofs.Lines.{set_at}
 use Rattle.isp_lower_code.proofs.Combine.{failed_after, stopped_after, failed_less, stopped_less, set_goes}
 use Rattle.isp_lower_code.proofs.Writes.{written_stands, step_done}
@@ -47,14 +47,17 @@ module _ (w : Setting) (ready : IsSettled w) where
 
   -- ---- a variable gets a value
 
-  pub variable_spares : (r : Rate) (v n : ℕ) (c : Conf) (y : Payload) → Spares w n c (set_at r c (w.layout.variable r v) y)
-  variable_spares Uniform v n c y = record {
+  pub variable_spares : (r : Rate) (v n : ℕ) (c : Conf) (y : Payload) → IsRead w r v → Spares w n c (set_at r c (w.layout.variable r v) y)
+  variable_spares Uniform v n c y one = record {
     scalars_stay = λ t j lt. put_other c.scalars (w.layout.variable Uniform v) (sole y) (w.layout.spare Uniform t j) (λ e. ready.apart.variable_spare Uniform t v j (sym e));
     vectors_stay = λ t j lt. refl;
     fresh_scalars = λ j. put_other c.scalars (w.layout.variable Uniform v) (sole y) (w.layout.fresh Uniform j) (λ e. ready.apart.variable_fresh Uniform v j (sym e));
     fresh_vectors = λ j. refl;
+    singles_stay = λ u is. put_other c.scalars (w.layout.variable Uniform v)
+        (sole y) (w.layout.variable Uniform u)
+        (ready.apart.variables Uniform u v (λ e. not_both w.function.variables v (subst (IsVarying w.function.variables) e is) one));
   }
-  variable_spares Varying v n c y = record {
+  variable_spares Varying v n c y one = record {
     scalars_stay = λ t j lt. refl;
     vectors_stay = λ t j lt. put_other c.vectors (w.layout.variable Varying v)
         (over (spread nobody y) (c.vectors (w.layout.variable Varying v))) (w.layout.spare Varying t j)
@@ -63,18 +66,19 @@ module _ (w : Setting) (ready : IsSettled w) where
     fresh_vectors = λ j. put_other c.vectors (w.layout.variable Varying v)
         (over (spread nobody y) (c.vectors (w.layout.variable Varying v))) (w.layout.fresh Varying j)
         (λ e. ready.apart.variable_fresh Varying v j (sym e));
+    singles_stay = λ u is. refl;
   }
 
   pub variable_done : (r : Rate) (v : ℕ) (m : Payload) (a : Mask) (s : State) (c c2 : Conf) (st pc pc' k x n q : ℕ) → Comes w c st c2 → At w c2 pc
       → pc + 1 ≡ pc' → slice_get w.routine.code pc ≡ Some (copy r (w.layout.variable r v) x k) → Stands w s c2 → Spares w n c c2
-      → ((r : ℕ) → r < n → c2.masks r ≡ c.masks r) → c2.masks k ≡ a → st + 1 + q ≤ 32 * s.work → Holds r a x m c2 → OtherAt w r v
+      → ((r : ℕ) → r < n → c2.masks r ≡ c.masks r) → c2.masks k ≡ a → st + 1 + q ≤ 32 * s.work → Holds r a x m c2 → MayWrite w r v
       → DoneRuns w c pc' n q (Gives tt (written r v a m s))
   variable_done Uniform v m a s c c2 st pc pc' k x n q h at to has stands spares masks em le hx other =
       let y = held_at Uniform c2.scalars c2.vectors a x in
       let c3 = set_at Uniform c2 (w.layout.variable Uniform v) y in
       step_done w ready c c2 c3 st pc pc' n q (copy Uniform (w.layout.variable Uniform v) x k) None Index no_place m s (written Uniform v a) h at to
       has refl refl (set_goes w ready Uniform c2 (w.layout.variable Uniform v) y pc at) stands
-      (λ none. written_stands w ready Uniform v c2 a m s y stands hx other) (spares_on w n c c2 c3 spares (variable_spares Uniform v n c2 y))
+      (λ none. written_stands w ready Uniform v c2 a m s y stands hx other.0) (spares_on w n c c2 c3 spares (variable_spares Uniform v n c2 y other.1))
       masks le le
   variable_done Varying v m a s c c2 st pc pc' k x n q h at to has stands spares masks em le hx other =
       let y = held_at Varying c2.scalars c2.vectors a x in
@@ -82,7 +86,7 @@ module _ (w : Setting) (ready : IsSettled w) where
       step_done w ready c c2 c3 st pc pc' n q (copy Varying (w.layout.variable Varying v) x k) None Index no_place m s (written Varying v a) h at to
       has (ap (λ g. Go (set_at Varying c2 (w.layout.variable Varying v) (held_at Varying c2.scalars c2.vectors g x))) em) refl
       (set_goes w ready Varying c2 (w.layout.variable Varying v) y pc at) stands
-      (λ none. written_stands w ready Varying v c2 a m s y stands hx other) (spares_on w n c c2 c3 spares (variable_spares Varying v n c2 y))
+      (λ none. written_stands w ready Varying v c2 a m s y stands hx other.0) (spares_on w n c c2 c3 spares (variable_spares Varying v n c2 y tt))
       masks le le
 
   -- a varying one gets one value
@@ -97,7 +101,7 @@ module _ (w : Setting) (ready : IsSettled w) where
       step_done w ready c c2 c3 st pc pc' n q (splat d x k) None Index no_place m s (written Varying v a) h at to has
       (ap (λ g. Go (set_at Varying c2 d (Each (on g (λ p. c2.scalars x))))) em) refl (set_goes w ready Varying c2 d y pc at) stands
       (λ none. written_stands w ready Varying v c2 a m s y stands (ap (λ z. Each (spread a z)) hx) other)
-      (spares_on w n c c2 c3 spares (variable_spares Varying v n c2 y)) masks le le
+      (spares_on w n c c2 c3 spares (variable_spares Varying v n c2 y tt)) masks le le
 
   -- what follows what was done
   pub done_on : (c : Conf) (pc n q : ℕ) (v : Val Done) (go : Done → State → Val Done) (pc' n' : ℕ) → DoneRuns w c pc n q v → ((s : State) → DoneOk w c pc n q s → DoneRuns w c pc' n' q (go tt s)) → DoneRuns w c pc' n' q (bind v go)

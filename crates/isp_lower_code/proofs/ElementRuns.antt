@@ -196,7 +196,7 @@ module _ (w : Setting) (ready : IsSettled w) where
           (bind (means w ready u a s) (λ m s1. Gives (Element y (type_of u).elem m) s1))) (sym h.3)
           (λ reaches parts at. counter_index_runs y t h.0 h.1 h.2 pc k n q rest a s c le b eb
           (lane_reaches t.rate (subst (λ r. Reaches r t.rate) counter.varying reaches)) counter
-          (sym parts.0 ∙ ap (λ r. elem_of w.routine (register r (w.layout.variable r h.0))) counter.varying
+          (sym parts.0.0 ∙ ap (λ r. elem_of w.routine (register r (w.layout.variable r h.0))) counter.varying
           ∙ (ready.counter h.0 counter.run).typed)) re fit
 
       go : (z : Bool) → is_run w.layout y.ty.rate i ≡ z → AreAt w.routine.code pc (index_by_of w.layout z t.rate i k n code)

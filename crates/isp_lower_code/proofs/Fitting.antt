@@ -9,67 +9,69 @@ use Rattle.isp_typed.specs.Typed.{TExpr, t_constant, t_program_index, t_place, t
 use Rattle.isp_typed.specs.Typed.{t_variable, t_element, TBase, t_whole, t_from, TArgument, t_by_value, t_by_name, TCall, t_called, TArguments, t_no_arguments, t_argument_then, TExprs, t_no_exprs, t_expr_then}
 use Rattle.isp_typed.specs.Typed.{TItem, t_plain, t_with_value, t_with_size, TSimple, t_value, t_run, t_assign, t_update, t_step, place_type, type_of}
 use Rattle.isp_typed.specs.Fine.{params_of, HoldsOpen, FineTarget, FineSimple}
-use Rattle.isp_typed.specs.Indices.{foreach_index}
 use Rattle.isp_typed.specs.declared.variable.Holds.{Holds}
 use Rattle.isp_typed.specs.declared.variable.Holds.TheVariants as holds
 use Rattle.isp_typed.specs.declared.variable.Variable.{Variable as Declared}
 use Rattle.isp_base.specs.declared.types.Ty.{Ty}
-use Rattle.isp_lower_code.specs.Setting.{Setting, IsSettled, IsOther, OtherAt}
-use Rattle.isp_lower_code.specs.Tables.{Table}
+use Rattle.isp_lower_code.specs.Setting.{Setting, IsSettled, IsOther, OtherAt, is_constant}
+use Rattle.isp_lower_code.specs.Own.{IsOwn}
+use Rattle.isp_lower_code.specs.Rows.{Variable, Result, Spare, Place, Fresh, Kept}
 use Rattle.isp_lower_code.specs.Callees.{next_rate, later}
 use Rattle.isp_lower_code.specs.Library.{library_rates}
-use Rattle.isp_lower_code.specs.Asks.{lift_asks, operand_asks, values_asks, read_asks, copy_asks, value_asks, base_asks, work_asks, zero_asks, beyond, first_slot, second_slot, expr_asks}
+use Rattle.isp_lower_code.specs.Asks.{Ask, Nothing, Both, Register, ArrayOf, LocalOf, MaskOf, Number, Loads, lift_asks, operand_asks, values_asks, read_asks, copy_asks, value_asks, base_asks, work_asks, zero_asks, beyond, first_slot, second_slot, expr_asks}
 use Rattle.isp_lower_code.specs.Asks.{target_asks, call_asks, arguments_asks, argument_asks, simple_asks, item_asks, items_asks, run_asks, is_lane, start_asks}
 use Rattle.isp_lower_code.proofs.Parts.{ExprParts, ValuesParts, CallParts, ArgumentsParts, ArgumentParts, ItemParts, ItemsParts, LiftFits, OperandFits, PlaceParts, BaseParts}
-use Rattle.isp_lower_code.proofs.Parts.{PlaceTyped, CopyHas, IsNamed, ReadFits, SimpleParts, WorkFits, ZeroFits, RunParts, LaneParts, TargetOther}
+use Rattle.isp_lower_code.proofs.Base.{IsRead, is_read}
+use Rattle.isp_lower_code.proofs.Own.{expr_own, items_own, simple_own}
+use Rattle.isp_lower_code.proofs.Parts.{Owned, PlaceTyped, CopyHas, IsNamed, ReadFits, SimpleParts, WorkFits, ZeroFits, RunParts, LaneParts, TargetOther}
 use Rattle.isp_lower_code.proofs.Trees.{ExprTree, ValuesTree, CallTree, ArgumentsTree, ArgumentTree, ItemTree, ItemsTree, OperandTree, PlaceTree, BaseTree, SimpleTree}
-use Rattle.isp_lower_code.specs.Fits.{ExprFits, SimpleFits, ItemsFit, ItemOther, ItemsOther}
+use Rattle.isp_lower_code.specs.Fits.{InTable, ExprFits, SimpleFits, ItemsFit, ItemOther, ItemsOther}
 use Rattle.isp_lower_code.proofs.Rated.{expr_tree, simple_tree, items_tree}
 use Rattle.std.specs.Prelude.{slice_get}
-
-abbrev is_constant : Option Declared → Bool
-is_constant None = false
-is_constant (Some x) = x.constant
 
 module _ (w : Setting) where
   -- ---- single registers
 
-  lift_fits : (given r : Rate) (t : Elem) (n : ℕ) → Table w.routine w.layout w.function.variables (lift_asks r given t n) → LiftFits w given r t n
+  lift_fits : (given r : Rate) (t : Elem) (n : ℕ) → Owned w (lift_asks r given t n) → LiftFits w given r t n
   lift_fits Uniform Uniform t n h = tt
-  lift_fits Uniform Varying t n h = h
+  lift_fits Uniform Varying t n h = h.0
   lift_fits Varying Uniform t n h = tt
   lift_fits Varying Varying t n h = tt
 
   -- what may be made a varying one may be left as it is
-  lift_any : (given r : Rate) (t : Elem) (n : ℕ) → Table w.routine w.layout w.function.variables (lift_asks Varying given t n) → LiftFits w given r t n
+  lift_any : (given r : Rate) (t : Elem) (n : ℕ) → Owned w (lift_asks Varying given t n) → LiftFits w given r t n
   lift_any Uniform Uniform t n h = tt
-  lift_any Uniform Varying t n h = h
+  lift_any Uniform Varying t n h = h.0
   lift_any Varying Uniform t n h = tt
   lift_any Varying Varying t n h = tt
 
-  read_fits : (z : TPlace) (n : ℕ) → Table w.routine w.layout w.function.variables (read_asks z n) → ReadFits w z n
+  read_fits : (z : TPlace) (n : ℕ) → Owned w (read_asks z n) → ReadFits w z n
   read_fits (t_variable v t sp) n h = tt
-  read_fits (t_element b i t sp) n h = h
+  read_fits (t_element b i t sp) n h = h.0
 
-  copy_fits : (r : Rate) (t : Elem) (n : ℕ) → Table w.routine w.layout w.function.variables (copy_asks r t n) → CopyHas (IsNamed w) r t n
+  copy_fits : (r : Rate) (t : Elem) (n : ℕ) → Owned w (copy_asks r t n) → CopyHas (IsNamed w) r t n
   copy_fits Uniform t n h = tt
-  copy_fits Varying t n h = h
+  copy_fits Varying t n h = h.0
 
-  value_fits : (z : TPlace) (n : ℕ) → Table w.routine w.layout w.function.variables (value_asks z n) → PlaceTyped w z n
+  value_fits : (z : TPlace) (n : ℕ) → Owned w (value_asks z n) → PlaceTyped w z n
   value_fits (t_variable v t sp) n h = copy_fits t.rate t.elem n h
-  value_fits (t_element b i t sp) n h = h
+  value_fits (t_element b i t sp) n h = h.0
 
-  work_fits : (b : Bool) (r : Rate) (t : Elem) (i : ℕ) → Table w.routine w.layout w.function.variables (work_asks b r t i) → WorkFits w b r t i
+  work_fits : (b : Bool) (r : Rate) (t : Elem) (i : ℕ) → Owned w (work_asks b r t i) → WorkFits w b r t i
   work_fits true r t i h = tt
-  work_fits false r t i h = h
+  work_fits false r t i h = h.0
 
-  zero_fits : (r : Rate) (t : Elem) (v n : ℕ) → Table w.routine w.layout w.function.variables (zero_asks r t v n) → ZeroFits w r t v n
-  zero_fits Uniform t v n h = h
-  zero_fits Varying t v n h = h
+  zero_fits : (r : Rate) (t : Elem) (v n : ℕ) → Owned w (zero_asks r t v n) → ZeroFits w r t v n
+  zero_fits Uniform t v n h = h.0
+  zero_fits Varying t v n h = (h.0.0, h.1.0)
 
-  lane_fits : (i : TExpr) (n : ℕ) → Table w.routine w.layout w.function.variables (start_asks i n) → LaneParts w (is_lane i) n
+  zero_read : (r : Rate) (t : Elem) (v n : ℕ) → Owned w (zero_asks r t v n) → IsRead w r v
+  zero_read Uniform t v n h = (t, h.1)
+  zero_read Varying t v n h = tt
+
+  lane_fits : (i : TExpr) (n : ℕ) → Owned w (start_asks i n) → LaneParts w (is_lane i) n
   lane_fits (t_constant v sp) n h = tt
-  lane_fits (t_program_index sp) n h = h
+  lane_fits (t_program_index sp) n h = h.0
   lane_fits (t_place q) n h = tt
   lane_fits (t_convert e x) n h = tt
   lane_fits (t_cast x t sp) n h = tt
@@ -83,13 +85,13 @@ module _ (w : Setting) where
   lane_fits (t_packed_store b x sp) n h = tt
   lane_fits (t_packed_load b v sp) n h = tt
 
-  run_fits : (r : Rate) (i : TExpr) (n : ℕ) → Table w.routine w.layout w.function.variables (run_asks r i n) → RunParts w r i n
+  run_fits : (r : Rate) (i : TExpr) (n : ℕ) → Owned w (run_asks r i n) → RunParts w r i n
   run_fits Uniform i n h = lane_fits i n h
   run_fits Varying i n h = tt
 
   -- ---- trees
 
-  pub operand_fits : (r : Rate) (t : Elem) (x : TExpr) (n : ℕ) → OperandTree r t x → Table w.routine w.layout w.function.variables (operand_asks r x n) → OperandFits w r t x n
+  pub operand_fits : (r : Rate) (t : Elem) (x : TExpr) (n : ℕ) → OperandTree r t x → Owned w (operand_asks r x n) → OperandFits w r t x n
   operand_fits r t x n o h =
       record {
         elem = o.elem;
@@ -98,23 +100,23 @@ module _ (w : Setting) where
       }
 
   mutual
-    pub expr_fits : (x : TExpr) (n : ℕ) → ExprTree w.program.functions x → Table w.routine w.layout w.function.variables (expr_asks x n) → ExprParts w x n
-    expr_fits (t_constant v sp) n t h = h
-    expr_fits (t_program_index sp) n t h = h
+    pub expr_fits : (x : TExpr) (n : ℕ) → ExprTree w.program.functions x → Owned w (expr_asks x n) → ExprParts w x n
+    expr_fits (t_constant v sp) n t h = h.0
+    expr_fits (t_program_index sp) n t h = h.0
     expr_fits (t_place q) n t h = (place_fits q n t h.0, value_fits q n h.1)
-    expr_fits (t_convert e x) n t h = (t.0, h.0, expr_fits x n t.1 h.1)
+    expr_fits (t_convert e x) n t h = (t.0, h.0.0, expr_fits x n t.1 h.1)
     expr_fits (t_cast x u sp) n t h = (operand_fits u.rate u.elem x n t.0 h, expr_fits x n t.1 h.1)
-    expr_fits (t_unary o x u sp) n t h = (operand_fits u.rate u.elem x n t.0 h.1, h.0, expr_fits x n t.1 h.1.1)
+    expr_fits (t_unary o x u sp) n t h = (operand_fits u.rate u.elem x n t.0 h.1, h.0.0, expr_fits x n t.1 h.1.1)
     expr_fits (t_binary o x y u sp) n t h =
-        (operand_fits u.rate u.elem x n t.0 h.1.1.0, operand_fits u.rate u.elem y (n + 1) t.1 h.1.1.1, h.0, expr_fits x n t.2 h.1.1.0.1, expr_fits y (n + 1) t.3 h.1.1.1.1)
+        (operand_fits u.rate u.elem x n t.0 h.1.1.0, operand_fits u.rate u.elem y (n + 1) t.1 h.1.1.1, h.0.0, expr_fits x n t.2 h.1.1.0.1, expr_fits y (n + 1) t.3 h.1.1.1.1)
     expr_fits (t_compare c x y r sp) n t h =
-        (operand_fits r (type_of x).elem x n t.0 h.1.1.0, operand_fits r (type_of x).elem y (n + 1) t.1 h.1.1.1, h.0, expr_fits x n t.2 h.1.1.0.1, expr_fits y (n + 1) t.3 h.1.1.1.1)
+        (operand_fits r (type_of x).elem x n t.0 h.1.1.0, operand_fits r (type_of x).elem y (n + 1) t.1 h.1.1.1, h.0.0, expr_fits x n t.2 h.1.1.0.1, expr_fits y (n + 1) t.3 h.1.1.1.1)
     expr_fits (t_logic g x y r sp) n t h =
-        (operand_fits r Truth x n t.0 h.1.1.1.0, operand_fits r Truth y (n + 1) t.1 h.1.1.1.1, h.0, expr_fits x n t.2 h.1.1.1.0.1, expr_fits y (n + 1) t.3 h.1.1.1.1.1)
+        (operand_fits r Truth x n t.0 h.1.1.1.0, operand_fits r Truth y (n + 1) t.1 h.1.1.1.1, h.0.0, expr_fits x n t.2 h.1.1.1.0.1, expr_fits y (n + 1) t.3 h.1.1.1.1.1)
     expr_fits (t_choose c x y u sp) n t h = (
       t.0.elem,
       t.0.reaches,
-      h.0,
+      h.0.0,
       operand_fits u.rate u.elem x (first_slot (type_of c).rate n) t.1 h.1.1.0,
       operand_fits u.rate u.elem y
           (second_slot (type_of c).rate n) t.2 h.1.1.1.0,
@@ -122,35 +124,35 @@ module _ (w : Setting) where
       expr_fits x (first_slot (type_of c).rate n) t.4 h.1.1.0.1,
       expr_fits y (second_slot (type_of c).rate n) t.5 h.1.1.1.0.1,
     )
-    expr_fits (t_call c u) n t h = (h.0, call_fits c (Some u) n t h.1)
-    expr_fits (t_library f e xs u sp) n t h = (t.0, h.0, values_fit (library_rates f u.rate) xs n t.1 h.1)
+    expr_fits (t_call c u) n t h = (h.0.0, call_fits c (Some u) n t h.1)
+    expr_fits (t_library f e xs u sp) n t h = (t.0, h.0.0, values_fit (library_rates f u.rate) xs n t.1 h.1)
     expr_fits (t_packed_store b x sp) n t h =
-        (h.0, base_fits b n t.0 h.1.0, operand_fits Varying (type_of x).elem x (n + 1) (record { elem = refl; reaches = t.1.reaches }) h.1.1.1, expr_fits x (n + 1) t.2 h.1.1.1.1)
-    expr_fits (t_packed_load b v sp) n t h = (h.0, base_fits b n t h.1.0, h.1.1.1)
+        (h.0.0, base_fits b n t.0 h.1.0, operand_fits Varying (type_of x).elem x (n + 1) (record { elem = refl; reaches = t.1.reaches }) h.1.1.1, expr_fits x (n + 1) t.2 h.1.1.1.1)
+    expr_fits (t_packed_load b v sp) n t h = (h.0.0, base_fits b n t h.1.0, h.1.1.1)
 
-    place_fits : (z : TPlace) (n : ℕ) → PlaceTree w.program.functions z → Table w.routine w.layout w.function.variables (target_asks z n) → PlaceParts w z n
+    place_fits : (z : TPlace) (n : ℕ) → PlaceTree w.program.functions z → Owned w (target_asks z n) → PlaceParts w z n
     place_fits (t_variable v u sp) n t h = h
-    place_fits (t_element b i u sp) n t h = (h.0, t.0, t.1, h.1.1.1.0, expr_fits i n t.2 h.1.1.1.1, run_fits b.ty.rate i n h.1.0)
+    place_fits (t_element b i u sp) n t h = (h.0, t.0, t.1, h.1.1.1.0.0, expr_fits i n t.2 h.1.1.1.1, run_fits b.ty.rate i n h.1.0)
 
-    base_fits : (b : TBase) (n : ℕ) → BaseTree w.program.functions b → Table w.routine w.layout w.function.variables (base_asks b n) → BaseParts w b n
-    base_fits (t_whole b sp) n t h = (h.0, t.0, h.1)
-    base_fits (t_from b i sp) n t h = (h.0, t.0, t.2, h.1.1.0, expr_fits i n t.3 h.1.1.1)
+    base_fits : (b : TBase) (n : ℕ) → BaseTree w.program.functions b → Owned w (base_asks b n) → BaseParts w b n
+    base_fits (t_whole b sp) n t h = (h.0, t.0, h.1.0)
+    base_fits (t_from b i sp) n t h = (h.0, t.0, t.2, h.1.1.0.0, expr_fits i n t.3 h.1.1.1)
 
-    pub values_fit : (rs : List Rate) (xs : TExprs) (n : ℕ) → ValuesTree w.program.functions rs xs → Table w.routine w.layout w.function.variables (values_asks rs xs n) → ValuesParts w rs xs n
+    pub values_fit : (rs : List Rate) (xs : TExprs) (n : ℕ) → ValuesTree w.program.functions rs xs → Owned w (values_asks rs xs n) → ValuesParts w rs xs n
     values_fit rs t_no_exprs n t h = tt
     values_fit rs (t_expr_then x xs) n t h =
         (operand_fits (next_rate rs) (type_of x).elem x n t.0 h.1.0, expr_fits x n t.1 h.1.0.1, values_fit (later rs) xs (n + 1) t.2 h.1.1)
 
-    call_fits : (c : TCall) (answer : Option Ty) (n : ℕ) → CallTree w.program.functions c answer → Table w.routine w.layout w.function.variables (call_asks c n) → CallParts w c answer n
+    call_fits : (c : TCall) (answer : Option Ty) (n : ℕ) → CallTree w.program.functions c answer → Owned w (call_asks c n) → CallParts w c answer n
     call_fits (t_called f xs sp) answer n t h = (t.0, t.1, t.2, arguments_fit (params_of t.0) xs n t.3 h.1)
 
-    arguments_fit : (vs : List Declared) (xs : TArguments) (n : ℕ) → ArgumentsTree w.program.functions vs xs → Table w.routine w.layout w.function.variables (arguments_asks xs n) → ArgumentsParts w vs xs n
+    arguments_fit : (vs : List Declared) (xs : TArguments) (n : ℕ) → ArgumentsTree w.program.functions vs xs → Owned w (arguments_asks xs n) → ArgumentsParts w vs xs n
     arguments_fit [] t_no_arguments n t h = tt
     arguments_fit [] (t_argument_then x xs) n t h = absurd t
     arguments_fit (v ∷ vs) t_no_arguments n t h = absurd t
     arguments_fit (v ∷ vs) (t_argument_then x xs) n t h = (argument_fits v.holds x n t.0 h.1.0, arguments_fit vs xs (n + 1) t.1 h.1.1)
 
-    argument_fits : (y : Holds) (x : TArgument) (n : ℕ) → ArgumentTree w.program.functions y x → Table w.routine w.layout w.function.variables (argument_asks x n) → ArgumentParts w y x n
+    argument_fits : (y : Holds) (x : TArgument) (n : ℕ) → ArgumentTree w.program.functions y x → Owned w (argument_asks x n) → ArgumentParts w y x n
     argument_fits (holds.Value u) (t_by_value x) n t h =
         (record { elem = t.0.elem; reaches = t.0.reaches; lift = subst (λ e. LiftFits w (type_of x).rate u.rate e n) t.0.elem (lift_any (type_of x).rate u.rate (type_of x).elem n h.0) }, expr_fits x n t.1 h.1)
     argument_fits (holds.Value u) (t_by_name b sp) n t h = absurd t
@@ -166,7 +168,7 @@ module _ (w : Setting) where
   SimpleOther (t_update o u z x sp) = TargetOther w z
   SimpleOther (t_step o u z sp) = TargetOther w z
 
-  pub simple_fits : (x : TSimple) (n : ℕ) → SimpleTree w.program.functions x → Table w.routine w.layout w.function.variables (simple_asks x n) → SimpleOther x → SimpleParts w x n
+  pub simple_fits : (x : TSimple) (n : ℕ) → SimpleTree w.program.functions x → Owned w (simple_asks x n) → SimpleOther x → SimpleParts w x n
   simple_fits (t_value x) n t h o = expr_fits x n t h
   simple_fits (t_run c) n t h o = call_fits c None n t h
   simple_fits (t_assign z x sp) n t h o =
@@ -176,29 +178,45 @@ module _ (w : Setting) where
       (record { number = t.3; target = place_fits z n t.0 h.0; working = working; back = read_fits z (beyond z n + 1) h.1.1.1.1; other = other }, operand_fits (place_type z).rate u x (beyond z n) t.1 h.1.1.0, expr_fits x (beyond z n) t.2 h.1.1.0.1)
   simple_fits (t_step o u z sp) n t h other =
       let working = work_fits (same_elem (place_type z).elem u) (place_type z).rate u (beyond z n + 1) h.1.1.1.0 in
-      (record { number = t.1; target = place_fits z n t.0 h.0; working = working; back = read_fits z (beyond z n + 1) h.1.1.1.1; other = other }, h.1.1.0.0, lift_fits Uniform (place_type z).rate u (beyond z n) h.1.1.0.1)
+      (record { number = t.1; target = place_fits z n t.0 h.0; working = working; back = read_fits z (beyond z n + 1) h.1.1.1.1; other = other }, h.1.1.0.0.0, lift_fits Uniform (place_type z).rate u (beyond z n) h.1.1.0.1)
 
-  item_fits : (x : TItem) (n : ℕ) → ItemTree w.program.functions x → Table w.routine w.layout w.function.variables (item_asks n x) → ItemOther w x → ItemParts w n x
-  item_fits (t_plain v u sp) n t h o = (zero_fits u.rate u.elem v n h, o)
-  item_fits (t_with_value v u x sp) n t h o = (h.0, operand_fits u.rate u.elem x n t.0 h.1, expr_fits x n t.1 h.1.1, o)
+  item_fits : (x : TItem) (n : ℕ) → ItemTree w.program.functions x → Owned w (item_asks n x) → ItemOther w x → ItemParts w n x
+  item_fits (t_plain v u sp) n t h o = (zero_fits u.rate u.elem v n h, (o, zero_read u.rate u.elem v n h))
+  item_fits (t_with_value v u x sp) n t h o = (h.0.0, operand_fits u.rate u.elem x n t.0 h.1, expr_fits x n t.1 h.1.1, (o, is_read w u.rate u.elem v h.0.1))
   item_fits (t_with_size b sp) n t h o = h
 
-  pub items_fit : (xs : List TItem) (n : ℕ) → ItemsTree w.program.functions xs → Table w.routine w.layout w.function.variables (items_asks n xs) → ItemsOther w xs → ItemsParts w n xs
+  pub items_fit : (xs : List TItem) (n : ℕ) → ItemsTree w.program.functions xs → Owned w (items_asks n xs) → ItemsOther w xs → ItemsParts w n xs
   items_fit [] n t h o = tt
   items_fit (x ∷ xs) n t h o = (item_fits x n t.0 h.0 o.0, items_fit xs n t.1 h.1 o.1)
 
   -- ---- what fits, part by part
 
+  -- the table has what is the function's own
+  pub owned : (answer : Option Ty) (a : Ask) → IsOwn w.function.variables answer a → InTable w a → Owned w a
+  owned answer Nothing o f = tt
+  owned answer (Both a b) o f = (owned answer a o.0 f.0, owned answer b o.1 f.1)
+  owned answer (Register r (Variable v) t) o f = (f, o)
+  owned answer (Register r Result t) o f = (f, tt)
+  owned answer (Register r (Spare u j) t) o f = (f, tt)
+  owned answer (Register r Place t) o f = (f, tt)
+  owned answer (Register r (Fresh j) t) o f = (f, tt)
+  owned answer (Register r (Kept u b) t) o f = (f, tt)
+  owned answer (ArrayOf b) o f = f
+  owned answer (LocalOf b) o f = f
+  owned answer (MaskOf k) o f = f
+  owned answer (Number k) o f = f
+  owned answer (Loads v) o f = f
+
   pub expr_parts : (x : TExpr) (n : ℕ) → ExprFits w x n → ExprParts w x n
-  expr_parts x n fit = expr_fits x n (expr_tree w.program.functions w.function.variables x fit.fine fit.rated) fit.named
+  expr_parts x n fit = expr_fits x n (expr_tree w.program.functions w.function.variables x fit.fine fit.rated) (owned None (expr_asks x n) (expr_own w.function.variables None w.program.functions x n fit.fine) fit.named)
 
   -- what is assigned to is no constant, and a variable that counts lanes is one
   abbrev pub RunConstant : Type 0
-  RunConstant = (i : ℕ) → w.layout.run ≡ Some i → slice_get w.function.variables i ≡ Some foreach_index
+  RunConstant = (i : ℕ) → w.layout.run ≡ Some i → is_constant (slice_get w.function.variables i) ≡ true
 
   open_other : RunConstant → (v : ℕ) (t : Ty) → HoldsOpen w.function.variables v t → IsOther w v
   open_other constant v t h i e same =
-      let no : true ≡ false = ap is_constant (sym (constant i e) ∙ ap (slice_get w.function.variables) same ∙ h) in
+      let no : true ≡ false = sym (constant i e) ∙ ap (λ j. is_constant (slice_get w.function.variables j)) same ∙ ap is_constant h in
       absurd (cc)
 
   other_at : (r : Rate) (v : ℕ) → IsOther w v → OtherAt w r v
@@ -206,7 +224,7 @@ module _ (w : Setting) where
   other_at Varying v o = o
 
   target_other : RunConstant → (z : TPlace) → FineTarget w.program.functions w.function.variables z → TargetOther w z
-  target_other constant (t_variable v t sp) f = other_at t.rate v (open_other constant v t f)
+  target_other constant (t_variable v t sp) f = (other_at t.rate v (open_other constant v t f), is_read w t.rate t.elem v (record { constant = false; is = f }))
   target_other constant (t_element b i t sp) f = tt
 
   pub simple_other : RunConstant → (x : TSimple) → FineSimple w.program.functions w.function.variables x → SimpleOther x
@@ -217,7 +235,12 @@ module _ (w : Setting) where
   simple_other constant (t_step o u z sp) f = target_other constant z f.0
 
   pub simple_parts : (ready : IsSettled w) (x : TSimple) (n : ℕ) → SimpleFits w x n → SimpleParts w x n
-  simple_parts ready x n fit = simple_fits x n (simple_tree w.program.functions w.function.variables x fit.fine fit.rated) fit.named (simple_other (λ i e. (ready.counter i e).constant) x fit.fine)
+  simple_parts ready x n fit =
+      simple_fits x n (simple_tree w.program.functions w.function.variables x fit.fine fit.rated)
+      (owned None (simple_asks x n) (simple_own w.function.variables None w.program.functions x n fit.fine) fit.named)
+      (simple_other (λ i e. (ready.counter i e).constant) x fit.fine)
 
   pub items_parts : (xs : List TItem) (n : ℕ) → ItemsFit w n xs → ItemsParts w n xs
-  items_parts xs n fit = items_fit xs n (items_tree w.program.functions w.function.variables xs fit.fine fit.rated) fit.named fit.others
+  items_parts xs n fit =
+      items_fit xs n (items_tree w.program.functions w.function.variables xs fit.fine fit.rated)
+      (owned None (items_asks n xs) (items_own w.function.variables None w.program.functions xs n fit.fine) fit.named) fit.others

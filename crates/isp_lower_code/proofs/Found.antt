@@ -14,7 +14,7 @@ use Rattle.isp_typed.specs.Typed.{TExpr, t_constant, t_program_index, t_place, t
 use Rattle.isp_lower_code.specs.Setting.{Setting, IsSettled}
 use Rattle.isp_lower_code.specs.Found.{in_vector, operand_by, vector_of, is_copied, is_kept, kept_found, variable_found, lifted, found, operand, is_whole, whole, index}
 use Rattle.isp_lower_code.specs.Known.{bits_as, known, known_as, constant_of}
-use Rattle.isp_lower_code.proofs.Kept.{Low, Placed, low_spare, placed_low}
+use Rattle.isp_lower_code.proofs.Kept.{IsRead, Low, Placed, is_read, low_spare, placed_low}
 use Rattle.isp_lower_code.proofs.Parts.{ExprParts, CopyHas, IsNamed, LiftFits, OperandFits}
 use Rattle.isp_lower_code.specs.Rated.{Reaches}
 use Rattle.isp_lower_code.specs.Tables.{IsTyped}
@@ -118,7 +118,7 @@ module _ (w : Setting) (ready : IsSettled w) where
   pub found_typed : (x : TExpr) (n : ℕ) → ExprParts w x n → IsTyped w (type_of x).rate (found w.layout x n) (type_of x).elem
   found_typed (t_constant v sp) n f = kept_typed Uniform v.elem v.bits n f
   found_typed (t_program_index sp) n f = f
-  found_typed (t_place (t_variable v t sp)) n f = variable_typed t v n f.0 f.1
+  found_typed (t_place (t_variable v t sp)) n f = variable_typed t v n f.0.0 f.1
   found_typed (t_place (t_element b i t sp)) n f = f.1
   found_typed (t_convert e x) n f = converted_typed (constant_of x) (type_of x).rate e n f.1
   found_typed (t_cast x t sp) n f =
@@ -148,34 +148,34 @@ module _ (w : Setting) (ready : IsSettled w) where
 
   -- ---- in a variable's register, in that of a constant, or in one of the slot
 
-  lifted_placed : (r given : Rate) (t : Elem) (f n : ℕ) → Reaches given r → Placed w.layout given n f → Placed w.layout r n (lifted w.layout r given t f n)
+  lifted_placed : (r given : Rate) (t : Elem) (f n : ℕ) → Reaches given r → Placed w given n f → Placed w r n (lifted w.layout r given t f n)
   lifted_placed Uniform Uniform t f n re at = at
   lifted_placed Uniform Varying t f n re at = absurd re
   lifted_placed Varying Uniform t f n re at = inr (inl (t, refl))
   lifted_placed Varying Varying t f n re at = at
 
-  variable_placed : (t : Ty) (v n : ℕ) → Placed w.layout t.rate n (variable_found w.layout (is_copied w.layout t.rate v) t v n)
-  variable_placed t v n = go (is_copied w.layout t.rate v) refl
+  variable_placed : (t : Ty) (v n : ℕ) → IsRead w t.rate v → Placed w t.rate n (variable_found w.layout (is_copied w.layout t.rate v) t v n)
+  variable_placed t v n read = go (is_copied w.layout t.rate v) refl
     where
-      go : (b : Bool) → is_copied w.layout t.rate v ≡ b → Placed w.layout t.rate n (variable_found w.layout b t v n)
+      go : (b : Bool) → is_copied w.layout t.rate v ≡ b → Placed w t.rate n (variable_found w.layout b t v n)
       go true e = inr (inl (t.elem, refl))
-      go false e = inl (v, e, refl)
+      go false e = inl (v, e, refl, read)
 
-  kept_placed : (r : Rate) (t : Elem) (b n : ℕ) → Placed w.layout r n (kept_found w.layout (w.layout.kept r t b) r t b n)
+  kept_placed : (r : Rate) (t : Elem) (b n : ℕ) → Placed w r n (kept_found w.layout (w.layout.kept r t b) r t b n)
   kept_placed r t b n = go (w.layout.kept r t b) refl
     where
-      go : (z : Bool) → w.layout.kept r t b ≡ z → Placed w.layout r n (kept_found w.layout z r t b n)
+      go : (z : Bool) → w.layout.kept r t b ≡ z → Placed w r n (kept_found w.layout z r t b n)
       go true e = inr (inr (t, b, e, refl))
       go false e = inr (inl (t, refl))
 
-  converted_placed : (o : Option Value) (r : Rate) (e : Elem) (n : ℕ) → Placed w.layout r n (kept_found w.layout (is_kept w.layout o r e) r e (bits_as o e) n)
+  converted_placed : (o : Option Value) (r : Rate) (e : Elem) (n : ℕ) → Placed w r n (kept_found w.layout (is_kept w.layout o r e) r e (bits_as o e) n)
   converted_placed None r e n = inr (inl (e, refl))
   converted_placed (Some v) r e n = kept_placed r e (converted v.elem e v.bits) n
 
-  found_placed : (x : TExpr) (n : ℕ) → ExprParts w x n → Placed w.layout (type_of x).rate n (found w.layout x n)
+  found_placed : (x : TExpr) (n : ℕ) → ExprParts w x n → Placed w (type_of x).rate n (found w.layout x n)
   found_placed (t_constant v sp) n f = kept_placed Uniform v.elem v.bits n
   found_placed (t_program_index sp) n f = inr (inl (I32, refl))
-  found_placed (t_place (t_variable v t sp)) n f = variable_placed t v n
+  found_placed (t_place (t_variable v t sp)) n f = variable_placed t v n (is_read w t.rate t.elem v f.0.1)
   found_placed (t_place (t_element b i t sp)) n f = inr (inl (t.elem, refl))
   found_placed (t_convert e x) n f = converted_placed (constant_of x) (type_of x).rate e n
   found_placed (t_cast x t sp) n f = lifted_placed t.rate (type_of x).rate (type_of x).elem (found w.layout x n) n f.0.reaches (found_placed x n f.1)
@@ -189,37 +189,37 @@ module _ (w : Setting) (ready : IsSettled w) where
   found_placed (t_packed_store b x sp) n f = inr (inl (I32, refl))
   found_placed (t_packed_load b v sp) n f = inr (inl (I32, refl))
 
-  pub operand_placed : (r : Rate) (t : Elem) (x : TExpr) (n : ℕ) → OperandFits w r t x n → ExprParts w x n → Placed w.layout r n (operand w.layout r x n)
+  pub operand_placed : (r : Rate) (t : Elem) (x : TExpr) (n : ℕ) → OperandFits w r t x n → ExprParts w x n → Placed w r n (operand w.layout r x n)
   operand_placed r t x n o f = go (in_vector w.layout r (known x)) refl
     where
-      vector : (g : Rate) (k : Option Value) → in_vector w.layout g k ≡ true → Placed w.layout g n (vector_of w.layout k)
+      vector : (g : Rate) (k : Option Value) → in_vector w.layout g k ≡ true → Placed w g n (vector_of w.layout k)
       vector Uniform k e = absurd (cc)
       vector Varying None e = absurd (cc)
       vector Varying (Some v) e = inr (inr (v.elem, v.bits, e, refl))
 
-      go : (z : Bool) → in_vector w.layout r (known x) ≡ z → Placed w.layout r n (operand_by w.layout z r x n)
+      go : (z : Bool) → in_vector w.layout r (known x) ≡ z → Placed w r n (operand_by w.layout z r x n)
       go true e = vector r (known x) e
       go false e = lifted_placed r (type_of x).rate (type_of x).elem (found w.layout x n) n o.reaches (found_placed x n f)
 
 module _ (w : Setting) (ready : IsSettled w) where
-  spare_low : (r : Rate) (t : Elem) (n : ℕ) → Low w.layout r (n + 1) (w.layout.spare r t n)
-  spare_low r t n = low_spare w.layout r t (n + 1) n (omega arith)
+  spare_low : (r : Rate) (t : Elem) (n : ℕ) → Low w r (n + 1) (w.layout.spare r t n)
+  spare_low r t n = low_spare w r t (n + 1) n (omega arith)
 
-  pub lifted_low : (r given : Rate) (t : Elem) (f n : ℕ) → Reaches given r → Low w.layout given (n + 1) f → Low w.layout r (n + 1) (lifted w.layout r given t f n)
+  pub lifted_low : (r given : Rate) (t : Elem) (f n : ℕ) → Reaches given r → Low w given (n + 1) f → Low w r (n + 1) (lifted w.layout r given t f n)
   lifted_low Uniform Uniform t f n re low = low
   lifted_low Uniform Varying t f n re low = absurd re
   lifted_low Varying Uniform t f n re low = spare_low Varying t n
   lifted_low Varying Varying t f n re low = low
 
-  pub found_low : (x : TExpr) (n : ℕ) → ExprParts w x n → Low w.layout (type_of x).rate (n + 1) (found w.layout x n)
-  found_low x n f = placed_low w.layout (type_of x).rate n (n + 1) (found w.layout x n) (omega arith) (found_placed w ready x n f)
+  pub found_low : (x : TExpr) (n : ℕ) → ExprParts w x n → Low w (type_of x).rate (n + 1) (found w.layout x n)
+  found_low x n f = placed_low w (type_of x).rate n (n + 1) (found w.layout x n) (omega arith) (found_placed w ready x n f)
 
-  pub operand_low : (r : Rate) (t : Elem) (x : TExpr) (n : ℕ) → OperandFits w r t x n → ExprParts w x n → Low w.layout r (n + 1) (operand w.layout r x n)
-  operand_low r t x n o f = placed_low w.layout r n (n + 1) (operand w.layout r x n) (omega arith) (operand_placed w ready r t x n o f)
+  pub operand_low : (r : Rate) (t : Elem) (x : TExpr) (n : ℕ) → OperandFits w r t x n → ExprParts w x n → Low w r (n + 1) (operand w.layout r x n)
+  operand_low r t x n o f = placed_low w r n (n + 1) (operand w.layout r x n) (omega arith) (operand_placed w ready r t x n o f)
 
-  whole_low : (z : Bool) (i : TExpr) (n : ℕ) → ExprParts w i n → Low w.layout (type_of i).rate (n + 1) (whole w.layout z i n)
+  whole_low : (z : Bool) (i : TExpr) (n : ℕ) → ExprParts w i n → Low w (type_of i).rate (n + 1) (whole w.layout z i n)
   whole_low true i n f = found_low i n f
   whole_low false i n f = spare_low (type_of i).rate I64 n
 
-  pub index_low : (r : Rate) (i : TExpr) (n : ℕ) → Reaches (type_of i).rate r → ExprParts w i n → Low w.layout r (n + 1) (index w.layout r i n)
+  pub index_low : (r : Rate) (i : TExpr) (n : ℕ) → Reaches (type_of i).rate r → ExprParts w i n → Low w r (n + 1) (index w.layout r i n)
   index_low r i n re f = lifted_low r (type_of i).rate I64 (whole w.layout (is_whole (type_of i).elem) i n) n re (whole_low (is_whole (type_of i).elem) i n f)

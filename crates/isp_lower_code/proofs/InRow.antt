@@ -78,7 +78,7 @@ module _ (w : Setting) where
   IsAway n r x = (t : Elem) → x ≢ w.layout.spare r t n
 
   module _ (ready : IsSettled w) where
-    placed_away : (r : Rate) (n m x : ℕ) → n < m → Placed w.layout r m x → IsAway n r x
+    placed_away : (r : Rate) (n m x : ℕ) → n < m → Placed w r m x → IsAway n r x
     placed_away r n m x lt (inl v) t e = ready.apart.variable_spare r t v.0 n (sym v.2 ∙ e)
     placed_away r n m x lt (inr (inl u)) t e = let ne : m ≢ n = omega arith in ready.apart.spares r u.0 t m n ne (sym u.1 ∙ e)
     placed_away r n m x lt (inr (inr k)) t e = ready.apart.kept_spare r k.0 k.1 t n k.2 (sym k.3 ∙ e)

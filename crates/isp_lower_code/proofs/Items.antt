@@ -23,12 +23,12 @@ use Rattle.isp_meaning.specs.Outcomes.{Gives}
 use Rattle.isp_meaning.specs.Places.{written}
 use Rattle.isp_meaning.specs.Simple.{cleared, item, items}
 use Rattle.isp_lower_code.specs.Layout.{mask_register, array_register}
-use Rattle.isp_lower_code.specs.Setting.{ArrayFitsAt, Setting, IsSettled, gang_of, calls_of, AreAt, Holds, OtherAt}
+use Rattle.isp_lower_code.specs.Setting.{ArrayFitsAt, Setting, IsSettled, gang_of, calls_of, AreAt, Holds}
 use Rattle.isp_lower_code.specs.Held.{everywhere}
 use Rattle.isp_lower_code.specs.Runs.{Enters, Ok, DoneRuns}
 use Rattle.isp_lower_code.specs.Instructions.{constant}
 use Rattle.isp_lower_code.specs.Items.{zero_code, zero_each, item_code, item_places, items_code, items_places}
-use Rattle.isp_lower_code.proofs.Base.{are_front, are_back, comes_none, next_at, at_to, spares_all}
+use Rattle.isp_lower_code.proofs.Base.{MayWrite, are_front, are_back, comes_none, next_at, at_to, spares_all}
 use Rattle.isp_lower_code.proofs.Values.{wrap_bits}
 use Rattle.isp_lower_code.proofs.Found.{few}
 use Rattle.isp_lower_code.proofs.Lines.{set_at}
@@ -55,7 +55,7 @@ module _ (w : Setting) (ready : IsSettled w) where
   -- ---- without a value
 
   -- a varying one, from a spare scalar
-  made_each : (t : Elem) (v : ℕ) (pc k n q : ℕ) (a : Mask) (s : State) (c : Conf) → ZeroFits w Varying t v n → OtherAt w Varying v
+  made_each : (t : Elem) (v : ℕ) (pc k n q : ℕ) (a : Mask) (s : State) (c : Conf) → ZeroFits w Varying t v n → MayWrite w Varying v
       → AreAt w.routine.code pc (zero_each w.layout false t v k n) → Enters w pc k n a s c q
       → DoneRuns w c (pc + 2) n q (Gives tt (written Varying v a (One 0) (tick s)))
   made_each t v pc k n q a s c fit other has b =
@@ -65,9 +65,9 @@ module _ (w : Setting) (ready : IsSettled w) where
       (constant d t 0) Uniform t None Divide no_place (One 0) (One 0) (comes_none w c) b.at refl has.0 b.stands (spares_all w n c)
       (λ g l. refl) (omega (arith, b.used)) refl refl
       (ap (λ u. Go (set_at Uniform c d (One (wrap u (number t 0))))) fit.0 ∙ ap (λ z. Go (set_at Uniform c d (One z))) (zero_is t)) in
-      splat_done w ready v (One 0) a (tick s) c ok.conf ok.steps (pc + 1) (pc + 2) k d n q ok.comes ok.at (omega arith) has.1.0 ok.stands ok.spares ok.masks (ok.masks k b.low ∙ b.mask) (omega (arith, ok.bound)) ok.holds other
+      splat_done w ready v (One 0) a (tick s) c ok.conf ok.steps (pc + 1) (pc + 2) k d n q ok.comes ok.at (omega arith) has.1.0 ok.stands ok.spares ok.masks (ok.masks k b.low ∙ b.mask) (omega (arith, ok.bound)) ok.holds other.0
 
-  zero_runs : (r : Rate) (t : Elem) (v : ℕ) (pc k n q : ℕ) (a : Mask) (s : State) (c : Conf) → ZeroFits w r t v n → OtherAt w r v
+  zero_runs : (r : Rate) (t : Elem) (v : ℕ) (pc k n q : ℕ) (a : Mask) (s : State) (c : Conf) → ZeroFits w r t v n → MayWrite w r v
       → AreAt w.routine.code pc (zero_code w.layout r t v k n) → Enters w pc k n a s c q
       → DoneRuns w c (pc + length (zero_code w.layout r t v k n)) n q (Gives tt (written r v a (One 0) (tick s)))
   zero_runs Uniform t v pc k n q a s c fit other has b =
@@ -75,7 +75,7 @@ module _ (w : Setting) (ready : IsSettled w) where
       let c3 = set_at Uniform c d (One 0) in
       step_done w ready c c c3 0 pc (pc + 1) n q (constant d t 0) None Divide no_place (One 0) (tick s) (written Uniform v a) (comes_none w c) b.at refl has.0
       (ap (λ u. Go (set_at Uniform c d (One (wrap u (number t 0))))) fit ∙ ap (λ z. Go (set_at Uniform c d (One z))) (zero_is t)) refl (set_goes w ready Uniform c d (One 0) pc b.at) b.stands
-      (λ none. written_stands w ready Uniform v c a (One 0) (tick s) (One 0) b.stands refl other) (variable_spares w ready Uniform v n c (One 0)) (λ g l. refl) (omega (arith, b.used)) (omega (arith, b.used))
+      (λ none. written_stands w ready Uniform v c a (One 0) (tick s) (One 0) b.stands refl other.0) (variable_spares w ready Uniform v n c (One 0) other.1) (λ g l. refl) (omega (arith, b.used)) (omega (arith, b.used))
   zero_runs Varying t v pc k n q a s c fit other has b = go (w.layout.kept Varying t 0) refl has
     where
       none : 0 % 2 ^ width t ≡ 0
@@ -127,7 +127,7 @@ module _ (w : Setting) (ready : IsSettled w) where
         result = b.stands.result;
         results = b.stands.results;
         own_arrays =
-            put_through c.own s.own w.layout.array y.number F G ready.apart.arrays b.stands.own_arrays ef;
+            λ v. put_through c.own s.own w.layout.array y.number F G ready.apart.arrays ef v (b.stands.own_arrays v);
         arrays_are = b.stands.arrays_are;
         out_is =
             b.stands.out_is;

@@ -31,6 +31,7 @@ use Rattle.isp_lower_code.specs.Layout.{Layout}
 use Rattle.isp_lower_code.specs.Library.{library_rates}
 use Rattle.isp_lower_code.specs.Setting.{Setting, IsSettled, gang_of, calls_of, Stands, Spares, held_at}
 use Rattle.isp_lower_code.specs.Runs.{Runs}
+pub use Rattle.isp_lower_code.proofs.Base.{IsRead, is_read}
 use Rattle.isp_lower_code.proofs.Parts.{ExprParts, BaseParts, ValuesParts, CallParts, ArgumentsParts, ArgumentParts}
 use Rattle.isp_lower_code.specs.Asks.{first_slot, second_slot}
 use Rattle.isp_lower_code.specs.Consecutive.{RunHolds}
@@ -39,42 +40,46 @@ use Rattle.isp_lower_code.specs.Consecutive.{RunHolds}
 abbrev pub IsKept : Layout → Rate → ℕ → Type 0
 IsKept l r x = (t : Elem) × (b : ℕ) × (l.kept r t b ≡ true) × (x ≡ l.constant r t b)
 
--- the register of a variable that is read in place, that of a constant that is kept, or a spare one of a slot below n
-abbrev pub Low : Layout → Rate → ℕ → ℕ → Type 0
-Low l r n x = ((v : ℕ) × (is_copied l r v ≡ false) × (x ≡ l.variable r v)) ⊎ (((t : Elem) × (j : ℕ) × (j < n) × (x ≡ l.spare r t j)) ⊎ IsKept l r x)
+-- the register of a variable that is read in place
+abbrev pub ReadInPlace : Setting → Rate → ℕ → Type 0
+ReadInPlace w r x = (v : ℕ) × (is_copied w.layout r v ≡ false) × (x ≡ w.layout.variable r v) × IsRead w r v
 
-pub low_more : (l : Layout) (r : Rate) (n m x : ℕ) → n ≤ m → Low l r n x → Low l r m x
-low_more l r n m x le (inl v) = inl v
-low_more l r n m x le (inr (inl j)) = inr (inl (j.0, j.1, omega (arith, j.2), j.3))
-low_more l r n m x le (inr (inr k)) = inr (inr k)
+-- such a register, that of a constant that is kept, or a spare one of a slot below n
+abbrev pub Low : Setting → Rate → ℕ → ℕ → Type 0
+Low w r n x = ReadInPlace w r x ⊎ (((t : Elem) × (j : ℕ) × (j < n) × (x ≡ w.layout.spare r t j)) ⊎ IsKept w.layout r x)
 
-pub low_spare : (l : Layout) (r : Rate) (t : Elem) (n j : ℕ) → j < n → Low l r n (l.spare r t j)
-low_spare l r t n j lt = inr (inl (t, j, lt, refl))
+pub low_more : (w : Setting) (r : Rate) (n m x : ℕ) → n ≤ m → Low w r n x → Low w r m x
+low_more w r n m x le (inl v) = inl v
+low_more w r n m x le (inr (inl j)) = inr (inl (j.0, j.1, omega (arith, j.2), j.3))
+low_more w r n m x le (inr (inr k)) = inr (inr k)
 
--- the register of a variable that is read in place, that of a constant that is kept, or a spare one of this slot
-abbrev pub Placed : Layout → Rate → ℕ → ℕ → Type 0
-Placed l r n x = ((v : ℕ) × (is_copied l r v ≡ false) × (x ≡ l.variable r v)) ⊎ (((t : Elem) × (x ≡ l.spare r t n)) ⊎ IsKept l r x)
+pub low_spare : (w : Setting) (r : Rate) (t : Elem) (n j : ℕ) → j < n → Low w r n (w.layout.spare r t j)
+low_spare w r t n j lt = inr (inl (t, j, lt, refl))
 
-pub placed_low : (l : Layout) (r : Rate) (n m x : ℕ) → n < m → Placed l r n x → Low l r m x
-placed_low l r n m x lt (inl v) = inl v
-placed_low l r n m x lt (inr (inl t)) = inr (inl (t.0, n, lt, t.1))
-placed_low l r n m x lt (inr (inr k)) = inr (inr k)
+-- such a register, that of a constant that is kept, or a spare one of this slot
+abbrev pub Placed : Setting → Rate → ℕ → ℕ → Type 0
+Placed w r n x = ReadInPlace w r x ⊎ (((t : Elem) × (x ≡ w.layout.spare r t n)) ⊎ IsKept w.layout r x)
 
-pub record KeepsLow (l : Layout) (n : ℕ) (scalars : ℕ → ℕ) (vectors : ℕ → Lanes) (scalars' : ℕ → ℕ) (vectors' : ℕ → Lanes) : Type 0 where
-  pub scalars_stay : (x : ℕ) → Low l Uniform n x → scalars' x ≡ scalars x
-  pub vectors_stay : (x : ℕ) → Low l Varying n x → vectors' x ≡ vectors x
-  pub place_stays : (i : ℕ) → l.run ≡ Some i → scalars' (l.place Uniform) ≡ scalars (l.place Uniform)
+pub placed_low : (w : Setting) (r : Rate) (n m x : ℕ) → n < m → Placed w r n x → Low w r m x
+placed_low w r n m x lt (inl v) = inl v
+placed_low w r n m x lt (inr (inl t)) = inr (inl (t.0, n, lt, t.1))
+placed_low w r n m x lt (inr (inr k)) = inr (inr k)
+
+pub record KeepsLow (w : Setting) (n : ℕ) (scalars : ℕ → ℕ) (vectors : ℕ → Lanes) (scalars' : ℕ → ℕ) (vectors' : ℕ → Lanes) : Type 0 where
+  pub scalars_stay : (x : ℕ) → Low w Uniform n x → scalars' x ≡ scalars x
+  pub vectors_stay : (x : ℕ) → Low w Varying n x → vectors' x ≡ vectors x
+  pub place_stays : (i : ℕ) → w.layout.run ≡ Some i → scalars' (w.layout.place Uniform) ≡ scalars (w.layout.place Uniform)
 
 abbrev pub Keeps : Setting → ℕ → Conf → Conf → Type 0
-Keeps w n c c' = KeepsLow w.layout n c.scalars c.vectors c'.scalars c'.vectors
+Keeps w n c c' = KeepsLow w n c.scalars c.vectors c'.scalars c'.vectors
 
 module _ (w : Setting) where
   -- a value that changes no other variable keeps these registers
   pub kept_of : (n : ℕ) (c c' : Conf) (s s' : State) → Stands w s c → Stands w s' c' → KeepsVariables w.layout.loaded s s' → Spares w n c c' → Keeps w n c c'
   kept_of n c c' s s' st st' k sp = record { scalars_stay = scalar; vectors_stay = vector; place_stays = λ i e. place w.layout.run i e st.run st'.run }
     where
-      scalar : (x : ℕ) → Low w.layout Uniform n x → c'.scalars x ≡ c.scalars x
-      scalar x (inl v) = ap c'.scalars v.2 ∙ st'.uniforms v.0 ∙ ap (λ f. f v.0) k.0 ∙ sym (st.uniforms v.0) ∙ ap c.scalars (sym v.2)
+      scalar : (x : ℕ) → Low w Uniform n x → c'.scalars x ≡ c.scalars x
+      scalar x (inl v) = ap c'.scalars v.2 ∙ st'.uniforms v.0 v.3 ∙ ap (λ f. f v.0) k.0 ∙ sym (st.uniforms v.0 v.3) ∙ ap c.scalars (sym v.2)
       scalar x (inr (inl j)) = ap c'.scalars j.3 ∙ sp.scalars_stay j.0 j.1 j.2 ∙ ap c.scalars (sym j.3)
       scalar x (inr (inr g)) = ap c'.scalars g.3 ∙ st'.constants Uniform g.0 g.1 g.2 ∙ sym (st.constants Uniform g.0 g.1 g.2) ∙ ap c.scalars (sym g.3)
 
@@ -84,7 +89,7 @@ module _ (w : Setting) where
       place None i e h h' = absurd (cc)
       place (Some j) i e h h' = h'.0 ∙ sym h.0
 
-      vector : (x : ℕ) → Low w.layout Varying n x → c'.vectors x ≡ c.vectors x
+      vector : (x : ℕ) → Low w Varying n x → c'.vectors x ≡ c.vectors x
       vector x (inl v) = ap c'.vectors v.2 ∙ st'.varying v.0 ∙ k.1 v.0 v.1 ∙ sym (st.varying v.0) ∙ ap c.vectors (sym v.2)
       vector x (inr (inl j)) = ap c'.vectors j.3 ∙ sp.vectors_stay j.0 j.1 j.2 ∙ ap c.vectors (sym j.3)
       vector x (inr (inr g)) = ap c'.vectors g.3 ∙ st'.constants Varying g.0 g.1 g.2 ∙ sym (st.constants Varying g.0 g.1 g.2) ∙ ap c.vectors (sym g.3)
@@ -112,12 +117,12 @@ module _ (w : Setting) where
   -- first one, then another that leaves more
   pub keeps_on : (n m : ℕ) (c c1 c2 : Conf) → n ≤ m → Keeps w n c c1 → Keeps w m c1 c2 → Keeps w n c c2
   keeps_on n m c c1 c2 le k h = record {
-    scalars_stay = λ x low. h.scalars_stay x (low_more w.layout Uniform n m x le low) ∙ k.scalars_stay x low;
-    vectors_stay = λ x low. h.vectors_stay x (low_more w.layout Varying n m x le low) ∙ k.vectors_stay x low;
+    scalars_stay = λ x low. h.scalars_stay x (low_more w Uniform n m x le low) ∙ k.scalars_stay x low;
+    vectors_stay = λ x low. h.vectors_stay x (low_more w Varying n m x le low) ∙ k.vectors_stay x low;
     place_stays = λ i e. h.place_stays i e ∙ k.place_stays i e;
   }
 
-  pub held_kept : (r : Rate) (n : ℕ) (c c' : Conf) (a : Mask) (x : ℕ) → Keeps w n c c' → Low w.layout r n x → held_at r c'.scalars c'.vectors a x ≡ held_at r c.scalars c.vectors a x
+  pub held_kept : (r : Rate) (n : ℕ) (c c' : Conf) (a : Mask) (x : ℕ) → Keeps w n c c' → Low w r n x → held_at r c'.scalars c'.vectors a x ≡ held_at r c.scalars c.vectors a x
   held_kept Uniform n c c' a x k low = ap One (k.scalars_stay x low)
   held_kept Varying n c c' a x k low = ap (λ v. Each (on a v)) (k.vectors_stay x low)
 

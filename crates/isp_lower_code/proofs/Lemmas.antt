@@ -23,9 +23,13 @@ pub use Rattle.isp_lower_code.proofs.Nodes.{enters_less, enters_part, operand_ru
 pub use Rattle.isp_lower_code.proofs.Updates.{simple_runs}
 pub use Rattle.isp_lower_code.proofs.Items.{items_run}
 pub use Rattle.isp_lower_code.proofs.Found.{constant_is_one, few, found_typed, operand_typed}
+pub use Rattle.isp_lower_code.proofs.Scalar.{scalar_runs}
+pub use Rattle.isp_lower_code.proofs.ScalarPlaces.{scalar_places}
+pub use Rattle.isp_lower_code.proofs.RowAccess.{row_reads, row_writes}
+pub use Rattle.isp_lower_code.proofs.RowSound.{rows_sound}
 pub use Rattle.isp_lower_code.proofs.Stayed.{stays_same}
-pub use Rattle.isp_lower_code.proofs.Parts.{OperandFits, ExprParts, ValuesParts, SimpleParts, ItemsParts}
-pub use Rattle.isp_lower_code.proofs.Fitting.{RunConstant, expr_fits, operand_fits, values_fit, simple_fits, simple_other, items_fit}
+pub use Rattle.isp_lower_code.proofs.Parts.{IsHeldIn, OperandFits, Owned, OwnTable, ExprParts, ValuesParts, SimpleParts, ItemsParts}
+pub use Rattle.isp_lower_code.proofs.Fitting.{RunConstant, expr_fits, operand_fits, owned, values_fit, simple_fits, simple_other, items_fit}
 -- ---- its instructions have their operands
 
 pub use Rattle.isp_lower_code.proofs.Trees.{OperandTree, ExprTree, ValuesTree, SimpleTree, ItemsTree}
@@ -41,7 +45,7 @@ pub use Rattle.isp_lower_code.proofs.InRows.{counts, expr_in_rows, in_rows, many
 pub use Rattle.isp_lower_code.proofs.Rows.{few_ranks, kept_of, kept_row, kept_there, layout_apart, register_there, row_typed, rows_stay}
 pub use Rattle.isp_lower_code.proofs.Begins.{all_grow, begins_self, begins_then, stays_in}
 pub use Rattle.isp_lower_code.proofs.FirstRows.{array_at, none_kept, result_at, value_at}
-pub use Rattle.isp_lower_code.proofs.Own.{all_held, expr_own, operand_own, simple_own, item_own}
+pub use Rattle.isp_lower_code.proofs.Own.{all_held, expr_own, operand_own, simple_own, items_own}
 -- ---- what the text of code can have
 
 pub use Rattle.isp_lower_code.proofs.Writable.{all_at, all_both, differ, no_room}

@@ -42,6 +42,11 @@ mod InRow
 mod LibraryLines
 mod Rated
 mod Fitting
+mod ScalarRates
+mod ScalarPlaces
+mod Scalar
+mod RowAccess
+mod RowSound
 mod Rows
 mod Begins
 mod Own

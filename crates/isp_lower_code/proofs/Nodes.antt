@@ -148,7 +148,7 @@ module _ (w : Setting) (ready : IsSettled w) where
   -- two operands and an instruction on them, which may trap by the second
   pub pair_runs : (g : Target) (c : Conf) (pc k n q : ℕ) (a : Mask) (va : Val Payload) (vb : Payload → State → Val Payload) (r : Rate) (t : Elem)
       (x y : ℕ) (ca : List Instr) (cb : ℕ → List Instr) (i : Instr) (f : ℕ → ℕ → ℕ) (o : Payload → Option ℕ) (kind : TrapKind) (sp : Span)
-      → c.masks k ≡ a → k < n → Low w.layout r (n + 1) x → AreAt w.routine.code pc (pair_code pc ca cb i) → ((z : Payload) → o z ≡ o (at_rate r a z))
+      → c.masks k ≡ a → k < n → Low w r (n + 1) x → AreAt w.routine.code pc (pair_code pc ca cb i) → ((z : Payload) → o z ≡ o (at_rate r a z))
       → ((c : Conf) → c.masks k ≡ a → act w.code w.routine c i
       ≡ moved_by (o (held_at r c.scalars c.vectors a y)) kind sp
       (set_at r c (target w.layout g r t n) (joined f a (held_at r c.scalars c.vectors a x) (held_at r c.scalars c.vectors a y))))

@@ -1,5 +1,6 @@
 -- What code asks for is the function's own, where names and types accept its trees.
-use Rattle.std.proofs.Common.{ℕ, ◌+◌, List, [], ◌∷◌, Option, Some, None, Bool, true, false}
+use Rattle.std.proofs.Common.{ℕ, suc, ◌+◌, List, [], ◌∷◌, Option, Some, None, Bool, true, false, arith}
+use Rattle.std.specs.List.{All as Each}
 use Rattle.isp_base.specs.Ranks.{same_elem}
 use Rattle.isp_base.specs.declared.types.Elem.{Elem}
 use Rattle.isp_base.specs.declared.types.Elem.TheVariants.{I64}
@@ -15,7 +16,7 @@ use Rattle.isp_typed.specs.declared.variable.Holds.TheVariants as holds
 use Rattle.isp_typed.specs.declared.variable.Variable.{Variable}
 use Rattle.isp_lower_code.specs.Asks.{Ask, Nothing, Both, Register, ArrayOf, LocalOf, MaskOf, Number, Loads, All, first_slot, second_slot, beyond, lift_asks, test_asks}
 use Rattle.isp_lower_code.specs.Asks.{sides_ask, read_asks, copy_asks, value_asks, work_asks, zero_asks, expr_asks, target_asks, base_asks, values_asks, call_asks}
-use Rattle.isp_lower_code.specs.Asks.{arguments_asks, argument_asks, change_asks, simple_asks, item_asks, place_asks, run_asks, start_asks}
+use Rattle.isp_lower_code.specs.Asks.{arguments_asks, argument_asks, change_asks, simple_asks, item_asks, items_asks, place_asks, run_asks, start_asks}
 use Rattle.isp_typed.specs.Library.{parts}
 use Rattle.isp_typed.specs.declared.library.Part.{Part}
 use Rattle.isp_lower_code.specs.Callees.{next_rate, later}
@@ -173,3 +174,7 @@ module _ (vars : List Variable) (answer : Option Ty) where
     item_own (t_plain v t sp) n f = zero_own t.rate t.elem v n f
     item_own (t_with_value v t x sp) n f = (f.0, operand_own t.rate x n f.1.0)
     item_own (t_with_size b sp) n f = (f.0, f.1)
+
+    pub items_own : (xs : List TItem) (n : ℕ) → Each (FineItem fs vars) xs → IsOwn vars answer (items_asks n xs)
+    items_own [] n f = tt
+    items_own (x ∷ xs) n f = (item_own x n (f 0 x (omega arith)), items_own xs n (λ k d lt. f (suc k) d (omega arith)))

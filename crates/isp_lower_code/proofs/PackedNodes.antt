@@ -84,8 +84,8 @@ module _ (w : Setting) (ready : IsSettled w) where
   base_fits (t_whole y sp) n fit = (ready.arrays y fit.0, fit.1)
   base_fits (t_from y i sp) n fit = (ready.arrays y fit.0, fit.1)
 
-  base_low : (d : TBase) (n : ℕ) → BaseParts w d n → Low w.layout Uniform (n + 1) (base_register w.layout d n)
-  base_low (t_whole y sp) n fit = low_spare w.layout Uniform I64 (n + 1) n (omega arith)
+  base_low : (d : TBase) (n : ℕ) → BaseParts w d n → Low w Uniform (n + 1) (base_register w.layout d n)
+  base_low (t_whole y sp) n fit = low_spare w Uniform I64 (n + 1) n (omega arith)
   base_low (t_from y i sp) n fit = index_low w ready Uniform i n fit.2 fit.4
 
   same_base : (d : TBase) → base_array d ≡ meant.base_array d

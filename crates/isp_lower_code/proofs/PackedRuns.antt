@@ -203,7 +203,7 @@ module _ (w : Setting) (ready : IsSettled w) where
         run = st.run;
         constants = st.constants;
       })
-      (record { scalars_stay = ke.scalars_stay; vectors_stay = ke.vectors_stay; fresh_scalars = ke.fresh_scalars; fresh_vectors = ke.fresh_vectors }) ma le le
+      (record { scalars_stay = ke.scalars_stay; vectors_stay = ke.vectors_stay; fresh_scalars = ke.fresh_scalars; fresh_vectors = ke.fresh_vectors; singles_stay = ke.singles_stay }) ma le le
 
   pub load_leaves : (u : Target) (y : ArrayVariable) (z : ℤ) (v : ℕ) (a : Mask) (s : State) (c c1 : Conf) (t pc pc' k j n q p : ℕ) (sp : Span)
       → IsOther w v → ArrayFits w y → y.ty.rate ≡ Uniform → any (gang_of w) a ≡ true → Comes w c t c1 → At w c1 pc → pc + 1 ≡ pc'
@@ -234,4 +234,4 @@ module _ (w : Setting) (ready : IsSettled w) where
       ∙ ap (λ g. Each (on a (λ p. g (unsigned_abs (packed_index z a p))))) ea) in
       let g = written_stands w ready Varying v c1 a m s (Each x) st ex other in
       record { uniforms = g.uniforms; varying = g.varying; result = g.result; results = g.results; own_arrays = g.own_arrays; arrays_are = g.arrays_are; out_is = g.out_is; run = g.run; constants = g.constants })
-      (let k2 = spares_on w n c c1 (set_at Varying c1 V (Each x)) ke (variable_spares w ready Varying v n c1 (Each x)) in record { scalars_stay = k2.scalars_stay; vectors_stay = k2.vectors_stay; fresh_scalars = k2.fresh_scalars; fresh_vectors = k2.fresh_vectors }) ma le le
+      (let k2 = spares_on w n c c1 (set_at Varying c1 V (Each x)) ke (variable_spares w ready Varying v n c1 (Each x) tt) in record { scalars_stay = k2.scalars_stay; vectors_stay = k2.vectors_stay; fresh_scalars = k2.fresh_scalars; fresh_vectors = k2.fresh_vectors; singles_stay = k2.singles_stay }) ma le le

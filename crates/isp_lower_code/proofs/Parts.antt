@@ -10,18 +10,21 @@ use Rattle.isp_base.specs.declared.types.Rate.{Rate}
 use Rattle.isp_base.specs.declared.types.Rate.TheVariants.{Uniform, Varying}
 use Rattle.isp_typed.specs.Typed.{TExpr, t_constant, t_program_index, t_place, t_convert, t_cast, t_unary, t_binary, t_compare, t_logic, t_choose, t_call, t_library, t_packed_store, t_packed_load, TPlace}
 use Rattle.isp_typed.specs.Typed.{t_variable, t_element, TBase, t_whole, t_from, TArgument, t_by_value, t_by_name, TCall, t_called, TArguments, t_no_arguments, t_argument_then, TExprs, t_no_exprs, t_expr_then}
-use Rattle.isp_typed.specs.Typed.{TFunction, TItem, t_plain, t_with_value, t_with_size, TSimple, t_value, t_run, t_assign, t_update, t_step, place_type, type_of}
-use Rattle.isp_typed.specs.Fine.{heads, HoldsArray, params_of}
+use Rattle.isp_typed.specs.Typed.{TFunction, TItem, t_plain, t_with_value, t_with_size, TSimple, t_value, t_run, t_assign, t_update, t_step, place_type, ty_of, type_of}
+use Rattle.isp_typed.specs.Fine.{heads, HoldsArray, HoldsValue, params_of}
 use Rattle.isp_typed.specs.declared.variable.Holds.{Holds}
 use Rattle.isp_typed.specs.declared.variable.Holds.TheVariants as holds
 use Rattle.isp_typed.specs.declared.variable.Variable.{Variable as Declared}
-use Rattle.isp_lower_code.specs.Asks.{first_slot, second_slot, beyond, is_lane}
+use Rattle.isp_lower_code.specs.Asks.{Ask, All, first_slot, second_slot, beyond, is_lane}
 use Rattle.isp_lower_code.specs.Callees.{next_rate, later}
+use Rattle.isp_code.specs.Listing.{Routine}
+use Rattle.isp_lower_code.specs.Layout.{Layout}
 use Rattle.isp_lower_code.specs.Library.{library_rates}
 use Rattle.isp_lower_code.specs.Rated.{Reaches}
-use Rattle.isp_lower_code.specs.Rows.{Name, Variable, Spare}
-use Rattle.isp_lower_code.specs.Setting.{Setting, OtherAt}
-use Rattle.isp_lower_code.specs.Tables.{IsTyped, IsNamedIn, IsLoadedIn}
+use Rattle.isp_lower_code.specs.Rows.{Name, Variable, Result, Spare, Place, Fresh, Kept}
+use Rattle.isp_lower_code.specs.Setting.{Setting}
+use Rattle.isp_lower_code.specs.Tables.{AnyMask, IsTyped, IsNamedIn, IsLoadedIn}
+use Rattle.isp_lower_code.proofs.Base.{MayWrite}
 use Rattle.isp_lower_code.proofs.LibraryTypes.{LibraryTyped}
 
 -- ---- single registers, by what it is to have one
@@ -56,9 +59,28 @@ module _ (Has : Rate → Name → Elem → Type 0) where
   ZeroHas Uniform t v n = Has Uniform (Variable v) t
   ZeroHas Varying t v n = Has Uniform (Spare t n) t × Has Varying (Variable v) t
 
+-- a register of a variable is that of one of these
+abbrev pub IsVariable : List Declared → Rate → Name → Elem → Type 0
+IsVariable vars r (Variable v) t = HoldsValue vars v (ty_of r t)
+IsVariable vars r Result t = Unit {0}
+IsVariable vars r (Spare u j) t = Unit {0}
+IsVariable vars r Place t = Unit {0}
+IsVariable vars r (Fresh j) t = Unit {0}
+IsVariable vars r (Kept u b) t = Unit {0}
+
+-- what code asks for is in the table of registers, and each variable that it names is one of the function
+abbrev pub IsHeldIn : Routine → Layout → List Declared → Rate → Name → Elem → Type 0
+IsHeldIn h l vars r x t = IsNamedIn h l r x t × IsVariable vars r x t
+
+abbrev pub OwnTable : Routine → Layout → List Declared → Ask → Type 0
+OwnTable h l vars a = All (IsHeldIn h l vars) (HoldsArray vars) (HoldsArray vars) AnyMask (IsLoadedIn l) a
+
 module _ (w : Setting) where
   abbrev pub IsNamed : Rate → Name → Elem → Type 0
   IsNamed r x t = IsNamedIn w.routine w.layout r x t
+
+  abbrev pub Owned : Ask → Type 0
+  Owned a = OwnTable w.routine w.layout w.function.variables a
 
   abbrev pub SpareFits : Rate → Elem → ℕ → Type 0
   SpareFits r t n = IsNamed r (Spare t n) t
@@ -112,7 +134,7 @@ module _ (w : Setting) where
 
     -- a place whose index is taken at slot n; the element's rate is that of the array and the index
     pub PlaceParts : TPlace → ℕ → Type 0
-    PlaceParts (t_variable v t sp) n = IsTyped w t.rate (w.layout.variable t.rate v) t.elem
+    PlaceParts (t_variable v t sp) n = IsTyped w t.rate (w.layout.variable t.rate v) t.elem × HoldsValue w.function.variables v (ty_of t.rate t.elem)
     PlaceParts (t_element b i t sp) n =
         HoldsArray w.function.variables b × Reaches b.ty.rate t.rate × Reaches (type_of i).rate t.rate × SpareFits (type_of i).rate I64 n × ExprParts i n × RunParts b.ty.rate i n
 
@@ -159,7 +181,7 @@ module _ (w : Setting) where
 
   -- a variable that is written counts no lanes
   abbrev pub TargetOther : TPlace → Type 0
-  TargetOther (t_variable v t sp) = OtherAt w t.rate v
+  TargetOther (t_variable v t sp) = MayWrite w t.rate v
   TargetOther (t_element b i t sp) = Unit {0}
 
   -- a place with its index at slot n, that an operator of type t reads and writes
@@ -184,8 +206,8 @@ module _ (w : Setting) where
   ZeroFits r t v n = ZeroHas (IsNamed w) r t v n
 
   abbrev pub ItemParts : ℕ → TItem → Type 0
-  ItemParts n (t_plain v t sp) = ZeroFits t.rate t.elem v n × OtherAt w t.rate v
-  ItemParts n (t_with_value v t x sp) = IsTyped w t.rate (w.layout.variable t.rate v) t.elem × OperandFits w t.rate t.elem x n × ExprParts w x n × OtherAt w t.rate v
+  ItemParts n (t_plain v t sp) = ZeroFits t.rate t.elem v n × MayWrite w t.rate v
+  ItemParts n (t_with_value v t x sp) = IsTyped w t.rate (w.layout.variable t.rate v) t.elem × OperandFits w t.rate t.elem x n × ExprParts w x n × MayWrite w t.rate v
   ItemParts n (t_with_size b sp) = HoldsArray w.function.variables b
 
   abbrev pub ItemsParts : ℕ → List TItem → Type 0

@@ -64,7 +64,7 @@ module _ (w : Setting) (ready : IsSettled w) where
       start : Counting w.layout i → c.scalars (start_in w.layout (is_lane i) n) ≡ c'.scalars (start_in w.layout (is_lane i) n)
       start (inl h) =
           subst (λ u. c.scalars (start_in w.layout (is_lane u) n) ≡ c'.scalars (start_in w.layout (is_lane u) n)) (sym h.1)
-          (sym (k.scalars_stay (w.layout.spare Uniform I64 n) (low_spare w.layout Uniform I64 (n + 1) n (omega arith))))
+          (sym (k.scalars_stay (w.layout.spare Uniform I64 n) (low_spare w Uniform I64 (n + 1) n (omega arith))))
       start (inr h) =
           subst (λ u. c.scalars (start_in w.layout (is_lane u) n) ≡ c'.scalars (start_in w.layout (is_lane u) n)) (sym h.3)
           (sym (k.place_stays h.0 (counter_is w.layout h.1.rate h.0 h.4).run))

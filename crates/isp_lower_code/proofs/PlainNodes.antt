@@ -44,7 +44,7 @@ use Rattle.isp_lower_code.proofs.Values.{wrap_bits, constant_is}
 use Rattle.isp_lower_code.proofs.Found.{few, constant_is_one, found_typed, operand_typed, operand_low}
 use Rattle.isp_lower_code.proofs.Targets.{Target, InSlot, target, Leaves}
 use Rattle.isp_lower_code.proofs.Nodes.{enters_part, enters_later, leaf_runs, operand_runs, one_runs, pair_runs}
-use Rattle.isp_lower_code.proofs.Kept.{value_still}
+use Rattle.isp_lower_code.proofs.Kept.{IsRead, is_read, value_still}
 use Rattle.isp_lower_code.proofs.Parts.{ExprParts}
 use Rattle.isp_lower_code.specs.Tables.{IsTyped}
 
@@ -53,9 +53,9 @@ module _ (w : Setting) (ready : IsSettled w) where
   abbrev pub means : TExpr → Mask → State → Val Payload
   means = value (gang_of w) w.frame (calls_of w)
 
-  pub variable_held : (r : Rate) (v : ℕ) (a : Mask) (s : State) (c : Conf) → Stands w s c → at_rate r a (variable r v a s) ≡ held_at r c.scalars c.vectors a (w.layout.variable r v)
-  variable_held Uniform v a s c st = ap One (sym (st.uniforms v))
-  variable_held Varying v a s c st = ap (λ z. Each (on a z)) (sym (st.varying v))
+  pub variable_held : (r : Rate) (v : ℕ) (a : Mask) (s : State) (c : Conf) → IsRead w r v → Stands w s c → at_rate r a (variable r v a s) ≡ held_at r c.scalars c.vectors a (w.layout.variable r v)
+  variable_held Uniform v a s c read st = ap One (sym (st.uniforms v read))
+  variable_held Varying v a s c read st = ap (λ z. Each (on a z)) (sym (st.varying v))
 
   pub constant_runs : (g : Target) (pc k n q rest : ℕ) (a : Mask) (s : State) (c : Conf) (t : Elem) (bits b : ℕ) → rest ≤ 31 + q
       → Enters w pc k n a s c q → IsTyped w Uniform (target w.layout g Uniform t n) t
@@ -158,14 +158,14 @@ module _ (w : Setting) (ready : IsSettled w) where
       b.mask)
 
   -- a variable is copied where a packed load writes it
-  pub copied_node : (u : Target) (v : ℕ) (t : Ty) (pc k n q rest : ℕ) (a : Mask) (s : State) (c : Conf) → rest ≤ 31 + q → Enters w pc k n a s c q
+  pub copied_node : (u : Target) (v : ℕ) (t : Ty) (pc k n q rest : ℕ) (a : Mask) (s : State) (c : Conf) → IsRead w t.rate v → rest ≤ 31 + q → Enters w pc k n a s c q
       → slice_get w.routine.code pc ≡ Some (copy t.rate (target w.layout u t.rate t.elem n) (w.layout.variable t.rate v) k)
       → Leaves w u (target w.layout u t.rate t.elem n) c (pc + 1) n rest t.rate a (Gives (variable t.rate v a (tick s)) (tick s))
-  copied_node u v t pc k n q rest a s c le b has =
+  copied_node u v t pc k n q rest a s c read le b has =
       let d = target w.layout u t.rate t.elem n in
       let x = w.layout.variable t.rate v in
       leaf_runs w ready u pc k n q rest a s c (copy t.rate d x k) t.rate t.elem (variable t.rate v a (tick s))
-      (held_at t.rate c.scalars c.vectors a x) le b has (variable_held t.rate v a (tick s) c b.stands)
+      (held_at t.rate c.scalars c.vectors a x) le b has (variable_held t.rate v a (tick s) c read b.stands)
       (filled_held t.rate a c.scalars c.vectors x)
       (copy_line w.code w.routine c t.rate d x k ∙ ap (λ m. Go (set_at t.rate c d (held_at t.rate c.scalars c.vectors m x))) b.mask)
 
@@ -173,10 +173,13 @@ module _ (w : Setting) (ready : IsSettled w) where
   pub variable_runs : (v : ℕ) (t : Ty) (sp : Span) → RunsHere (t_place (t_variable v t sp))
   variable_runs v t sp pc p k n q rest a s c fit has places le b = go (is_copied w.layout t.rate v) has
     where
+      read : IsRead w t.rate v
+      read = is_read w t.rate t.elem v fit.0.1
+
       go : (d : Bool) → AreAt w.routine.code pc (variable_read w.layout d (variable_found w.layout d t v n) t.rate v k)
           → Runs w c (pc + length (variable_read w.layout d (variable_found w.layout d t v n) t.rate v k)) n rest
           (Holds t.rate a (variable_found w.layout d t v n)) (Gives (variable t.rate v a (tick s)) (tick s))
-      go true at = copied_node InSlot v t pc k n q rest a s c (omega (arith, le)) b at.0
+      go true at = copied_node InSlot v t pc k n q rest a s c read (omega (arith, le)) b at.0
       go false at = record {
         conf = c;
         steps = 0;
@@ -185,7 +188,7 @@ module _ (w : Setting) (ready : IsSettled w) where
         stands = b.stands;
         spares = spares_all w n c;
         masks = λ j h. refl;
-        holds = variable_held t.rate v a (tick s) c b.stands;
+        holds = variable_held t.rate v a (tick s) c read b.stands;
         bound = omega (arith, le, b.used);
       }
 

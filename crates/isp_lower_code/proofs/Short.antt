@@ -32,6 +32,8 @@ use Rattle.isp_lower_code.proofs.Lines.{set_at}
 use Rattle.isp_lower_code.proofs.Logic.{unless_some, unless_none, any_nobody, is_nobody, where_inside}
 use Rattle.isp_lower_code.proofs.Choose.{selected_at, select_is}
 use Rattle.isp_lower_code.proofs.Found.{constant_is_one}
+use Rattle.isp_lower_code.proofs.Kept.{IsRead, is_read}
+use Rattle.isp_lower_code.proofs.Parts.{ExprParts}
 use Rattle.isp_lower_code.proofs.Values.{wrap_bits, constant_is}
 use Rattle.isp_lower_code.proofs.Targets.{Target, target, Leaves, bind_leaves, write_sure}
 
@@ -56,9 +58,9 @@ module _ (w : Setting) where
   InPlace r f v =
       (T : Mask) (s : State) (c : Conf) → Stands w s c → (m : Payload) × (s' : State) × (v T s ≡ Gives m s') × Later s s' × Holds r T f m c
 
-  held_there : (r : Rate) (v : ℕ) (a : Mask) (s : State) (c : Conf) → Stands w s c → at_rate r a (variable r v a s) ≡ held_at r c.scalars c.vectors a (w.layout.variable r v)
-  held_there Uniform v a s c st = ap One (sym (st.uniforms v))
-  held_there Varying v a s c st = ap (λ z. Each (on a z)) (sym (st.varying v))
+  held_there : (r : Rate) (v : ℕ) (a : Mask) (s : State) (c : Conf) → IsRead w r v → Stands w s c → at_rate r a (variable r v a s) ≡ held_at r c.scalars c.vectors a (w.layout.variable r v)
+  held_there Uniform v a s c read st = ap One (sym (st.uniforms v read))
+  held_there Varying v a s c read st = ap (λ z. Each (on a z)) (sym (st.varying v))
 
   ticked : (s : State) → Later s (tick s)
   ticked s = record { stands = λ c st. st; work = omega arith }
@@ -68,16 +70,17 @@ module _ (w : Setting) where
   kept_there true t b m n T s c st ez e is = ap One (sym is ∙ sym (st.constants Uniform t b ez))
   kept_there false t b m n T s c st ez e is = absurd (cc)
 
-  pub stays_in_place : (x : TExpr) (n : ℕ) → stays w.layout x ≡ true → InPlace (type_of x).rate (found w.layout x n) (value (gang_of w) w.frame (calls_of w) x)
-  stays_in_place (t_constant v sp) n e T s c st = (One (v.bits % 2 ^ width v.elem), tick s, refl, ticked s, kept_there (w.layout.kept Uniform v.elem v.bits) v.elem v.bits (v.bits % 2 ^ width v.elem) n T s c st refl e refl)
-  stays_in_place (t_program_index sp) n e T s c st = absurd (cc)
-  stays_in_place (t_place (t_variable v t sp)) n e T s c st = (variable t.rate v T (tick s), tick s, refl, ticked s, go (is_copied w.layout t.rate v) e)
+  -- it is told of the tree in some slot
+  pub stays_in_place : (x : TExpr) (n m : ℕ) → ExprParts w x m → stays w.layout x ≡ true → InPlace (type_of x).rate (found w.layout x n) (value (gang_of w) w.frame (calls_of w) x)
+  stays_in_place (t_constant v sp) n m fit e T s c st = (One (v.bits % 2 ^ width v.elem), tick s, refl, ticked s, kept_there (w.layout.kept Uniform v.elem v.bits) v.elem v.bits (v.bits % 2 ^ width v.elem) n T s c st refl e refl)
+  stays_in_place (t_program_index sp) n m fit e T s c st = absurd (cc)
+  stays_in_place (t_place (t_variable v t sp)) n m fit e T s c st = (variable t.rate v T (tick s), tick s, refl, ticked s, go (is_copied w.layout t.rate v) e)
     where
       go : (b : Bool) → not b ≡ true → Holds t.rate T (variable_found w.layout b t v n) (variable t.rate v T (tick s)) c
       go true h = absurd (cc)
-      go false h = held_there t.rate v T (tick s) c st
-  stays_in_place (t_place (t_element b i t sp)) n e T s c st = absurd (cc)
-  stays_in_place (t_convert u x) n e T s c st = go (constant_of x) refl e
+      go false h = held_there t.rate v T (tick s) c (is_read w t.rate t.elem v fit.0.1) st
+  stays_in_place (t_place (t_element b i t sp)) n m fit e T s c st = absurd (cc)
+  stays_in_place (t_convert u x) n m fit e T s c st = go (constant_of x) refl e
     where
       go : (o : Option Value) → constant_of x ≡ o → is_kept w.layout o (type_of x).rate u ≡ true
           → (m : Payload) × (s' : State) × (value (gang_of w) w.frame (calls_of w) (t_convert u x) T s ≡ Gives m s') × Later s s'
@@ -97,7 +100,7 @@ module _ (w : Setting) where
             kept_there (w.layout.kept Uniform u b) u b
                 (converted v.elem u (v.bits % 2 ^ width v.elem)) n T s c st refl k (sym (wrap_bits u b) ∙ constant_is v.elem u v.bits),
           )) h
-  stays_in_place (t_cast x t sp) n e T s c st = go (same_rate t.rate (type_of x).rate) refl (λ h. stays_in_place x n h T (tick s) c st) e
+  stays_in_place (t_cast x t sp) n m fit e T s c st = go (same_rate t.rate (type_of x).rate) refl (λ h. stays_in_place x n m fit.1 h T (tick s) c st) e
     where
       go : (d : Bool) → same_rate t.rate (type_of x).rate ≡ d
           → (stays w.layout x ≡ true → (m : Payload) × (s' : State) × (value (gang_of w) w.frame (calls_of w) x T (tick s) ≡ Gives m s')
@@ -118,15 +121,15 @@ module _ (w : Setting) where
                 in_x.4),
           )
       go false ed ih h = absurd (cc)
-  stays_in_place (t_unary o x t sp) n e T s c st = absurd (cc)
-  stays_in_place (t_binary o x y t sp) n e T s c st = absurd (cc)
-  stays_in_place (t_compare d x y r sp) n e T s c st = absurd (cc)
-  stays_in_place (t_logic g x y r sp) n e T s c st = absurd (cc)
-  stays_in_place (t_choose d x y t sp) n e T s c st = absurd (cc)
-  stays_in_place (t_call d t) n e T s c st = absurd (cc)
-  stays_in_place (t_library f u xs t sp) n e T s c st = absurd (cc)
-  stays_in_place (t_packed_store d x sp) n e T s c st = absurd (cc)
-  stays_in_place (t_packed_load d v sp) n e T s c st = absurd (cc)
+  stays_in_place (t_unary o x t sp) n m fit e T s c st = absurd (cc)
+  stays_in_place (t_binary o x y t sp) n m fit e T s c st = absurd (cc)
+  stays_in_place (t_compare d x y r sp) n m fit e T s c st = absurd (cc)
+  stays_in_place (t_logic g x y r sp) n m fit e T s c st = absurd (cc)
+  stays_in_place (t_choose d x y t sp) n m fit e T s c st = absurd (cc)
+  stays_in_place (t_call d t) n m fit e T s c st = absurd (cc)
+  stays_in_place (t_library f u xs t sp) n m fit e T s c st = absurd (cc)
+  stays_in_place (t_packed_store d x sp) n m fit e T s c st = absurd (cc)
+  stays_in_place (t_packed_load d v sp) n m fit e T s c st = absurd (cc)
 
   -- for the lanes of a set that may be empty
   side : (T : Mask) (s : State) (c : Conf) (v : Mask → State → Val Payload) (f : ℕ) → ((p : ℕ) → T p ≡ true → Allowed w p) → InPlace Varying f v

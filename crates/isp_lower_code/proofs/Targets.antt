@@ -15,9 +15,9 @@ use Rattle.isp_meaning.specs.Payloads.{Payload}
 use Rattle.isp_meaning.specs.Outcomes.{Val, Gives, Fails, Stops, bind, checked}
 use Rattle.isp_meaning.specs.Places.{written}
 use Rattle.isp_lower_code.specs.Layout.{Layout}
-use Rattle.isp_lower_code.specs.Setting.{Setting, IsSettled, At, Stands, at_rate, Holds, Spares, OtherAt}
+use Rattle.isp_lower_code.specs.Setting.{Setting, IsSettled, At, Stands, at_rate, Holds, Spares}
 use Rattle.isp_lower_code.specs.Runs.{Comes, Ok, Runs, DoneRuns}
-use Rattle.isp_lower_code.proofs.Base.{at_to, moved_by, spares_on}
+use Rattle.isp_lower_code.proofs.Base.{MayWrite, at_to, moved_by, spares_on}
 use Rattle.isp_lower_code.proofs.Rates.{Filled}
 use Rattle.isp_lower_code.proofs.Lines.{set_at}
 use Rattle.isp_lower_code.proofs.Combine.{failed_less, stopped_less, runs_after, bind_runs, set_goes, set_masks, set_spares, set_stands, set_holds, write_checked}
@@ -36,7 +36,7 @@ module _ (w : Setting) where
   -- code leaves a value at a rate: register d holds it, or a variable is written, which counts no lanes
   abbrev pub Leaves : Target → ℕ → Conf → ℕ → ℕ → ℕ → Rate → Mask → Val Payload → Type 0
   Leaves InSlot d c pc n q r a v = Runs w c pc n q (Holds r a d) v
-  Leaves (InVariable x) d c pc n q r a v = OtherAt w r x → DoneRuns w c pc n q (bind v (λ m s. Gives tt (written r x a m s)))
+  Leaves (InVariable x) d c pc n q r a v = MayWrite w r x → DoneRuns w c pc n q (bind v (λ m s. Gives tt (written r x a m s)))
 
 -- a variable that is written costs nothing
 written_bound : (r : Rate) (v : ℕ) (a : Mask) (x : Payload) (s : State) (t q : ℕ) → t + q ≤ 32 * s.work → t + q ≤ 32 * (written r v a x s).work
@@ -67,13 +67,13 @@ module _ (w : Setting) (ready : IsSettled w) where
   write_leaves (InVariable v) c c2 t pc pc' n q a s i Uniform e o kind sp x y h at to has st ke ma le ex fill is = λ other.
       step_done w ready c c2 (set_at Uniform c2 (w.layout.variable Uniform v) y) t pc pc' n q i o kind sp x s (written Uniform v a) h at to has is
       refl (set_goes w ready Uniform c2 (w.layout.variable Uniform v) y pc at) st
-      (λ none. written_stands w ready Uniform v c2 a x s y st (ex none) other)
-      (spares_on w n c c2 (set_at Uniform c2 (w.layout.variable Uniform v) y) ke (variable_spares w ready Uniform v n c2 y)) ma le le
+      (λ none. written_stands w ready Uniform v c2 a x s y st (ex none) other.0)
+      (spares_on w n c c2 (set_at Uniform c2 (w.layout.variable Uniform v) y) ke (variable_spares w ready Uniform v n c2 y other.1)) ma le le
   write_leaves (InVariable v) c c2 t pc pc' n q a s i Varying e o kind sp x y h at to has st ke ma le ex fill is = λ other.
       step_done w ready c c2 (set_at Varying c2 (w.layout.variable Varying v) y) t pc pc' n q i o kind sp x s (written Varying v a) h at to has is
       refl (set_goes w ready Varying c2 (w.layout.variable Varying v) y pc at) st
-      (λ none. written_stands w ready Varying v c2 a x s y st (ex none) other)
-      (spares_on w n c c2 (set_at Varying c2 (w.layout.variable Varying v) y) ke (variable_spares w ready Varying v n c2 y)) ma le le
+      (λ none. written_stands w ready Varying v c2 a x s y st (ex none) other.0)
+      (spares_on w n c c2 (set_at Varying c2 (w.layout.variable Varying v) y) ke (variable_spares w ready Varying v n c2 y other.1)) ma le le
 
   pub write_sure : (g : Target) (c c2 : Conf) (t pc pc' n q : ℕ) (a : Mask) (s : State) (i : Instr) (r : Rate) (e : Elem) (o : Option ℕ)
       (kind : TrapKind) (sp : Span) (x y : Payload) → Comes w c t c2 → At w c2 pc → pc + 1 ≡ pc' → slice_get w.routine.code pc ≡ Some i
@@ -107,8 +107,8 @@ module _ (w : Setting) (ready : IsSettled w) where
         steps = t;
         comes = h;
         at = at_to w c3 (pc + 1) pc' (set_goes w ready r c2 (w.layout.variable r v) y pc at) to;
-        stands = written_stands w ready r v c2 a x s y st ex other;
-        spares = spares_on w n c c2 c3 ke (variable_spares w ready r v n c2 y);
+        stands = written_stands w ready r v c2 a x s y st ex other.0;
+        spares = spares_on w n c c2 c3 ke (variable_spares w ready r v n c2 y other.1);
         masks = λ k lt. set_masks w ready r c2 (w.layout.variable r v) y k ∙ ma k lt;
         bound = written_bound r v a x s t q le;
       }

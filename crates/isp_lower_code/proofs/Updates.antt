@@ -62,7 +62,7 @@ use Rattle.isp_lower_code.proofs.Targets.{Target, InSlot, InVariable, target, Le
 use Rattle.isp_lower_code.proofs.Writes.{element_done}
 use Rattle.isp_lower_code.proofs.Nodes.{one_runs}
 use Rattle.isp_lower_code.proofs.Values.{number_is, wrap_bits}
-use Rattle.isp_lower_code.proofs.Kept.{Low, Keeps, runs_kept, kept_same, keeps_on, held_kept, checked_still, value_still}
+use Rattle.isp_lower_code.proofs.Kept.{Low, Keeps, is_read, runs_kept, kept_same, keeps_on, held_kept, checked_still, value_still}
 use Rattle.isp_lower_code.proofs.Parts.{ChangeFits, IsNumber, SimpleParts, SpareFits, WorkFits}
 use Rattle.isp_lower_code.specs.Asks.{beyond}
 use Rattle.isp_lower_code.specs.Tables.{IsTyped}
@@ -139,7 +139,7 @@ checked_mapped (Some p) kind sp s v g = refl
 module _ (w : Setting) (ready : IsSettled w) where
   pub update_leaves : (g : Target) (same : Bool) (o : BinOp) (t u : Elem) (r : Rate) (h y : ℕ) (c : Conf) (pc k i q p : ℕ) (a : Mask) (s : State)
       (x z : Payload) (sp : Span) → IsNumber t → (same ≡ true → u ≡ t) → IsTyped w r h u → WorkFits w same r t i
-      → IsTyped w r (target w.layout g r u i) u → Low w.layout r i y → At w c pc → c.masks k ≡ a → any (gang_of w) a ≡ true → k < i → Stands w s c
+      → IsTyped w r (target w.layout g r u i) u → Low w r i y → At w c pc → c.masks k ≡ a → any (gang_of w) a ≡ true → k < i → Stands w s c
       → 3 + q ≤ 32 * s.work → Holds r a h x c → Holds r a y z c
       → AreAt w.routine.code pc (update_to w.layout same o t r (target w.layout g r u i) h y k i p) → AreAt w.code.places p (operate_places o sp)
       → Leaves w g (target w.layout g r u i) c (pc + length (update_to w.layout same o t r (target w.layout g r u i) h y k i p)) i q r a
@@ -203,7 +203,7 @@ module _ (w : Setting) (ready : IsSettled w) where
 
   -- the place is read, the operator works, the place is written
   pub change_runs : (o : BinOp) (t : Elem) (z : TPlace) (sp : Span) (at : Place) (v : Payload) (pc p k n i y q : ℕ) (a : Mask) (s : State) (c : Conf)
-      → ChangeFits w t z n i → beyond z n ≤ i → n ≤ i → k < n → Low w.layout (place_type z).rate i y → At w c pc → c.masks k ≡ a
+      → ChangeFits w t z n i → beyond z n ≤ i → n ≤ i → k < n → Low w (place_type z).rate i y → At w c pc → c.masks k ≡ a
       → any (gang_of w) a ≡ true → ((r : ℕ) → a r ≡ true → Allowed w r) → Stands w s c → 6 + q ≤ 32 * s.work → PlaceHolds w ready z n a at c
       → Holds (place_type z).rate a y v c → AreAt w.routine.code pc (change_code w.layout o t z y p k n i)
       → AreAt w.code.places p (change_places w.layout o z sp)
@@ -218,8 +218,8 @@ module _ (w : Setting) (ready : IsSettled w) where
       subst (λ g. DoneRuns w c end n q (update (gang_of w) w.frame (calls_of w) o t (t_variable x u sv) g v sp a s)) (sym h)
       (subst (λ g. DoneRuns w c end n q g) (sym (twice who Divide sp s val (mapped (converted t u.elem)) (written r x a)))
       (done_less n i c end q _ le
-      (update_leaves (InVariable x) same o t u.elem r f y c pc k i q p a s (variable r x a s) v sp fit.number (same_elem-is u.elem t) fit.target
-      fit.working fit.target low here em some (omega arith) st (omega (arith, us)) (variable_held w ready r x a s c st) hy has places fit.other)))
+      (update_leaves (InVariable x) same o t u.elem r f y c pc k i q p a s (variable r x a s) v sp fit.number (same_elem-is u.elem t) fit.target.0
+      fit.working fit.target.0 low here em some (omega arith) st (omega (arith, us)) (variable_held w ready r x a s c (is_read w r u.elem x fit.target.1) st) hy has places fit.other)))
   change_runs o t (t_element b j u sv) sp at v pc p k n i y q a s c fit lz le lk low here em some inside st us h hy has places =
       let same = same_elem u.elem t in
       let r = u.rate in

@@ -45,8 +45,8 @@ use Rattle.isp_base.specs.Cross.{run_outside, run_places}
 use Rattle.isp_base.specs.Values.{number}
 
 -- functions that agree, changed at one place each, where one numbers the other
-pub put_through : {A : Type 0} (f g : ℕ → A) (h : ℕ → ℕ) (d : ℕ) (x y : A) → ((u v : ℕ) → u ≢ v → h u ≢ h v) → ((u : ℕ) → f (h u) ≡ g u) → x ≡ y → (u : ℕ) → put f (h d) x (h u) ≡ put g d y u
-put_through f g h d x y apart same ex u = go (nat_eq u d) refl
+pub put_through : {A : Type 0} (f g : ℕ → A) (h : ℕ → ℕ) (d : ℕ) (x y : A) → ((u v : ℕ) → u ≢ v → h u ≢ h v) → x ≡ y → (u : ℕ) → f (h u) ≡ g u → put f (h d) x (h u) ≡ put g d y u
+put_through f g h d x y apart ex u same = go (nat_eq u d) refl
   where
     go : (b : Bool) → nat_eq u d ≡ b → put f (h d) x (h u) ≡ put g d y u
     go true e =
@@ -54,7 +54,7 @@ put_through f g h d x y apart same ex u = go (nat_eq u d) refl
         subst (λ z. put f (h d) x (h z) ≡ put g d y z) (sym eu) (put_same f (h d) x ∙ ex ∙ sym (put_same g d y))
     go false e =
         let ne : u ≢ d = eqb-false u d e in
-        put_other f (h d) x (h u) (apart u d ne) ∙ same u ∙ sym (put_other g d y u ne)
+        put_other f (h d) x (h u) (apart u d ne) ∙ same ∙ sym (put_other g d y u ne)
 
 -- one value stored at one place by all of a set with members
 scatter_one : (n : ℕ) (a : Mask) (i x : ℕ) (f : Lanes) → scatter n (on a (λ p. i)) (on a (λ p. x)) f ≡ (if any n a then put f i x else f)
@@ -131,7 +131,7 @@ write_by_line true br code h c Varying b i x k q some f =
 module _ (w : Setting) (ready : IsSettled w) where
   pub written_stands : (r : Rate) (v : ℕ) (c : Conf) (a : Mask) (m : Payload) (s : State) (y : Payload) → Stands w s c → at_rate r a m ≡ y → OtherAt w r v → Stands w (written r v a m s) (set_at r c (w.layout.variable r v) y)
   written_stands Uniform v c a m s y st e other = record {
-    uniforms = put_through c.scalars s.uniforms (w.layout.variable Uniform) v (sole y) (sole m) (ready.apart.variables Uniform) st.uniforms (ap sole (sym e));
+    uniforms = λ u is. put_through c.scalars s.uniforms (w.layout.variable Uniform) v (sole y) (sole m) (ready.apart.variables Uniform) (ap sole (sym e)) u (st.uniforms u is);
     varying = st.varying;
     result = put_other c.scalars (w.layout.variable Uniform v) (sole y) (w.layout.result Uniform) (ready.apart.result_variable Uniform v) ∙ st.result;
     results = st.results;
@@ -147,8 +147,9 @@ module _ (w : Setting) (ready : IsSettled w) where
       let x = over (spread nobody y) (c.vectors (w.layout.variable Varying v)) in
       record {
         uniforms = st.uniforms;
-        varying = put_through c.vectors s.varying (w.layout.variable Varying) v x (over (spread a m) (s.varying v)) (ready.apart.variables Varying)
-            st.varying (ap (λ z. over (spread nobody z) (c.vectors (w.layout.variable Varying v))) (sym e) ∙ ap (over (spread a m)) (st.varying v));
+        varying = λ u. put_through
+            c.vectors s.varying (w.layout.variable Varying) v x (over (spread a m) (s.varying v)) (ready.apart.variables Varying)
+            (ap (λ z. over (spread nobody z) (c.vectors (w.layout.variable Varying v))) (sym e) ∙ ap (over (spread a m)) (st.varying v)) u (st.varying u);
         result = st.result;
         results = put_other c.vectors (w.layout.variable Varying v) x (w.layout.result Varying) (ready.apart.result_variable Varying v) ∙ st.results;
         own_arrays = st.own_arrays;
@@ -323,8 +324,7 @@ module _ (w : Setting) (ready : IsSettled w) where
         varying = stands.varying;
         result = stands.result;
         results = stands.results;
-        own_arrays = put_through c2.own
-            s.own w.layout.array y.number F _ ready.apart.arrays stands.own_arrays ef;
+        own_arrays = λ v. put_through c2.own s.own w.layout.array y.number F _ ready.apart.arrays ef v (stands.own_arrays v);
         arrays_are = stands.arrays_are;
         out_is = stands.out_is;
         run =

@@ -17,6 +17,8 @@ pub mod Setting
 pub mod Runs
 pub mod Rated
 pub mod Fits
+pub mod Scalar
+pub mod RowAccess
 pub mod Simple
 pub mod Items
 pub mod Asks

@@ -1,5 +1,5 @@
 -- A call of a compiled function, and when the machine in it stands for a state of the meaning.
-use Rattle.std.specs.Prelude.{◌≡◌, ◌≢◌, ◌≤◌, ◌<◌, ℕ, suc, ◌+◌, ◌*◌, ◌-◌, ◌^◌, List, [], ◌∷◌, length, Some, true, false, slice_get}
+use Rattle.std.specs.Prelude.{◌≡◌, ◌≢◌, ◌≤◌, ◌<◌, ℕ, suc, ◌+◌, ◌*◌, ◌-◌, ◌^◌, List, [], ◌∷◌, length, Option, None, Some, Bool, true, false, slice_get}
 use Rattle.isp_base.specs.Maps.{Lanes}
 use Rattle.isp_base.specs.Sets.{Mask, any}
 use Rattle.isp_base.specs.Types.{gang_width}
@@ -14,10 +14,10 @@ use Rattle.isp_code.specs.Listing.{Listing, Routine}
 use Rattle.isp_code.specs.Registers.{is_per_lane, passed, elem_of}
 use Rattle.isp_code.specs.declared.instr.Call.{Call}
 use Rattle.isp_code.specs.declared.instr.Instr.TheVariants as instr
-use Rattle.isp_typed.specs.Fine.{HoldsArray, params_of}
-use Rattle.isp_typed.specs.Indices.{foreach_index}
-use Rattle.isp_typed.specs.Typed.{Program, TFunction}
+use Rattle.isp_typed.specs.Fine.{HoldsArray, HoldsValue, params_of}
+use Rattle.isp_typed.specs.Typed.{Program, TFunction, ty_of}
 use Rattle.isp_typed.specs.declared.variable.ArrayVariable.{ArrayVariable}
+use Rattle.isp_typed.specs.declared.variable.Variable.{Variable}
 use Rattle.isp_meaning.specs.State.{State, Frame, extent}
 use Rattle.isp_meaning.specs.Expressions.{Passed, Calls}
 use Rattle.isp_meaning.specs.Calls.{most_calls, calls_at}
@@ -108,10 +108,14 @@ abbrev pub CallsRun : Setting → Type 0
 CallsRun w =
     (k : Call) (g : TFunction) (pc q : ℕ) (sp : Span) (a : Mask) (ps : List Passed) (s : State) (c : Conf) → IsCalling w k g pc q sp a ps s c → CallRuns w.code w.turns c k q (calls_of w k.function sp a ps w.frame s)
 
--- the variable that counts the lanes of a run is a constant int32
+abbrev pub is_constant : Option Variable → Bool
+is_constant None = false
+is_constant (Some x) = x.constant
+
+-- the variable that counts the lanes of a run is a constant, its register an int32
 pub record IsCounter (w : Setting) (i : ℕ) : Type 0 where
   pub typed : elem_of w.routine (register Varying (w.layout.variable Varying i)) ≡ I32
-  pub constant : slice_get w.function.variables i ≡ Some foreach_index
+  pub constant : is_constant (slice_get w.function.variables i) ≡ true
   pub unloaded : w.layout.loaded i ≡ false
 
 -- The routine is that of the call, its registers are apart, it hands over as the functions' parameters ask, and its arrays
@@ -132,12 +136,21 @@ pub record IsSettled (w : Setting) : Type 0 where
   pub counter : (i : ℕ) → w.layout.run ≡ Some i → IsCounter w i
   pub constants : (r : Rate) (t : Elem) (b : ℕ) → w.layout.kept r t b ≡ true → elem_of w.routine (register r (w.layout.constant r t b)) ≡ t
 
--- Registers, own arrays, arrays and output stand for a state, and registers of constants hold these. It is stated of these parts
--- alone, so that a step that changes other parts of the machine leaves the fact as it is.
-pub record StandsFor (l : Layout) (gang : ℕ) (start : ℕ) (members : Mask) (ones : ℕ → ℕ) (each : ℕ → Lanes) (owns : ℕ → ℕ → Lanes) (one : ℕ)
+-- a uniform variable of a function
+abbrev pub IsUniform : List Variable → ℕ → Type 0
+IsUniform vars v = (t : Elem) × HoldsValue vars v (ty_of Uniform t)
+
+-- and a varying one
+abbrev pub IsVarying : List Variable → ℕ → Type 0
+IsVarying vars v = (t : Elem) × HoldsValue vars v (ty_of Varying t)
+
+-- Registers, own arrays, arrays and output stand for a state, and registers of constants hold these. A scalar register with the number of
+-- a variable that is not uniform may hold anything. It is stated of these parts alone, so that a step that changes other parts of the
+-- machine leaves the fact as it is.
+pub record StandsFor (vars : List Variable) (l : Layout) (gang : ℕ) (start : ℕ) (members : Mask) (ones : ℕ → ℕ) (each : ℕ → Lanes) (owns : ℕ → ℕ → Lanes) (one : ℕ)
     (in_each : Lanes) (stores : ℕ → Lanes) (text : List ℕ) (scalars : ℕ → ℕ) (vectors : ℕ → Lanes) (own : ℕ → ℕ → Lanes) (arrays : ℕ → Lanes)
     (out : List ℕ) : Type 0 where
-  pub uniforms : (v : ℕ) → scalars (l.variable Uniform v) ≡ ones v
+  pub uniforms : (v : ℕ) → IsUniform vars v → scalars (l.variable Uniform v) ≡ ones v
   pub varying : (v : ℕ) → vectors (l.variable Varying v) ≡ each v
   pub result : scalars (l.result Uniform) ≡ one
   pub results : vectors (l.result Varying) ≡ in_each
@@ -157,14 +170,16 @@ OtherAt w Uniform v = Unit {0}
 OtherAt w Varying v = IsOther w v
 
 abbrev pub Stands : Setting → State → Conf → Type 0
-Stands w s c = StandsFor w.layout (gang_of w) w.start w.members s.uniforms s.varying s.own s.result s.results s.arrays s.out c.scalars c.vectors c.own c.arrays c.out
+Stands w s c = StandsFor w.function.variables w.layout (gang_of w) w.start w.members s.uniforms s.varying s.own s.result s.results s.arrays s.out c.scalars c.vectors c.own c.arrays c.out
 
--- the spare registers of lower slots and all fresh registers are as they were, whatever variables are written
-pub record SparesStay (l : Layout) (n : ℕ) (scalars : ℕ → ℕ) (vectors : ℕ → Lanes) (scalars' : ℕ → ℕ) (vectors' : ℕ → Lanes) : Type 0 where
+-- the spare registers of lower slots, all fresh registers, and the scalar registers with the numbers of varying variables are as they were,
+-- whatever variables are written
+pub record SparesStay (vars : List Variable) (l : Layout) (n : ℕ) (scalars : ℕ → ℕ) (vectors : ℕ → Lanes) (scalars' : ℕ → ℕ) (vectors' : ℕ → Lanes) : Type 0 where
   pub scalars_stay : (t : Elem) (j : ℕ) → j < n → scalars' (l.spare Uniform t j) ≡ scalars (l.spare Uniform t j)
   pub vectors_stay : (t : Elem) (j : ℕ) → j < n → vectors' (l.spare Varying t j) ≡ vectors (l.spare Varying t j)
   pub fresh_scalars : (j : ℕ) → scalars' (l.fresh Uniform j) ≡ scalars (l.fresh Uniform j)
   pub fresh_vectors : (j : ℕ) → vectors' (l.fresh Varying j) ≡ vectors (l.fresh Varying j)
+  pub singles_stay : (v : ℕ) → IsVarying vars v → scalars' (l.variable Uniform v) ≡ scalars (l.variable Uniform v)
 
 abbrev pub Spares : Setting → ℕ → Conf → Conf → Type 0
-Spares w n c c' = SparesStay w.layout n c.scalars c.vectors c'.scalars c'.vectors
+Spares w n c c' = SparesStay w.function.variables w.layout n c.scalars c.vectors c'.scalars c'.vectors

@@ -1,5 +1,7 @@
 //! What holds of all code. No code is run here: each function carries a law in its contract.
 ghost use Rattle.isp_lower_code.specs.Asked.{AsksAreFew, CodeIsWritten, OwnIsThere};
+ghost use Rattle.isp_lower_code.specs.RowAccess.{RowReads, RowsSound, RowWrites};
+ghost use Rattle.isp_lower_code.specs.Scalar.{ScalarPlaces, ScalarRuns};
 ghost use Rattle.isp_lower_code.specs.Laws.{ExprGoesOn, ExprRuns, ExprSound, ItemsRun, ItemsSound, LayoutsAreApart, SimpleGoesOn, SimpleRuns, SimpleSound};
 
 /// The code of an expression gives its value in the lanes of a mask, traps as it traps, and goes on
@@ -20,6 +22,35 @@ pub fn assignments_run()
 /// alone; an array that all lanes share is set whole.
 pub fn declarations_run()
     ensures { ItemsRun }
+{}
+
+/// Where variables are known to be steady or linear, and scalar registers have their scalars, the code of the scalar
+/// expression of a steady or linear expression does for the gang what the expression does for each member: it leaves the
+/// value that all have, or that from which their values count on, or traps as they trap.
+pub fn scalars_run()
+    ensures { ScalarRuns }
+{}
+
+/// Such code names the places of the source that the code of the expression itself names.
+pub fn scalar_places()
+    ensures { ScalarPlaces }
+{}
+
+/// Where an index counts on from a scalar in a register, twelve instructions after it read the elements that the members'
+/// indices mean, or trap as they do: as a run where no lane passes the greatest value of the index's type, and else by
+/// each lane's own index.
+pub fn rows_read()
+    ensures { RowReads }
+{}
+
+/// The same of a value that is written into these elements: the highest instance wins in one element.
+pub fn rows_written()
+    ensures { RowWrites }
+{}
+
+/// Each instruction of such an access has its operands, where the registers that it asks for are there.
+pub fn rows_sound()
+    ensures { RowsSound }
 {}
 
 /// Where the value of an expression is cut for each number of turns that a loop may make, its code goes on

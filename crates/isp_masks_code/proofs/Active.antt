@@ -18,7 +18,7 @@ use Rattle.isp_meaning.specs.State.{State, tick}
 use Rattle.isp_meaning.proofs.Members.{any_at, lowest_below, lowest_first, lowest_in, lowest_is, no_lowest, no_member, none_all, none_listed}
 use Rattle.isp_lower_code.specs.Layout.{mask_register}
 use Rattle.isp_lower_code.specs.Runs.{Comes}
-use Rattle.isp_lower_code.specs.Setting.{Setting, IsSettled, gang_of, AreAt, At, Stands, Allowed}
+use Rattle.isp_lower_code.specs.Setting.{IsUniform, Setting, IsSettled, gang_of, AreAt, At, Stands, Allowed}
 use Rattle.isp_lower_code.proofs.Lemmas.{are_front, are_back, put_same, put_other, comes_on, comes_none, step_go, at_to, spares_all, spares_less, jumped, jump_comes, jump_at}
 use Rattle.isp_lower_code.proofs.Lemmas.{masked, masked_at, others_comes, set_at, set_comes, set_goes, variable_spares, written_stands}
 use Rattle.isp_masks_code.specs.LoopRuns.{BodyRuns}
@@ -52,7 +52,7 @@ pub and_first : (b d : Bool) → (b && d) ≡ true → b ≡ true
 and_first true d e = refl
 and_first false d e = absurd (cc)
 
-module _ (w : Setting) (ready : IsSettled w) (spot : Spot) (three : AreThree spot) (i : ℕ) (all : Mask) (code : ℕ → List Instr)
+module _ (w : Setting) (ready : IsSettled w) (spot : Spot) (three : AreThree spot) (i : ℕ) (single : IsUniform w.function.variables i) (all : Mask) (code : ℕ → List Instr)
     (body : Mask → State → Res) (runs : BodyRuns w (spot.slot + 1) code body) (top : ℕ)
     (has : AreAt w.routine.code top (one_code (w.layout.variable Uniform i) spot.slot top code)) where
   abbrev gang : ℕ
@@ -81,7 +81,7 @@ module _ (w : Setting) (ready : IsSettled w) (spot : Spot) (three : AreThree spo
       → (any gang (without left (lone (Some p))) ≡ false → ps ≡ [])
       → StmtRuns w w.turns c end spot q (rounds body all (map (round_of_one i) (p ∷ ps)) s)
   turn_runs left p ps s c q found b le again last =
-      stmt_after w ready w.turns c c3 3 end spot q _ comes3 (variable_spares w ready Uniform i n c2 (One x)) (λ r lt ne. mask3 r lt) three
+      stmt_after w ready w.turns c c3 3 end spot q _ comes3 (variable_spares w ready Uniform i n c2 (One x) single) (λ r lt ne. mask3 r lt) three
       (go_runs w ready w.turns c3 pc2 (body_spot (n + 1)) 1 (3 + q) (body one s3) _ end spot
       (runs one s3 c3 pc1 (1 + (3 + q)) (are_front w.routine.code pc1 (code pc1) (instr.JumpIf jump.On (mask_register n) top ∷ []) rest)
       (record {
@@ -244,18 +244,18 @@ module _ (w : Setting) (ready : IsSettled w) (spot : Spot) (three : AreThree spo
 
 module _ (w : Setting) (ready : IsSettled w) where
   pub active_runs : (i pc : ℕ) (spot : Spot) (q : ℕ) (a : Mask) (s : State) (c : Conf) (code : ℕ → List Instr) (body : Mask → State → Res)
-      → BodyRuns w (spot.slot + 1) code body → AreAt w.routine.code pc (active_code (w.layout.variable Uniform i) pc spot.on spot.slot code)
+      → IsUniform w.function.variables i → BodyRuns w (spot.slot + 1) code body → AreAt w.routine.code pc (active_code (w.layout.variable Uniform i) pc spot.on spot.slot code)
       → AreThree spot → EntersAt w pc spot a s c q → StmtRuns w w.turns c
       (pc + length (active_code (w.layout.variable Uniform i) pc spot.on spot.slot code)) spot q
       (rounds body a (active_rounds (gang_of w) i a) (tick s))
-  active_runs i pc spot q a s c code body runs has three b =
+  active_runs i pc spot q a s c code body single runs has three b =
       let n = spot.slot in
       let c1 = masked w ready c n (c.masks spot.on) in
       let kn : spot.on ≢ n = omega (arith, three.low_on) in
       let ends : pc + 1 + length (one_code (w.layout.variable Uniform i) n (pc + 1) code) ≡ pc + length (active_code (w.layout.variable Uniform i) pc spot.on n code) = omega arith in
       stmt_after w ready w.turns c c1 1 _ spot q _ (step_go w c pc (copy_mask n spot.on) c1 ready b.at has.0 refl) (spares_all w n c) (λ r lt ne. let rn : r ≢ n = omega arith in put_other c.masks n (c.masks spot.on) r rn) three
       (subst (λ z. StmtRuns w w.turns c1 z spot (1 + q) (rounds body a (active_rounds (gang_of w) i a) (tick s))) ends
-      (turns_run w ready spot three i a code body runs (pc + 1) has.1 (members (gang_of w) a) a (tick s) c1 (1 + q) refl b.some
+      (turns_run w ready spot three i single a code body runs (pc + 1) has.1 (members (gang_of w) a) a (tick s) c1 (1 + q) refl b.some
       (record {
         at = masked_at w ready c pc n (c.masks spot.on) b.at;
         all_is = put_other c.masks n (c.masks spot.on) spot.on kn

@@ -138,7 +138,7 @@ module _ (program : Program) (code : Listing) (f : ℕ) (h : TFunction) (g : Rou
   -- but for the constants that are kept
   pub begins : Bare (entry_setting program code f h g l turns xs) (entry_state program h xs) (first_conf code f g xs)
   begins = record {
-    uniforms = ones_begin h l first (λ r. slice_index (values xs) r) (λ r p. 0) (handed 0 xs) (everyone (gang_width program.gang)) passes;
+    uniforms = λ v is. ones_begin h l first (λ r. slice_index (values xs) r) (λ r p. 0) (handed 0 xs) (everyone (gang_width program.gang)) passes v;
     varying = each_begin h l first (λ r. slice_index (values xs) r) (λ r p. 0) (handed 0 xs) (everyone (gang_width program.gang)) passes;
     result = passes.ones_end (l.result Uniform) (first.result Uniform);
     results = refl;

@@ -15,7 +15,7 @@ use Rattle.isp_meaning.specs.State.{State}
 use Rattle.isp_meaning.specs.Statements.{run}
 use Rattle.isp_lower_code.specs.Consecutive.{RunHolds}
 use Rattle.isp_lower_code.specs.Layout.{Layout, IsApart, outside, run_in, within}
-use Rattle.isp_lower_code.specs.Setting.{ArrayFitsAt, AreAt, At, IsCounter, IsSettled, Setting, Spares, Stands, calls_of, gang_of}
+use Rattle.isp_lower_code.specs.Setting.{ArrayFitsAt, AreAt, At, IsCounter, IsSettled, Setting, Spares, Stands, calls_of, gang_of, is_constant}
 use Rattle.isp_lower_code.specs.Tables.{IsTyped}
 use Rattle.isp_lower_code.proofs.Lemmas.{none_holds}
 use Rattle.isp_masks_code.specs.Free.{last_index_of}
@@ -117,6 +117,7 @@ module _ (w : Setting) (o : Option ℕ) (d : Bool) (m : Mask) (b : ℕ) where
           vectors_stay = r.spares.vectors_stay;
           fresh_scalars = r.spares.fresh_scalars;
           fresh_vectors = r.spares.fresh_vectors;
+          singles_stay = r.spares.singles_stay;
         };
     went = r.went;
     continued = r.continued;
@@ -204,7 +205,7 @@ module _ (w : Setting) (ready : IsSettled w) (none : w.layout.run ≡ None) wher
 
   pub run_spares : (i : ℕ) (m : Mask) (b n : ℕ) (c c1 : Conf) → Spares (in_run w i m b) n c c1 → Spares w n c c1
   run_spares i m b n c c1 =
-      within_as (λ l. Spares (with_layout w l m b) n c c1 → Spares w n c c1) w.layout i (λ o d sp. record { scalars_stay = sp.scalars_stay; vectors_stay = sp.vectors_stay; fresh_scalars = sp.fresh_scalars; fresh_vectors = sp.fresh_vectors })
+      within_as (λ l. Spares (with_layout w l m b) n c c1 → Spares w n c c1) w.layout i (λ o d sp. record { scalars_stay = sp.scalars_stay; vectors_stay = sp.vectors_stay; fresh_scalars = sp.fresh_scalars; fresh_vectors = sp.fresh_vectors; singles_stay = sp.singles_stay })
 
   pub foreach_body : (rs : List TRange) (i : ℕ) (x : TStmt) (h : ℕ) (z : Numbers) → last_index_of rs ≡ Some i
       → IsTyped w Varying (w.layout.variable Varying i) I32 → slice_get w.function.variables i ≡ Some foreach_index
@@ -234,7 +235,7 @@ module _ (w : Setting) (ready : IsSettled w) (none : w.layout.run ≡ None) wher
       counted : w.layout.loaded i ≡ false → Body (run_as w.layout (Some i) true)
       counted unloaded at names f holds =
           let w1 = with_layout w (run_as w.layout (Some i) true) a b in
-          let counter = λ (j : ℕ) (ej : Some i ≡ Some j). let same : i ≡ j = cc in subst (IsCounter w1) same (record { typed = typed; constant = constant; unloaded = unloaded }) in
+          let counter = λ (j : ℕ) (ej : Some i ≡ Some j). let same : i ≡ j = cc in subst (IsCounter w1) same (record { typed = typed; constant = ap is_constant constant; unloaded = unloaded }) in
           f a b (settled_same w (Some i) true a b ready counter) a s c pc q at names
           (record { at = e.at; mask = e.mask; some = e.some; inside = λ p k. (e.inside p k, λ _. k); stands = stands_there w (Some i) true a b s c e.stands holds; used = e.used; low = omega arith })
 

@@ -187,7 +187,7 @@ module _ (program : Program) (code : Listing) (all : AreCompiled program code) w
       begins n =
           let own = passes a c (params_of h1) ps k.arguments (c.masks k.mask.number) is.mask is.hands in
           record {
-            uniforms = ones_begin h1 l1 compiled.compiled.passed (scalars_of a c k.arguments) (vectors_of a c (c.masks k.mask.number) k.arguments) ps a own;
+            uniforms = λ v is. ones_begin h1 l1 compiled.compiled.passed (scalars_of a c k.arguments) (vectors_of a c (c.masks k.mask.number) k.arguments) ps a own v;
             varying = each_begin h1 l1 compiled.compiled.passed (scalars_of a c k.arguments) (vectors_of a c (c.masks k.mask.number) k.arguments) ps a own;
             result = own.ones_end (l1.result Uniform) (compiled.compiled.passed.result Uniform);
             results = own.each_end (l1.result Varying) (compiled.compiled.passed.result Varying);

@@ -49,7 +49,7 @@ module _ (w : Setting) where
   -- the machine stands for a state, whatever the registers of constants hold
   abbrev pub Bare : State → Conf → Type 0
   Bare s c =
-      StandsFor (record w.layout { kept = λ r t b. false }) (gang_of w) w.start w.members s.uniforms s.varying s.own s.result s.results s.arrays s.out c.scalars c.vectors c.own c.arrays c.out
+      StandsFor w.function.variables (record w.layout { kept = λ r t b. false }) (gang_of w) w.start w.members s.uniforms s.varying s.own s.result s.results s.arrays s.out c.scalars c.vectors c.own c.arrays c.out
 
   -- the vectors of constants have nothing outside the gang
   abbrev pub NoneOutside : Conf → Type 0
@@ -94,7 +94,7 @@ module _ (w : Setting) (ready : IsSettled w) (n : ℕ) where
         comes = set_comes w ready Uniform c d (One z) pc (constant d t v) at has (ap (λ u. Go (set_at Uniform c d (One (wrap u (number t v))))) ty ∙ ap (λ y. Go (set_at Uniform c d (One y))) (wrap_bits t v));
         at = set_goes w ready Uniform c d (One z) pc at;
         bare = record {
-          uniforms = λ u. put_other c.scalars d z (w.layout.variable Uniform u) (variables u) ∙ st.uniforms u;
+          uniforms = λ u is. put_other c.scalars d z (w.layout.variable Uniform u) (variables u) ∙ st.uniforms u is;
           varying = st.varying;
           result = put_other c.scalars d z (w.layout.result Uniform) result ∙ st.result;
           results = st.results;
@@ -110,6 +110,7 @@ module _ (w : Setting) (ready : IsSettled w) (n : ℕ) where
               vectors_stay = λ u j lt. refl;
               fresh_scalars = λ j. put_other c.scalars d z (w.layout.fresh Uniform j) (fresh j);
               fresh_vectors = λ j. refl;
+              singles_stay = λ u is. put_other c.scalars d z (w.layout.variable Uniform u) (variables u);
             };
         masks = λ i. refl;
         none = none;
@@ -149,6 +150,7 @@ module _ (w : Setting) (ready : IsSettled w) (n : ℕ) where
             vectors_stay = λ u j lt. put_other c.vectors d y (w.layout.spare Varying u j) (λ e. ready.apart.kept_spare Varying t b u j kept (sym e));
             fresh_scalars = λ j. refl;
             fresh_vectors = λ j. put_other c.vectors d y (w.layout.fresh Varying j) (λ e. ready.apart.kept_fresh Varying t b j kept (sym e));
+            singles_stay = λ u is. refl;
           };
       masks = λ i. refl;
       none = λ u v p kept1 out. put_has (λ g. g p ≡ 0) c.vectors d y (w.layout.constant Varying u v) (λ e. ap (λ g. g p) filled ∙ outside_none (gang_of w) k p out) (none u v p kept1 out);

@@ -1,7 +1,7 @@
 -- What the laws use of a statement, from what is asked of it.
-use Rattle.std.proofs.Common.{◌≡◌, ◌≤◌, ℕ, ◌+◌, List, [], ◌∷◌, length, Option, Some, None, refl, Bool, false, subst, arith}
+use Rattle.std.proofs.Common.{◌≡◌, ◌≤◌, ℕ, ◌+◌, List, [], ◌∷◌, length, Option, Some, None, refl, ap, Bool, true, false, subst, arith}
 use Rattle.isp_base.specs.Ranks.{operand}
-use Rattle.isp_base.specs.declared.types.Elem.TheVariants.{I32}
+use Rattle.isp_base.specs.declared.types.Elem.TheVariants.{I32, I64}
 use Rattle.isp_base.specs.declared.types.Rate.{Rate}
 use Rattle.isp_base.specs.declared.types.Rate.TheVariants.{Uniform, Varying}
 use Rattle.isp_base.specs.declared.types.Ty.{Ty}
@@ -10,14 +10,15 @@ use Rattle.isp_typed.specs.Typed.{TExpr, t_exprs, type_of, elem_of, TSimple, TFi
 use Rattle.isp_typed.specs.Typed.{t_if_else, t_while, t_do, t_for, t_foreach, t_foreach_active, t_foreach_unique, t_unmasked, t_jump, t_return, t_print, t_assert, TBlock}
 use Rattle.isp_typed.specs.Typed.{t_braces, TStmts, t_no_stmts, t_stmt_then, TItem, t_plain, t_with_value, t_with_size}
 use Rattle.isp_lower_code.specs.Asks.{Ask}
-use Rattle.isp_lower_code.specs.Fits.{InTable, ItemsOther}
+use Rattle.isp_lower_code.specs.Fits.{ItemsOther}
 use Rattle.isp_lower_code.specs.Rated.{Reaches}
-use Rattle.isp_lower_code.specs.Setting.{Setting, OtherAt}
-use Rattle.isp_lower_code.proofs.Lemmas.{ExprTree, OperandTree, expr_fits, operand_fits, values_fit, simple_fits, items_fit, RunConstant, all_grow, simple_other}
+use Rattle.isp_lower_code.specs.Setting.{Setting, OtherAt, is_constant}
+use Rattle.isp_lower_code.proofs.Lemmas.{ExprTree, IsHeldIn, OperandTree, Owned, OwnTable, owned, expr_fits, operand_fits, values_fit, simple_fits, items_fit, RunConstant, all_grow, simple_other}
 use Rattle.isp_masks_code.specs.Prints.{own_rates}
 use Rattle.isp_masks_code.specs.Asks.{answer_asks, unique_asks, bound_asks, bounds_asks, places_asks, ranges_asks, part_slot, parts_slot, first_asks, test_part_asks, step_asks, stmt_asks, block_asks, stmts_asks}
 use Rattle.isp_masks_code.specs.Ranges.{places_slot, runs_slot}
 use Rattle.isp_masks_code.specs.Fits.{StmtFits, BlockFits}
+use Rattle.isp_masks_code.proofs.Own.{block_own, stmt_own}
 use Rattle.isp_masks_code.proofs.Parts.{AnswerFits, BoundParts, BoundsParts, RangesTyped, ForeachFits, UniqueFits, FirstFits, TestFits, StepFits, StmtParts, BlockParts, StmtsParts, RangesConstant}
 use Rattle.isp_masks_code.proofs.Rated.{stmt_tree, block_tree}
 use Rattle.isp_masks_code.proofs.Trees.{AnswerTree, RangesTree, FirstTree, TestTree, StepTree, StmtTree, BlockTree, StmtsTree}
@@ -26,7 +27,7 @@ use Rattle.isp_masks_code.specs.Free.{BlockFree, FirstFree, IsApartFrom, ItemsFr
 use Rattle.isp_masks_code.specs.Statements.{body_layout}
 use Rattle.isp_lower_code.specs.Layout.{Layout, outside}
 use Rattle.isp_lower_code.specs.Rows.{Name, Variable, Result, Spare, Place, Fresh, Kept}
-use Rattle.isp_lower_code.specs.Tables.{AnyMask, IsLoadedIn, IsNamedIn, Table}
+use Rattle.isp_lower_code.specs.Tables.{AnyMask, IsLoadedIn, IsNamedIn}
 use Rattle.isp_typed.specs.Fine.{FineBlock, FineFirst, FineRange, FineSimple, FineStmt, FineStmts, HoldsArray}
 use Rattle.isp_typed.specs.Indices.{foreach_index}
 use Rattle.isp_tree.specs.Sound.{IfAny}
@@ -42,7 +43,7 @@ module _ (w : Setting) where
   other_of Varying v f = f
 
   abbrev Named : Ask → Type 0
-  Named a = InTable w a
+  Named a = Owned w a
 
   answer_fits : (answer : Option Ty) (x : TExpr) (n : ℕ) → AnswerTree w.program.functions answer x → Named (answer_asks answer x n) → AnswerFits w answer x n
   answer_fits None x n t b = expr_fits w x n t b
@@ -54,7 +55,7 @@ module _ (w : Setting) where
   one_for_all Varying re = absurd re
 
   bound_fits : (x : TExpr) (n : ℕ) → OperandTree Uniform I32 x → ExprTree w.program.functions x → Named (bound_asks x n) → BoundParts w x n
-  bound_fits x n o t i = (one_for_all (type_of x).rate o.reaches, o.elem, i.0, expr_fits w x n t i.1.1.1)
+  bound_fits x n o t i = (one_for_all (type_of x).rate o.reaches, o.elem, i.0.0, expr_fits w x n t i.1.1.1)
 
   bounds_fit : (rs : List TRange) (n : ℕ) → RangesTree w.program.functions rs → Named (bounds_asks rs n) → BoundsParts w rs n
   bounds_fit [] n t i = tt
@@ -62,7 +63,7 @@ module _ (w : Setting) where
 
   places_fit : (rs : List TRange) (m : ℕ) → Named (places_asks rs m) → RangesTyped w rs m
   places_fit [] m i = tt
-  places_fit (r ∷ rs) m i = (record { place = i.0.1.0; short = i.0.1.1.1.0; tested = i.0.1.1.1.1.1.0; limited = i.0.1.1.1.1.1.1.0; index = i.0.0; run = i.0.1.1.1.1.1.1.1 }, places_fit rs (m + 1 + 1) i.1.1)
+  places_fit (r ∷ rs) m i = (record { place = i.0.1.0.0; short = i.0.1.1.1.0.0; tested = i.0.1.1.1.1.1.0.0; limited = i.0.1.1.1.1.1.1.0.0; index = i.0.0.0; run = i.0.1.1.1.1.1.1.1.0 }, places_fit rs (m + 1 + 1) i.1.1)
 
   ranges_constant : (rs : List TRange) → All (FineRange w.program.functions w.function.variables) rs → RangesConstant w rs
   ranges_constant [] f = tt
@@ -77,7 +78,7 @@ module _ (w : Setting) where
   foreach_fits : (rs : List TRange) (n : ℕ) → All (FineRange w.program.functions w.function.variables) rs → 1 ≤ length rs → length rs ≤ 3 → RangesTree w.program.functions rs → Named (ranges_asks rs n) → ForeachFits w rs n
   foreach_fits rs n fine some le t i = record {
     few = le;
-    measures = record { first = i.0.0; numbers = i.0.1.0; lanes = i.0.1.1.0; short = i.0.1.1.1.1.0; one = i.0.1.1.1.1.1.1.0 };
+    measures = record { first = i.0.0.0; numbers = i.0.1.0.0; lanes = i.0.1.1.0.0; short = i.0.1.1.1.1.0.0; one = i.0.1.1.1.1.1.1.0.0 };
     bounds = bounds_fit rs (n + 1 + 1) t i.1.0;
     places = places_fit rs (places_slot n rs) i.1.1.0;
     some = some;
@@ -88,11 +89,12 @@ module _ (w : Setting) where
   unique_fits v u e n o t i = record {
     operand = operand_fits w Varying (elem_of e) e n (record { elem = refl; reaches = o.reaches }) i.0;
     expr = expr_fits w e n t i.0.1;
-    all = i.1.0;
-    index = i.1.1.0;
-    one = i.1.1.1.1.0.0;
-    each = i.1.1.1.1.0.1.0;
-    same = i.1.1.1.1.0.1.1.1;
+    all = i.1.0.0;
+    index = i.1.1.0.0;
+    single = (u, i.1.1.0.1);
+    one = i.1.1.1.1.0.0.0;
+    each = i.1.1.1.1.0.1.0.0;
+    same = i.1.1.1.1.0.1.1.1.0;
   }
 
   -- the parts of a `for` that may be left out
@@ -118,10 +120,10 @@ named_same h l o d r Place t f = f
 named_same h l o d r (Fresh j) t f = f
 named_same h l o d r (Kept u b) t f = f
 
-table_same : (h : Routine) (l : Layout) (vars : List variable.Variable) (o : Option ℕ) (d : Bool) (a : Ask) → Table h l vars a → Table h (run_as l o d) vars a
+table_same : (h : Routine) (l : Layout) (vars : List variable.Variable) (o : Option ℕ) (d : Bool) (a : Ask) → OwnTable h l vars a → OwnTable h (run_as l o d) vars a
 table_same h l vars o d a f =
-    all_grow (IsNamedIn h l) (IsNamedIn h (run_as l o d)) (HoldsArray vars) (HoldsArray vars) (HoldsArray vars) (HoldsArray vars) AnyMask AnyMask
-    (IsLoadedIn l) (IsLoadedIn l) (λ r x t. named_same h l o d r x t) (λ y f. f) (λ y f. f) (λ k f. f) (λ v f. f) a f
+    all_grow (IsHeldIn h l vars) (IsHeldIn h (run_as l o d) vars) (HoldsArray vars) (HoldsArray vars) (HoldsArray vars) (HoldsArray vars) AnyMask AnyMask
+    (IsLoadedIn l) (IsLoadedIn l) (λ r x t f. (named_same h l o d r x t f.0, f.1)) (λ y f. f) (λ y f. f) (λ k f. f) (λ v f. f) a f
 
 none_of : (o : Option ℕ) → NoneYet o → o ≡ None
 none_of None f = refl
@@ -135,11 +137,11 @@ last_constant w (r ∷ q ∷ rs) i e f = last_constant w (q ∷ rs) i e f.1
 
 body_constant : (w : Setting) (rs : List TRange) (m : Mask) (b : ℕ) → w.layout.run ≡ None → RangesConstant w rs → RunConstant (with_layout w (body_layout w.layout rs) m b)
 body_constant w rs m b none f =
-    body_run (λ o. (i : ℕ) → o ≡ Some i → slice_get w.function.variables i ≡ Some foreach_index) w.layout rs none (λ i e. absurd (cc)) (λ i e. last_constant w rs i e f)
+    body_run (λ o. (i : ℕ) → o ≡ Some i → is_constant (slice_get w.function.variables i) ≡ true) w.layout rs none (λ i e. absurd (cc)) (λ i e. ap is_constant (last_constant w rs i e f))
 
 mutual
   pub stmt_fits : (x : TStmt) (w : Setting) (n : ℕ) → RunConstant w → FineStmt w.program.functions w.function.variables w.frame.answer x
-      → StmtFree w.layout.run x → StmtTree w.program.functions w.frame.answer x → InTable w (stmt_asks w.frame.answer x n) → StmtParts w x n
+      → StmtFree w.layout.run x → StmtTree w.program.functions w.frame.answer x → Owned w (stmt_asks w.frame.answer x n) → StmtParts w x n
   stmt_fits (t_block b) w n k f free t i = block_fits b w n k f free t i
   stmt_fits (t_declare xs sp) w n k f free t i = items_fit w xs n t i (items_other w xs free)
   stmt_fits (t_simple x sp) w n k f free t i = simple_fits w x n t i (simple_other w k x f)
@@ -157,10 +159,10 @@ mutual
         none,
         λ m b. stmt_fits x (with_layout w (body_layout w.layout rs) m b) (runs_slot n rs + 3) (body_constant w rs m b none fits.constants) f.2
             (body_run (λ o. StmtFree o x) w.layout rs none (subst (λ o. StmtFree o x) none free.1) free.2) t.2
-            (body_as (λ l. Table w.routine l w.function.variables (stmt_asks w.frame.answer x (runs_slot n rs + 3))) w.layout rs i.1
+            (body_as (λ l. OwnTable w.routine l w.function.variables (stmt_asks w.frame.answer x (runs_slot n rs + 3))) w.layout rs i.1
             (λ o d. table_same w.routine w.layout w.function.variables o d (stmt_asks w.frame.answer x (runs_slot n rs + 3)) i.1)),
       )
-  stmt_fits (t_foreach_active g j z x sp) w n k f free t i = stmt_fits x w (n + 1 + 3) k f.2 free t i.1
+  stmt_fits (t_foreach_active g j z x sp) w n k f free t i = ((I64, i.0.0.1), stmt_fits x w (n + 1 + 3) k f.2 free t i.1)
   stmt_fits (t_foreach_unique g j z u e x sp) w n k f free t i = (unique_fits w z u e n t.0 t.1 i.0, stmt_fits x w (n + 1 + 3) k f.3 free t.2 i.1)
   stmt_fits (t_unmasked g b sp) w n k f free t i =
       block_fits b (with_layout w (outside w.layout) w.members w.start) (n + 3) k f free t (table_same w.routine w.layout w.function.variables w.layout.run false (block_asks w.frame.answer b (n + 3)) i.1)
@@ -171,17 +173,21 @@ mutual
   stmt_fits (t_assert x c sp) w n k f free t i = expr_fits w x n t.0 i.0
 
   pub block_fits : (b : TBlock) (w : Setting) (n : ℕ) → RunConstant w → FineBlock w.program.functions w.function.variables w.frame.answer b
-      → BlockFree w.layout.run b → BlockTree w.program.functions w.frame.answer b → InTable w (block_asks w.frame.answer b n) → BlockParts w b n
+      → BlockFree w.layout.run b → BlockTree w.program.functions w.frame.answer b → Owned w (block_asks w.frame.answer b n) → BlockParts w b n
   block_fits (t_braces xs sp) w n k f free t i = stmts_fit xs w n k f free t i
 
   pub stmts_fit : (xs : TStmts) (w : Setting) (n : ℕ) → RunConstant w → FineStmts w.program.functions w.function.variables w.frame.answer xs
-      → StmtsFree w.layout.run xs → StmtsTree w.program.functions w.frame.answer xs → InTable w (stmts_asks w.frame.answer xs n) → StmtsParts w xs n
+      → StmtsFree w.layout.run xs → StmtsTree w.program.functions w.frame.answer xs → Owned w (stmts_asks w.frame.answer xs n) → StmtsParts w xs n
   stmts_fit t_no_stmts w n k f free t i = tt
   stmts_fit (t_stmt_then x xs) w n k f free t i = (stmt_fits x w n k f.0 free.0 t.0 i.0, stmts_fit xs w n k f.1 free.1 t.1 i.1)
 
 module _ (w : Setting) where
   pub stmt_parts : (x : TStmt) (n : ℕ) → RunConstant w → StmtFits w x n → StmtParts w x n
-  stmt_parts x n k fit = stmt_fits x w n k fit.fine fit.free (stmt_tree w.program.functions w.function.variables w.frame.answer x fit.fine fit.rated) fit.named
+  stmt_parts x n k fit =
+      stmt_fits x w n k fit.fine fit.free (stmt_tree w.program.functions w.function.variables w.frame.answer x fit.fine fit.rated)
+      (owned w w.frame.answer (stmt_asks w.frame.answer x n) (stmt_own w.program.functions w.function.variables w.frame.answer x n fit.fine) fit.named)
 
   pub block_parts : (b : TBlock) (n : ℕ) → RunConstant w → BlockFits w b n → BlockParts w b n
-  block_parts b n k fit = block_fits b w n k fit.fine fit.free (block_tree w.program.functions w.function.variables w.frame.answer b fit.fine fit.rated) fit.named
+  block_parts b n k fit =
+      block_fits b w n k fit.fine fit.free (block_tree w.program.functions w.function.variables w.frame.answer b fit.fine fit.rated)
+      (owned w w.frame.answer (block_asks w.frame.answer b n) (block_own w.program.functions w.function.variables w.frame.answer b n fit.fine) fit.named)

@@ -62,11 +62,12 @@ module _ (w : Setting) (ready : IsSettled w) (none : w.layout.run ≡ None) wher
     vectors_stay = λ t k lt. refl;
     fresh_scalars = λ k. put_other c.scalars (w.layout.place Uniform) (sole y) (w.layout.fresh Uniform k) (λ e. ready.apart.place_fresh Uniform k (sym e));
     fresh_vectors = λ k. refl;
+    singles_stay = λ v is. put_other c.scalars (w.layout.place Uniform) (sole y) (w.layout.variable Uniform v) (λ e. ready.apart.place_variable Uniform v (sym e));
   }
 
   place_stands : (c : Conf) (s : State) (y : Payload) → Stands w s c → Stands w s (set_at Uniform c (w.layout.place Uniform) y)
   place_stands c s y st = record {
-    uniforms = λ v. put_other c.scalars (w.layout.place Uniform) (sole y) (w.layout.variable Uniform v) (λ e. ready.apart.place_variable Uniform v (sym e)) ∙ st.uniforms v;
+    uniforms = λ v is. put_other c.scalars (w.layout.place Uniform) (sole y) (w.layout.variable Uniform v) (λ e. ready.apart.place_variable Uniform v (sym e)) ∙ st.uniforms v is;
     varying = st.varying;
     result = put_other c.scalars (w.layout.place Uniform) (sole y) (w.layout.result Uniform) (λ e. ready.apart.place_result Uniform (sym e)) ∙ st.result;
     results = st.results;
@@ -271,7 +272,7 @@ module _ (w : Setting) (ready : IsSettled w) (none : w.layout.run ≡ None) (n h
       spares3 = spares_on w m c c1 c3 (o.spares m) (spares_on w m c1 c2 c3 (set_spares w ready Uniform c1 I32 m (m + 1) (One b) (omega arith)) (set_spares w ready Varying c2 I32 m (m + 1) v3 (omega arith)))
 
       low4 : Low w m c c4
-      low4 = record { spares = spares_on w m c c3 c4 spares3 (variable_spares w ready Varying i m c3 v4); masks = λ j lt. ap (λ f. f j) o.masks }
+      low4 = record { spares = spares_on w m c c3 c4 spares3 (variable_spares w ready Varying i m c3 v4 tt); masks = λ j lt. ap (λ f. f j) o.masks }
 
       place4 : number I64 (c4.scalars r) ≡ z
       place4 = ap (number I64) (put_other c1.scalars g b r it.place.apart) ∙ place1
@@ -340,7 +341,7 @@ module _ (w : Setting) (ready : IsSettled w) (none : w.layout.run ≡ None) (n h
       add_is = ap (λ g. Go (set_at Varying c v (Each (map2 (op_bits op.Add g) (on (c.masks h) (c.vectors v)) (on (c.masks h) (c.vectors u)))))) it.typed
 
       low1 : Low w m c c1
-      low1 = record { spares = variable_spares w ready Varying i m c y; masks = λ j lt. refl }
+      low1 = record { spares = variable_spares w ready Varying i m c y tt; masks = λ j lt. refl }
 
       set_none : AreSet w set before a s c step
       set_none = it.sets a s c step (subst (AreAt w.routine.code step) (sym alone.1) tt) t.at t.mask t.low t.stands

@@ -115,7 +115,7 @@ module _ (w : Setting) (ready : IsSettled w) where
 
   result_stands : (r : Rate) (c : Conf) (a : Mask) (m : Payload) (s : State) (y : Payload) → Stands w s c → at_rate r a m ≡ y → Stands w (answered_at r a m s) (set_at r c (w.layout.result r) y)
   result_stands Uniform c a m s y st e = record {
-    uniforms = λ v. put_other c.scalars (w.layout.result Uniform) (sole y) (w.layout.variable Uniform v) (λ h. ready.apart.result_variable Uniform v (sym h)) ∙ st.uniforms v;
+    uniforms = λ v is. put_other c.scalars (w.layout.result Uniform) (sole y) (w.layout.variable Uniform v) (λ h. ready.apart.result_variable Uniform v (sym h)) ∙ st.uniforms v is;
     varying = st.varying;
     result = put_same c.scalars (w.layout.result Uniform) (sole y) ∙ ap sole (sym e);
     results = st.results;
@@ -147,6 +147,7 @@ module _ (w : Setting) (ready : IsSettled w) where
     vectors_stay = λ t j lt. refl;
     fresh_scalars = λ j. put_other c.scalars (w.layout.result Uniform) (sole y) (w.layout.fresh Uniform j) (λ e. ready.apart.result_fresh Uniform j (sym e));
     fresh_vectors = λ j. refl;
+    singles_stay = λ v is. put_other c.scalars (w.layout.result Uniform) (sole y) (w.layout.variable Uniform v) (λ e. ready.apart.result_variable Uniform v (sym e));
   }
   result_spares Varying n c y = record {
     scalars_stay = λ t j lt. refl;
@@ -155,6 +156,7 @@ module _ (w : Setting) (ready : IsSettled w) where
     fresh_scalars = λ j. refl;
     fresh_vectors = λ j. put_other c.vectors (w.layout.result Varying)
         (over (spread nobody y) (c.vectors (w.layout.result Varying))) (w.layout.fresh Varying j) (λ e. ready.apart.result_fresh Varying j (sym e));
+    singles_stay = λ v is. refl;
   }
 
   answered_work : (r : Rate) (a : Mask) (m : Payload) (s : State) → (answered_at r a m s).work ≡ s.work

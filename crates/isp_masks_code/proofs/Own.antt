@@ -10,18 +10,18 @@ use Rattle.isp_base.specs.declared.types.Ty.{Ty}
 use Rattle.isp_tree.specs.Sound.{IfAny}
 use Rattle.isp_tree.specs.declared.stmt.Form.{Form}
 use Rattle.isp_tree.specs.declared.stmt.Form.TheVariants.{Plain, Coherent}
-use Rattle.isp_typed.specs.Fine.{HoldsValue, FineRange, IsParam, AreParams, IsDeclared, FineExpr, FineFunction, FineValue, FineSimple, FineFirst, FineItem, FineReturned, FineStmt, FineBlock, FineStmts}
+use Rattle.isp_typed.specs.Fine.{HoldsValue, FineRange, IsParam, AreParams, IsDeclared, FineExpr, FineFunction, FineValue, FineSimple, FineFirst, FineReturned, FineStmt, FineBlock, FineStmts}
 use Rattle.isp_typed.specs.Indices.{unique_index, foreach_index}
-use Rattle.isp_typed.specs.Typed.{TExpr, t_exprs, ty_of, type_of, TItem, TSimple, TFirst, t_first_declare, t_first_simple, TRange, TStmt, t_block, t_declare, t_simple, t_if, t_if_else, t_while, t_do, t_for, t_foreach}
+use Rattle.isp_typed.specs.Typed.{TExpr, t_exprs, ty_of, type_of, TSimple, TFirst, t_first_declare, t_first_simple, TRange, TStmt, t_block, t_declare, t_simple, t_if, t_if_else, t_while, t_do, t_for, t_foreach}
 use Rattle.isp_typed.specs.Typed.{t_foreach_active, t_foreach_unique, t_unmasked, t_jump, t_return, t_print, t_assert, TBlock, t_braces, TStmts, t_no_stmts, t_stmt_then, TFunction}
 use Rattle.isp_base.specs.declared.signature.Parameter.{Parameter}
 use Rattle.isp_typed.specs.declared.variable.Holds.{Holds}
 use Rattle.isp_typed.specs.declared.variable.Holds.TheVariants as holds
 use Rattle.isp_typed.specs.declared.variable.Variable.{Variable}
 use Rattle.isp_lower_code.specs.Header.{AreSmall, HeadingFits, IsSmall}
-use Rattle.isp_lower_code.specs.Asks.{items_asks, test_asks, values_asks}
+use Rattle.isp_lower_code.specs.Asks.{test_asks, values_asks}
 use Rattle.isp_lower_code.specs.Own.{IsOwn}
-use Rattle.isp_lower_code.proofs.Lemmas.{expr_own, operand_own, simple_own, item_own}
+use Rattle.isp_lower_code.proofs.Lemmas.{expr_own, items_own, operand_own, simple_own}
 use Rattle.isp_masks_code.specs.Asks.{answer_asks, unique_asks, bound_asks, bounds_asks, places_asks, ranges_asks, part_asks, part_slot, parts_slot, loop_asks, first_asks, test_part_asks, step_asks, stmt_asks, block_asks, stmts_asks, result_asks}
 use Rattle.isp_masks_code.specs.Lowered.{BodyIsOwn}
 use Rattle.isp_masks_code.specs.Prints.{own_rates}
@@ -32,10 +32,6 @@ returned_own fs vars None x n f = absurd f
 returned_own fs vars (Some t) x n f = (refl, operand_own vars (Some t) fs t.rate x n f.0)
 
 module _ (fs : List TFunction) (vars : List Variable) (answer : Option Ty) where
-  items_own : (xs : List TItem) (n : ℕ) → All (FineItem fs vars) xs → IsOwn vars answer (items_asks n xs)
-  items_own [] n f = tt
-  items_own (x ∷ xs) n f = (item_own vars answer fs x n (f 0 x (omega arith)), items_own xs n (λ k d lt. f (suc k) d (omega arith)))
-
   part_own : (f : Form) (r : Rate) (n : ℕ) → IsOwn vars answer (part_asks f r n)
   part_own f Uniform n = tt
   part_own Plain Varying n = (tt, tt)
@@ -84,7 +80,7 @@ module _ (fs : List TFunction) (vars : List Variable) (answer : Option Ty) where
 
   first_own : (o : Option TFirst) (n : ℕ) → IfAny (FineFirst fs vars) o → IsOwn vars answer (first_asks o n)
   first_own None n f = tt
-  first_own (Some (t_first_declare xs sp)) n f = items_own xs n f
+  first_own (Some (t_first_declare xs sp)) n f = items_own vars answer fs xs n f
   first_own (Some (t_first_simple x)) n f = simple_own vars answer fs x n f
 
   test_own : (o : Option TExpr) (n : ℕ) → IfAny (FineValue fs vars Truth) o → IsOwn vars answer (test_part_asks o n)
@@ -98,7 +94,7 @@ module _ (fs : List TFunction) (vars : List Variable) (answer : Option Ty) where
   mutual
     pub stmt_own : (x : TStmt) (n : ℕ) → FineStmt fs vars answer x → IsOwn vars answer (stmt_asks answer x n)
     stmt_own (t_block b) n f = block_own b n f
-    stmt_own (t_declare xs sp) n f = items_own xs n f
+    stmt_own (t_declare xs sp) n f = items_own vars answer fs xs n f
     stmt_own (t_simple x sp) n f = simple_own vars answer fs x n f
     stmt_own (t_if k g e x sp) n f =
         (expr_own vars answer fs e n f.1.0, (part_own k (type_of e).rate n, stmt_own x (part_slot k (type_of e).rate n) f.2))

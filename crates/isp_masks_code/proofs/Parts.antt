@@ -9,7 +9,7 @@ use Rattle.isp_base.specs.declared.types.Rate.TheVariants.{Uniform, Varying}
 use Rattle.isp_base.specs.declared.types.Ty.{Ty}
 use Rattle.isp_typed.specs.Typed.{TExpr, t_exprs, type_of, elem_of, TSimple, TFirst, t_first_declare, t_first_simple, TRange, TStmt, t_block, t_declare, t_simple, t_if, t_if_else, t_while, t_do, t_for, t_foreach}
 use Rattle.isp_typed.specs.Typed.{t_foreach_active, t_foreach_unique, t_unmasked, t_jump, t_return, t_print, t_assert, TBlock, t_braces, TStmts, t_no_stmts, t_stmt_then}
-use Rattle.isp_lower_code.specs.Setting.{Setting}
+use Rattle.isp_lower_code.specs.Setting.{IsUniform, Setting}
 use Rattle.isp_lower_code.specs.Tables.{IsTyped}
 use Rattle.isp_lower_code.proofs.Lemmas.{OperandFits, ExprParts, ValuesParts, SimpleParts, ItemsParts}
 use Rattle.isp_masks_code.specs.Asks.{part_slot, parts_slot}
@@ -89,6 +89,7 @@ module _ (w : Setting) where
     pub expr : ExprParts w e n
     pub all : IsTyped w Varying (w.layout.spare Varying (elem_of e) n) (elem_of e)
     pub index : IsTyped w Uniform (w.layout.variable Uniform i) t
+    pub single : IsUniform w.function.variables i
     pub one : IsTyped w Uniform (w.layout.spare Uniform (elem_of e) (n + 1)) (elem_of e)
     pub each : IsTyped w Varying (w.layout.spare Varying (elem_of e) (n + 1)) (elem_of e)
     pub same : IsTyped w Varying (w.layout.spare Varying Truth (n + 1 + 1)) Truth
@@ -104,7 +105,7 @@ abbrev mutual
   StmtParts w (t_do f g x e sp) n = ExprParts w e (n + 3) × StmtParts w x (n + 3)
   StmtParts w (t_for f g first e step i x sp) n = FirstFits w first n × TestFits w e (n + 3) × StepFits w step (n + 3) × StmtParts w x (n + 3)
   StmtParts w (t_foreach k g rs x sp) n = ForeachFits w rs n × (w.layout.run ≡ None) × ((m : Mask) (b : ℕ) → StmtParts (with_layout w (body_layout w.layout rs) m b) x (runs_slot n rs + 3))
-  StmtParts w (t_foreach_active k g i x sp) n = StmtParts w x (n + 1 + 3)
+  StmtParts w (t_foreach_active k g i x sp) n = IsUniform w.function.variables i × StmtParts w x (n + 1 + 3)
   StmtParts w (t_foreach_unique k g i t e x sp) n = UniqueFits w i t e n × StmtParts w x (n + 1 + 3)
   StmtParts w (t_unmasked k b sp) n = BlockParts (with_layout w (outside w.layout) w.members w.start) b (n + 3)
   StmtParts w (t_jump j k sp) n = Unit {0}

@@ -119,7 +119,7 @@ module _ (w : Setting) where
           conf = c3;
           comes = subst (λ k. Comes w c k c3) (sym size) (comes_on w c c2 c3 (length set) 1 o.comes (set_comes w ready Varying c2 d v (pc + length set) (outer_index w.layout i (m + 1) h) o.at (are_back w.routine.code pc set last has).0 refl));
           at = at_to w c3 (pc + length set + 1) (pc + length (set ++ last)) (set_goes w ready Varying c2 d v (pc + length set) o.at) (omega (arith, size));
-          spares = λ j. spares_on w j c c2 c3 (o.spares j) (variable_spares w ready Varying i j c2 v);
+          spares = λ j. spares_on w j c c2 c3 (o.spares j) (variable_spares w ready Varying i j c2 v tt);
           masks = o.masks;
           scalars = o.scalars;
           none = λ e. absurd (omega (arith, e, size));

@@ -151,7 +151,7 @@ mutual
       })
       has (are_front w.code.places z.place pl _ names.places_are) three (enters_less w ready pc spot.on spot.slot (0 + q) q a s c (omega arith) b)
   stmt_runs (t_foreach_active v g i x sp) w ready pc z spot q a s c fit has names three b =
-      active_runs w ready i pc spot (0 + q) a s c _ _ (body_runs w ready x (spot.slot + 1) z (stmt_runs x w ready) fit names) has three (enters_less w ready pc spot.on spot.slot (0 + q) q a s c (omega arith) b)
+      active_runs w ready i pc spot (0 + q) a s c _ _ fit.0 (body_runs w ready x (spot.slot + 1) z (stmt_runs x w ready) fit.1 names) has three (enters_less w ready pc spot.on spot.slot (0 + q) q a s c (omega arith) b)
   stmt_runs (t_foreach_unique v g i t e x sp) w ready pc z spot q a s c fit has names three b =
       let pl = expr_places w.layout e in
       unique_runs w ready spot i t e pc z.place (0 + q) a s c _ _ fit.0 (body_runs w ready x (spot.slot + 1) (past pl z) (stmt_runs x w ready) fit.1 (named_past w.code z pl _ _ names))

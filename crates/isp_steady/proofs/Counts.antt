@@ -112,6 +112,10 @@ module _ (t : Elem) (u w p : ℕ) where
       near_wraps (width t) _ _ (near_minus (width t) (number t (counted_on t u p)) (number t u +ℤ pos p) (number t w) (near_value t (number t u +ℤ pos p)))
       ∙ ap (wrap t) (less_swapped (number t u) (pos p) (number t w)) ∙ sym (counted_wraps t (number t u -ℤ number t w) p)
 
+-- the number of lane p, wrapped, added
+pub plus_lane : (t : Elem) (u p : ℕ) → op_bits Add t u (wrap t (pos p)) ≡ counted_on t u p
+plus_lane t u p = near_wraps (width t) _ _ (near_plus_left (width t) (number t (wrap t (pos p))) (pos p) (number t u) (near_value t (pos p)))
+
 -- ---- programIndex
 
 pub index_counts : (p : ℕ) → p < 2 ^ 32 → counted_on I32 0 p ≡ p

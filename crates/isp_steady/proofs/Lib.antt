@@ -1,3 +1,4 @@
+pub mod Lemmas
 mod Ones
 mod Told
 mod Alones

@@ -28,7 +28,7 @@ use Rattle.isp_steady.proofs.Alones.{alone_elem, one_of}
 
 -- ---- variables
 
-singled_at : (known : ℕ → Known) (vars : List Variable) (v : ℕ) (x : Variable) → slice_get vars v ≡ Some x → slice_get (singled known vars) v ≡ Some (as_known (known v) x)
+pub singled_at : (known : ℕ → Known) (vars : List Variable) (v : ℕ) (x : Variable) → slice_get vars v ≡ Some x → slice_get (singled known vars) v ≡ Some (as_known (known v) x)
 singled_at known [] v x e = absurd (let h : ⊥ = cc in h)
 singled_at known (y ∷ ys) zero x e = ap Some (ap (as_known (known 0)) (let h : y ≡ x = cc in h))
 singled_at known (y ∷ ys) (suc v) x e = singled_at (λ i. known (suc i)) ys v x e
@@ -92,10 +92,10 @@ module _ (known : ℕ → Known) where
   linear_type (t_packed_store b x sp) e = absurd (cc)
   linear_type (t_packed_load b v sp) e = absurd (cc)
 
-  steady_rate : (x : TExpr) → steady known x ≡ true → rate_of (alone x) ≡ Uniform
+  pub steady_rate : (x : TExpr) → steady known x ≡ true → rate_of (alone x) ≡ Uniform
   steady_rate x e = ap (λ t. t.rate) (steady_type x e)
 
-  linear_rate : (x : TExpr) → linear known x ≡ true → rate_of (alone x) ≡ Uniform
+  pub linear_rate : (x : TExpr) → linear known x ≡ true → rate_of (alone x) ≡ Uniform
   linear_rate x e = ap (λ t. t.rate) (linear_type x e)
 
   all_rates : (xs : TExprs) → all_steady known xs ≡ true → rates_of (all_alone xs) ≡ Uniform
@@ -150,7 +150,7 @@ module _ (fs : List TFunction) (vars : List Variable) (known : ℕ → Known) wh
   abbrev Fine : TExpr → Type 0
   Fine x = FineExpr fs (singled known vars) (alone x)
 
-  array_fine : (b : ArrayVariable) → HoldsArray vars b → HoldsArray (singled known vars) b
+  pub array_fine : (b : ArrayVariable) → HoldsArray vars b → HoldsArray (singled known vars) b
   array_fine b h =
       record {
         variable = as_known (known b.number) h.variable;

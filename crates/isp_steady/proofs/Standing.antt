@@ -40,8 +40,15 @@ bits_value t u =
     let lt : low < 2 ^ width t = mod-lt u (pow_pos (width t)) in
     subst (IsValue t) (ap (number t) (bits_are t low lt) ∙ low_number t u low refl) (value_is t (number t low))
 
-not_more : (z c : ℤ) → not (int_lt c z) ≡ true → z ≤ℤ c
+pub not_more : (z c : ℤ) → not (int_lt c z) ≡ true → z ≤ℤ c
 not_more z c e = grind (arith, ints, e)
+
+not_less : (z c : ℤ) → z ≤ℤ c → not (int_lt c z) ≡ true
+not_less z c le = grind (arith, ints, le)
+
+-- 31 below the greatest value there is room for a gang of any width
+pub room_in : (gang : ℕ) (t : Elem) (u : ℕ) → gang ≤ 32 → number t u ≤ℤ (pos (greatest t) -ℤ pos 31) → has_room gang t u ≡ true
+room_in gang t u few le = not_less (number t u) (pos (greatest t) -ℤ pos (gang - 1)) (omega (arith, ints, few, le))
 
 signed_up : (h p : ℕ) (z : ℤ) → IsSigned h z → (z +ℤ pos p) ≤ℤ pos (2 ^ h - 1) → IsSigned h (z +ℤ pos p)
 signed_up h p z v le = let some = pow_pos h in (omega (arith, ints, v.0), omega (arith, ints, le))
@@ -68,7 +75,7 @@ numbers gang t u p room lt =
     let z = number t u in
     back_is t (z +ℤ pos p) (value_up t p z (bits_value t u) (room_left gang p z (pos (greatest t)) (not_more z (pos (greatest t) -ℤ pos (gang - 1)) room) lt))
 
-widened : (gang : ℕ) (from to : Elem) (u p : ℕ) → has_room gang from u ≡ true → p < gang → (to ≡ Truth → ⊥) → converted from to (counted_on from u p) ≡ counted_on to (converted from to u) p
+pub widened : (gang : ℕ) (from to : Elem) (u p : ℕ) → has_room gang from u ≡ true → p < gang → (to ≡ Truth → ⊥) → converted from to (counted_on from u p) ≡ counted_on to (converted from to u) p
 widened gang from to u p room lt n =
     sym (no_truth to (number from (counted_on from u p)) n) ∙ ap (wrap to) (numbers gang from u p room lt)
     ∙ sym (counted_wraps to (number from u) p) ∙ ap (λ c. counted_on to c p) (no_truth to (number from u) n)
@@ -86,6 +93,14 @@ is_int64 I32 z v n = (omega (arith, ints, v.0), omega (arith, ints, v.1))
 is_int64 U32 z v n = (omega (arith, ints, v.0), omega (arith, ints, v.1))
 is_int64 I64 z v n = v
 is_int64 U64 z v n = absurd (n refl)
+
+-- so counting on from it passes no number of int64 where there is room
+pub reach : (gang : ℕ) (t : Elem) (u p : ℕ) → has_room gang t u ≡ true → p < gang → (t ≡ U64 → ⊥) → number I64 (counted_on I64 (converted t I64 u) p) ≡ run_index (number I64 (converted t I64 u)) p
+reach gang t u p room lt n =
+    let z = number t u in
+    let first : number I64 (converted t I64 u) ≡ z = back_is I64 z (is_int64 t z (bits_value t u) n) in
+    let up = value_up t p z (bits_value t u) (room_left gang p z (pos (greatest t)) (not_more z (pos (greatest t) -ℤ pos (gang - 1)) room) lt) in
+    back_is I64 (number I64 (converted t I64 u) +ℤ pos p) (subst (λ y. IsValue I64 (y +ℤ pos p)) (sym first) (is_int64 t (z +ℤ pos p) up n))
 
 same_step : (n : ℕ) (y z : ℤ) → y ≡ z → InStep n y z
 same_step n y z e = (ap (is_beyond n) e, λ h. e)
