@@ -1,4 +1,4 @@
-//! A call of the machine: its registers and arrays, what it is given, and what it says.
+//! A call of the machine: its registers and arrays, and what it is given.
 #![tactic(auto)]
 
 pub mod array;
@@ -7,6 +7,4 @@ pub mod here;
 pub mod kernels;
 pub mod locals;
 pub mod passed;
-pub mod says;
-pub mod texts;
 pub mod zeros;

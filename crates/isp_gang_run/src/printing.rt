@@ -1,7 +1,6 @@
 //! What a `print` writes.
 ghost use Rattle.std.specs.Prelude.{◌≡◌, ◌<◌, ◌++◌, map, drop, IfErr, OnOk};
-ghost use Rattle.std.specs.Fmt.{signed_decimal};
-ghost use Rattle.isp_base.specs.Prints.{comma, item_text, list_text, value_text, first_text, print_text};
+ghost use Rattle.isp_base.specs.Prints.{list_text, value_text, first_text, print_text};
 ghost use Rattle.isp_base.specs.Sets.{flag_of};
 ghost use Rattle.isp_base.specs.Types.{gang_width, widest};
 ghost use Rattle.isp_typed.specs.Typed.{type_of};
@@ -15,54 +14,13 @@ ghost use Rattle.isp_gang_run.specs.Tasks.{Comes};
 ghost use Rattle.isp_gang_run.specs.declared.state.Stop.TheVariants as Stop;
 
 use crate::state::{Evaluator, Sets, Stop};
-use isp_base::{Elem, Gang, Rate, number};
+use isp_base::{Elem, Gang, Rate};
 use isp_gang_values::computed::Computed;
 use isp_gang_values::row::Row;
 use isp_gang_values::sets::Active;
+use isp_prints::{push_comma, push_item, push_value};
 use isp_typed::TypedExpr;
-use itoa::Buffer;
 use std::alloc::AllocError;
-
-// A whole number in decimal, a bool by its word.
-fn push_value(output: &mut Vec<u8>, elem: Elem, bits: u64) -> Result<(), AllocError>
-    ensures { OnOk result (output.new.items ≡ output.old.items ++ value_text elem bits) }
-{
-    match elem {
-        Elem::Bool => output.extend_from_slice(if bits != 0 { b"true" } else { b"false" })?,
-        _ => push_number(output, number(elem, bits))?,
-    }
-    Ok(())
-}
-
-fn push_number(output: &mut Vec<u8>, number: i128) -> Result<(), AllocError>
-    ensures { OnOk result (output.new.items ≡ output.old.items ++ signed_decimal number) }
-{
-    let mut buffer = Buffer::new();
-    output.extend_from_slice(buffer.format(number).as_bytes())?;
-    Ok(())
-}
-
-// The value of an instance, `_` where there is none.
-fn push_item(output: &mut Vec<u8>, elem: Elem, row: &Row, instance: usize) -> Result<(), AllocError>
-    requires { instance < widest }
-    ensures { OnOk result (output.new.items ≡ output.old.items ++ item_text elem (map_of row.now instance)) }
-{
-    match row[instance] {
-        Some(bits) => push_value(output, elem, bits)?,
-        None => output.extend_from_slice(b"_")?,
-    }
-    Ok(())
-}
-
-// A comma, before each item but the first.
-fn push_comma(output: &mut Vec<u8>, instance: usize) -> Result<(), AllocError>
-    ensures { OnOk result (output.new.items ≡ output.old.items ++ comma instance) }
-{
-    if instance > 0 {
-        output.extend_from_slice(b",")?;
-    }
-    Ok(())
-}
 
 // The values of the instances of a gang, in brackets.
 fn push_row(output: &mut Vec<u8>, elem: Elem, gang: Gang, row: &Row) -> Result<(), AllocError>
@@ -71,7 +29,7 @@ fn push_row(output: &mut Vec<u8>, elem: Elem, gang: Gang, row: &Row) -> Result<(
     output.extend_from_slice(b"[")?;
     for instance in 0..gang.width() {
         push_comma(output, instance)?;
-        push_item(output, elem, row, instance)?;
+        push_item(output, elem, row[instance])?;
     }
     output.extend_from_slice(b"]")?;
     Ok(())

@@ -25,7 +25,7 @@ use isp_base::Trap;
 use isp_code::Instr;
 use isp_frames::frame::Frame;
 use isp_frames::here::Here;
-use isp_frames::says::{print_scalar, print_vector, say};
+use isp_says::{print_scalar, print_vector, say};
 use isp_store::Arrays;
 use isp_verify::Verified;
 use std::alloc::{AllocError, Global};

@@ -1,9 +1,9 @@
 //! What is shown of a step.
 ghost use Rattle.std.specs.Prelude.{◌≡◌, ◌++◌, ◌<◌, codes, slice_index_or, OnOk};
-ghost use Rattle.std.specs.Fmt.{decimal, signed_decimal};
+ghost use Rattle.std.specs.Fmt.{decimal};
 ghost use Rattle.std.specs.List.{flat_map};
 ghost use Rattle.isp_asm.specs.Rows.{instr_words};
-ghost use Rattle.isp_base.specs.Prints.{item_text, list_text, value_text};
+ghost use Rattle.isp_base.specs.Prints.{list_text};
 ghost use Rattle.isp_base.specs.Types.{gang_width};
 ghost use Rattle.isp_base.specs.declared.types.Elem.TheVariants.{Bool as Truth};
 ghost use Rattle.isp_machine.specs.Seen.{seen_conf};
@@ -12,13 +12,13 @@ ghost use Rattle.isp_traces.specs.Steps.{flag_text, flags_text, lanes_held, mask
 ghost use Rattle.isp_traces.specs.Executed.{mask_held};
 
 use crate::masks::{Written, read_masks, written_lanes, written_mask};
-use crate::texts::{push_comma, push_number};
+use crate::texts::push_number;
 use isp_asm::write_instr;
-use isp_base::{Elem, number};
+use isp_base::Elem;
 use isp_code::{Instr, Register};
 use isp_machine::Machine;
+use isp_prints::{push_comma, push_item};
 use isp_verify::{Registers, Verified};
-use itoa::Buffer;
 use std::alloc::{AllocError, Global};
 
 // The number of the step, the function's name and the instruction's number: `3 share L7: `.
@@ -193,30 +193,4 @@ fn value<const N: usize>(machine: &Machine<'_, N>, written: Written, lane: usize
     } else {
         None
     }
-}
-
-fn push_item(text: &mut Vec<u8>, elem: Elem, bits: Option<u64>) -> Result<(), AllocError>
-    ensures { OnOk result (text.new.items ≡ text.old.items ++ item_text elem bits) }
-{
-    match bits {
-        Some(bits) => push_value(text, elem, bits),
-        None => text.extend_from_slice(b"_"),
-    }
-}
-
-// A value as `print` shows it.
-fn push_value(text: &mut Vec<u8>, elem: Elem, bits: u64) -> Result<(), AllocError>
-    ensures { OnOk result (text.new.items ≡ text.old.items ++ value_text elem bits) }
-{
-    match elem {
-        Elem::Bool => text.extend_from_slice(if bits != 0 { b"true" } else { b"false" }),
-        _ => push_signed(text, number(elem, bits)),
-    }
-}
-
-fn push_signed(text: &mut Vec<u8>, number: i128) -> Result<(), AllocError>
-    ensures { OnOk result (text.new.items ≡ text.old.items ++ signed_decimal number) }
-{
-    let mut buffer = Buffer::new();
-    text.extend_from_slice(buffer.format(number).as_bytes())
 }

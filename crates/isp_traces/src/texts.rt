@@ -1,7 +1,6 @@
 //! Counts as a line of JSON.
 ghost use Rattle.std.specs.Prelude.{◌≡◌, ◌++◌, ◌<◌, ◌≤◌, [], get_or, length, map, IfOk, OnOk};
 ghost use Rattle.std.specs.Fmt.{decimal};
-ghost use Rattle.isp_base.specs.Prints.{comma};
 ghost use Rattle.isp_code.specs.Listing.{routine_of};
 ghost use Rattle.isp_traces.specs.Tallies.{nothing};
 ghost use Rattle.isp_base.specs.Types.{gang_width};
@@ -11,6 +10,7 @@ use crate::kinds::Kind;
 use crate::tallies::{Counts, Tally};
 use isp_base::gang_laws;
 use isp_code::Function;
+use isp_prints::push_comma;
 use isp_verify::Verified;
 use itoa::Buffer;
 use std::alloc::{AllocError, Global};
@@ -183,14 +183,4 @@ pub(crate) fn push_number(text: &mut Vec<u8>, number: u128) -> Result<(), AllocE
 {
     let mut buffer = Buffer::new();
     text.extend_from_slice(buffer.format(number).as_bytes())
-}
-
-/// A comma before each item but the first.
-pub(crate) fn push_comma(text: &mut Vec<u8>, number: usize) -> Result<(), AllocError>
-    ensures { OnOk result (text.new.items ≡ text.old.items ++ comma number) }
-{
-    if number > 0 {
-        text.extend_from_slice(b",")?;
-    }
-    Ok(())
 }

@@ -3,7 +3,7 @@ use Rattle.std.specs.Prelude.{slice_index_or}
 use Rattle.isp_code.specs.Conf.{Say}
 use Rattle.isp_frames.specs.Rows.{FrameRows}
 use Rattle.isp_frames.specs.Views.{conf_of}
-use Rattle.isp_frames.proofs.says.say.Goals as goal
+use Rattle.isp_says.proofs.says.say.Goals as goal
 
 pub returns-clause-ok : goal.returns-clause-ok
 returns-clause-ok g c =

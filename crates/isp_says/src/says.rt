@@ -8,10 +8,11 @@ ghost use Rattle.isp_frames.specs.Moves.{Speaks, lanes_text};
 ghost use Rattle.isp_frames.specs.Shapes.{Shaped};
 ghost use Rattle.isp_frames.specs.Views.{scalars_at};
 
-use crate::frame::Frame;
-use crate::here::Here;
-use crate::texts::{list_text, push_value};
+use crate::texts::list_text;
 use isp_code::{Class, Instr, Register};
+use isp_frames::frame::Frame;
+use isp_frames::here::Here;
+use isp_prints::push_value;
 use std::alloc::{AllocError, Global};
 
 /// Writes a text. Where memory is refused nothing changes.

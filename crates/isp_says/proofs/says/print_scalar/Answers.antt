@@ -4,7 +4,7 @@ use Rattle.isp_base.specs.Prints.{value_text}
 use Rattle.isp_code.specs.Registers.{elem_of}
 use Rattle.isp_frames.specs.Rows.{FrameRows}
 use Rattle.isp_frames.specs.Views.{conf_of, scalars_at}
-use Rattle.isp_frames.proofs.says.print_scalar.Goals as goal
+use Rattle.isp_says.proofs.says.print_scalar.Goals as goal
 
 pub returns-clause-ok : goal.returns-clause-ok
 returns-clause-ok g c =

@@ -1,0 +1,9 @@
+use Rattle.isp_base.specs.Maps.{lane_of, on}
+use Rattle.isp_base.specs.Sets.{flag_of}
+use Rattle.isp_says.proofs.Items.{item_added}
+use Rattle.isp_says.proofs.texts.list_text.Goals as goal
+
+pub loop-lane-preserved : goal.loop-lane-preserved
+loop-lane-preserved g c =
+    item_added c.args.lanes.now.elem c.loop-lane.lane (on (flag_of c.args.mask.now) (lane_of c.args.lanes.now.bits)) _ _ _ _
+    c.loop-lane.invariant c.in_ok-push_comma.ensures c.in_ok-push_item.ensures c.value_on.ensures
