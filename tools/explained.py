@@ -1,6 +1,6 @@
 """What `ispx explain` has to say, worked out without the program: the place, what stands there, and the sentence and the fix of docs/FAULTS.md.
 
-tools/page_rows.py makes requests of it, which `rt ci` compares with the program's answers (crates/isp_tests_requests), and writes the text from which the
+tools/page_rows.py makes requests of it, which tools/request-test compares with the program's answers, and writes the text from which the
 program takes its texts (crates/isp_remedies/src/page.rt).
 """
 import fnmatch

@@ -1,13 +1,13 @@
 #!/usr/bin/env python3
-"""Writes from the pages what `rt ci` compares with the programs, the table from which `ispx` takes its texts, and the kit that pages name.
+"""Writes from the pages what the gate compares with the programs, the table from which `ispx` takes its texts, and the kit that pages name.
 
-    tools/page_rows.py              writes the files below, and the count of requests in crates/isp_tests_requests/stdout
+    tools/page_rows.py              writes the files below, and the count of requests in tools/requests/stdout
     tools/page_rows.py --check      ends with status 1 where one of these is stale, where a page shows another explanation than tools/explained.py
                                     works out, or where a row of a table of docs/FAULTS.md is the fix of no program among these, among those of
                                     faults.rows and among those of ported.rows
 
-- crates/isp_tests_requests/data/pages.rows: the examples of README.md and docs/, so that the gate runs what the pages show.
-- crates/isp_tests_requests/data/explain.rows: what `ispx explain` has to say of each example of a page and of faults.rows beside it that is refused or trapped,
+- tools/requests/pages.rows: the examples of README.md and docs/, so that the gate runs what the pages show.
+- tools/requests/explain.rows: what `ispx explain` has to say of each example of a page and of faults.rows beside it that is refused or trapped,
   and of each source of ported.rows that is refused, by tools/explained.py.
 - crates/isp_remedies/src/page.rt: the sentences and the fixes of docs/FAULTS.md.
 - each page that names the kit of the toolchain, README.md among them: its name there is the one that `rt version` prints.
@@ -22,7 +22,7 @@ An example is a block between ``` that begins with `$ `:
 
 Other commands count for nothing. A file that a page does not show is taken from the repository, where it is there. Of a command that
 goes into another, or reads a file that is not shown since another made it, there is no row; its name is printed. The format of the
-rows stands in crates/isp_tests_requests/src/main.rt.
+rows stands in tools/records.py.
 """
 import glob
 import os
@@ -37,12 +37,12 @@ import explained  # noqa: E402
 import written  # noqa: E402
 
 ROOT = os.path.dirname(os.path.dirname(os.path.realpath(__file__)))
-CRATE = "crates/isp_tests_requests"
-ROWS = f"{CRATE}/data/pages.rows"
-EXPLAIN = f"{CRATE}/data/explain.rows"
-FAULTS = f"{CRATE}/data/faults.rows"
+REQUESTS = "tools/requests"
+ROWS = f"{REQUESTS}/pages.rows"
+EXPLAIN = f"{REQUESTS}/explain.rows"
+FAULTS = f"{REQUESTS}/faults.rows"
 REMEDIES = "crates/isp_remedies/src/page.rt"
-COUNT = f"{CRATE}/stdout"
+COUNT = f"{REQUESTS}/stdout"
 PORTED = "crates/isp_tests_cases/data/ported.rows"
 # how a kit of the toolchain is called
 KIT = re.compile(r"\brattle-kit-\w+")
@@ -248,8 +248,8 @@ def unused(rows):
 
 
 def counted(rows):
-    """Returns what crates/isp_tests_requests prints where all comes out, with the count of its requests."""
-    names = [f"{CRATE}/data/{name}" for name in contents(f"{CRATE}/args").split()]
+    """Returns what tools/request-test prints where all comes out, with the count of its requests."""
+    names = [f"{REQUESTS}/{name}" for name in sorted(glob.glob("*.rows", root_dir=f"{ROOT}/{REQUESTS}"))]
     requests = "".join(contents(name) for name in names if name not in (ROWS, EXPLAIN)) + rows
     return written.with_count(COUNT, requests.count("=== "), "requests")
 

@@ -1,4 +1,4 @@
-//! The whole program over sinks that fail or take a few bytes. isp_tests_requests has what it
+//! The whole program over sinks that fail or take a few bytes. tools/requests has what it
 //! answers to each kind of request.
 use crate::fakes::{Page, Shelf};
 use isp_asm::{read, write};
@@ -92,7 +92,7 @@ fn made(rt: &impl Abort, alloc: Global, request: Request<'_>) -> Answer {
     }
 }
 
-// No words: the text of clap begins so. All other words are in isp_tests_requests.
+// No words: the text of clap begins so. All other words are in tools/requests.
 #[test]
 fn refused_words(rt: HostRuntime) {
     let answer = made(&rt, rt.alloc(), asked("isp"));
