@@ -4,7 +4,7 @@ ghost use Rattle.isp_base.specs.Maps.{lane_of, over};
 ghost use Rattle.isp_base.specs.Sets.{flag_of};
 ghost use Rattle.isp_base.specs.declared.types.Elem.TheVariants.{I64};
 ghost use Rattle.isp_lanes.specs.Lanes.{vector};
-ghost use Rattle.isp_frames.specs.Arrays.{ArrayThere, Rewritten, Scattered, array_elem, first_outside, gathered};
+ghost use Rattle.isp_frames.specs.Arrays.{ArrayThere, Rewritten, Scattered, array_count, array_elem, first_outside, gathered};
 
 use isp_lanes::{LaneMask, Lanes};
 use isp_store::{Arrays, IndexTrap, LaneArray};
@@ -39,6 +39,17 @@ impl<const N: usize> FrameArray<N> {
         ensures { result ≡ self.now.store }
     {
         self.store
+    }
+
+    /// How many elements it has, or the lanes' own have each.
+    pub fn size(&self, stores: &Arrays) -> usize
+        requires { ArrayThere stores.now self.now }
+        ensures { result ≡ array_count stores.now self.now }
+    {
+        match &self.own {
+            Some(own) => own.size(),
+            None => stores.size(self.store),
+        }
     }
 
     /// In each lane of the mask the element at its index, of the array that all share or of its own.

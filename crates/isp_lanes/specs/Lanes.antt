@@ -2,7 +2,7 @@
 -- list of its lanes.
 --     zip2 f xs ys           f of each pair of lanes
 --     sel_l mask xs ys       in each lane of the mask the lane of xs, in the others that of ys
-use Rattle.std.specs.Prelude.{ℕ, List, [], ◌∷◌, Bool, true, false, cond, ◌&&◌, ◌==◌, nat_lt, map, get_or, position, Option, None, pos, ◌+ℤ◌, int_lt}
+use Rattle.std.specs.Prelude.{◌≡◌, ◌<◌, ℕ, List, length, [], ◌∷◌, Bool, true, false, cond, ◌&&◌, ◌==◌, nat_lt, map, get_or, position, Option, None, pos, ◌+ℤ◌, int_lt}
 use Rattle.std.specs.List.{range_with_len}
 use Rattle.std.specs.Simd.Lanes.{zip2, sel_l}
 use Rattle.isp_base.specs.declared.operators.BinOp.{BinOp}
@@ -20,6 +20,12 @@ no_row = record { elem = Truth; bits = [] }
 
 abbrev pub vector : List Row → ℕ → Row
 vector rs k = get_or rs k no_row
+
+-- two vectors of a list are there, and of one type
+pub record AreAlike (rs : List Row) (x y : ℕ) : Type 0 where
+  pub first : x < length rs
+  pub second : y < length rs
+  pub elem : (vector rs y).elem ≡ (vector rs x).elem
 
 -- a bool's bits are not 0 where it is true
 abbrev pub is_on : ℕ → Bool

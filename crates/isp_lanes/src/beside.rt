@@ -7,7 +7,7 @@ ghost use Rattle.isp_base.specs.Cells.{cell_width};
 ghost use Rattle.isp_base.specs.Values.{divides, op_bits, compare_bits, convert_bits, number, width, wrap};
 ghost use Rattle.isp_base.specs.Unary.{unary_bits};
 ghost use Rattle.isp_base.specs.Rows.{Row};
-ghost use Rattle.isp_lanes.specs.Lanes.{is_on, first_zero, written, vector};
+ghost use Rattle.isp_lanes.specs.Lanes.{AreAlike, is_on, first_zero, written, vector};
 
 use crate::kernels::operators::{self, Operator, UnaryOperator};
 use crate::lane_elem::LaneElem;
@@ -32,11 +32,8 @@ impl<const N: usize> Lanes<N> {
         y: usize,
         mask: &LaneMask<N>,
     ) -> Result<(), usize>
-        requires out { out < length vectors.old }
-        requires x { x < length vectors.old }
-        requires y { y < length vectors.old }
-        requires x_elem { (vector vectors.old x).elem ≡ (vector vectors.old out).elem }
-        requires y_elem { (vector vectors.old y).elem ≡ (vector vectors.old out).elem }
+        requires x { AreAlike vectors.old out x }
+        requires y { AreAlike vectors.old out y }
         ensures divided { IfOk result (λ _. first_zero op mask.now (vector vectors.old y).bits ≡ None) }
         ensures value { IfOk result (λ _. vectors.new ≡ slice_set vectors.old out (written mask.now (zip2 (op_bits op (vector vectors.old out).elem) (vector vectors.old x).bits (vector vectors.old y).bits) (vector vectors.old out))) }
         ensures lowest { IfErr result (λ lane. first_zero op mask.now (vector vectors.old y).bits ≡ Some lane) }
@@ -60,9 +57,7 @@ impl<const N: usize> Lanes<N> {
 
     /// The operator on one vector of a list, in another one or in the same.
     pub fn unary_at(vectors: &mut [Self], out: usize, op: UnaryOp, x: usize, mask: &LaneMask<N>)
-        requires out { out < length vectors.old }
-        requires x { x < length vectors.old }
-        requires elem { (vector vectors.old x).elem ≡ (vector vectors.old out).elem }
+        requires x { AreAlike vectors.old out x }
         ensures { vectors.new ≡ slice_set vectors.old out (written mask.now (map (unary_bits op (vector vectors.old out).elem) (vector vectors.old x).bits) (vector vectors.old out)) }
     {
         match op {
@@ -83,10 +78,8 @@ impl<const N: usize> Lanes<N> {
         mask: &LaneMask<N>,
     )
         requires out { out < length vectors.old }
-        requires x { x < length vectors.old }
-        requires y { y < length vectors.old }
-        requires elem { (vector vectors.old out).elem ≡ Truth }
-        requires y_elem { (vector vectors.old y).elem ≡ (vector vectors.old x).elem }
+        requires y { AreAlike vectors.old x y }
+        requires truth { (vector vectors.old out).elem ≡ Truth }
         ensures { vectors.new ≡ slice_set vectors.old out (written mask.now (zip2 (compare_bits compare (vector vectors.old x).elem) (vector vectors.old x).bits (vector vectors.old y).bits) (vector vectors.old out)) }
     {
         mask.told();
@@ -121,13 +114,10 @@ impl<const N: usize> Lanes<N> {
         y: usize,
         mask: &LaneMask<N>,
     )
-        requires out { out < length vectors.old }
         requires test { test < length vectors.old }
-        requires x { x < length vectors.old }
-        requires y { y < length vectors.old }
         requires truth { (vector vectors.old test).elem ≡ Truth }
-        requires x_elem { (vector vectors.old x).elem ≡ (vector vectors.old out).elem }
-        requires y_elem { (vector vectors.old y).elem ≡ (vector vectors.old out).elem }
+        requires x { AreAlike vectors.old out x }
+        requires y { AreAlike vectors.old out y }
         ensures { vectors.new ≡ slice_set vectors.old out (written mask.now (sel_l (map is_on (vector vectors.old test).bits) (vector vectors.old x).bits (vector vectors.old y).bits) (vector vectors.old out)) }
     {
         match vectors[out].row() {
@@ -140,9 +130,7 @@ impl<const N: usize> Lanes<N> {
 
     /// The lanes of a vector of a list, in another one.
     pub fn copy_at(vectors: &mut [Self], out: usize, x: usize, mask: &LaneMask<N>)
-        requires out { out < length vectors.old }
-        requires x { x < length vectors.old }
-        requires elem { (vector vectors.old x).elem ≡ (vector vectors.old out).elem }
+        requires x { AreAlike vectors.old out x }
         ensures { vectors.new ≡ slice_set vectors.old out (written mask.now (vector vectors.old x).bits (vector vectors.old out)) }
     {
         match vectors[out].row() {
@@ -163,11 +151,8 @@ fn zipped<const N: usize, K: Operator<N>>(
     y: usize,
     mask: &LaneMask<N>,
 )
-    requires out { out < length vectors.old }
-    requires x { x < length vectors.old }
-    requires y { y < length vectors.old }
-    requires x_elem { (vector vectors.old x).elem ≡ (vector vectors.old out).elem }
-    requires y_elem { (vector vectors.old y).elem ≡ (vector vectors.old out).elem }
+    requires x { AreAlike vectors.old out x }
+    requires y { AreAlike vectors.old out y }
     ensures { vectors.new ≡ slice_set vectors.old out (written mask.now (zip2 (op_bits K.op (vector vectors.old out).elem) (vector vectors.old x).bits (vector vectors.old y).bits) (vector vectors.old out)) }
 {
     match vectors[out].elem() {
@@ -194,11 +179,8 @@ fn zip<const N: usize, K: Operator<N>, T: LaneElem, V: Words<N>>(
 )
     requires is { (vector vectors.old out).elem ≡ T.elem }
     requires wide { V.width ≡ cell_width (vector vectors.old out).elem }
-    requires out { out < length vectors.old }
-    requires x { x < length vectors.old }
-    requires y { y < length vectors.old }
-    requires x_elem { (vector vectors.old x).elem ≡ (vector vectors.old out).elem }
-    requires y_elem { (vector vectors.old y).elem ≡ (vector vectors.old out).elem }
+    requires x { AreAlike vectors.old out x }
+    requires y { AreAlike vectors.old out y }
     ensures { vectors.new ≡ slice_set vectors.old out (written mask.now (zip2 (op_bits K.op (vector vectors.old out).elem) (vector vectors.old x).bits (vector vectors.old y).bits) (vector vectors.old out)) }
 {
     mask.told();
@@ -219,11 +201,8 @@ fn divided<const N: usize>(
     mask: &LaneMask<N>,
 ) -> Result<(), usize>
     requires division { divides op ≡ true }
-    requires out { out < length vectors.old }
-    requires x { x < length vectors.old }
-    requires y { y < length vectors.old }
-    requires x_elem { (vector vectors.old x).elem ≡ (vector vectors.old out).elem }
-    requires y_elem { (vector vectors.old y).elem ≡ (vector vectors.old out).elem }
+    requires x { AreAlike vectors.old out x }
+    requires y { AreAlike vectors.old out y }
     ensures divided { IfOk result (λ _. first_zero op mask.now (vector vectors.old y).bits ≡ None) }
     ensures value { IfOk result (λ _. vectors.new ≡ slice_set vectors.old out (written mask.now (zip2 (op_bits op (vector vectors.old out).elem) (vector vectors.old x).bits (vector vectors.old y).bits) (vector vectors.old out))) }
     ensures lowest { IfErr result (λ lane. first_zero op mask.now (vector vectors.old y).bits ≡ Some lane) }
@@ -255,11 +234,8 @@ fn divide<const N: usize, T: LaneElem, V: Words<N>>(
     requires division { divides op ≡ true }
     requires is { (vector vectors.old out).elem ≡ T.elem }
     requires wide { V.width ≡ cell_width (vector vectors.old out).elem }
-    requires out { out < length vectors.old }
-    requires x { x < length vectors.old }
-    requires y { y < length vectors.old }
-    requires x_elem { (vector vectors.old x).elem ≡ (vector vectors.old out).elem }
-    requires y_elem { (vector vectors.old y).elem ≡ (vector vectors.old out).elem }
+    requires x { AreAlike vectors.old out x }
+    requires y { AreAlike vectors.old out y }
     ensures divided { IfOk result (λ _. first_zero op mask.now (vector vectors.old y).bits ≡ None) }
     ensures value { IfOk result (λ _. vectors.new ≡ slice_set vectors.old out (written mask.now (zip2 (op_bits op (vector vectors.old out).elem) (vector vectors.old x).bits (vector vectors.old y).bits) (vector vectors.old out))) }
     ensures lowest { IfErr result (λ lane. first_zero op mask.now (vector vectors.old y).bits ≡ Some lane) }
@@ -284,9 +260,7 @@ fn mapped<const N: usize, K: UnaryOperator<N>>(
     x: usize,
     mask: &LaneMask<N>,
 )
-    requires out { out < length vectors.old }
-    requires x { x < length vectors.old }
-    requires elem { (vector vectors.old x).elem ≡ (vector vectors.old out).elem }
+    requires x { AreAlike vectors.old out x }
     ensures { vectors.new ≡ slice_set vectors.old out (written mask.now (map (unary_bits K.op (vector vectors.old out).elem) (vector vectors.old x).bits) (vector vectors.old out)) }
 {
     match vectors[out].elem() {
@@ -312,9 +286,7 @@ fn apply<const N: usize, K: UnaryOperator<N>, T: LaneElem, V: Words<N>>(
 )
     requires is { (vector vectors.old out).elem ≡ T.elem }
     requires wide { V.width ≡ cell_width (vector vectors.old out).elem }
-    requires out { out < length vectors.old }
-    requires x { x < length vectors.old }
-    requires elem { (vector vectors.old x).elem ≡ (vector vectors.old out).elem }
+    requires x { AreAlike vectors.old out x }
     ensures { vectors.new ≡ slice_set vectors.old out (written mask.now (map (unary_bits K.op (vector vectors.old out).elem) (vector vectors.old x).bits) (vector vectors.old out)) }
 {
     mask.told();
@@ -395,13 +367,10 @@ fn select<const N: usize, V: Words<N>>(
     mask: &LaneMask<N>,
 )
     requires wide { V.width ≡ cell_width (vector vectors.old out).elem }
-    requires out { out < length vectors.old }
     requires test { test < length vectors.old }
-    requires x { x < length vectors.old }
-    requires y { y < length vectors.old }
     requires truth { (vector vectors.old test).elem ≡ Truth }
-    requires x_elem { (vector vectors.old x).elem ≡ (vector vectors.old out).elem }
-    requires y_elem { (vector vectors.old y).elem ≡ (vector vectors.old out).elem }
+    requires x { AreAlike vectors.old out x }
+    requires y { AreAlike vectors.old out y }
     ensures { vectors.new ≡ slice_set vectors.old out (written mask.now (sel_l (map is_on (vector vectors.old test).bits) (vector vectors.old x).bits (vector vectors.old y).bits) (vector vectors.old out)) }
 {
     mask.told();
@@ -421,9 +390,7 @@ fn copy<const N: usize, V: Words<N>>(
     mask: &LaneMask<N>,
 )
     requires wide { V.width ≡ cell_width (vector vectors.old out).elem }
-    requires out { out < length vectors.old }
-    requires x { x < length vectors.old }
-    requires elem { (vector vectors.old x).elem ≡ (vector vectors.old out).elem }
+    requires x { AreAlike vectors.old out x }
     ensures { vectors.new ≡ slice_set vectors.old out (written mask.now (vector vectors.old x).bits (vector vectors.old out)) }
 {
     mask.told();

@@ -84,6 +84,14 @@ impl Arrays {
         self.items.len()
     }
 
+    /// How many elements an array has.
+    pub fn size(&self, array: usize) -> usize
+        requires { array < length self.now.rows }
+        ensures { result ≡ size self.now array }
+    {
+        rows::count(&self.items, array)
+    }
+
     /// The number of local arrays.
     pub fn locals(&self) -> usize
         ensures { self.now.params + result ≡ length self.now.rows }

@@ -49,6 +49,13 @@ impl<const N: usize> LaneArray<N> {
         Ok(LaneArray { elem, rows })
     }
 
+    /// How many elements each lane has.
+    pub fn size(&self) -> usize
+        ensures { result ≡ size self.now }
+    {
+        self.rows.count()
+    }
+
     /// In each lane of the mask the lane's own element at the lane's index.
     ///
     /// Index where one is outside, with the lowest such lane, and then nothing changes.

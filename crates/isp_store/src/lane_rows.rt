@@ -40,6 +40,18 @@ impl<const N: usize> LaneRows<N> {
         }
     }
 
+    // The number of rows.
+    pub(crate) fn count(&self) -> usize
+        ensures { result ≡ length (lists self.now) }
+    {
+        match self {
+            LaneRows::Bits8(rows) => rows.len(),
+            LaneRows::Bits16(rows) => rows.len(),
+            LaneRows::Bits32(rows) => rows.len(),
+            LaneRows::Bits64(rows) => rows.len(),
+        }
+    }
+
     // The lane's word at its place in each lane of the mask.
     //
     // Index where one is outside, with the lowest such lane, and then nothing changes.

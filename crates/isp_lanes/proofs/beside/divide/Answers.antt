@@ -17,8 +17,8 @@ take-requires g c =
     let old = g.V.Words.words c.words_as-old.result in
     let new = zip2 (op_bits c.args.op t) xs ys in (
       search rules,
-      row_under n g.V.Words.width _ _ c.args.mask.now new old _ (elem_at vs out _ _ c.requires.out)
+      row_under n g.V.Words.width _ _ c.args.mask.now new old _ (elem_at vs out _ _ c.requires.x.first)
           c.divide.ensures c.told.ensures.long
           (length_zip2 _ xs ys n c.words_as-x.ensures.row.long c.words_as-y.ensures.row.long)
-          (fits_as (elem_at vs out _ _ c.requires.out ∙ c.requires.is) (λ _. new) (op_fits c.args.op t xs ys)) c.words_as-old.ensures.row,
+          (fits_as (elem_at vs out _ _ c.requires.x.first ∙ c.requires.is) (λ _. new) (op_fits c.args.op t xs ys)) c.words_as-old.ensures.row,
     )

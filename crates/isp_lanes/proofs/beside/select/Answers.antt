@@ -17,13 +17,13 @@ blend-requires g c =
     let ts = map is_on c.bytes-test.result in
     let xs = g.V.Words.words c.words_as-x.result in
     let ys = g.V.Words.words c.words_as-y.result in
-    let fit_x = fits_as (elem_at vs c.args.out _ _ c.requires.out ∙ sym c.requires.x_elem ∙ elem_at vs x _ _ c.requires.x) (λ _. xs) c.words_as-x.ensures.row.fits in
-    let fit_y = fits_as (elem_at vs c.args.out _ _ c.requires.out ∙ sym c.requires.y_elem ∙ elem_at vs y _ _ c.requires.y) (λ _. ys) c.words_as-y.ensures.row.fits in
+    let fit_x = fits_as (elem_at vs c.args.out _ _ c.requires.x.first ∙ sym c.requires.x.elem ∙ elem_at vs x _ _ c.requires.x.second) (λ _. xs) c.words_as-x.ensures.row.fits in
+    let fit_y = fits_as (elem_at vs c.args.out _ _ c.requires.x.first ∙ sym c.requires.y.elem ∙ elem_at vs y _ _ c.requires.y.second) (λ _. ys) c.words_as-y.ensures.row.fits in
     let tests = length-map c.bytes-test.result _ ∙ ap length c.bytes-test.ensures ∙ c.row.ensures.row.long in (
       search rules,
       (
         search rules,
-        row_as n g.V.Words.width refl c.over-new.ensures (c.requires.wide ∙ ap cell_width (elem_at vs c.args.out _ _ c.requires.out)) (length_sel n ts xs ys tests c.words_as-x.ensures.row.long c.words_as-y.ensures.row.long)
+        row_as n g.V.Words.width refl c.over-new.ensures (c.requires.wide ∙ ap cell_width (elem_at vs c.args.out _ _ c.requires.x.first)) (length_sel n ts xs ys tests c.words_as-x.ensures.row.long c.words_as-y.ensures.row.long)
             (sel_fits (2 ^ width _) (pow_pos (width _)) ts xs ys fit_x fit_y),
       ),
     )

@@ -11,12 +11,12 @@ blend-requires g c =
     let t = g.T.LaneElem.elem in
     let xs = g.V.Words.words c.words_as-x.result in
     let ys = g.V.Words.words c.words_as-y.result in
-    let same = sym c.requires.is ∙ elem_at c.args.vectors.now c.args.out _ _ c.requires.out in (
+    let same = sym c.requires.is ∙ elem_at c.args.vectors.now c.args.out _ _ c.requires.x.first in (
       search rules,
       (
         search rules,
         row_as n g.V.Words.width same c.on-new.ensures
-            (c.requires.wide ∙ ap cell_width (elem_at c.args.vectors.now c.args.out _ _ c.requires.out))
+            (c.requires.wide ∙ ap cell_width (elem_at c.args.vectors.now c.args.out _ _ c.requires.x.first))
             (length_zip2 _ xs ys n c.words_as-x.ensures.row.long c.words_as-y.ensures.row.long) (op_fits g.K.Operator.op t xs ys),
       ),
     )
