@@ -14,7 +14,7 @@ ghost use Rattle.std.specs.Simd.Lanes.{zip2, sel_l};
 ghost use Rattle.isp_base.specs.Values.{width, number, op_bits, compare_bits, convert_bits};
 ghost use Rattle.isp_base.specs.Unary.{unary_bits};
 ghost use Rattle.isp_lanes.specs.Lanes.{is_on, first_zero, written, no_row};
-ghost use Rattle.isp_frames.specs.Arrays.{ArrayThere, Rewritten, Scattered, array_elem, array_in, bits_in, elem_in, gathered_at, lanes_set, mask_in, outside_at, vector_in};
+ghost use Rattle.isp_frames.specs.Arrays.{ArrayThere, Rewritten, Scattered, array_count, array_elem, array_in, bits_in, elem_in, gathered_at, lanes_set, mask_in, outside_at, vector_in};
 ghost use Rattle.isp_frames.specs.Views.{no_array, scalars_at, vectors_at, masks_at};
 ghost use Rattle.isp_store.specs.Held.{elem, elements, size};
 
@@ -243,6 +243,18 @@ impl<const N: usize> Frame<N> {
         self.under.told();
         if r < self.vectors.len() && lane < N {
             Some(self.vectors[r].get(lane))
+        } else {
+            None
+        }
+    }
+
+    /// How many elements an array has.
+    pub fn size_there(&self, stores: &Arrays, a: usize) -> Option<usize>
+        requires { a < length self.now.arrays → ArrayThere stores.now (array_in self.now a) }
+        ensures { result ≡ (if nat_lt a (length self.now.arrays) then Some (array_count stores.now (array_in self.now a)) else None) }
+    {
+        if a < self.arrays.len() {
+            Some(self.arrays[a].size(stores))
         } else {
             None
         }
