@@ -1,12 +1,11 @@
 //! Packed calls: the lanes of a mask, in order, and consecutive elements.
 ghost use Rattle.std.specs.Prelude.{◌≡◌, ◌+◌, ◌<◌, length, IfOk, IfErr, IsTrue};
-ghost use Rattle.isp_base.specs.Types.{gang_width};
 ghost use Rattle.isp_code.specs.Fine.{AllFine, GoesOn};
 ghost use Rattle.isp_code.specs.Operands.{operands};
 ghost use Rattle.isp_frames.specs.Moves.{Goes, Fails};
-ghost use Rattle.isp_frames.specs.Shapes.{Shaped, Opened};
 ghost use Rattle.isp_machine.specs.reader.Instructions.{packed_load_of, packed_store_of};
 ghost use Rattle.isp_machine.specs.reader.Kinds.{is_packed};
+ghost use Rattle.isp_machine.specs.Steps.{Works};
 ghost use Rattle.isp_store.specs.Held.{shapes};
 
 use crate::operands::Access;
@@ -26,9 +25,7 @@ fn packed_store<const N: usize>(
     access: Access,
     y: Register,
 ) -> Result<(), Trap>
-    requires gang { N ≡ gang_width here.now.code.gang }
-    requires shaped { Shaped here.now.routine frame.old }
-    requires arrays { Opened here.now.routine (shapes stores.old) frame.old }
+    requires works { Works N here.now (shapes stores.old) frame.old }
     requires operands { AllFine here.now.code here.now.routine (operands (packed_store_of d access y)) }
     requires next { frame.old.pc + 1 < length here.now.routine.code }
     ensures ok { IfOk result (λ _. Goes here.now (packed_store_of d access y) stores.old frame.old stores.new frame.new) }
@@ -60,9 +57,7 @@ fn packed_load<const N: usize>(
     access: Access,
     y: Register,
 ) -> Result<(), Trap>
-    requires gang { N ≡ gang_width here.now.code.gang }
-    requires shaped { Shaped here.now.routine frame.old }
-    requires arrays { Opened here.now.routine (shapes stores.now) frame.old }
+    requires works { Works N here.now (shapes stores.now) frame.old }
     requires operands { AllFine here.now.code here.now.routine (operands (packed_load_of d access y)) }
     requires next { frame.old.pc + 1 < length here.now.routine.code }
     ensures ok { IfOk result (λ _. Goes here.now (packed_load_of d access y) stores.now frame.old stores.now frame.new) }
@@ -92,9 +87,7 @@ pub(crate) fn packed<const N: usize>(
     stores: &mut Arrays,
     instr: &Instr,
 ) -> Result<(), Trap>
-    requires gang { N ≡ gang_width here.now.code.gang }
-    requires shaped { Shaped here.now.routine frame.old }
-    requires arrays { Opened here.now.routine (shapes stores.old) frame.old }
+    requires works { Works N here.now (shapes stores.old) frame.old }
     requires operands { AllFine here.now.code here.now.routine (operands instr.now) }
     requires next { GoesOn here.now.routine frame.old.pc instr.now }
     requires packs { IsTrue (is_packed instr.now) }

@@ -9,9 +9,10 @@ ghost use Rattle.isp_base.specs.Truths.{is_true};
 ghost use Rattle.isp_code.specs.Operands.{scalar_operands};
 ghost use Rattle.isp_code.specs.Registers.{elem_of};
 ghost use Rattle.isp_frames.specs.Moves.{ScalarIs, Goes, Fails};
-ghost use Rattle.isp_frames.specs.Shapes.{Shaped, Opened};
+ghost use Rattle.isp_frames.specs.Shapes.{Shaped};
 ghost use Rattle.isp_frames.specs.Views.{conf_of, scalars_at};
 ghost use Rattle.isp_machine.specs.reader.Instructions.{load_of};
+ghost use Rattle.isp_machine.specs.Steps.{Works};
 ghost use Rattle.isp_store.specs.Held.{Held, shapes};
 ghost use Rattle.isp_base.specs.declared.types.Elem.{Elem};
 
@@ -124,9 +125,7 @@ fn scalar_value<const N: usize>(
     d: Register,
     instr: ScalarInstr,
 ) -> Result<u64, Trap>
-    requires gang { N ≡ gang_width here.now.code.gang }
-    requires shaped { Shaped here.now.routine frame.now }
-    requires arrays { Opened here.now.routine (shapes stores.now) frame.now }
+    requires works { Works N here.now (shapes stores.now) frame.now }
     requires operands { AllFine here.now.code here.now.routine (scalar_operands d instr) }
     ensures value { ScalarIs here.now stores.now frame.now d instr result }
     ensures fits { IfOk result (λ bits. bits < 2 ^ width (elem_of here.now.routine d)) }
@@ -182,9 +181,7 @@ fn load<const N: usize>(
     d: Register,
     access: Access,
 ) -> Result<u64, Trap>
-    requires gang { N ≡ gang_width here.now.code.gang }
-    requires shaped { Shaped here.now.routine frame.now }
-    requires arrays { Opened here.now.routine (shapes stores.now) frame.now }
+    requires works { Works N here.now (shapes stores.now) frame.now }
     requires operands { AllFine here.now.code here.now.routine (scalar_operands d (load_of access)) }
     ensures value { ScalarIs here.now stores.now frame.now d (load_of access) result }
     ensures fits { IfOk result (λ bits. bits < 2 ^ width (elem_of here.now.routine d)) }
@@ -208,9 +205,7 @@ pub(crate) fn scalar<const N: usize>(
     d: Register,
     instr: ScalarInstr,
 ) -> Result<(), Trap>
-    requires gang { N ≡ gang_width here.now.code.gang }
-    requires shaped { Shaped here.now.routine frame.old }
-    requires arrays { Opened here.now.routine (shapes stores.now) frame.old }
+    requires works { Works N here.now (shapes stores.now) frame.old }
     requires operands { AllFine here.now.code here.now.routine (scalar_operands d instr) }
     requires next { frame.old.pc + 1 < length here.now.routine.code }
     ensures ok { IfOk result (λ _. Goes here.now (Instr.Scalar d instr) stores.now frame.old stores.now frame.new) }

@@ -1,12 +1,10 @@
 //! One instruction.
 ghost use Rattle.std.specs.Prelude.{◌≡◌, Some, slice_get, IfOk, IfErr, OnOk, OnErr};
-ghost use Rattle.isp_base.specs.Types.{gang_width};
 ghost use Rattle.isp_code.specs.Fine.{AllFine, CallsFine, GoesOn};
 ghost use Rattle.isp_code.specs.Machine.{arrive, step};
 ghost use Rattle.isp_code.specs.Operands.{operands};
 ghost use Rattle.isp_frames.specs.Moves.{InLoop, Goes, Fails};
-ghost use Rattle.isp_frames.specs.Shapes.{Shaped, Opened};
-ghost use Rattle.isp_machine.specs.Steps.{Done, MayRefuse, Refuses, Steady, conf_now, given_shapes, stands_as};
+ghost use Rattle.isp_machine.specs.Steps.{Done, MayRefuse, Refuses, Steady, conf_now, given_shapes, stands_as, Works};
 ghost use Rattle.isp_machine.specs.declared.stop.Step.TheVariants.{Went};
 ghost use Rattle.isp_store.specs.Held.{shapes};
 
@@ -41,9 +39,7 @@ fn compute<const N: usize>(
     stores: &mut Arrays,
     instr: &Instr,
 ) -> Result<(), Trap>
-    requires gang { N ≡ gang_width here.now.code.gang }
-    requires shaped { Shaped here.now.routine frame.old }
-    requires arrays { Opened here.now.routine (shapes stores.old) frame.old }
+    requires works { Works N here.now (shapes stores.old) frame.old }
     requires operands { AllFine here.now.code here.now.routine (operands instr.now) }
     requires next { GoesOn here.now.routine frame.old.pc instr.now }
     requires computes { InLoop instr.now }

@@ -1,11 +1,10 @@
 //! Instructions that write arrays.
 ghost use Rattle.std.specs.Prelude.{◌≡◌, ◌+◌, ◌<◌, length, IfOk, IfErr, IsTrue};
-ghost use Rattle.isp_base.specs.Types.{gang_width};
 ghost use Rattle.isp_code.specs.Fine.{AllFine, GoesOn};
 ghost use Rattle.isp_code.specs.Operands.{operands};
 ghost use Rattle.isp_frames.specs.Moves.{Goes, Fails};
 ghost use Rattle.isp_frames.specs.Shapes.{Shaped, Opened};
-ghost use Rattle.isp_machine.specs.Steps.{Comes};
+ghost use Rattle.isp_machine.specs.Steps.{Comes, Works};
 ghost use Rattle.isp_machine.specs.reader.Instructions.{store_of, store_run_of};
 ghost use Rattle.isp_machine.specs.reader.Kinds.{is_scatter, is_store};
 ghost use Rattle.isp_machine.specs.declared.stop.Step.TheVariants.{Went};
@@ -27,9 +26,7 @@ fn store<const N: usize>(
     access: Access,
     y: Register,
 ) -> Result<(), Trap>
-    requires gang { N ≡ gang_width here.now.code.gang }
-    requires shaped { Shaped here.now.routine frame.old }
-    requires arrays { Opened here.now.routine (shapes stores.old) frame.old }
+    requires works { Works N here.now (shapes stores.old) frame.old }
     requires operands { AllFine here.now.code here.now.routine (operands (store_of access y)) }
     requires next { frame.old.pc + 1 < length here.now.routine.code }
     ensures ok { IfOk result (λ _. Goes here.now (store_of access y) stores.old frame.old stores.new frame.new) }
@@ -59,9 +56,7 @@ pub(crate) fn scatter<const N: usize>(
     ending: &mut Step,
     instr: &Instr,
 )
-    requires gang { N ≡ gang_width here.now.code.gang }
-    requires shaped { Shaped here.now.routine frame.old }
-    requires arrays { Opened here.now.routine (shapes stores.old) frame.old }
+    requires works { Works N here.now (shapes stores.old) frame.old }
     requires operands { AllFine here.now.code here.now.routine (operands instr.now) }
     requires next { GoesOn here.now.routine frame.old.pc instr.now }
     requires went { ending.old ≡ Went }
@@ -103,9 +98,7 @@ fn store_run<const N: usize>(
     access: Access,
     y: Register,
 ) -> Result<(), Trap>
-    requires gang { N ≡ gang_width here.now.code.gang }
-    requires shaped { Shaped here.now.routine frame.old }
-    requires arrays { Opened here.now.routine (shapes stores.old) frame.old }
+    requires works { Works N here.now (shapes stores.old) frame.old }
     requires operands { AllFine here.now.code here.now.routine (operands (store_run_of access y)) }
     requires next { frame.old.pc + 1 < length here.now.routine.code }
     ensures ok { IfOk result (λ _. Goes here.now (store_run_of access y) stores.old frame.old stores.new frame.new) }
@@ -134,9 +127,7 @@ pub(crate) fn store_shared<const N: usize>(
     stores: &mut Arrays,
     instr: &Instr,
 ) -> Result<(), Trap>
-    requires gang { N ≡ gang_width here.now.code.gang }
-    requires shaped { Shaped here.now.routine frame.old }
-    requires arrays { Opened here.now.routine (shapes stores.old) frame.old }
+    requires works { Works N here.now (shapes stores.old) frame.old }
     requires operands { AllFine here.now.code here.now.routine (operands instr.now) }
     requires next { GoesOn here.now.routine frame.old.pc instr.now }
     requires stores { IsTrue (is_store instr.now) }

@@ -4,8 +4,9 @@ ghost use Rattle.isp_base.specs.Types.{gang_width};
 ghost use Rattle.isp_code.specs.Fine.{AllFine};
 ghost use Rattle.isp_code.specs.Operands.{vector_operands};
 ghost use Rattle.isp_frames.specs.Moves.{Sure, VectorIs, InPlace, Goes, Fails};
-ghost use Rattle.isp_frames.specs.Shapes.{Shaped, Opened};
+ghost use Rattle.isp_frames.specs.Shapes.{Shaped};
 ghost use Rattle.isp_machine.specs.reader.Instructions.{gather_of, load_run_of};
+ghost use Rattle.isp_machine.specs.Steps.{Works};
 ghost use Rattle.isp_store.specs.Held.{Held, shapes};
 
 use crate::cross::across;
@@ -78,9 +79,7 @@ fn vector_value<const N: usize>(
     d: Register,
     instr: VectorInstr,
 ) -> Result<(), Trap>
-    requires gang { N ≡ gang_width here.now.code.gang }
-    requires shaped { Shaped here.now.routine frame.old }
-    requires arrays { Opened here.now.routine (shapes stores.now) frame.old }
+    requires works { Works N here.now (shapes stores.now) frame.old }
     requires operands { AllFine here.now.code here.now.routine (vector_operands d instr) }
     ensures pc { IfOk result (λ _. frame.new.pc ≡ frame.old.pc) }
     ensures ok { IfOk result (λ _. InPlace here.now stores.now frame.old d instr frame.new) }
@@ -132,9 +131,7 @@ pub(crate) fn gather<const N: usize>(
     d: Register,
     access: Access,
 ) -> Result<(), Trap>
-    requires gang { N ≡ gang_width here.now.code.gang }
-    requires shaped { Shaped here.now.routine frame.old }
-    requires arrays { Opened here.now.routine (shapes stores.now) frame.old }
+    requires works { Works N here.now (shapes stores.now) frame.old }
     requires operands { AllFine here.now.code here.now.routine (vector_operands d (gather_of access)) }
     ensures pc { IfOk result (λ _. frame.new.pc ≡ frame.old.pc) }
     ensures ok { IfOk result (λ _. InPlace here.now stores.now frame.old d (gather_of access) frame.new) }
@@ -162,9 +159,7 @@ pub(crate) fn load_run<const N: usize>(
     d: Register,
     access: Access,
 ) -> Result<(), Trap>
-    requires gang { N ≡ gang_width here.now.code.gang }
-    requires shaped { Shaped here.now.routine frame.old }
-    requires arrays { Opened here.now.routine (shapes stores.now) frame.old }
+    requires works { Works N here.now (shapes stores.now) frame.old }
     requires operands { AllFine here.now.code here.now.routine (vector_operands d (load_run_of access)) }
     ensures pc { IfOk result (λ _. frame.new.pc ≡ frame.old.pc) }
     ensures ok { IfOk result (λ _. InPlace here.now stores.now frame.old d (load_run_of access) frame.new) }
@@ -190,9 +185,7 @@ pub(crate) fn vector<const N: usize>(
     d: Register,
     instr: VectorInstr,
 ) -> Result<(), Trap>
-    requires gang { N ≡ gang_width here.now.code.gang }
-    requires shaped { Shaped here.now.routine frame.old }
-    requires arrays { Opened here.now.routine (shapes stores.now) frame.old }
+    requires works { Works N here.now (shapes stores.now) frame.old }
     requires operands { AllFine here.now.code here.now.routine (vector_operands d instr) }
     requires next { frame.old.pc + 1 < length here.now.routine.code }
     ensures ok { IfOk result (λ _. Goes here.now (Instr.Vector d instr) stores.now frame.old stores.now frame.new) }

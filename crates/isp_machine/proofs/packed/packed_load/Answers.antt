@@ -22,8 +22,8 @@ returns-in-Ok-clause-ok g c =
     let small : c.in-Ok.count < 2 ^ width (elem_of a.here.now.routine a.d) = subst (λ (t : Elem). c.in-Ok.count < 2 ^ width t) (sym c.requires.operands.0.1) (omega (arith, few)) in
     let y = c.requires.operands.1.1.1.0.0 in
     goes_packed_load a.here.now a.stores.now a.frame.now a.access.array a.access.index a.access.mask a.access.place c.requires.operands.1.0.1 g.row.N
-    c.store-store.result c.scalar-index.result (flag_of c.mask.result.now) c.requires.gang c.store-store.ensures.value c.store-store.ensures.size
-    c.scalar-index.ensures.value c.mask.ensures c.requires.shaped c.requires.arrays a.y a.d c.requires.operands.0.0 y c.in-Ok.count small
+    c.store-store.result c.scalar-index.result (flag_of c.mask.result.now) c.requires.works.gang c.store-store.ensures.value c.store-store.ensures.size
+    c.scalar-index.ensures.value c.mask.ensures c.requires.works.shaped c.requires.works.arrays a.y a.d c.requires.operands.0.0 y c.in-Ok.count small
     c.in-Ok.ensures.count c.pack_load.new.into (c.in-Ok.ensures.elem ∙ c.vector.ensures.elem)
     (c.in-Ok.ensures.lanes ∙ ap (over (on (flag_of c.mask.result.now)
     (λ p. elements a.stores.now c.store-store.result
@@ -36,6 +36,6 @@ returns-in-Err-clause-err g c =
     let a = c.args in
     subst (λ (t : Trap). Fails a.here.now (instr.PackedLoad a.d a.access.array a.access.index a.y a.access.mask a.access.place) a.stores.now a.frame.now t) (sym c.trap.ensures)
     (fails_packed_load a.here.now a.stores.now a.frame.now a.access.array a.access.index a.access.mask a.access.place c.requires.operands.1.0.1
-    g.row.N c.store-store.result c.scalar-index.result (flag_of c.mask.result.now) c.requires.gang c.store-store.ensures.value
-    c.store-store.ensures.size c.scalar-index.ensures.value c.mask.ensures c.requires.shaped c.requires.arrays a.y a.d c.in-Err.trap.instance
+    g.row.N c.store-store.result c.scalar-index.result (flag_of c.mask.result.now) c.requires.works.gang c.store-store.ensures.value
+    c.store-store.ensures.size c.scalar-index.ensures.value c.mask.ensures c.requires.works.shaped c.requires.works.arrays a.y a.d c.in-Err.trap.instance
     c.in-Err.ensures.lowest)

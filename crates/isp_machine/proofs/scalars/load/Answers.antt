@@ -23,4 +23,4 @@ returns-in-Err-clause-value g c =
     (not_loaded c.args.here.now c.args.stores.now c.args.frame.now c.args.access.array c.args.access.index c.args.access.mask c.args.d
     c.args.access.place c.requires.operands.1.0.1 c.store-store.result c.scalar.result c.store-store.ensures.value c.store-store.ensures.size
     c.scalar.ensures.value
-    g.row.N (flag_of c.mask.result.now) c.in-Err.trap.instance c.requires.gang c.mask.ensures c.in-Err.ensures.lane c.in-Err.ensures.outside)
+    g.row.N (flag_of c.mask.result.now) c.in-Err.trap.instance c.requires.works.gang c.mask.ensures c.in-Err.ensures.lane c.in-Err.ensures.outside)

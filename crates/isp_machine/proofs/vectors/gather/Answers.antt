@@ -13,8 +13,8 @@ gather-requires g c =
     let f = a.frame.now in
     let o = c.requires.operands in
     let there = o.1.0.0 in
-    let shaped = c.requires.shaped in
-    let opened = c.requires.arrays in
+    let shaped = c.requires.works.shaped in
+    let opened = c.requires.works.arrays in
     let elem = vector_elem_is h f shaped a.d o.0.0 ∙ sym o.1.0.2 ∙ sym (array_elem_is h a.stores.now f shaped opened a.access.array there) in (
       search rules,
       (
@@ -44,7 +44,7 @@ returns-in-Ok-clause-ok g c =
       written = record {
         lanes = _;
         value = gathered a.here.now a.stores.now a.frame.now a.access.array a.access.index a.access.mask a.d
-            a.access.place c.requires.arrays c.requires.operands.1.0.0 g.row.N c.requires.gang c.in-Ok.ensures.inside;
+            a.access.place c.requires.works.arrays c.requires.operands.1.0.0 g.row.N c.requires.works.gang c.in-Ok.ensures.inside;
         bits = c.in-Ok.ensures.lanes;
       };
       now = c.in-Ok.ensures.others;
@@ -54,4 +54,4 @@ pub returns-in-Err-clause-err : goal.returns-in-Err-clause-err
 returns-in-Err-clause-err g c =
     let a = c.args in
     subst (λ (t : Trap). VectorIs a.here.now a.stores.now a.frame.now a.d (vector.Gather a.access.array a.access.index a.access.mask a.access.place) (Err t)) (sym c.trap.ensures)
-    (not_gathered a.here.now a.stores.now a.frame.now a.access.array a.access.index a.access.mask a.d a.access.place c.requires.arrays c.requires.operands.1.0.0 g.row.N c.requires.gang c.in-Err.trap.instance c.in-Err.ensures.lowest)
+    (not_gathered a.here.now a.stores.now a.frame.now a.access.array a.access.index a.access.mask a.d a.access.place c.requires.works.arrays c.requires.operands.1.0.0 g.row.N c.requires.works.gang c.in-Err.trap.instance c.in-Err.ensures.lowest)

@@ -15,7 +15,7 @@ returns-in-Ok-clause-ok g c =
       written = record {
         lanes = _;
         value = run_loaded a.here.now a.stores.now a.frame.now a.access.array a.access.index a.access.mask a.access.place c.requires.operands.1.0.1
-            g.row.N c.store-store.result c.scalar-index.result (masks_at a.frame.now a.access.mask.number) c.requires.gang c.store-store.ensures.value
+            g.row.N c.store-store.result c.scalar-index.result (masks_at a.frame.now a.access.mask.number) c.requires.works.gang c.store-store.ensures.value
             c.store-store.ensures.size c.scalar-index.ensures.value refl a.d c.in-Ok.ensures.inside;
         bits = c.in-Ok.ensures.lanes;
       };
@@ -27,5 +27,5 @@ returns-in-Err-clause-err g c =
     let a = c.args in
     subst (λ (t : Trap). VectorIs a.here.now a.stores.now a.frame.now a.d (vector.LoadRun a.access.array a.access.index a.access.mask a.access.place) (Err t)) (sym c.trap.ensures)
     (run_not_loaded a.here.now a.stores.now a.frame.now a.access.array a.access.index a.access.mask a.access.place c.requires.operands.1.0.1 g.row.N
-    c.store-store.result c.scalar-index.result (masks_at a.frame.now a.access.mask.number) c.requires.gang c.store-store.ensures.value
+    c.store-store.result c.scalar-index.result (masks_at a.frame.now a.access.mask.number) c.requires.works.gang c.store-store.ensures.value
     c.store-store.ensures.size c.scalar-index.ensures.value refl a.d c.in-Err.trap.instance c.in-Err.ensures.lowest)

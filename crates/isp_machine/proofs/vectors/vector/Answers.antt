@@ -11,6 +11,6 @@ returns-clause-ok g c =
     let f = c.args.frame.now in
     let there = dest_vector h.code h.routine c.args.d c.args.instr c.requires.operands in
     let left = c.in_ok-vector_value.ensures.ok in
-    goes_vector h c.args.stores.now f c.requires.shaped c.requires.arrays c.args.d c.args.instr (vector_in f c.args.d.number) left.value _ there refl
-    (left.elem ∙ vector_elem_is h.routine f c.requires.shaped c.args.d there) left.written
+    goes_vector h c.args.stores.now f c.requires.works.shaped c.requires.works.arrays c.args.d c.args.instr (vector_in f c.args.d.number) left.value _ there refl
+    (left.elem ∙ vector_elem_is h.routine f c.requires.works.shaped c.args.d there) left.written
     (c.next.ensures ∙ ap (λ (z : FrameRows). record z { pc = z.pc + 1 }) left.now)
