@@ -46,7 +46,7 @@ pub fn source_story(
 
 /// Where a run trapped, for which instance, and what to write instead.
 pub fn trap_story(alloc: Global, asked: &Asked<'_, '_>, trap: Trap) -> Result<String, AllocError> {
-    trap_message(alloc, asked.source, trap)?.text(alloc)
+    trap_message(alloc, asked.source, trap, None)?.text(alloc)
 }
 
 /// Why an entry was not run: what is exported, or which of its arguments is refused.

@@ -23,14 +23,26 @@ pub fn source_message<'n, 't>(
     Ok(message)
 }
 
-/// Where a run trapped, for which instance, and what to write instead.
+/// An element that an instance asked for: an index, how many elements after it, and how many the array has.
+#[derive(Clone, Copy, Debug, PartialEq, Eq)]
+pub struct Element {
+    pub index: i128,
+    pub after: usize,
+    pub size: usize,
+}
+
+/// Where a run trapped, for which instance, at which element if that is known, and what to write instead.
 pub fn trap_message<'n, 't>(
     alloc: Global,
     source: Source<'n, 't>,
     trap: Trap,
+    element: Option<Element>,
 ) -> Result<Message<'n, 't>, AllocError> {
     let words = format!(in alloc; "trap {}", trap.kind)?;
-    let what = format!(in alloc; "{words}, instance {}", trap.instance)?;
+    let mut what = format!(in alloc; "{words}, instance {}", trap.instance)?;
+    if let Some(element) = element {
+        push_element(&mut what, element)?;
+    }
     let mut message = Message::new(alloc, what);
     message.source = Some(source);
     message.span = Some(trap.place);
@@ -54,6 +66,17 @@ pub fn entry_message<'n, 't>(
     message.source = Some(source);
     advise(&mut message, "50 NoEntry", None)?;
     Ok(message)
+}
+
+// The index of an element, and the size of the array.
+fn push_element(page: &mut String, element: Element) -> Result<(), AllocError> {
+    let index = element.index.saturating_add(element.after as i128);
+    let plural = if element.size == 1 { "" } else { "s" };
+    write!(
+        page,
+        ": index {index}, and the array has {} element{plural}",
+        element.size
+    )
 }
 
 // Names with commas between them, or `nothing`.

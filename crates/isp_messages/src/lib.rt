@@ -10,7 +10,7 @@ mod page;
 pub use bindings::{argument_site, arguments_site, push_arguments};
 pub use close::closest;
 pub use failures::{
-    advise, entry_message, fault_message, push_advice, source_message, trap_message,
+    Element, advise, entry_message, fault_message, push_advice, source_message, trap_message,
 };
 pub use message::Message;
 pub use page::{Source, push_place};

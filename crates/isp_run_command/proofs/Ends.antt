@@ -27,7 +27,7 @@ module _ (datas : Datas) (q : RunWords) (text : List ℕ) where
   unloaded NoEntry h = absurd h
   unloaded (NotGiven w e) h = absurd h
   unloaded (NotPlanned w e) h = absurd h
-  unloaded (Trapped t) h = absurd h
+  unloaded (Trapped t e) h = absurd h
   unloaded BudgetUsed h = absurd h
   unloaded (CannotWrite name) h = absurd h
   unloaded NoOutput h = absurd h
@@ -40,7 +40,7 @@ module _ (datas : Datas) (q : RunWords) (text : List ℕ) where
   refused NoEntry h = absurd h
   refused (NotGiven w e) h = absurd h
   refused (NotPlanned w e) h = absurd h
-  refused (Trapped t) h = absurd h
+  refused (Trapped t e) h = absurd h
   refused BudgetUsed h = absurd h
   refused (CannotWrite name) h = absurd h
   refused NoOutput h = absurd h
@@ -54,7 +54,7 @@ module _ (datas : Datas) (q : RunWords) (text : List ℕ) where
   uncalled words code loaded compiles NoEntry h = record { words = words; loaded = loaded; code = code; compiles = compiles; not = h }
   uncalled words code loaded compiles (NotGiven w e) h = record { words = words; loaded = loaded; code = code; compiles = compiles; not = h }
   uncalled words code loaded compiles (NotPlanned w e) h = tt
-  uncalled words code loaded compiles (Trapped t) h = absurd h
+  uncalled words code loaded compiles (Trapped t e) h = absurd h
   uncalled words code loaded compiles BudgetUsed h = absurd h
   uncalled words code loaded compiles (CannotWrite name) h = absurd h
   uncalled words code loaded compiles NoOutput h = absurd h
@@ -67,7 +67,7 @@ module _ (datas : Datas) (q : RunWords) (text : List ℕ) where
   unwritten ended NoEntry h = absurd h
   unwritten ended (NotGiven w e) h = absurd h
   unwritten ended (NotPlanned w e) h = absurd h
-  unwritten ended (Trapped t) h = absurd h
+  unwritten ended (Trapped t e) h = absurd h
   unwritten ended BudgetUsed h = absurd h
   unwritten ended (CannotWrite name) h = ended
   unwritten ended NoOutput h = absurd h
@@ -81,7 +81,7 @@ unplanned code q words (Source f) h = absurd h
 unplanned code q words NoEntry h = absurd h
 unplanned code q words (NotGiven w e) h = absurd h
 unplanned code q words (NotPlanned w e) h = tt
-unplanned code q words (Trapped t) h = absurd h
+unplanned code q words (Trapped t e) h = absurd h
 unplanned code q words BudgetUsed h = absurd h
 unplanned code q words (CannotWrite name) h = absurd h
 unplanned code q words NoOutput h = absurd h
@@ -95,7 +95,7 @@ unasked holds q (Source f) h = absurd h
 unasked holds q NoEntry h = absurd h
 unasked holds q (NotGiven w e) h = absurd h
 unasked holds q (NotPlanned w e) h = absurd h
-unasked holds q (Trapped t) h = absurd h
+unasked holds q (Trapped t e) h = absurd h
 unasked holds q BudgetUsed h = absurd h
 unasked holds q (CannotWrite name) h = absurd h
 unasked holds q NoOutput h = absurd h

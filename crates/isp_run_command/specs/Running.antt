@@ -16,6 +16,8 @@ use Rattle.isp_code.specs.Listing.{Listing, Routine}
 use Rattle.isp_runs.specs.BoundReports.{MeansBound, RunsBound}
 use Rattle.isp_runs.specs.Compilation.{IsCompilation}
 use Rattle.isp_front.specs.Front.{IsFaulty}
+use Rattle.isp_messages.specs.declared.failures.Element.{Element}
+use Rattle.isp_outside.specs.declared.outside.Outside.{Outside}
 use Rattle.isp_output.specs.Sinks.{TookAll, TookSome}
 use Rattle.isp_engine.specs.Stories.{Holds}
 use Rattle.isp_runs.specs.declared.report.BoundReport.{BoundReport}
@@ -77,18 +79,22 @@ abbrev pub page_of : List (Bor (List ℕ)) → TFunction → BoundReport → Lis
 page_of outs h r = r.output.items ++ answer_line r.stop (shown outs h.parameters h.variables r.arrays.items) r.result
 
 -- how the program ends after it
-abbrev pub end_of_stop : Stop → Result ⊤ RunStop
-end_of_stop stop.Ended = Ok tt
-end_of_stop (stop.Trapped t) = Err (Trapped t)
-end_of_stop stop.Running = Err BudgetUsed
-end_of_stop stop.Memory = Err Memory
+abbrev pub element_of : Option Outside → Option Element
+element_of None = None
+element_of (Some o) = Some (record { index = o.index; after = o.after; size = o.size })
+
+abbrev pub end_of_stop : Stop → Option Outside → Result ⊤ RunStop
+end_of_stop stop.Ended o = Ok tt
+end_of_stop (stop.Trapped t) o = Err (Trapped t (element_of o))
+end_of_stop stop.Running o = Err BudgetUsed
+end_of_stop stop.Memory o = Err Memory
 
 pub record Showed (datas : Datas) (q : RunWords) (text page : List ℕ) (end : Result ⊤ RunStop) : Type 0 where
   pub function : TFunction
   pub report : BoundReport
   pub ran : WordsRan datas q text function report
   pub page_is : page ≡ page_of q.outputs.items function report
-  pub ends : end ≡ end_of_stop report.stop
+  pub ends : end ≡ end_of_stop report.stop report.outside
 
 -- ---- what is not
 

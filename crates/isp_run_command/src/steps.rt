@@ -6,17 +6,19 @@ ghost use Rattle.isp_code.specs.Listing.{Routine};
 ghost use Rattle.isp_runs.specs.BoundReports.{MeansBound, RunsBound};
 ghost use Rattle.isp_runs.specs.Compilation.{IsCompilation};
 ghost use Rattle.isp_front.specs.Front.{IsSource};
-ghost use Rattle.isp_run_command.specs.Running.{Binds, IsRefused, NotBegun, NotCalled, budget_of, end_of_stop, page_of};
+ghost use Rattle.isp_run_command.specs.Running.{Binds, IsRefused, NotBegun, NotCalled, budget_of, element_of, end_of_stop, page_of};
 ghost use Rattle.isp_run_stops.specs.declared.stop.RunStop.TheVariants as run_stop;
 ghost use Rattle.isp_typed.specs.Typed.{Program};
 ghost use Rattle.isp_typed.specs.Views.{function_of, program_of};
 
-use isp_base::Bound;
+use isp_base::{Bound, Trap};
 use isp_bind::answer;
 use isp_engine::{
     BoundReport, FileFault, Image, SourceFiles, StartFault, Stop, compile, execute_bound, front,
 };
 use isp_lex::SourceFault;
+use isp_messages::Element;
+use isp_outside::Outside;
 use isp_rates::Checked;
 use isp_run_data::{outputs, shown_of};
 use isp_run_stops::RunStop;
@@ -146,13 +148,14 @@ pub(crate) fn shown_page<'a>(
     report: BoundReport,
 ) -> Result<Page<'a>, AllocError>
     ensures page { IfOk result (λ p. p.bytes.items ≡ page_of outputs.now (function_of function.now) report) }
-    ensures end { IfOk result (λ p. p.end ≡ end_of_stop report.stop) }
+    ensures end { IfOk result (λ p. p.end ≡ end_of_stop report.stop report.outside) }
 {
     let BoundReport {
         stop,
         output,
         arrays,
         result,
+        outside,
     } = report;
     let mut bytes = output;
     if let Stop::Ended = stop {
@@ -163,18 +166,40 @@ pub(crate) fn shown_page<'a>(
     }
     Ok(Page {
         bytes,
-        end: end_of(stop),
+        end: end_of(stop, outside),
     })
 }
 
 // How the program ends after a run that stopped so.
-fn end_of<'a>(stop: Stop) -> Result<(), RunStop<'a>>
-    ensures { result ≡ end_of_stop stop }
+fn end_of<'a>(stop: Stop, outside: Option<Outside>) -> Result<(), RunStop<'a>>
+    ensures { result ≡ end_of_stop stop outside }
 {
     match stop {
         Stop::Ended => Ok(()),
-        Stop::Trapped(trap) => Err(RunStop::Trapped(trap)),
+        Stop::Trapped(trap) => Err(trapped(trap, outside)),
         Stop::Running => Err(RunStop::BudgetUsed),
         Stop::Memory => Err(RunStop::Memory),
+    }
+}
+
+fn trapped<'a>(trap: Trap, outside: Option<Outside>) -> RunStop<'a>
+    ensures { result ≡ run_stop.Trapped trap (element_of outside) }
+{
+    RunStop::Trapped {
+        trap,
+        element: element_of(outside),
+    }
+}
+
+fn element_of(outside: Option<Outside>) -> Option<Element>
+    ensures { result ≡ element_of outside }
+{
+    match outside {
+        Some(outside) => Some(Element {
+            index: outside.index,
+            after: outside.after,
+            size: outside.size,
+        }),
+        None => None,
     }
 }

@@ -20,7 +20,7 @@ use denote.Ref.{Bor}
 abbrev pub status_of : RunStop → ℕ
 status_of (Source f) = 1
 status_of (BadWord w s) = 2
-status_of (Trapped t) = 3
+status_of (Trapped t e) = 3
 status_of BudgetUsed = 4
 status_of NoEntry = 5
 status_of (NotGiven w e) = 5

@@ -44,7 +44,7 @@ fn message<'n, 't>(
 ) -> Result<Message<'n, 't>, AllocError> {
     match stop {
         RunStop::Source(fault) => source_message(alloc, source, *fault),
-        RunStop::Trapped(trap) => trap_message(alloc, source, *trap),
+        RunStop::Trapped { trap, element } => trap_message(alloc, source, *trap, *element),
         RunStop::NoEntry => entry_message(alloc, source, request.entry, &exports.names),
         RunStop::BadWord { word, slip } => {
             let (sentence, fix) = slip.text();

@@ -4,6 +4,7 @@ ghost use Rattle.isp_run_stops.specs.Stopping.{status_of};
 
 use isp_base::Trap;
 use isp_lex::Fault;
+use isp_messages::Element;
 use isp_run_words::{GivenFault, OutputFault, Words};
 use std::alloc::{AllocError, AllocFailed};
 
@@ -11,7 +12,10 @@ use std::alloc::{AllocError, AllocFailed};
 #[derive(Drop)]
 pub enum RunStop<'a> {
     /// 2: a word that is none of a run.
-    BadWord { word: &'a str, slip: Slip },
+    BadWord {
+        word: &'a str,
+        slip: Slip,
+    },
     /// 6: the file of this name cannot be read.
     CannotRead(&'a str),
     /// 1: the source is refused.
@@ -19,11 +23,20 @@ pub enum RunStop<'a> {
     /// 5: no function is exported under the name of the entry.
     NoEntry,
     /// 5: the words and their files give no arguments.
-    NotGiven { words: Words, fault: GivenFault },
+    NotGiven {
+        words: Words,
+        fault: GivenFault,
+    },
     /// 5: the array of an output cannot be written so.
-    NotPlanned { word: &'a str, fault: OutputFault },
-    /// 3: the run trapped.
-    Trapped(Trap),
+    NotPlanned {
+        word: &'a str,
+        fault: OutputFault,
+    },
+    /// 3: the run trapped, at this element where an access did.
+    Trapped {
+        trap: Trap,
+        element: Option<Element>,
+    },
     /// 4: as many instructions as may be run have not been enough.
     BudgetUsed,
     /// 6: the file of this name cannot be written.
@@ -81,7 +94,7 @@ impl RunStop<'_> {
         match self {
             RunStop::Source(_) => 1,
             RunStop::BadWord { .. } => 2,
-            RunStop::Trapped(_) => 3,
+            RunStop::Trapped { .. } => 3,
             RunStop::BudgetUsed => 4,
             RunStop::NoEntry | RunStop::NotGiven { .. } | RunStop::NotPlanned { .. } => 5,
             RunStop::CannotRead(_) | RunStop::CannotWrite(_) | RunStop::NoOutput => 6,

@@ -48,7 +48,7 @@ module _ (code : Listing) (entry : List ℕ) (xs : List Argument) (b : ℕ) (old
   pub stands : StandsAs stop (state now)
   stands = (counted b old now stop gives).3
 
-  pub runs_bound : (r : BoundReport) → r.stop ≡ stop → Leaves (rows xs) (state now) r → RunsBound code entry xs b r
+  pub runs_bound : (r : BoundReport) → r.stop ≡ stop → Leaves code (rows xs) (state now) r → RunsBound code entry xs b r
   runs_bound r same leaves =
       let k = counted b old now stop gives in
       let ran : Made k.0 old now = k.2 in
@@ -60,7 +60,7 @@ module _ (code : Listing) (entry : List ℕ) (xs : List Argument) (b : ℕ) (old
         is_entry = begins.entry;
         count = k.0;
         counts = subst (λ (s : Stop). Counts s b k.0) (sym same) k.1;
-        leaves = subst (λ s. Leaves (rows xs) s r) came leaves;
+        leaves = subst (λ s. Leaves code (rows xs) s r) came leaves;
       }
 
 pub refuses : (code : Listing) (entry : List ℕ) (xs : List Argument) (fault : StartFault) → (fault ≡ NoEntry → NoEntryFor code entry xs)
@@ -88,20 +88,20 @@ over Running x c h = absurd h
 over Ended x c h = refl
 over (Trapped t) x c h = absurd h
 
-pub shows : (rs : List Row) (s : State) (r : BoundReport) → Leaves rs s r → Shows (outcome rs s) r
-shows rs (Going c) r l = (cut r.stop c l.stop, l.result, l.output)
-shows rs (Fell t c) r l = (fell r.stop t c l.stop, l.arrays, l.result, l.output)
-shows rs (Over x c) r l = (over r.stop x c l.stop, l.arrays, l.result, l.output)
+pub shows : {code : Listing} (rs : List Row) (s : State) (r : BoundReport) → Leaves code rs s r → Shows (outcome rs s) r
+shows {code} rs (Going c) r l = (cut r.stop c l.stop, l.result, l.output)
+shows {code} rs (Fell t c) r l = (fell r.stop t c l.stop, l.arrays, l.result, l.output)
+shows {code} rs (Over x c) r l = (over r.stop x c l.stop, l.arrays, l.result, l.output)
 
-is_over : (rs : List Row) (s : State) (r : BoundReport) → Leaves rs s r → (IsCut r.stop → ⊥) → IsOver (outcome rs s)
-is_over rs (Going c) r l whole = whole (cut r.stop c l.stop)
-is_over rs (Fell t c) r l whole = tt
-is_over rs (Over x c) r l whole = tt
+is_over : {code : Listing} (rs : List Row) (s : State) (r : BoundReport) → Leaves code rs s r → (IsCut r.stop → ⊥) → IsOver (outcome rs s)
+is_over {code} rs (Going c) r l whole = whole (cut r.stop c l.stop)
+is_over {code} rs (Fell t c) r l whole = tt
+is_over {code} rs (Over x c) r l whole = tt
 
-out_is : (rs : List Row) (s : State) (r : BoundReport) → Leaves rs s r → r.output.items ≡ out_of (outcome rs s)
-out_is rs (Going c) r l = l.output
-out_is rs (Fell t c) r l = l.output
-out_is rs (Over x c) r l = l.output
+out_is : {code : Listing} (rs : List Row) (s : State) (r : BoundReport) → Leaves code rs s r → r.output.items ≡ out_of (outcome rs s)
+out_is {code} rs (Going c) r l = l.output
+out_is {code} rs (Fell t c) r l = l.output
+out_is {code} rs (Over x c) r l = l.output
 
 -- ---- the meaning
 

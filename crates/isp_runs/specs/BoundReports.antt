@@ -1,13 +1,13 @@
 -- What a run of bound arguments is reported as.
---     Leaves rs s r                  the report says how the state s stands, which began with the arrays rs
+--     Leaves code rs s r             the report says how the state s stands, which began with the arrays rs
 --     RunsBound code entry xs b r    what the report says of the machine: after b instructions, or fewer where memory stopped it
 --     MeansBound program entry xs b r    and of the meaning of the program
-use Rattle.std.specs.Prelude.{◌≡◌, ℕ, ◌<◌, List, None}
+use Rattle.std.specs.Prelude.{◌≡◌, ℕ, ◌<◌, List, Option, None}
 use Rattle.isp_base.specs.Arguments.{rows, rows_now}
 use Rattle.isp_base.specs.Outcomes.{Outcome, Ends, Traps, GoesOn}
 use Rattle.isp_base.specs.Rows.{Row}
 use Rattle.isp_base.specs.declared.signature.Argument.{Argument}
-use Rattle.isp_code.specs.Conf.{State, Runs}
+use Rattle.isp_code.specs.Conf.{State, Runs, Trapped as AtTrap}
 use Rattle.isp_code.specs.Entries as machine
 use Rattle.isp_code.specs.Listing.{Listing, Routine}
 use Rattle.isp_code.specs.Machine.{after, first_conf}
@@ -18,6 +18,8 @@ use Rattle.isp_machine.specs.declared.stop.Stop.{Stop}
 use Rattle.isp_machine.specs.declared.stop.Stop.TheVariants.{Running, Trapped, Ended, Memory}
 use Rattle.isp_meaning.specs.Entries as meaning
 use Rattle.isp_typed.specs.Typed.{Program, TFunction}
+use Rattle.isp_outside.specs.Asked.{outside_of}
+use Rattle.isp_outside.specs.declared.outside.Outside.{Outside}
 use Rattle.isp_runs.specs.Meaning.{Tells}
 use Rattle.isp_runs.specs.declared.report.BoundReport.{BoundReport}
 
@@ -35,11 +37,17 @@ StandsAs Running s = IsRunning s
 StandsAs Ended s = IsEnded s
 StandsAs (Trapped t) s = IsTrapped t s
 
-pub record Leaves (rs : List Row) (s : State) (r : BoundReport) : Type 0 where
+-- the element at which an access trapped
+abbrev pub outside_at : Listing → State → Option Outside
+outside_at code (AtTrap t c) = outside_of code c t.instance
+outside_at code s = None
+
+pub record Leaves (code : Listing) (rs : List Row) (s : State) (r : BoundReport) : Type 0 where
   pub stop : StandsAs r.stop s
   pub arrays : r.arrays.items ≡ rows_now rs (conf s).arrays
   pub output : r.output.items ≡ (conf s).out
   pub result : r.result ≡ result_of s
+  pub outside : r.outside ≡ outside_at code s
 
 -- ---- by the machine
 
@@ -49,7 +57,7 @@ pub record RunsBound (code : Listing) (entry : List ℕ) (xs : List Argument) (b
   pub is_entry : machine.IsEntry code entry xs function routine
   pub count : ℕ
   pub counts : Counts r.stop budget count
-  pub leaves : Leaves (rows xs) (after code count (Runs (first_conf code function routine xs))) r
+  pub leaves : Leaves code (rows xs) (after code count (Runs (first_conf code function routine xs))) r
 
 -- 50 exactly where no exported function has the name and takes the arguments
 abbrev pub RefusesBound : Listing → List ℕ → List Argument → StartFault → Type 0

@@ -5,29 +5,44 @@ ghost use Rattle.isp_base.specs.Types.{gang_width};
 ghost use Rattle.isp_base.specs.declared.types.Gang.{Gang};
 ghost use Rattle.isp_machine.specs.Kept.{given, state};
 ghost use Rattle.isp_store.specs.Held.{shapes_of};
-ghost use Rattle.isp_runs.specs.BoundReports.{Leaves, MeansBound, NotMeant, RefusesBound, RunsBound, StandsAs};
+ghost use Rattle.isp_runs.specs.BoundReports.{Leaves, MeansBound, NotMeant, RefusesBound, RunsBound, StandsAs, outside_at};
 ghost use Rattle.isp_runs.specs.Compilation.{IsCompilation};
 
 use crate::image::Image;
 use crate::report::BoundReport;
 use isp_base::{Bound, Gang};
 use isp_machine::{Machine, StartFault, Stop};
+use isp_outside::{Outside, outside};
 use isp_verify::Verified;
 use std::alloc::Global;
 
 // What a machine leaves that stopped. Nothing is copied.
-fn left<const N: usize>(machine: Machine<'_, N>, stop: Stop) -> BoundReport
+fn left<const N: usize>(code: &Verified, machine: Machine<'_, N>, stop: Stop) -> BoundReport
+    requires code { machine.entry.code ≡ code.now }
     ensures stop { result.stop ≡ stop }
     ensures leaves { (rs : List Row) → shapes_of rs ≡ given machine.entry → StandsAs stop (state machine.entry)
-        → Leaves rs (state machine.entry) result }
+        → Leaves code.now rs (state machine.entry) result }
 {
     let value = machine.result();
+    let outside = asked(code, &machine, stop);
     let rest = machine.into_rest();
     BoundReport {
         stop,
         output: rest.output,
         arrays: rest.arrays,
         result: value,
+        outside,
+    }
+}
+
+// The element that an access asked for, where that is why the machine stopped.
+fn asked<const N: usize>(code: &Verified, machine: &Machine<'_, N>, stop: Stop) -> Option<Outside>
+    requires code { machine.now.code ≡ code.now }
+    ensures { StandsAs stop (state machine.now) → result ≡ outside_at code.now (state machine.now) }
+{
+    match stop {
+        Stop::Trapped(trap) => outside(code, machine, trap.instance),
+        Stop::Ended | Stop::Running | Stop::Memory => None,
     }
 }
 
@@ -47,7 +62,7 @@ fn run<const N: usize>(
     match Machine::<N>::start(alloc, code, entry, bound) {
         Ok(mut machine) => {
             let stop = machine.run(budget);
-            Ok(left(machine, stop))
+            Ok(left(code, machine, stop))
         }
         Err(refused) => Err(refused),
     }

@@ -1,6 +1,7 @@
 //! What a run is reported as.
 use isp_base::{Array, Trap, Value};
 use isp_machine::Stop;
+use isp_outside::Outside;
 
 /// How a run stands.
 #[derive(Clone, Copy, Debug, PartialEq, Eq)]
@@ -31,4 +32,6 @@ pub struct BoundReport {
     pub output: Vec<u8>,
     pub arrays: Vec<Array>,
     pub result: Option<Value>,
+    /// Where it trapped at an access of an array: the element that was asked for.
+    pub outside: Option<Outside>,
 }

@@ -6,4 +6,5 @@ returns-clause-leaves g c = λ rs given stands. record {
   arrays = c.into_rest-rest.ensures.arrays rs given;
   output = c.into_rest-rest.ensures.output;
   result = c.result-value.ensures;
+  outside = c.asked-outside.ensures stands;
 }

@@ -5,5 +5,6 @@ use Rattle.isp_says.proofs.texts.list_text.Goals as goal
 
 pub loop-lane-preserved : goal.loop-lane-preserved
 loop-lane-preserved g c =
-    item_added c.args.lanes.now.elem c.loop-lane.lane (on (flag_of c.args.mask.now) (lane_of c.args.lanes.now.bits)) _ _ _ _
+    item_added c.args.lanes.now.elem c.loop-lane.lane (on (flag_of c.args.mask.now) (lane_of c.args.lanes.now.bits)) c.value_on.result c.loop-lane.text.items c.push_comma.new.text.items
+    c.push_item.new.text.items
     c.loop-lane.invariant c.in_ok-push_comma.ensures c.in_ok-push_item.ensures c.value_on.ensures
