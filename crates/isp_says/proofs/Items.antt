@@ -1,5 +1,5 @@
 -- The text of a list with one item more.
-use Rattle.std.proofs.Common.{◌≡◌, sym, ap, ◌∙◌, ℕ, suc, ◌+◌, add-one, ◌++◌, List, ◌∷◌, Option}
+use Rattle.std.proofs.Common.{◌≡◌, sym, ap, ◌∙◌, ℕ, ◌+◌, add-one, ◌++◌, List, ◌∷◌, Option}
 use Rattle.std.proofs.lemmas.List.{append_assoc}
 use Rattle.isp_base.specs.Maps.{Map}
 use Rattle.isp_base.specs.Prints.{comma, items_text, item_text}

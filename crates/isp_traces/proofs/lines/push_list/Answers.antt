@@ -14,8 +14,8 @@ pub loop-lane-preserved : goal.loop-lane-preserved
 loop-lane-preserved g c =
     let seen = seen_conf c.args.machine.now in
     let is = c.value.ensures ∙ ap (λ (l : Listing). lanes_held l seen c.args.written c.loop-lane.lane) c.requires in
-    items_more c.args.elem c.loop-lane.lane (lanes_held c.args.code.now seen c.args.written) c.value.result (c.args.text.now.items ++ codes "[") c.loop-lane.text.items c.push_comma.new.text.items
-    c.push_item.new.text.items c.loop-lane.invariant c.in_ok-push_comma.ensures c.in_ok-push_item.ensures is
+    items_more c.args.elem c.loop-lane.lane (lanes_held c.args.code.now seen c.args.written) c.value.result (c.args.text.now.items ++ codes "[") c.loop-lane.text.items c.push_comma.new.out.items
+    c.push_item.new.out.items c.loop-lane.invariant c.in_ok-push_comma.ensures c.in_ok-push_item.ensures is
 
 pub returns : goal.returns
 returns g c =
