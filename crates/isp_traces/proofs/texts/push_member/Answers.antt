@@ -8,7 +8,7 @@ use Rattle.isp_traces.proofs.texts.push_member.Goals as goal
 pub returns : goal.returns
 returns c =
     let name : c.as_bytes.result.now ≡ c.args.name.now = search rules in
-    let t1 = c.push_comma.new.text.items in
+    let t1 = c.push_comma.new.out.items in
     let t2 = c.extend_from_slice.new.self.items in
     let t3 = c.extend_from_slice-2.new.self.items in
     let t4 = c.extend_from_slice-3.new.self.items in
