@@ -1,3 +1,4 @@
 mod Ids
+mod Items
 mod Lasts
 mod Texts

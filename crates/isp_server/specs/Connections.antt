@@ -9,7 +9,8 @@ use Rattle.isp_server.specs.declared.phase.Phase.TheVariants.{Fresh, Running, Sh
 use Rattle.isp_server.specs.declared.server.Next.{Next}
 use Rattle.isp_server.specs.declared.server.Next.TheVariants.{End, GoOn}
 use Rattle.isp_server.specs.declared.server.Server.{Server}
-use Rattle.isp_server.specs.Deeds.{Deed, refuse, introduce, shut_down, hold, release, leave, ignore, AsksFor}
+use Rattle.isp_server.specs.Deeds.{Deed, refuse, introduce, shut_down, tell, hold, release, leave, ignore, AsksFor}
+use Rattle.isp_server.specs.Told.{Told}
 use Rattle.isp_server.specs.Texts.{text_in}
 use Rattle.isp_server.specs.Sent.{answer, introduction, published, refused, Judges}
 
@@ -29,6 +30,7 @@ abbrev pub phase_after : Deed → Phase → Phase
 phase_after (refuse id why) phase = phase
 phase_after (introduce id) phase = Running
 phase_after (shut_down id) phase = ShutDown
+phase_after (tell id question at) phase = phase
 phase_after (hold uri text) phase = phase
 phase_after (release uri) phase = phase
 phase_after leave phase = phase
@@ -39,6 +41,7 @@ abbrev pub text_after : Deed → (List ℕ → Option (List ℕ)) → List ℕ �
 text_after (refuse id why) text_of name = text_of name
 text_after (introduce id) text_of name = text_of name
 text_after (shut_down id) text_of name = text_of name
+text_after (tell id question at) text_of name = text_of name
 text_after (hold uri text) text_of name = if bytes_eq uri name then Some text else text_of name
 text_after (release uri) text_of name = if bytes_eq uri name then None else text_of name
 text_after leave text_of name = text_of name
@@ -54,27 +57,29 @@ abbrev pub next_after : Deed → Phase → Next
 next_after (refuse id why) phase = GoOn
 next_after (introduce id) phase = GoOn
 next_after (shut_down id) phase = GoOn
+next_after (tell id question at) phase = GoOn
 next_after (hold uri text) phase = GoOn
 next_after (release uri) phase = GoOn
 next_after leave phase = End (status_of phase)
 next_after ignore phase = GoOn
 
 -- a request is answered, once; the text of a document that is held is judged
-abbrev pub Sends : Gang → List ℕ → Deed → List Data → Type 0
-Sends gang version (refuse id why) sent = sent ≡ refused id why ∷ []
-Sends gang version (introduce id) sent = sent ≡ answer id (introduction version) ∷ []
-Sends gang version (shut_down id) sent = sent ≡ answer id null ∷ []
-Sends gang version (hold uri text) sent = (diagnostics : Items) × Judges gang text diagnostics × (sent ≡ published uri diagnostics ∷ [])
-Sends gang version (release uri) sent = sent ≡ published uri no_items ∷ []
-Sends gang version leave sent = sent ≡ []
-Sends gang version ignore sent = sent ≡ []
+abbrev pub Sends : Gang → List ℕ → (List ℕ → Option (List ℕ)) → Deed → List Data → Type 0
+Sends gang version text_of (refuse id why) sent = sent ≡ refused id why ∷ []
+Sends gang version text_of (introduce id) sent = sent ≡ answer id (introduction version) ∷ []
+Sends gang version text_of (shut_down id) sent = sent ≡ answer id null ∷ []
+Sends gang version text_of (tell id question at) sent = (d : Data) × Told gang (text_of at.uri) at question d × (sent ≡ answer id d ∷ [])
+Sends gang version text_of (hold uri text) sent = (diagnostics : Items) × Judges gang text diagnostics × (sent ≡ published uri diagnostics ∷ [])
+Sends gang version text_of (release uri) sent = sent ≡ published uri no_items ∷ []
+Sends gang version text_of leave sent = sent ≡ []
+Sends gang version text_of ignore sent = sent ≡ []
 
 pub record Does (deed : Deed) (old new : Connection) (sent : List Data) (next : Next) : Type 0 where
   pub same_gang : new.gang ≡ old.gang
   pub same_version : new.version ≡ old.version
   pub phase_is : new.phase ≡ phase_after deed old.phase
   pub texts_are : (uri : List ℕ) → new.text_of uri ≡ text_after deed old.text_of uri
-  pub sends : Sends old.gang old.version deed sent
+  pub sends : Sends old.gang old.version old.text_of deed sent
   pub next_is : next ≡ next_after deed old.phase
 
 -- ---- what a message does

@@ -3,15 +3,23 @@
 --     asked s id method ps    the deed that a call asks for, of a request where there is an id, else of a notification
 --     AsksFor s content deed  the deed that the content of a message asks for
 -- A server is asked in a phase: before `initialize`, after it, or after `shutdown`. `is_open uri` says whether a document is open.
-use Rattle.std.specs.Prelude.{◌≡◌, ℕ, List, codes, bytes_eq, Bool, true, false, Option, Some, None, is_some, option_and_then, if◌then◌else◌, IsUtf8}
+use Rattle.std.specs.Prelude.{◌≡◌, ℕ, List, codes, bytes_eq, Bool, true, false, Option, Some, None, is_some, option_and_then, option_map, unwrap_or, if◌then◌else◌, IsUtf8}
 use Rattle.serde_json.specs.Data.{Data, null, boolean, number, string, array, object, Items, no_items, item}
-use Rattle.serde_json.specs.Find.{get, as_array, as_object, as_str}
+use Rattle.serde_json.specs.Find.{get, as_array, as_bool, as_number, as_object, as_str, as_u64}
 use Rattle.serde_json.specs.Read.{read}
 use Rattle.isp_rpc.specs.Calls.{IsCall, IsNoCall}
 use Rattle.isp_server.specs.declared.phase.Phase.{Phase}
 use Rattle.isp_server.specs.declared.phase.Phase.TheVariants.{Fresh, Running, ShutDown}
+use Rattle.isp_server.specs.declared.question.Question.{Question}
+use Rattle.isp_server.specs.declared.question.Question.TheVariants.{Hover, Definition, References}
 use Rattle.isp_server.specs.declared.refusal.Refusal.{Refusal}
 use Rattle.isp_server.specs.declared.refusal.Refusal.TheVariants.{ParseError, InvalidRequest, MethodNotFound, InvalidParams, ServerNotInitialized}
+
+-- a place of a document, by line and character
+pub record Place : Type 0 where
+  pub uri : List ℕ
+  pub line : ℕ
+  pub character : ℕ
 
 pub data Deed : Type 0 where
   -- the request of this id is refused
@@ -19,6 +27,8 @@ pub data Deed : Type 0 where
   -- the requests `initialize` and `shutdown` of this id are answered
   introduce : Data → Deed
   shut_down : Data → Deed
+  -- the request of this id, which asks something of a place, is answered
+  tell : Data → Question → Place → Deed
   -- the document of this URI has this text from now on; it is closed
   hold : List ℕ → List ℕ → Deed
   release : List ℕ → Deed
@@ -27,7 +37,7 @@ pub data Deed : Type 0 where
   -- a notification is ignored
   ignore : Deed
 
--- ---- requests
+-- ---- ids, and what `initialize` wants
 
 -- an id is a number, a string or null
 abbrev pub is_id : Data → Bool
@@ -41,13 +51,6 @@ is_id (object ms) = false
 -- `initialize` has an object of parameters
 abbrev pub introduced : Data → Option Data → Deed
 introduced id params = if is_some (option_and_then as_object params) then introduce id else refuse id InvalidParams
-
-abbrev pub request : Phase → Data → List ℕ → Option Data → Deed
-request Fresh id method params = if bytes_eq method (codes "initialize") then introduced id params else refuse id ServerNotInitialized
-request Running id method params =
-    if bytes_eq method (codes "shutdown") then shut_down id
-    else (if bytes_eq method (codes "initialize") then refuse id InvalidRequest else refuse id MethodNotFound)
-request ShutDown id method params = refuse id InvalidRequest
 
 -- ---- documents
 
@@ -87,6 +90,48 @@ opened params = both (uri_of params) (text_at (codes "text") (document params))
 
 abbrev pub changed : Option Data → Option (List ℕ × List ℕ)
 changed params = both (uri_of params) (changed_text params)
+
+-- ---- requests on a place of a document
+
+abbrev pub count_at : List ℕ → Data → Option ℕ
+count_at name d = option_and_then as_u64 (option_and_then as_number (get name d))
+
+abbrev pub position : Option Data → Option Data
+position params = option_and_then (get (codes "position")) params
+
+abbrev pub placed : List ℕ → Data → Option Place
+placed uri at =
+    option_and_then (λ line. option_map (λ character. record { uri = uri; line = line; character = character }) (count_at (codes "character") at)) (count_at (codes "line") at)
+
+abbrev pub place : Option Data → Option Place
+place params = option_and_then (λ uri. option_and_then (placed uri) (position params)) (uri_of params)
+
+-- the declaration is among the references where that is asked for
+abbrev pub declaration_said : Option Data → Option Bool
+declaration_said params = option_and_then as_bool (option_and_then (get (codes "includeDeclaration")) (option_and_then (get (codes "context")) params))
+
+abbrev pub with_declaration : Option Data → Bool
+with_declaration params = unwrap_or (declaration_said params) false
+
+abbrev pub told : Data → Question → Option Place → Deed
+told id question None = refuse id InvalidParams
+told id question (Some at) = tell id question at
+
+-- ---- requests
+
+abbrev pub running : Data → List ℕ → Option Data → Deed
+running id method params =
+    if bytes_eq method (codes "shutdown") then shut_down id
+    else (if bytes_eq method (codes "initialize") then refuse id InvalidRequest
+    else (if bytes_eq method (codes "textDocument/hover") then told id Hover (place params)
+    else (if bytes_eq method (codes "textDocument/definition") then told id Definition (place params)
+    else (if bytes_eq method (codes "textDocument/references") then told id (References (with_declaration params)) (place params)
+    else refuse id MethodNotFound))))
+
+abbrev pub request : Phase → Data → List ℕ → Option Data → Deed
+request Fresh id method params = if bytes_eq method (codes "initialize") then introduced id params else refuse id ServerNotInitialized
+request Running id method params = running id method params
+request ShutDown id method params = refuse id InvalidRequest
 
 -- ---- notifications
 

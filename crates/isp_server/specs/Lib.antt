@@ -2,4 +2,5 @@ pub mod reader
 pub mod Deeds
 pub mod Sent
 pub mod Texts
+pub mod Told
 pub mod Connections

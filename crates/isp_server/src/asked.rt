@@ -2,12 +2,13 @@
 ghost use Rattle.std.specs.Prelude.{◌≡◌, option_map};
 ghost use Rattle.serde_json.specs.View.{view};
 ghost use Rattle.isp_server.specs.Connections.{connection_of, is_open};
-ghost use Rattle.isp_server.specs.Deeds.{Asks, asked, edit, held, held_open, introduced, is_id, notification, released_open, request};
-ghost use Rattle.isp_server.specs.reader.Views.{deed_view, document_view};
+ghost use Rattle.isp_server.specs.Deeds.{Asks, asked, edit, held, held_open, introduced, is_id, notification, released_open, request, running, told};
+ghost use Rattle.isp_server.specs.reader.Views.{deed_view, document_view, place_view};
 
-use crate::deed::{Deed, Document};
-use crate::params::{changed, opened, uri_of};
+use crate::deed::{Deed, Document, Place};
+use crate::params::{changed, opened, place, uri_of, with_declaration};
 use crate::phase::Phase;
+use crate::question::Question;
 use crate::refusal::Refusal;
 use crate::server::Server;
 use isp_rpc::{Call, read_call};
@@ -49,12 +50,33 @@ fn request<'v>(phase: Phase, id: &'v Value, method: &str, params: Option<&'v Val
             "initialize" => introduced(id, params),
             _ => Deed::Refuse(Some(id), Refusal::ServerNotInitialized),
         },
-        Phase::Running => match method {
-            "shutdown" => Deed::ShutDown(id),
-            "initialize" => Deed::Refuse(Some(id), Refusal::InvalidRequest),
-            _ => Deed::Refuse(Some(id), Refusal::MethodNotFound),
-        },
+        Phase::Running => running(id, method, params),
         Phase::ShutDown => Deed::Refuse(Some(id), Refusal::InvalidRequest),
+    }
+}
+
+fn running<'v>(id: &'v Value, method: &str, params: Option<&'v Value>) -> Deed<'v>
+    ensures { deed_view result ≡ running (view id.now) method.now (option_map (λ v. view v.now) params.entry) }
+{
+    match method {
+        "shutdown" => Deed::ShutDown(id),
+        "initialize" => Deed::Refuse(Some(id), Refusal::InvalidRequest),
+        "textDocument/hover" => told(id, Question::Hover, place(params)),
+        "textDocument/definition" => told(id, Question::Definition, place(params)),
+        "textDocument/references" => {
+            let declared = with_declaration(params);
+            told(id, Question::References { declared }, place(params))
+        }
+        _ => Deed::Refuse(Some(id), Refusal::MethodNotFound),
+    }
+}
+
+fn told<'v>(id: &'v Value, question: Question, place: Option<Place<'v>>) -> Deed<'v>
+    ensures { deed_view result ≡ told (view id.now) question (option_map place_view place.entry) }
+{
+    match place {
+        Some(place) => Deed::Tell(id, question, place),
+        None => Deed::Refuse(Some(id), Refusal::InvalidParams),
     }
 }
 

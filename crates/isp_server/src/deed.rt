@@ -1,4 +1,5 @@
 //! What a message asks the server to do.
+use crate::question::Question;
 use crate::refusal::Refusal;
 use serde_json::Value;
 
@@ -7,6 +8,14 @@ use serde_json::Value;
 pub(crate) struct Document<'v> {
     pub uri: &'v str,
     pub text: &'v str,
+}
+
+/// A place of a document, by line and character.
+#[derive(Clone, Copy)]
+pub(crate) struct Place<'v> {
+    pub uri: &'v str,
+    pub line: usize,
+    pub character: usize,
 }
 
 /// What the server has to do.
@@ -18,6 +27,8 @@ pub(crate) enum Deed<'v> {
     Introduce(&'v Value),
     /// `shutdown` of this id is answered.
     ShutDown(&'v Value),
+    /// The request of this id, which asks something of a place, is answered.
+    Tell(&'v Value, Question, Place<'v>),
     /// The document has this text from now on.
     Hold(Document<'v>),
     /// The document of this URI is closed.

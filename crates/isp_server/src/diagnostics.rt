@@ -52,7 +52,8 @@ fn code_of(alloc: Global, rule: Rule) -> Result<String, AllocError>
     format!(in alloc; "{rule}")
 }
 
-fn range(alloc: Global, text: &str, span: Span) -> Result<Value, AllocError>
+/// A span of a text as a range of the protocol.
+pub(crate) fn range(alloc: Global, text: &str, span: Span) -> Result<Value, AllocError>
     ensures { IfOk result (λ v. view v ≡ range text.now span) }
 {
     let start = position(alloc, text, span.start)?;

@@ -7,11 +7,14 @@ mod diagnostics;
 mod frame;
 mod params;
 mod phase;
+mod question;
 mod refusal;
 mod sent;
 mod server;
+mod told;
 
 pub use frame::framed;
 pub use phase::Phase;
+pub use question::Question;
 pub use refusal::Refusal;
 pub use server::{Next, Reply, Server};

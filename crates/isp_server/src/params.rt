@@ -1,10 +1,10 @@
 //! What the notifications of documents say.
-ghost use Rattle.std.specs.Prelude.{◌≡◌, Some, option_map};
+ghost use Rattle.std.specs.Prelude.{◌≡◌, Some, option_map, ℕ};
 ghost use Rattle.serde_json.specs.View.{view};
-ghost use Rattle.isp_server.specs.Deeds.{changed, changed_text, opened, uri_of, whole_text};
-ghost use Rattle.isp_server.specs.reader.Views.{document_view};
+ghost use Rattle.isp_server.specs.Deeds.{changed, changed_text, count_at, opened, place, uri_of, whole_text, declaration_said, with_declaration};
+ghost use Rattle.isp_server.specs.reader.Views.{document_view, place_view};
 
-use crate::deed::Document;
+use crate::deed::{Document, Place};
 use serde_json::Value;
 
 /// The URI of the document, by `textDocument`.
@@ -49,4 +49,43 @@ fn whole_text(change: &Value) -> Option<&str>
         return None;
     }
     change.get("text")?.as_str()
+}
+
+/// The place that a request names.
+pub(crate) fn place<'v>(params: Option<&'v Value>) -> Option<Place<'v>>
+    ensures { option_map place_view result ≡ place (option_map (λ v. view v.now) params.entry) }
+{
+    let uri = uri_of(params)?;
+    let position = params?.get("position")?;
+    let line = count_at(position, "line")?;
+    let character = count_at(position, "character")?;
+    Some(Place {
+        uri,
+        line,
+        character,
+    })
+}
+
+// A member that is a whole number.
+fn count_at(value: &Value, name: &str) -> Option<usize>
+    ensures { result ≡ count_at name.now (view value.now) }
+{
+    let count = value.get(name)?.as_u64()?;
+    Some(count as usize)
+}
+
+/// Whether a request asks for the declaration too.
+pub(crate) fn with_declaration(params: Option<&Value>) -> bool
+    ensures { result ≡ with_declaration (option_map (λ v. view v.now) params.entry) }
+{
+    match declaration_said(params) {
+        Some(said) => said,
+        None => false,
+    }
+}
+
+fn declaration_said(params: Option<&Value>) -> Option<bool>
+    ensures { result ≡ declaration_said (option_map (λ v. view v.now) params.entry) }
+{
+    params?.get("context")?.get("includeDeclaration")?.as_bool()
 }

@@ -46,7 +46,13 @@ fn capabilities(alloc: Global) -> Result<Value, AllocError>
     ensures { IfOk result (λ v. view v ≡ capabilities) }
 {
     let sync = json!(in alloc; {"openClose": true, "change": 1u8})?;
-    json!(in alloc; {"positionEncoding": "utf-16", "textDocumentSync": sync})
+    json!(in alloc; {
+        "positionEncoding": "utf-16",
+        "textDocumentSync": sync,
+        "hoverProvider": true,
+        "definitionProvider": true,
+        "referencesProvider": true
+    })
 }
 
 /// The diagnostics of a document, as a notification.

@@ -1,14 +1,16 @@
 //! The state of a connection, and what a message does to it.
-ghost use Rattle.std.specs.Prelude.{◌≡◌, [], ◌∷◌, ℕ, List, IfOk, OnErr, OnOk, Some, None, bytes_eq, map, if◌then◌else◌};
+ghost use Rattle.std.specs.Prelude.{◌≡◌, [], ◌∷◌, ℕ, List, IfOk, OnErr, OnOk, Some, None, bytes_eq, map, option_map, if◌then◌else◌};
 ghost use Rattle.serde_json.specs.View.{view};
 ghost use Rattle.isp_server.specs.Texts.{text_in};
 
 use crate::asked::deed_of;
-use crate::deed::{Deed, Document};
+use crate::deed::{Deed, Document, Place};
 use crate::diagnostics::diagnostics;
 use crate::phase::Phase;
+use crate::question::Question;
 use crate::refusal::Refusal;
 use crate::sent::{answer, introduction, published, refused};
+use crate::told::told;
 use isp_base::Gang;
 use serde_json::Value;
 use std::alloc::{AllocError, Global};
@@ -85,8 +87,8 @@ fn forget(documents: &mut BTreeMap<String, String>, uri: &str)
 
 impl Server {
     ghost use Rattle.isp_server.specs.Connections.{Does, Goes, IsFresh, Stays, connection_of, is_open, status_of};
-    ghost use Rattle.isp_server.specs.Deeds.{hold, introduce, refuse, release, shut_down};
-    ghost use Rattle.isp_server.specs.reader.Views.{deed_view, id_view};
+    ghost use Rattle.isp_server.specs.Deeds.{hold, introduce, refuse, release, shut_down, tell};
+    ghost use Rattle.isp_server.specs.reader.Views.{deed_view, id_view, place_view};
 
     /// A connection on which nothing has come. Texts are judged for a gang of this size, and `initialize` is told this version.
     pub fn new(alloc: Global, gang: Gang, version: &'static str) -> Server
@@ -134,6 +136,7 @@ impl Server {
             Deed::Refuse(id, why) => self.refuse(alloc, id, why),
             Deed::Introduce(id) => self.introduce(alloc, id),
             Deed::ShutDown(id) => self.shut_down(alloc, id),
+            Deed::Tell(id, question, at) => self.tell(alloc, id, question, at),
             Deed::Hold(document) => self.hold(alloc, document),
             Deed::Release(uri) => self.release(alloc, uri),
             Deed::Leave => Ok(none(alloc, Next::End(self.status()))),
@@ -166,6 +169,31 @@ impl Server {
         let reply = one(alloc, answer(alloc, id, Value::Null)?)?;
         self.phase = Phase::ShutDown;
         Ok(reply)
+    }
+
+    fn tell(
+        &self,
+        alloc: Global,
+        id: &Value,
+        question: Question,
+        at: Place<'_>,
+    ) -> Result<Reply, AllocError>
+        ensures { IfOk result (λ reply. Does (tell (view id.now) question (place_view at.entry)) (connection_of self.now) (connection_of self.now) (map view reply.messages.items) reply.next) }
+    {
+        let text = self.text_of(at.uri);
+        let said = told(alloc, self.gang, text, question, at)?;
+        let reply = one(alloc, answer(alloc, id, said)?)?;
+        Ok(reply)
+    }
+
+    // The text of a document, if it is open.
+    fn text_of(&self, uri: &str) -> Option<&str>
+        ensures { option_map (λ t. t.now) result ≡ text_in self.now.documents uri.now }
+    {
+        match self.documents.get(uri) {
+            Some(text) => Some(text.as_str()),
+            None => None,
+        }
     }
 
     fn hold(&mut self, alloc: Global, document: Document<'_>) -> Result<Reply, AllocError>
