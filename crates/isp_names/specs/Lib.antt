@@ -1,1 +1,3 @@
+pub mod reader
 pub mod Known
+pub mod Renames

@@ -29,6 +29,8 @@ pub data Deed : Type 0 where
   shut_down : Data → Deed
   -- the request of this id, which asks something of a place, is answered
   tell : Data → Question → Place → Deed
+  -- the request of this id, to give what stands at a place another name, is answered
+  rename : Data → Place → List ℕ → Deed
   -- the document of this URI has this text from now on; it is closed
   hold : List ℕ → List ℕ → Deed
   release : List ℕ → Deed
@@ -117,6 +119,14 @@ abbrev pub told : Data → Question → Option Place → Deed
 told id question None = refuse id InvalidParams
 told id question (Some at) = tell id question at
 
+abbrev pub new_name : Option Data → Option (List ℕ)
+new_name params = text_at (codes "newName") params
+
+abbrev pub renaming : Data → Option Place → Option (List ℕ) → Deed
+renaming id None name = refuse id InvalidParams
+renaming id (Some at) None = refuse id InvalidParams
+renaming id (Some at) (Some name) = rename id at name
+
 -- ---- requests
 
 abbrev pub running : Data → List ℕ → Option Data → Deed
@@ -126,7 +136,8 @@ running id method params =
     else (if bytes_eq method (codes "textDocument/hover") then told id Hover (place params)
     else (if bytes_eq method (codes "textDocument/definition") then told id Definition (place params)
     else (if bytes_eq method (codes "textDocument/references") then told id (References (with_declaration params)) (place params)
-    else refuse id MethodNotFound))))
+    else (if bytes_eq method (codes "textDocument/rename") then renaming id (place params) (new_name params)
+    else refuse id MethodNotFound)))))
 
 abbrev pub request : Phase → Data → List ℕ → Option Data → Deed
 request Fresh id method params = if bytes_eq method (codes "initialize") then introduced id params else refuse id ServerNotInitialized

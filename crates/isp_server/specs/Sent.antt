@@ -15,17 +15,23 @@ use Rattle.isp_typed.specs.Typed.{Program}
 use Rattle.isp_front.specs.Front.{IsFaulty, IsSource}
 use Rattle.isp_positions.specs.Positions.{character_of, line_of}
 use Rattle.isp_server.specs.declared.refusal.Refusal.{Refusal}
-use Rattle.isp_server.specs.declared.refusal.Refusal.TheVariants.{ParseError, InvalidRequest, MethodNotFound, InvalidParams, ServerNotInitialized}
+use Rattle.isp_server.specs.declared.refusal.Refusal.TheVariants.{ParseError, InvalidRequest, MethodNotFound, InvalidParams, ServerNotInitialized, NoProgram, NoName, NotAName, OfLibrary, Clash, Captured}
 
 -- ---- answers
 
--- the errors of JSON-RPC 2.0 and of the protocol: -32700, -32600, -32601, -32602, -32002
+-- the errors of JSON-RPC 2.0 and of the protocol: -32700, -32600, -32601, -32602, -32002; -32803 where a request failed
 abbrev pub code_of : Refusal → ℤ
 code_of ParseError = negsuc 32699
 code_of InvalidRequest = negsuc 32599
 code_of MethodNotFound = negsuc 32600
 code_of InvalidParams = negsuc 32601
 code_of ServerNotInitialized = negsuc 32001
+code_of NoProgram = negsuc 32802
+code_of NoName = negsuc 32802
+code_of NotAName = negsuc 32802
+code_of OfLibrary = negsuc 32802
+code_of Clash = negsuc 32802
+code_of Captured = negsuc 32802
 
 abbrev pub name_of : Refusal → List ℕ
 name_of ParseError = codes "ParseError"
@@ -33,6 +39,12 @@ name_of InvalidRequest = codes "InvalidRequest"
 name_of MethodNotFound = codes "MethodNotFound"
 name_of InvalidParams = codes "InvalidParams"
 name_of ServerNotInitialized = codes "ServerNotInitialized"
+name_of NoProgram = codes "NoProgram"
+name_of NoName = codes "NoName"
+name_of NotAName = codes "NotAName"
+name_of OfLibrary = codes "OfLibrary"
+name_of Clash = codes "Clash"
+name_of Captured = codes "Captured"
 
 abbrev pub answer : Data → Data → Data
 answer id value = object (member (codes "id") id (member (codes "jsonrpc") (string (codes "2.0")) (member (codes "result") value no_members)))
@@ -42,12 +54,12 @@ refused id why =
     let error = object (member (codes "code") (number (of_integer (code_of why))) (member (codes "message") (string (name_of why)) no_members)) in
     object (member (codes "error") error (member (codes "id") id (member (codes "jsonrpc") (string (codes "2.0")) no_members)))
 
--- the whole text of a document is sent with each change, places count units of UTF-16, and three requests on them are answered
+-- the whole text of a document is sent with each change, places count units of UTF-16, and four requests on them are answered
 abbrev pub capabilities : Data
 capabilities =
     let sync = object (member (codes "change") (number (unsigned 1)) (member (codes "openClose") (boolean true) no_members)) in
     object (member (codes "definitionProvider") (boolean true) (member (codes "hoverProvider") (boolean true) (member (codes "positionEncoding") (string (codes "utf-16"))
-    (member (codes "referencesProvider") (boolean true) (member (codes "textDocumentSync") sync no_members)))))
+    (member (codes "referencesProvider") (boolean true) (member (codes "renameProvider") (boolean true) (member (codes "textDocumentSync") sync no_members))))))
 
 abbrev pub introduction : List ℕ → Data
 introduction version =

@@ -9,6 +9,7 @@ mod params;
 mod phase;
 mod question;
 mod refusal;
+mod renaming;
 mod sent;
 mod server;
 mod told;

@@ -1,7 +1,7 @@
 //! What the notifications of documents say.
 ghost use Rattle.std.specs.Prelude.{◌≡◌, Some, option_map, ℕ};
 ghost use Rattle.serde_json.specs.View.{view};
-ghost use Rattle.isp_server.specs.Deeds.{changed, changed_text, count_at, opened, place, uri_of, whole_text, declaration_said, with_declaration};
+ghost use Rattle.isp_server.specs.Deeds.{changed, changed_text, count_at, opened, declaration_said, new_name, place, uri_of, whole_text, with_declaration};
 ghost use Rattle.isp_server.specs.reader.Views.{document_view, place_view};
 
 use crate::deed::{Document, Place};
@@ -72,6 +72,13 @@ fn count_at(value: &Value, name: &str) -> Option<usize>
 {
     let count = value.get(name)?.as_u64()?;
     Some(count as usize)
+}
+
+/// The new name that a request gives.
+pub(crate) fn new_name<'v>(params: Option<&'v Value>) -> Option<&'v str>
+    ensures { option_map (λ name. name.now) result ≡ new_name (option_map (λ v. view v.now) params.entry) }
+{
+    params?.get("newName")?.as_str()
 }
 
 /// Whether a request asks for the declaration too.

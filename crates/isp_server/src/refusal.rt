@@ -2,7 +2,8 @@
 ghost use Rattle.std.specs.Prelude.{◌≡◌};
 ghost use Rattle.isp_server.specs.Sent.{code_of, name_of};
 
-/// Why a request is refused: four errors of JSON-RPC 2.0, and one of the language server protocol.
+/// Why a request is refused: four errors of JSON-RPC 2.0, and two of the language server protocol. The last ones are `RequestFailed`,
+/// where nothing is renamed.
 #[derive(Clone, Copy, Debug, PartialEq, Eq)]
 pub enum Refusal {
     /// The content is no JSON.
@@ -15,6 +16,18 @@ pub enum Refusal {
     InvalidParams,
     /// `initialize` has not come.
     ServerNotInitialized,
+    /// The document is not open, or its text is no program.
+    NoProgram,
+    /// No variable or function of the program is named at the place.
+    NoName,
+    /// The new name is no word, or is reserved.
+    NotAName,
+    /// The library has a function of the new name.
+    OfLibrary,
+    /// The text with the new name is no program.
+    Clash,
+    /// A name would stand for something else.
+    Captured,
 }
 
 impl Refusal {
@@ -28,10 +41,16 @@ impl Refusal {
             Refusal::MethodNotFound => -32601,
             Refusal::InvalidParams => -32602,
             Refusal::ServerNotInitialized => -32002,
+            Refusal::NoProgram
+            | Refusal::NoName
+            | Refusal::NotAName
+            | Refusal::OfLibrary
+            | Refusal::Clash
+            | Refusal::Captured => -32803,
         }
     }
 
-    /// Its name in the protocol.
+    /// Its name in the protocol, and of a request that failed why it did.
     pub fn name(self) -> &'static str
         ensures { result.now ≡ name_of self }
     {
@@ -41,6 +60,12 @@ impl Refusal {
             Refusal::MethodNotFound => "MethodNotFound",
             Refusal::InvalidParams => "InvalidParams",
             Refusal::ServerNotInitialized => "ServerNotInitialized",
+            Refusal::NoProgram => "NoProgram",
+            Refusal::NoName => "NoName",
+            Refusal::NotAName => "NotAName",
+            Refusal::OfLibrary => "OfLibrary",
+            Refusal::Clash => "Clash",
+            Refusal::Captured => "Captured",
         }
     }
 }

@@ -51,7 +51,8 @@ fn capabilities(alloc: Global) -> Result<Value, AllocError>
         "textDocumentSync": sync,
         "hoverProvider": true,
         "definitionProvider": true,
-        "referencesProvider": true
+        "referencesProvider": true,
+        "renameProvider": true
     })
 }
 

@@ -9,6 +9,7 @@ use crate::diagnostics::diagnostics;
 use crate::phase::Phase;
 use crate::question::Question;
 use crate::refusal::Refusal;
+use crate::renaming::renaming;
 use crate::sent::{answer, introduction, published, refused};
 use crate::told::told;
 use isp_base::Gang;
@@ -87,7 +88,7 @@ fn forget(documents: &mut BTreeMap<String, String>, uri: &str)
 
 impl Server {
     ghost use Rattle.isp_server.specs.Connections.{Does, Goes, IsFresh, Stays, connection_of, is_open, status_of};
-    ghost use Rattle.isp_server.specs.Deeds.{hold, introduce, refuse, release, shut_down, tell};
+    ghost use Rattle.isp_server.specs.Deeds.{hold, introduce, refuse, release, rename, shut_down, tell};
     ghost use Rattle.isp_server.specs.reader.Views.{deed_view, id_view, place_view};
 
     /// A connection on which nothing has come. Texts are judged for a gang of this size, and `initialize` is told this version.
@@ -137,6 +138,7 @@ impl Server {
             Deed::Introduce(id) => self.introduce(alloc, id),
             Deed::ShutDown(id) => self.shut_down(alloc, id),
             Deed::Tell(id, question, at) => self.tell(alloc, id, question, at),
+            Deed::Rename(id, at, name) => self.rename(alloc, id, at, name),
             Deed::Hold(document) => self.hold(alloc, document),
             Deed::Release(uri) => self.release(alloc, uri),
             Deed::Leave => Ok(none(alloc, Next::End(self.status()))),
@@ -183,6 +185,21 @@ impl Server {
         let text = self.text_of(at.uri);
         let said = told(alloc, self.gang, text, question, at)?;
         let reply = one(alloc, answer(alloc, id, said)?)?;
+        Ok(reply)
+    }
+
+    fn rename(
+        &self,
+        alloc: Global,
+        id: &Value,
+        at: Place<'_>,
+        name: &str,
+    ) -> Result<Reply, AllocError>
+        ensures { IfOk result (λ reply. Does (rename (view id.now) (place_view at.entry) name.now) (connection_of self.now) (connection_of self.now) (map view reply.messages.items) reply.next) }
+    {
+        let text = self.text_of(at.uri);
+        let message = renaming(alloc, self.gang, id, text, at, name)?;
+        let reply = one(alloc, message)?;
         Ok(reply)
     }
 

@@ -53,6 +53,18 @@ fn of_text(
     }
 }
 
+/// The byte at a place of a text.
+pub(crate) fn byte_of(text: &str, at: Place<'_>) -> usize
+    ensures is { result ≡ offset_of text.now at.entry.line at.entry.character }
+    ensures bound { result ≤ length text.now }
+{
+    let position = Position {
+        line: at.line,
+        character: at.character,
+    };
+    offset_of(text.as_bytes(), position)
+}
+
 fn of_program(
     alloc: Global,
     known: &Known,
@@ -62,13 +74,7 @@ fn of_program(
 ) -> Result<Value, AllocError>
     ensures { IfOk result (λ v. Tells (program_of known.now.program) known.now.notes.items at.entry.uri.now text.now (offset_of text.now at.entry.line at.entry.character) question (view v)) }
 {
-    let byte = offset_of(
-        text.as_bytes(),
-        Position {
-            line: at.line,
-            character: at.character,
-        },
-    );
+    let byte = byte_of(text, at);
     let notes = known.notes.as_slice();
     match question {
         Question::Hover => hovered(alloc, known.program.program(), notes, text, byte),
