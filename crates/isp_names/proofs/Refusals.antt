@@ -1,5 +1,5 @@
 -- Refusals of a part, as refusals of the whole.
-use Rattle.std.proofs.Common.{◌≡◌, ◌≢◌, ℕ, List}
+use Rattle.std.proofs.Common.{ℕ, List}
 use Rattle.isp_base.specs.declared.types.Gang.{Gang}
 use Rattle.isp_lex.specs.declared.fault.Fault.{Fault}
 use Rattle.isp_front.specs.Front.{IsFaulty}
