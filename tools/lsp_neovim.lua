@@ -57,6 +57,25 @@ local function places()
   expect('where a is named', named, { declared, { uri = document.uri, range = place(1, 4, 5) } })
 end
 
+-- what may be written behind `[` in line 1 of the mended source, and behind its last line
+local function completions()
+  local function asked(line, character)
+    local params = { textDocument = vim.lsp.util.make_text_document_params(), position = { line = line, character = character } }
+    local answers = vim.lsp.buf_request_sync(0, 'textDocument/completion', params, 20000) or {}
+    local _, answer = next(answers)
+    local names = {}
+    for _, item in ipairs(answer and answer.result or {}) do
+      names[item.label] = item.detail or item.kind
+    end
+    return names
+  end
+  local inside, behind = asked(1, 6), asked(vim.api.nvim_buf_line_count(0), 0)
+  expect('the parameter a in its function', inside.a, 6)
+  expect('the parameter a behind it', behind.a, nil)
+  expect('a function', behind.f, 3)
+  expect('one of the library', behind.reduce_min, 'uniform T reduce_min(varying T x)')
+end
+
 -- each kernel has an answer, and no fault
 local function kernels()
   local files = vim.fn.glob(root .. '/examples/*.ispc', false, true)
@@ -87,6 +106,9 @@ local fine, fault = pcall(function()
   mended()
   if vim.env.PLACES == 'yes' then
     places()
+  end
+  if vim.env.COMPLETIONS == 'yes' then
+    completions()
   end
   kernels()
   ended()

@@ -1,4 +1,6 @@
+mod Cuts
 mod Ids
 mod Items
 mod Lasts
+mod Libraries
 mod Texts

@@ -9,7 +9,8 @@ use Rattle.isp_server.specs.declared.phase.Phase.TheVariants.{Fresh, Running, Sh
 use Rattle.isp_server.specs.declared.server.Next.{Next}
 use Rattle.isp_server.specs.declared.server.Next.TheVariants.{End, GoOn}
 use Rattle.isp_server.specs.declared.server.Server.{Server}
-use Rattle.isp_server.specs.Deeds.{Deed, refuse, introduce, shut_down, tell, rename, hold, release, leave, ignore, AsksFor}
+use Rattle.isp_server.specs.Deeds.{Deed, refuse, introduce, shut_down, tell, complete, rename, hold, release, leave, ignore, AsksFor}
+use Rattle.isp_server.specs.Completions.{Completes}
 use Rattle.isp_server.specs.Renaming.{Renames}
 use Rattle.isp_server.specs.Told.{Told}
 use Rattle.isp_server.specs.Texts.{text_in}
@@ -32,6 +33,7 @@ phase_after (refuse id why) phase = phase
 phase_after (introduce id) phase = Running
 phase_after (shut_down id) phase = ShutDown
 phase_after (tell id question at) phase = phase
+phase_after (complete id at) phase = phase
 phase_after (rename id at name) phase = phase
 phase_after (hold uri text) phase = phase
 phase_after (release uri) phase = phase
@@ -44,6 +46,7 @@ text_after (refuse id why) text_of name = text_of name
 text_after (introduce id) text_of name = text_of name
 text_after (shut_down id) text_of name = text_of name
 text_after (tell id question at) text_of name = text_of name
+text_after (complete id at) text_of name = text_of name
 text_after (rename id at new) text_of name = text_of name
 text_after (hold uri text) text_of name = if bytes_eq uri name then Some text else text_of name
 text_after (release uri) text_of name = if bytes_eq uri name then None else text_of name
@@ -61,6 +64,7 @@ next_after (refuse id why) phase = GoOn
 next_after (introduce id) phase = GoOn
 next_after (shut_down id) phase = GoOn
 next_after (tell id question at) phase = GoOn
+next_after (complete id at) phase = GoOn
 next_after (rename id at name) phase = GoOn
 next_after (hold uri text) phase = GoOn
 next_after (release uri) phase = GoOn
@@ -73,6 +77,7 @@ Sends gang version text_of (refuse id why) sent = sent ≡ refused id why ∷ []
 Sends gang version text_of (introduce id) sent = sent ≡ answer id (introduction version) ∷ []
 Sends gang version text_of (shut_down id) sent = sent ≡ answer id null ∷ []
 Sends gang version text_of (tell id question at) sent = (d : Data) × Told gang (text_of at.uri) at question d × (sent ≡ answer id d ∷ [])
+Sends gang version text_of (complete id at) sent = (d : Data) × Completes (text_of at.uri) at d × (sent ≡ answer id d ∷ [])
 Sends gang version text_of (rename id at name) sent = (d : Data) × Renames gang (text_of at.uri) at name id d × (sent ≡ d ∷ [])
 Sends gang version text_of (hold uri text) sent = (diagnostics : Items) × Judges gang text diagnostics × (sent ≡ published uri diagnostics ∷ [])
 Sends gang version text_of (release uri) sent = sent ≡ published uri no_items ∷ []

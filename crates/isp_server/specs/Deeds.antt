@@ -29,6 +29,8 @@ pub data Deed : Type 0 where
   shut_down : Data → Deed
   -- the request of this id, which asks something of a place, is answered
   tell : Data → Question → Place → Deed
+  -- the request of this id, for what may be written at a place, is answered
+  complete : Data → Place → Deed
   -- the request of this id, to give what stands at a place another name, is answered
   rename : Data → Place → List ℕ → Deed
   -- the document of this URI has this text from now on; it is closed
@@ -119,6 +121,10 @@ abbrev pub told : Data → Question → Option Place → Deed
 told id question None = refuse id InvalidParams
 told id question (Some at) = tell id question at
 
+abbrev pub completing : Data → Option Place → Deed
+completing id None = refuse id InvalidParams
+completing id (Some at) = complete id at
+
 abbrev pub new_name : Option Data → Option (List ℕ)
 new_name params = text_at (codes "newName") params
 
@@ -136,8 +142,9 @@ running id method params =
     else (if bytes_eq method (codes "textDocument/hover") then told id Hover (place params)
     else (if bytes_eq method (codes "textDocument/definition") then told id Definition (place params)
     else (if bytes_eq method (codes "textDocument/references") then told id (References (with_declaration params)) (place params)
+    else (if bytes_eq method (codes "textDocument/completion") then completing id (place params)
     else (if bytes_eq method (codes "textDocument/rename") then renaming id (place params) (new_name params)
-    else refuse id MethodNotFound)))))
+    else refuse id MethodNotFound))))))
 
 abbrev pub request : Phase → Data → List ℕ → Option Data → Deed
 request Fresh id method params = if bytes_eq method (codes "initialize") then introduced id params else refuse id ServerNotInitialized

@@ -3,5 +3,7 @@ pub mod Deeds
 pub mod Sent
 pub mod Texts
 pub mod Told
+pub mod Library
+pub mod Completions
 pub mod Renaming
 pub mod Connections

@@ -54,12 +54,13 @@ refused id why =
     let error = object (member (codes "code") (number (of_integer (code_of why))) (member (codes "message") (string (name_of why)) no_members)) in
     object (member (codes "error") error (member (codes "id") id (member (codes "jsonrpc") (string (codes "2.0")) no_members)))
 
--- the whole text of a document is sent with each change, places count units of UTF-16, and four requests on them are answered
+-- the whole text of a document is sent with each change, places count units of UTF-16, and five requests on them are answered
 abbrev pub capabilities : Data
 capabilities =
     let sync = object (member (codes "change") (number (unsigned 1)) (member (codes "openClose") (boolean true) no_members)) in
-    object (member (codes "definitionProvider") (boolean true) (member (codes "hoverProvider") (boolean true) (member (codes "positionEncoding") (string (codes "utf-16"))
-    (member (codes "referencesProvider") (boolean true) (member (codes "renameProvider") (boolean true) (member (codes "textDocumentSync") sync no_members))))))
+    object (member (codes "completionProvider") (object no_members) (member (codes "definitionProvider") (boolean true) (member (codes "hoverProvider") (boolean true)
+    (member (codes "positionEncoding") (string (codes "utf-16")) (member (codes "referencesProvider") (boolean true) (member (codes "renameProvider") (boolean true)
+    (member (codes "textDocumentSync") sync no_members)))))))
 
 abbrev pub introduction : List ℕ → Data
 introduction version =

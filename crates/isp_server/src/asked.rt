@@ -2,7 +2,7 @@
 ghost use Rattle.std.specs.Prelude.{◌≡◌, option_map};
 ghost use Rattle.serde_json.specs.View.{view};
 ghost use Rattle.isp_server.specs.Connections.{connection_of, is_open};
-ghost use Rattle.isp_server.specs.Deeds.{Asks, asked, edit, held, held_open, introduced, is_id, notification, released_open, renaming, request, running, told};
+ghost use Rattle.isp_server.specs.Deeds.{Asks, asked, completing, edit, held, held_open, introduced, is_id, notification, released_open, renaming, request, running, told};
 ghost use Rattle.isp_server.specs.reader.Views.{deed_view, document_view, place_view};
 
 use crate::deed::{Deed, Document, Place};
@@ -67,6 +67,7 @@ fn running<'v>(id: &'v Value, method: &str, params: Option<&'v Value>) -> Deed<'
             let declared = with_declaration(params);
             told(id, Question::References { declared }, place(params))
         }
+        "textDocument/completion" => completing(id, place(params)),
         "textDocument/rename" => renaming(id, place(params), new_name(params)),
         _ => Deed::Refuse(Some(id), Refusal::MethodNotFound),
     }
@@ -77,6 +78,15 @@ fn told<'v>(id: &'v Value, question: Question, place: Option<Place<'v>>) -> Deed
 {
     match place {
         Some(place) => Deed::Tell(id, question, place),
+        None => Deed::Refuse(Some(id), Refusal::InvalidParams),
+    }
+}
+
+fn completing<'v>(id: &'v Value, place: Option<Place<'v>>) -> Deed<'v>
+    ensures { deed_view result ≡ completing (view id.now) (option_map place_view place.entry) }
+{
+    match place {
+        Some(place) => Deed::Complete(id, place),
         None => Deed::Refuse(Some(id), Refusal::InvalidParams),
     }
 }

@@ -29,6 +29,8 @@ pub(crate) enum Deed<'v> {
     ShutDown(&'v Value),
     /// The request of this id, which asks something of a place, is answered.
     Tell(&'v Value, Question, Place<'v>),
+    /// The request of this id, for what may be written at a place, is answered.
+    Complete(&'v Value, Place<'v>),
     /// The request of this id, to give what stands at a place another name, is answered.
     Rename(&'v Value, Place<'v>, &'v str),
     /// The document has this text from now on.

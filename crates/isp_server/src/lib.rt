@@ -2,9 +2,11 @@
 #![tactic(auto)]
 
 mod asked;
+mod completion;
 mod deed;
 mod diagnostics;
 mod frame;
+mod library;
 mod params;
 mod phase;
 mod question;
@@ -15,6 +17,7 @@ mod server;
 mod told;
 
 pub use frame::framed;
+pub use library::library_law;
 pub use phase::Phase;
 pub use question::Question;
 pub use refusal::Refusal;

@@ -48,6 +48,7 @@ fn capabilities(alloc: Global) -> Result<Value, AllocError>
     let sync = json!(in alloc; {"openClose": true, "change": 1u8})?;
     json!(in alloc; {
         "positionEncoding": "utf-16",
+        "completionProvider": {},
         "textDocumentSync": sync,
         "hoverProvider": true,
         "definitionProvider": true,

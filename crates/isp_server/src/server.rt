@@ -4,6 +4,7 @@ ghost use Rattle.serde_json.specs.View.{view};
 ghost use Rattle.isp_server.specs.Texts.{text_in};
 
 use crate::asked::deed_of;
+use crate::completion::completion;
 use crate::deed::{Deed, Document, Place};
 use crate::diagnostics::diagnostics;
 use crate::phase::Phase;
@@ -88,7 +89,7 @@ fn forget(documents: &mut BTreeMap<String, String>, uri: &str)
 
 impl Server {
     ghost use Rattle.isp_server.specs.Connections.{Does, Goes, IsFresh, Stays, connection_of, is_open, status_of};
-    ghost use Rattle.isp_server.specs.Deeds.{hold, introduce, refuse, release, rename, shut_down, tell};
+    ghost use Rattle.isp_server.specs.Deeds.{complete, hold, introduce, refuse, release, rename, shut_down, tell};
     ghost use Rattle.isp_server.specs.reader.Views.{deed_view, id_view, place_view};
 
     /// A connection on which nothing has come. Texts are judged for a gang of this size, and `initialize` is told this version.
@@ -138,6 +139,7 @@ impl Server {
             Deed::Introduce(id) => self.introduce(alloc, id),
             Deed::ShutDown(id) => self.shut_down(alloc, id),
             Deed::Tell(id, question, at) => self.tell(alloc, id, question, at),
+            Deed::Complete(id, at) => self.complete(alloc, id, at),
             Deed::Rename(id, at, name) => self.rename(alloc, id, at, name),
             Deed::Hold(document) => self.hold(alloc, document),
             Deed::Release(uri) => self.release(alloc, uri),
@@ -184,6 +186,15 @@ impl Server {
     {
         let text = self.text_of(at.uri);
         let said = told(alloc, self.gang, text, question, at)?;
+        let reply = one(alloc, answer(alloc, id, said)?)?;
+        Ok(reply)
+    }
+
+    fn complete(&self, alloc: Global, id: &Value, at: Place<'_>) -> Result<Reply, AllocError>
+        ensures { IfOk result (λ reply. Does (complete (view id.now) (place_view at.entry)) (connection_of self.now) (connection_of self.now) (map view reply.messages.items) reply.next) }
+    {
+        let text = self.text_of(at.uri);
+        let said = completion(alloc, text, at)?;
         let reply = one(alloc, answer(alloc, id, said)?)?;
         Ok(reply)
     }
