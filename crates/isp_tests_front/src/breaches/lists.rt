@@ -19,7 +19,7 @@ pub(super) fn typed(alloc: Global, source: &str) -> Result<Typed, SourceFault> {
 }
 
 /// A source without its brackets and the numbers after them.
-fn plain(alloc: Global, marked: &str) -> Result<String, AllocError> {
+pub(super) fn plain(alloc: Global, marked: &str) -> Result<String, AllocError> {
     let mut out = String::new(alloc);
     let mut in_number = false;
     for c in marked.chars() {

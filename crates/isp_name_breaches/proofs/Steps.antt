@@ -1,0 +1,36 @@
+-- Steps of the walk: what is pushed for a node of its own, and for one more of several.
+use Rattle.std.proofs.Common.{◌≡◌, ℕ, ◌+◌, ◌<◌, ◌≤◌, ◌++◌, arith, refl, sym, ap, ◌∙◌, drop, get_or, append_assoc, append-nil, length-append}
+use Rattle.std.specs.Prelude.{List, [], ◌∷◌, length, Some, None}
+use Rattle.isp_lex.specs.declared.fault.Fault.{Fault}
+use Rattle.isp_exprs.specs.declared.callee.Want.{Want}
+use Rattle.isp_exprs.specs.Calls.{rest_of}
+use Rattle.isp_exprs.proofs.Gathered.{split_at, rest_drop}
+use Rattle.isp_name_breaches.specs.reader.Exprs.{own}
+
+-- nothing is pushed
+pub none_more : (xs ys : List Fault) → ys ≡ [] → xs ≡ xs ++ ys
+none_more xs ys e = sym (append-nil xs) ∙ ap (λ (z : List Fault). xs ++ z) (sym e)
+
+-- after the parts of a node that begin at a place: where there are faults, they stay
+pub own_kept : (seen here all : List Fault) (before : ℕ) (f : Fault) → length seen ≡ before → all ≡ seen ++ here → before < length all → all ≡ seen ++ own here (Some f)
+own_kept seen [] all before f l e h = absurd (let no : ⊥ = omega (arith, ap length e, length-append seen []) in no)
+own_kept seen (g ∷ more) all before f l e h = e
+
+-- where there is none, the node's own is pushed
+pub own_pushed : (seen here all new : List Fault) (before : ℕ) (f : Fault) → length seen ≡ before → all ≡ seen ++ here → length all ≤ before → new ≡ all ++ f ∷ [] → new ≡ seen ++ own here (Some f)
+own_pushed seen [] all new before f l e h n = n ∙ ap (λ (z : List Fault). z ++ f ∷ []) (e ∙ append-nil seen)
+own_pushed seen (g ∷ more) all new before f l e h n = absurd (let no : ⊥ = omega (arith, ap length e, length-append seen (g ∷ more)) in no)
+
+-- one more part, where those before it and those after it make up the total
+pub gathered : (seen here rest next total : List Fault) → next ≡ seen ++ here → seen ++ (here ++ rest) ≡ total → next ++ rest ≡ total
+gathered seen here rest next total n k = ap (λ (z : List Fault). z ++ rest) n ∙ (append_assoc seen here rest ∙ k)
+
+-- over a list beside what is asked of each
+module _ {R : Type 0} (all : List Want → List R → List Fault) (one : List Want → R → List Fault)
+    (turn : (ws : List Want) (x : R) (xs : List R) → all ws (x ∷ xs) ≡ one ws x ++ all (rest_of ws) xs) where
+  pub beside_step : (ws : List Want) (xs : List R) (i : ℕ) (x : R) (seen next total : List Fault) → i < length xs → x ≡ get_or xs i x → next ≡ seen ++ one (drop i ws) x
+      → seen ++ all (drop i ws) (drop i xs) ≡ total → next ++ all (drop (i + 1) ws) (drop (i + 1) xs) ≡ total
+  beside_step ws xs i x seen next total h e n k =
+      gathered seen (one (drop i ws) x) (all (drop (i + 1) ws) (drop (i + 1) xs)) next total n
+      (ap (λ (z : List Fault). seen ++ z) (ap (λ (z : List Want). one (drop i ws) x ++ all z (drop (i + 1) xs)) (sym (rest_drop i ws))
+      ∙ (sym (turn (drop i ws) x (drop (i + 1) xs)) ∙ ap (all (drop i ws)) (sym (split_at xs i x h e)))) ∙ k)

@@ -1,0 +1,15 @@
+use Rattle.std.proofs.Common.{◌≡◌, ◌++◌, drop, take, length}
+use Rattle.isp_tree.specs.Tree.{all}
+use Rattle.isp_tree.specs.Views.{stmts_of as read_stmts}
+use Rattle.isp_types.specs.Numbering.{stmts_variables}
+use Rattle.isp_name_breaches.specs.reader.Stmts.{stmts_faults}
+use Rattle.isp_name_breaches.proofs.stmt.+stmt.Given as goal
+
+abbrev pub invariant-block-loop-s : goal.invariant-block-loop-s
+invariant-block-loop-s l = record {
+  names : take (length l.initial.walk.scope) l.walk.scope ≡ l.initial.walk.scope;
+  variables : stmts_variables l.context.setting.gang l.context.setting.headers.now l.walk.scope l.walk.variables.items (all (read_stmts (drop l.s-index l.s-items)))
+      ≡ stmts_variables l.context.setting.gang l.context.setting.headers.now l.initial.walk.scope l.initial.walk.variables.items (all (read_stmts l.s-items));
+  found : l.walk.found.items ++ stmts_faults l.context.setting.gang l.context.setting.headers.now l.context.answer l.walk.scope l.start l.walk.variables.items (all (read_stmts (drop l.s-index l.s-items)))
+      ≡ l.initial.walk.found.items ++ stmts_faults l.context.setting.gang l.context.setting.headers.now l.context.answer l.initial.walk.scope l.start l.initial.walk.variables.items (all (read_stmts l.s-items));
+}
