@@ -31,16 +31,17 @@ count_is (x ∷ xs) = ap suc (count_is xs)
 
 module _ (gang : Gang) (hs : List Heading) (ns : List Binding) where
   -- the faults of a call, of what the code finds for its name
-  pub call_told : (w : Word) (xs : List rust_argument.Argument) (s : Span) (c : Callee) (past : Want) (ws : List Want) (known : Result Callee Fault) (f : Fault)
+  pub call_told : (w : Word) (xs : List rust_argument.Argument) (s : Span) (c : Callee) (past : Want) (ws : List Want) (known : Result Callee Fault) (o : Option Fault) (f : Fault)
       → ◌≡◌ {A = Callee × List Want} (c, ws) (callee hs w.name (length xs))
       → past ≡ asked_past c
       → known ≡ unless_unknown w c
-      → fault_of (judge_call_of gang hs ns w (listed (arguments_of xs)) s) ≡ Some f
+      → o ≡ fault_of (judge_call_of gang hs ns w (listed (arguments_of xs)) s)
+      → o ≡ Some f
       → own (refusal known ++ arguments_faults gang hs ns past ws (listed (arguments_of xs))) (Some f) ≡ call_of_faults gang hs ns w (listed (arguments_of xs)) s
-  call_told w xs s c past ws known f k a u e =
+  call_told w xs s c past ws known o f k a u d e =
       let ys = listed (arguments_of xs) in
       ap (λ (z : Result Callee Fault). own (refusal z ++ arguments_faults gang hs ns past ws ys) (Some f)) u
       ∙ (ap (λ (z : Want). own (refusal (unless_unknown w c) ++ arguments_faults gang hs ns z ws ys) (Some f)) a
       ∙ (ap (λ (z : Callee × List Want). own (refusal (unless_unknown w z.0) ++ arguments_faults gang hs ns (asked_past z.0) z.1 ys) (Some f)) k
       ∙ (ap (λ (n : ℕ). own (refusal (unless_unknown w (callee hs w.name n).0) ++ arguments_faults gang hs ns (asked_past (callee hs w.name n).0) (callee hs w.name n).1 ys) (Some f)) (sym (count_is xs))
-      ∙ ap (λ (z : Option Fault). own (refusal (unless_unknown w (callee_at hs w ys).0) ++ arguments_faults gang hs ns (past_at hs w ys) (wants_at hs w ys) ys) z) (sym e))))
+      ∙ ap (λ (z : Option Fault). own (refusal (unless_unknown w (callee_at hs w ys).0) ++ arguments_faults gang hs ns (past_at hs w ys) (wants_at hs w ys) ys) z) (sym e ∙ d))))

@@ -1,6 +1,6 @@
 -- The faults of an expression are its breaches.
-use Rattle.std.proofs.Common.{◌≡◌}
-use Rattle.std.specs.Prelude.{List, [], None}
+use Rattle.std.proofs.Common.{◌≡◌, sym, ◌∙◌}
+use Rattle.std.specs.Prelude.{List, [], Option, None}
 use Rattle.isp_base.specs.declared.types.Gang.{Gang}
 use Rattle.isp_base.specs.declared.types.Span.{Span}
 use Rattle.isp_lex.specs.declared.fault.Fault.{Fault}
@@ -82,12 +82,12 @@ module _ (gang : Gang) (hs : List Heading) (ns : List Binding) where
 
   -- ---- where the checker finds something, there is no fault
 
-  pub expr_sound : (x : Expr) → fault_of (judge gang hs ns x) ≡ None → expr_faults gang hs ns x ≡ []
-  expr_sound x = sound_lists _ _ _ _ (expr_lists x) (expr_right gang hs ns x)
+  pub expr_sound : (x : Expr) (o : Option Fault) → o ≡ fault_of (judge gang hs ns x) → o ≡ None → expr_faults gang hs ns x ≡ []
+  expr_sound x o e n = sound_lists _ _ _ _ (expr_lists x) (expr_right gang hs ns x) (sym e ∙ n)
 
-  pub call_sound : (w : Word) (xs : Arguments) (s : Span) → fault_of (judge_call_of gang hs ns w xs s) ≡ None → call_of_faults gang hs ns w xs s ≡ []
-  call_sound w xs s = sound_lists _ _ _ _ (call_of_lists w xs s) (call_of_right gang hs ns w xs s)
+  pub call_sound : (w : Word) (xs : Arguments) (s : Span) (o : Option Fault) → o ≡ fault_of (judge_call_of gang hs ns w xs s) → o ≡ None → call_of_faults gang hs ns w xs s ≡ []
+  call_sound w xs s o e n = sound_lists _ _ _ _ (call_of_lists w xs s) (call_of_right gang hs ns w xs s) (sym e ∙ n)
 
-  pub passed_sound : (want : Want) (x : Argument) → fault_of (found (suits want (span_of_argument x)) (judge_argument gang hs ns x)) ≡ None → passed_faults gang hs ns want x ≡ []
-  passed_sound want x = sound_lists _ _ _ _
-      (own_lists (suits want (span_of_argument x)) _ _ _ _ (argument_lists x) (argument_right gang hs ns x)) (found_right (suits want (span_of_argument x)) _ _ _ (argument_right gang hs ns x))
+  pub passed_sound : (want : Want) (x : Argument) (o : Option Fault) → o ≡ fault_of (found (suits want (span_of_argument x)) (judge_argument gang hs ns x)) → o ≡ None → passed_faults gang hs ns want x ≡ []
+  passed_sound want x o e n = sound_lists _ _ _ _
+      (own_lists (suits want (span_of_argument x)) _ _ _ _ (argument_lists x) (argument_right gang hs ns x)) (found_right (suits want (span_of_argument x)) _ _ _ (argument_right gang hs ns x)) (sym e ∙ n)

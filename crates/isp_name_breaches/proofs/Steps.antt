@@ -21,6 +21,16 @@ pub own_pushed : (seen here all new : List Fault) (before : ℕ) (f : Fault) →
 own_pushed seen [] all new before f l e h n = n ∙ ap (λ (z : List Fault). z ++ f ∷ []) (e ∙ append-nil seen)
 own_pushed seen (g ∷ more) all new before f l e h n = absurd (let no : ⊥ = omega (arith, ap length e, length-append seen (g ∷ more)) in no)
 
+-- parts told one after another
+pub two_told : (f0 f1 f2 a b : List Fault) → f1 ≡ f0 ++ a → f2 ≡ f1 ++ b → f2 ≡ f0 ++ (a ++ b)
+two_told f0 f1 f2 a b p q = q ∙ (ap (λ (z : List Fault). z ++ b) p ∙ append_assoc f0 a b)
+
+pub three_told : (f0 f1 f2 f3 a b c : List Fault) → f1 ≡ f0 ++ a → f2 ≡ f1 ++ b → f3 ≡ f2 ++ c → f3 ≡ f0 ++ (a ++ (b ++ c))
+three_told f0 f1 f2 f3 a b c p q r = two_told f0 f1 f3 a (b ++ c) p (two_told f1 f2 f3 b c q r)
+
+pub four_told : (f0 f1 f2 f3 f4 a b c d : List Fault) → f1 ≡ f0 ++ a → f2 ≡ f1 ++ b → f3 ≡ f2 ++ c → f4 ≡ f3 ++ d → f4 ≡ f0 ++ (a ++ (b ++ (c ++ d)))
+four_told f0 f1 f2 f3 f4 a b c d p q r s = two_told f0 f1 f4 a (b ++ (c ++ d)) p (three_told f1 f2 f3 f4 b c d q r s)
+
 -- one more part, where those before it and those after it make up the total
 pub gathered : (seen here rest next total : List Fault) → next ≡ seen ++ here → seen ++ (here ++ rest) ≡ total → next ++ rest ≡ total
 gathered seen here rest next total n k = ap (λ (z : List Fault). z ++ rest) n ∙ (append_assoc seen here rest ∙ k)

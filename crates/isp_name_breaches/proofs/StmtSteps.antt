@@ -19,17 +19,7 @@ use Rattle.isp_types.specs.reader.Lists.{agrees_with, name_fault}
 use Rattle.isp_name_breaches.specs.reader.Exprs.{told}
 use Rattle.isp_name_breaches.specs.reader.Stmts.{stmt_faults, stmts_faults}
 use Rattle.isp_name_breaches.specs.reader.Programs.{inside_faults, functions_faults}
-use Rattle.isp_name_breaches.proofs.Steps.{gathered}
-
--- parts told one after another
-pub two_told : (f0 f1 f2 a b : List Fault) → f1 ≡ f0 ++ a → f2 ≡ f1 ++ b → f2 ≡ f0 ++ (a ++ b)
-two_told f0 f1 f2 a b p q = q ∙ (ap (λ (z : List Fault). z ++ b) p ∙ append_assoc f0 a b)
-
-pub three_told : (f0 f1 f2 f3 a b c : List Fault) → f1 ≡ f0 ++ a → f2 ≡ f1 ++ b → f3 ≡ f2 ++ c → f3 ≡ f0 ++ (a ++ (b ++ c))
-three_told f0 f1 f2 f3 a b c p q r = two_told f0 f1 f3 a (b ++ c) p (two_told f1 f2 f3 b c q r)
-
-pub four_told : (f0 f1 f2 f3 f4 a b c d : List Fault) → f1 ≡ f0 ++ a → f2 ≡ f1 ++ b → f3 ≡ f2 ++ c → f4 ≡ f3 ++ d → f4 ≡ f0 ++ (a ++ (b ++ (c ++ d)))
-four_told f0 f1 f2 f3 f4 a b c d p q r s = two_told f0 f1 f4 a (b ++ (c ++ d)) p (three_told f1 f2 f3 f4 b c d q r s)
+use Rattle.isp_name_breaches.proofs.Steps.{gathered, two_told}
 
 -- whether a value is given back as the function says
 pub agrees_is : {A : Type 0} (answer : Result (Option Ty) Fault) (x : Option A) → agrees_with answer (is_some x) ≡ agrees answer x

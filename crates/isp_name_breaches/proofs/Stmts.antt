@@ -1,5 +1,5 @@
 -- The faults of a statement are its breaches.
-use Rattle.std.proofs.Common.{◌≡◌, ◌∙◌}
+use Rattle.std.proofs.Common.{◌≡◌, sym, ◌∙◌}
 use Rattle.std.specs.Prelude.{ℕ, List, [], ◌∷◌, ◌++◌, length, ◌==◌, Option, None, Result, Ok}
 use Rattle.isp_base.specs.declared.types.Gang.{Gang}
 use Rattle.isp_base.specs.declared.types.Span.{Span}
@@ -64,10 +64,10 @@ module _ (gang : Gang) (hs : List Heading) where
   target_lists ns (call w xs s) = own_lists (no_place s) _ _ _ _ (expr_lists gang hs ns (call w xs s)) (expr_right gang hs ns (call w xs s))
 
   -- A step by one has the breaches of its target, so the checker is right on targets as it is on statements.
-  pub target_sound : (ns : List Binding) (x : Expr) → fault_of (judge_target gang hs ns x) ≡ None → target_faults gang hs ns x ≡ []
-  target_sound ns x h =
+  pub target_sound : (ns : List Binding) (x : Expr) (o : Option Fault) → o ≡ fault_of (judge_target gang hs ns x) → o ≡ None → target_faults gang hs ns x ≡ []
+  target_sound ns x o e n =
       let step = simple (change Increment x (span_of x)) (span_of x) in
-      sound_lists _ _ _ _ (target_lists ns x) (stmt_right gang hs (Ok None) ns 0 [] step) (made_fault _ _ ∙ (made_fault _ _ ∙ h))
+      sound_lists _ _ _ _ (target_lists ns x) (stmt_right gang hs (Ok None) ns 0 [] step) (made_fault _ _ ∙ (made_fault _ _ ∙ (sym e ∙ n)))
 
   simple_lists : (ns : List Binding) (p : Simple) → Lists (simple_faults gang hs ns p) (simple_typing gang hs ns p).breach
   simple_lists ns (value (call w xs s)) = call_of_lists gang hs ns w xs s

@@ -151,12 +151,14 @@ fn passed(
 ) -> Result<(), AllocError>
     ensures { IfOk result (λ u. found.new.items ≡ found.old.items ++ within setting.now passed_faults scope.now want (read_argument x.now)) }
 {
-    let Some(fault) = argument_fault(setting, scope, want, x)? else {
-        return Ok(());
-    };
-    let before = found.len();
-    argument(found, setting, scope, x)?;
-    own(found, before, fault)
+    match argument_fault(setting, scope, want, x)? {
+        None => Ok(()),
+        Some(fault) => {
+            let before = found.len();
+            argument(found, setting, scope, x)?;
+            own(found, before, fault)
+        }
+    }
 }
 
 /// Finds the faults in arguments, each where something is asked; `past` is asked past the last.
@@ -189,12 +191,14 @@ pub fn call(
 ) -> Result<(), AllocError>
     ensures { IfOk result (λ u. found.new.items ≡ found.old.items ++ within setting.now call_of_faults scope.now function.now (listed (read_arguments all.now)) span) }
 {
-    let Some(fault) = call_fault(setting, scope, function, all, span)? else {
-        return Ok(());
-    };
-    let before = found.len();
-    let (callee, wants) = setting.headers.called(&function.name, all.len());
-    refused(found, unless_unknown(function, callee))?;
-    arguments(found, setting, scope, asked_past(callee), wants, all)?;
-    own(found, before, fault)
+    match call_fault(setting, scope, function, all, span)? {
+        None => Ok(()),
+        Some(fault) => {
+            let before = found.len();
+            let (callee, wants) = setting.headers.called(&function.name, all.len());
+            refused(found, unless_unknown(function, callee))?;
+            arguments(found, setting, scope, asked_past(callee), wants, all)?;
+            own(found, before, fault)
+        }
+    }
 }

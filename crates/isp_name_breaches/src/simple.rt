@@ -50,12 +50,14 @@ fn target(
 ) -> Result<(), AllocError>
     ensures { IfOk result (λ u. found.new.items ≡ found.old.items ++ within setting.now target_faults scope.now (read_expr x.now)) }
 {
-    let Some(fault) = target_fault(setting, scope, x)? else {
-        return Ok(());
-    };
-    let before = found.len();
-    assigned(found, setting, scope, x)?;
-    own(found, before, fault)
+    match target_fault(setting, scope, x)? {
+        None => Ok(()),
+        Some(fault) => {
+            let before = found.len();
+            assigned(found, setting, scope, x)?;
+            own(found, before, fault)
+        }
+    }
 }
 
 /// Finds the faults in an expression as a statement: a call may be without a result.
