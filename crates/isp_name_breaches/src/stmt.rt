@@ -5,6 +5,7 @@ ghost use Rattle.isp_typed.specs.Indices.{active_index};
 ghost use Rattle.isp_exprs.specs.Scopes.{with_name};
 ghost use Rattle.isp_types.specs.Numbering.{block_variables, first_names, first_variables, names_after, range_names, range_variables, unique_names, unique_variables, variables_after};
 ghost use Rattle.isp_types.specs.reader.Settings.{within};
+ghost use Rattle.isp_name_breaches.specs.reader.Exprs.{expr_faults};
 ghost use Rattle.isp_name_breaches.specs.reader.Stmts.{active_faults, block_faults, for_faults, foreach_faults, stmt_faults, unique_faults};
 
 use crate::declaration::declaration;
@@ -59,6 +60,34 @@ fn inner_block(walk: &mut Walk, context: &Context, b: &Block) -> Result<(), Allo
     block(walk, context, start, b)?;
     walk.scope.leave(start);
     Ok(())
+}
+
+/// Finds the faults in a test and in the body after it.
+#[cycle(stmt)]
+fn tested(walk: &mut Walk, context: &Context, inner: &Stmt, test: &Expr) -> Result<(), AllocError>
+    ensures found { IfOk result (λ u. walk.new.found.items ≡ walk.old.found.items
+        ++ (within context.now.setting expr_faults walk.old.scope (read_expr test.now)
+        ++ within context.now.setting stmt_faults context.now.answer walk.old.scope (length walk.old.scope) walk.old.variables.items (read_stmt inner.now))) }
+    ensures names { IfOk result (λ u. walk.new.scope ≡ walk.old.scope) }
+    ensures variables { IfOk result (λ u. walk.new.variables.items
+        ≡ within context.now.setting variables_after walk.old.scope walk.old.variables.items (read_stmt inner.now)) }
+{
+    expr(&mut walk.found, &context.setting, &walk.scope, test)?;
+    body(walk, context, inner)
+}
+
+/// Finds the faults in a body and in the test after it.
+#[cycle(stmt)]
+fn repeated(walk: &mut Walk, context: &Context, inner: &Stmt, test: &Expr) -> Result<(), AllocError>
+    ensures found { IfOk result (λ u. walk.new.found.items ≡ walk.old.found.items
+        ++ (within context.now.setting stmt_faults context.now.answer walk.old.scope (length walk.old.scope) walk.old.variables.items (read_stmt inner.now)
+        ++ within context.now.setting expr_faults walk.old.scope (read_expr test.now))) }
+    ensures names { IfOk result (λ u. walk.new.scope ≡ walk.old.scope) }
+    ensures variables { IfOk result (λ u. walk.new.variables.items
+        ≡ within context.now.setting variables_after walk.old.scope walk.old.variables.items (read_stmt inner.now)) }
+{
+    body(walk, context, inner)?;
+    expr(&mut walk.found, &context.setting, &walk.scope, test)
 }
 
 /// Finds the faults in a `for`, which is a scope of its own.
@@ -131,9 +160,9 @@ fn active(walk: &mut Walk, context: &Context, word: &Word, inner: &Stmt) -> Resu
 fn unique(
     walk: &mut Walk,
     context: &Context,
+    inner: &Stmt,
     word: &Word,
     x: &Expr,
-    inner: &Stmt,
 ) -> Result<(), AllocError>
     ensures found { IfOk result (λ u. walk.new.found.items ≡ walk.old.found.items
         ++ within context.now.setting unique_faults context.now.answer walk.old.scope walk.old.variables.items word.now (read_expr x.now) (read_stmt inner.now)) }
@@ -181,10 +210,7 @@ fn stmt(walk: &mut Walk, context: &Context, start: usize, s: &Stmt) -> Result<()
             test,
             body: inner,
             ..
-        } => {
-            expr(&mut walk.found, &context.setting, &walk.scope, test)?;
-            body(walk, context, inner)
-        }
+        } => tested(walk, context, inner, test),
         Stmt::IfElse {
             test,
             then,
@@ -199,10 +225,7 @@ fn stmt(walk: &mut Walk, context: &Context, start: usize, s: &Stmt) -> Result<()
             body: inner,
             test,
             ..
-        } => {
-            body(walk, context, inner)?;
-            expr(&mut walk.found, &context.setting, &walk.scope, test)
-        }
+        } => repeated(walk, context, inner, test),
         Stmt::For {
             first: start_part,
             test,
@@ -225,7 +248,7 @@ fn stmt(walk: &mut Walk, context: &Context, start: usize, s: &Stmt) -> Result<()
             value: x,
             body: inner,
             ..
-        } => unique(walk, context, word, x, inner),
+        } => unique(walk, context, inner, word, x),
         Stmt::Return {
             keyword,
             value: x,

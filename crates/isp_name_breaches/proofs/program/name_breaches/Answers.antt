@@ -8,6 +8,7 @@ use Rattle.isp_name_breaches.proofs.program.name_breaches.Goals as goal
 pub returns : goal.returns
 returns c =
     let fs = map read_function c.args.tree.now in
-    let done = put_in_order _ _ _ _ (Breach c.args.gang fs) c.new-walk.ensures c.in_ok-functions.ensures (program_lists c.args.gang fs)
+    let walked = rw (c.in_ok-headers.ensures, c.functions.ensures.functions, c.functions-2.ensures.functions) at c.in_ok-functions.ensures in
+    let done = put_in_order _ _ _ _ (Breach c.args.gang fs) c.new-walk.ensures walked (program_lists c.args.gang fs)
     c.put_in_order.ensures.keeps c.put_in_order.ensures.adds_none c.put_in_order.ensures.ordered in
     record { listed = λ f. (done.lists.told f, done.lists.all f); ordered = c.put_in_order.ensures.ordered; first = done.first }

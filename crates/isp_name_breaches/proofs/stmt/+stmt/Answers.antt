@@ -8,7 +8,7 @@ use Rattle.isp_types.proofs.StmtParts.{left_again}
 use Rattle.isp_types.proofs.StmtSteps.{split_at, variables_step}
 use Rattle.isp_types.proofs.StmtTrees.{block_view}
 use Rattle.isp_name_breaches.specs.reader.Stmts.{block_faults}
-use Rattle.isp_name_breaches.proofs.StmtSteps.{stmts_step}
+use Rattle.isp_name_breaches.proofs.StmtSteps.{if_else_told, repeated_told, stmts_step}
 use Rattle.isp_name_breaches.proofs.stmt.+stmt.Goals as goal
 
 pub body-returns : goal.body-returns
@@ -64,3 +64,30 @@ block-returns t c =
       names = h.names;
       variables = k ∙ rw c.deref-s-items.ensures.value (sym (ap (block_variables gang hs ns vars) (block_view b)));
     }
+
+pub for_loop-returns-clause-names : goal.for_loop-returns-clause-names
+for_loop-returns-clause-names t c =
+    let gang = c.args.context.now.setting.gang in
+    let ns = c.args.walk.now.scope in
+    let vars = c.args.walk.now.variables.items in
+    let i = option_map read_first c.args.start_part.now in
+    left_again _ _ _ ns (first_names gang ns vars i) c.leave.ensures c.len-outer.ensures (c.in_ok-body.ensures.names ∙ c.in_ok-first.ensures.names) (first_kept gang ns vars i)
+
+pub foreach-returns-clause-names : goal.foreach-returns-clause-names
+foreach-returns-clause-names t c =
+    let ns = c.args.walk.now.scope in
+    let vars = c.args.walk.now.variables.items in
+    let rs = map read_range c.args.all.now in
+    left_again _ _ _ ns (range_names ns vars rs) c.leave.ensures c.len-outer.ensures (c.in_ok-body.ensures.names ∙ c.in_ok-ranges.ensures.names) (ranges_kept ns vars rs)
+
+pub stmt-returns-in_ok-body-in-IfElse-clause-found : goal.stmt-returns-in_ok-body-in-IfElse-clause-found
+stmt-returns-in_ok-body-in-IfElse-clause-found t c =
+    let then = c.in_ok-body-in-IfElse.ensures in
+    if_else_told c.args.context.now.setting.gang c.args.context.now.setting.headers.now c.args.context.now.answer c.args.walk.now.scope _ c.args.start c.args.walk.now.variables.items _
+    c.body-in-IfElse.result _ _ _ _ _ c.in-IfElse.form c.in-IfElse.test c.in-IfElse.then c.in-IfElse.otherwise c.in-IfElse.span _ _
+    c.in-IfElse.is c.deref.ensures c.deref-in-IfElse.ensures c.in_ok-expr-in-IfElse.ensures then.found then.names then.variables c.body-in-IfElse.ensures.found
+
+pub repeated-returns-clause-found : goal.repeated-returns-clause-found
+repeated-returns-clause-found t c =
+    repeated_told c.args.context.now.setting.gang c.args.context.now.setting.headers.now c.args.context.now.answer c.args.walk.now.scope _ c.args.walk.now.variables.items
+    c.expr.result _ _ _ (read_stmt c.args.inner.now) (read_expr c.args.test.now) c.in_ok-body.ensures.found c.in_ok-body.ensures.names c.expr.ensures
