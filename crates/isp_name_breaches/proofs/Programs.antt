@@ -15,7 +15,7 @@ use Rattle.isp_exprs.specs.Callees.{Heading}
 use Rattle.isp_types.specs.Functions.{param_variable, param_names, params_names, param_fits, heading, is_free, body_typing, function_typing, functions_typing, Breach}
 use Rattle.isp_name_breaches.specs.reader.Exprs.{refusal, unmet}
 use Rattle.isp_name_breaches.specs.reader.Stmts.{twice, block_faults}
-use Rattle.isp_name_breaches.specs.reader.Programs.{parameter_faults, parameters_faults, params_variables, inside_faults, functions_faults, program_faults}
+use Rattle.isp_name_breaches.specs.reader.Programs.{parameters_faults, params_variables, inside_faults, functions_faults, program_faults}
 use Rattle.isp_name_breaches.proofs.Listed.{Lists, none_lists, refusal_lists, either_lists, unless_lists}
 use Rattle.isp_name_breaches.proofs.Stmts.{block_lists}
 

@@ -1,6 +1,6 @@
 -- Steps of the walk: what is pushed for a node of its own, and for one more of several.
-use Rattle.std.proofs.Common.{◌≡◌, ℕ, ◌+◌, ◌<◌, ◌≤◌, ◌++◌, arith, refl, sym, ap, ◌∙◌, drop, get_or, append_assoc, append-nil, length-append}
-use Rattle.std.specs.Prelude.{List, [], ◌∷◌, length, Some, None}
+use Rattle.std.proofs.Common.{◌≡◌, ℕ, ◌+◌, ◌<◌, ◌≤◌, ◌++◌, arith, sym, ap, ◌∙◌, drop, get_or, append_assoc, append-nil, length-append}
+use Rattle.std.specs.Prelude.{List, [], ◌∷◌, length, Some}
 use Rattle.isp_lex.specs.declared.fault.Fault.{Fault}
 use Rattle.isp_exprs.specs.declared.callee.Want.{Want}
 use Rattle.isp_exprs.specs.Calls.{rest_of}

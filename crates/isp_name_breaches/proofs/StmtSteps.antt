@@ -1,6 +1,6 @@
 -- Steps of the walk over statements and functions.
-use Rattle.std.proofs.Common.{◌≡◌, ℕ, ◌++◌, refl, sym, ap, subst, ◌∙◌, append_assoc, map, Global, Box}
-use Rattle.std.specs.Prelude.{List, [], ◌∷◌, length, Bool, true, false, Option, Some, None, is_some, Result, Ok, Err, bytes_eq, ⊤}
+use Rattle.std.proofs.Common.{◌≡◌, ℕ, ◌++◌, sym, ap, subst, ◌∙◌, map, Global, Box}
+use Rattle.std.specs.Prelude.{List, [], ◌∷◌, length, Bool, Option, Result, Ok, Err, bytes_eq, ⊤}
 use Rattle.std.specs.List.{list_any}
 use Rattle.std.specs.Result.{IfOk}
 use Rattle.isp_base.specs.declared.types.Gang.{Gang}
@@ -12,7 +12,6 @@ use Rattle.isp_tree.specs.declared.function.Function as rust_function
 use Rattle.isp_tree.specs.declared.stmt.Form.{Form}
 use Rattle.isp_tree.specs.declared.stmt.Stmt as rust
 use Rattle.isp_tree.specs.declared.stmt.Stmt.TheVariants as variant
-use Rattle.isp_tree.specs.declared.types.Word.{Word}
 use Rattle.isp_tree.specs.Tree.{all, Expr, Stmt}
 use Rattle.isp_tree.specs.Views.{expr_of, function_of, stmt_of, stmts_of}
 use Rattle.isp_typed.specs.declared.variable.Variable.{Variable}

@@ -1,4 +1,4 @@
-use Rattle.std.proofs.Common.{◌≡◌, map}
+use Rattle.std.proofs.Common.{map}
 use Rattle.isp_tree.specs.Views.{function_of as read_function}
 use Rattle.isp_types.specs.Functions.{Breach}
 use Rattle.isp_name_breaches.proofs.Programs.{program_lists}

@@ -1,9 +1,9 @@
-use Rattle.std.proofs.Common.{◌≡◌, ◌≤◌, ◌+◌, ◌++◌, length, map, drop, ap, sym, ◌∙◌, arith, append-nil, drop_of_length-le}
+use Rattle.std.proofs.Common.{◌≤◌, ◌+◌, ◌++◌, length, map, drop, ap, sym, ◌∙◌, arith, append-nil, drop_of_length-le}
 use Rattle.std.specs.Prelude.{List, option_map}
 use Rattle.isp_lex.specs.declared.fault.Fault.{Fault}
 use Rattle.isp_tree.specs.Views.{expr_of as read_expr, first_of as read_first, range_of as read_range, stmt_of as read_stmt}
 use Rattle.isp_types.specs.Numbering.{block_variables, first_names, range_names}
-use Rattle.isp_types.proofs.NamesKept.{names_kept, first_kept, ranges_kept, one_kept, kept_then}
+use Rattle.isp_types.proofs.NamesKept.{names_kept, first_kept, ranges_kept, kept_then}
 use Rattle.isp_types.proofs.StmtParts.{left_again}
 use Rattle.isp_types.proofs.StmtSteps.{split_at, variables_step}
 use Rattle.isp_types.proofs.StmtTrees.{block_view}
