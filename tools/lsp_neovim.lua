@@ -76,6 +76,19 @@ local function completions()
   expect('one of the library', behind.reduce_min, 'uniform T reduce_min(varying T x)')
 end
 
+-- a has another name, in each place, and the source has no fault
+local function renamed()
+  local uri = vim.uri_from_bufnr(0)
+  local before = came[uri] or 0
+  local wanted = { 'export void f(uniform int pixels[]) {', '    pixels[programIndex] = 7;', '}' }
+  vim.api.nvim_win_set_cursor(0, { 2, 4 })
+  vim.lsp.buf.rename('pixels')
+  vim.wait(20000, function() return vim.deep_equal(vim.api.nvim_buf_get_lines(0, 0, -1, false), wanted) end, 10)
+  expect('the source with another name', vim.api.nvim_buf_get_lines(0, 0, -1, false), wanted)
+  expect('an answer for it', waits(uri, before + 1), true)
+  expect('no fault of it', text_of(vim.diagnostic.get(0)), {})
+end
+
 -- each kernel has an answer, and no fault
 local function kernels()
   local files = vim.fn.glob(root .. '/examples/*.ispc', false, true)
@@ -104,12 +117,9 @@ vim.g.isp_command = { 'sh', '-c', '"$ISPX" lsp; echo $? >"$ROOM/status"' }
 vim.cmd('filetype plugin on')
 local fine, fault = pcall(function()
   mended()
-  if vim.env.PLACES == 'yes' then
-    places()
-  end
-  if vim.env.COMPLETIONS == 'yes' then
-    completions()
-  end
+  places()
+  completions()
+  renamed()
   kernels()
   ended()
 end)
