@@ -2,7 +2,7 @@
 --     load, store, gather, scatter    the element at the index
 --     vload, vstore                   as many elements after the index as the instance's number says
 --     pload, pstore                   as many elements after it as lanes below the instance are on
-use Rattle.std.specs.Prelude.{ℕ, zero, suc, ◌+◌, ◌&&◌, Bool, true, false, Option, Some, None, nat_lt, slice_get, if◌then◌else◌}
+use Rattle.std.specs.Prelude.{ℕ, zero, suc, ◌+◌, ◌&&◌, Bool, true, Option, Some, None, nat_lt, slice_get, if◌then◌else◌}
 use Rattle.isp_base.specs.Types.{gang_width}
 use Rattle.isp_base.specs.Values.{number}
 use Rattle.isp_base.specs.declared.types.Elem.TheVariants.{I64}

@@ -1,7 +1,7 @@
 //! The index of an access, the elements after it, and the size of its array.
-ghost use Rattle.std.specs.Prelude.{◌≡◌};
+ghost use Rattle.std.specs.Prelude.{◌≡◌, ◌≤◌};
 ghost use Rattle.isp_machine.specs.Seen.{seen_conf};
-ghost use Rattle.isp_outside.specs.Asked.{access, lane_at, on_below, scalar_at, size_at};
+ghost use Rattle.isp_outside.specs.Asked.{access, if_on, lane_at, on_below, scalar_at, size_at};
 
 use crate::outside::Outside;
 use isp_base::{Elem, number};
@@ -66,11 +66,19 @@ fn on_below<const N: usize>(machine: &Machine<'_, N>, mask: Register, lane: usiz
 {
     let mut count = 0;
     for below in 0..lane {
-        if let Some(true) = machine.is_on(mask.number as usize, below) {
-            count += 1;
-        }
+        count += if_on(machine.is_on(mask.number as usize, below));
     }
     count
+}
+
+fn if_on(flag: Option<bool>) -> usize
+    ensures value { result ≡ if_on flag }
+    ensures one { result ≤ 1 }
+{
+    match flag {
+        Some(true) => 1,
+        _ => 0,
+    }
 }
 
 // The access, where there is such an index and such an array.

@@ -4,4 +4,4 @@
 mod access;
 mod outside;
 
-pub use outside::{Outside, outside};
+pub use outside::{Outside, asked_for};

@@ -21,7 +21,7 @@ pub struct Outside {
 
 /// What an instance asks for in the instruction before which a machine stands, as after a trap; `code` is the code of the machine.
 /// None where that instruction is no access of an array.
-pub fn outside<const N: usize>(
+pub fn asked_for<const N: usize>(
     code: &Verified,
     machine: &Machine<'_, N>,
     instance: usize,

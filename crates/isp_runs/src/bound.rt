@@ -12,7 +12,7 @@ use crate::image::Image;
 use crate::report::BoundReport;
 use isp_base::{Bound, Gang};
 use isp_machine::{Machine, StartFault, Stop};
-use isp_outside::{Outside, outside};
+use isp_outside::{Outside, asked_for};
 use isp_verify::Verified;
 use std::alloc::Global;
 
@@ -41,7 +41,7 @@ fn asked<const N: usize>(code: &Verified, machine: &Machine<'_, N>, stop: Stop) 
     ensures { StandsAs stop (state machine.now) → result ≡ outside_at code.now (state machine.now) }
 {
     match stop {
-        Stop::Trapped(trap) => outside(code, machine, trap.instance),
+        Stop::Trapped(trap) => asked_for(code, machine, trap.instance),
         Stop::Ended | Stop::Running | Stop::Memory => None,
     }
 }
