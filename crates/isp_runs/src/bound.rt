@@ -18,7 +18,7 @@ use std::alloc::Global;
 
 // What a machine leaves that stopped. Nothing is copied.
 fn left<const N: usize>(code: &Verified, machine: Machine<'_, N>, stop: Stop) -> BoundReport
-    requires code { machine.entry.code ≡ code.now }
+    requires code { machine.code ≡ code.now }
     ensures stop { result.stop ≡ stop }
     ensures leaves { (rs : List Row) → shapes_of rs ≡ given machine.entry → StandsAs stop (state machine.entry)
         → Leaves code.now rs (state machine.entry) result }
