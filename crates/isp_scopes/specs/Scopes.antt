@@ -152,7 +152,7 @@ name_at ts i = token_name (slice_get ts i)
 
 -- each name once: a later one is an inner one, and hides those before
 abbrev pub is_hidden : List Token → ℕ → List ℕ → Bool
-is_hidden ts i is = list_any (λ k. bytes_eq (name_at ts i) (name_at ts k)) is
+is_hidden ts i is = list_any (λ k. bytes_eq (name_at ts k) (name_at ts i)) is
 
 abbrev pub each_once : List Token → List ℕ → List ℕ
 each_once ts [] = []

@@ -1,13 +1,14 @@
 //! The names at a place.
-ghost use Rattle.std.specs.Prelude.{◌≡◌, ◌≤◌, ◌++◌, ◌∷◌, [], if◌then◌else◌, IfOk, OnOk, bytes_eq, filter, length, map};
-ghost use Rattle.std.specs.List.{list_any};
+ghost use Rattle.std.specs.Prelude.{◌≡◌, ◌≤◌, ◌++◌, ◌∷◌, [], ℕ, List, true, if◌then◌else◌, IfOk, OnOk, bytes_eq, filter, length, map};
+ghost use Rattle.std.specs.BTreeSet.{contains_text};
 ghost use Rattle.isp_lex.specs.Listed.{AreTokens};
-ghost use Rattle.isp_scopes.specs.Scopes.{AreApart, each_once, functions_of, is_hidden, is_variable, name_at, name_of, variables_of};
+ghost use Rattle.isp_scopes.specs.Scopes.{AreApart, each_once, functions_of, is_variable, name_at, name_of, variables_of};
 
 use crate::functions::functions;
 use crate::scopes::{Scoped, is_variable, scopes};
 use isp_lex::{Token, TokenKind, Tokens, token_laws};
 use std::alloc::{AllocError, Global};
+use std::collections::BTreeSet;
 
 /// The names at a place, each once, by the numbers of the tokens that declare them.
 #[derive(Drop)]
@@ -37,25 +38,6 @@ pub fn name_at(tokens: &[Token], at: usize) -> &str
     }
 }
 
-// Whether one of these tokens is the same name.
-fn is_among(tokens: &[Token], name: &str, others: &[usize]) -> bool
-    ensures { result ≡ list_any (λ k. bytes_eq name.now (name_at tokens.now k)) others.now }
-{
-    for other in others {
-        if name == name_at(tokens, *other) {
-            return true;
-        }
-    }
-    false
-}
-
-// Whether one of these later tokens is the same name.
-fn is_hidden(tokens: &[Token], token: usize, later: &[usize]) -> bool
-    ensures { result ≡ is_hidden tokens.now token later.now }
-{
-    is_among(tokens, name_at(tokens, token), later)
-}
-
 fn push_unless(found: &mut Vec<usize>, token: usize, hidden: bool) -> Result<(), AllocError>
     ensures { OnOk result (found.new.items ≡ found.old.items ++ (if hidden then [] else token ∷ [])) }
 {
@@ -65,15 +47,31 @@ fn push_unless(found: &mut Vec<usize>, token: usize, hidden: bool) -> Result<(),
     Ok(())
 }
 
+// One more name that was seen.
+fn see(alloc: Global, seen: &mut BTreeSet<String>, name: &str) -> Result<(), AllocError>
+    ensures { OnOk result ((w : List ℕ) → contains_text seen.new w ≡ (if bytes_eq name.now w then true else contains_text seen.old w)) }
+{
+    let key = String::from_str(alloc, name)?;
+    seen.insert(key)?;
+    Ok(())
+}
+
 fn each_once(alloc: Global, tokens: &[Token], found: &[usize]) -> Result<Vec<usize>, AllocError>
     ensures is { IfOk result (λ v. v.items ≡ each_once tokens.now found.now) }
     ensures apart { IfOk result (λ v. AreApart tokens.now v.items) }
 {
     let mut once = Vec::new(alloc);
-    for (i, token) in found.iter().enumerate() {
-        let hidden = is_hidden(tokens, *token, &found[i + 1..]);
-        push_unless(&mut once, *token, hidden)?;
+    let mut seen = BTreeSet::new(alloc);
+    let mut left = found.len();
+    while left > 0 {
+        left -= 1;
+        let token = found[left];
+        let name = name_at(tokens, token);
+        let hidden = seen.contains(name);
+        push_unless(&mut once, token, hidden)?;
+        see(alloc, &mut seen, name)?;
     }
+    once.reverse();
     Ok(once)
 }
 
