@@ -1,5 +1,6 @@
 //! What is answered to a request on a place of a document.
 ghost use Rattle.std.specs.Prelude.{◌≡◌, ◌≤◌, [], IfOk, length, map, option_and_then, option_map, string_bytes};
+ghost use Rattle.serde_json.specs.Data.{null};
 ghost use Rattle.serde_json.specs.View.{items_view, view};
 ghost use Rattle.isp_typed.specs.Views.{program_of};
 ghost use Rattle.isp_positions.specs.Positions.{offset_of};
@@ -37,6 +38,13 @@ pub(crate) fn told(
     }
 }
 
+// The answer where nothing is known.
+fn nothing() -> Value
+    ensures { view result ≡ null }
+{
+    Value::Null
+}
+
 fn of_text(
     alloc: Global,
     gang: Gang,
@@ -49,7 +57,7 @@ fn of_text(
     match known_text(alloc, gang, text) {
         Ok(known) => of_program(alloc, &known, text, question, at),
         Err(SourceFault::Memory) => Err(AllocError),
-        Err(SourceFault::Refused(_fault)) => Ok(Value::Null),
+        Err(SourceFault::Refused(_fault)) => Ok(nothing()),
     }
 }
 
