@@ -1,25 +1,14 @@
 -- Steps of the walk: what is pushed for a node of its own, and for one more of several.
-use Rattle.std.proofs.Common.{◌≡◌, ℕ, ◌+◌, ◌<◌, ◌≤◌, ◌++◌, arith, sym, ap, ◌∙◌, drop, get_or, append_assoc, append-nil, length-append}
-use Rattle.std.specs.Prelude.{List, [], ◌∷◌, length, Some}
+use Rattle.std.proofs.Common.{◌≡◌, ℕ, ◌+◌, ◌<◌, ◌++◌, sym, ap, ◌∙◌, drop, get_or, append_assoc, append-nil}
+use Rattle.std.specs.Prelude.{List, [], ◌∷◌, length}
 use Rattle.isp_lex.specs.declared.fault.Fault.{Fault}
 use Rattle.isp_exprs.specs.declared.callee.Want.{Want}
 use Rattle.isp_exprs.specs.Calls.{rest_of}
 use Rattle.isp_exprs.proofs.Gathered.{split_at, rest_drop}
-use Rattle.isp_name_breaches.specs.reader.Exprs.{own}
 
 -- nothing is pushed
 pub none_more : (xs ys : List Fault) → ys ≡ [] → xs ≡ xs ++ ys
 none_more xs ys e = sym (append-nil xs) ∙ ap (λ (z : List Fault). xs ++ z) (sym e)
-
--- after the parts of a node that begin at a place: where there are faults, they stay
-pub own_kept : (seen here all : List Fault) (before : ℕ) (f : Fault) → length seen ≡ before → all ≡ seen ++ here → before < length all → all ≡ seen ++ own here (Some f)
-own_kept seen [] all before f l e h = absurd (let no : ⊥ = omega (arith, ap length e, length-append seen []) in no)
-own_kept seen (g ∷ more) all before f l e h = e
-
--- where there is none, the node's own is pushed
-pub own_pushed : (seen here all new : List Fault) (before : ℕ) (f : Fault) → length seen ≡ before → all ≡ seen ++ here → length all ≤ before → new ≡ all ++ f ∷ [] → new ≡ seen ++ own here (Some f)
-own_pushed seen [] all new before f l e h n = n ∙ ap (λ (z : List Fault). z ++ f ∷ []) (e ∙ append-nil seen)
-own_pushed seen (g ∷ more) all new before f l e h n = absurd (let no : ⊥ = omega (arith, ap length e, length-append seen (g ∷ more)) in no)
 
 -- parts told one after another
 pub two_told : (f0 f1 f2 a b : List Fault) → f1 ≡ f0 ++ a → f2 ≡ f1 ++ b → f2 ≡ f0 ++ (a ++ b)
@@ -27,9 +16,6 @@ two_told f0 f1 f2 a b p q = q ∙ (ap (λ (z : List Fault). z ++ b) p ∙ append
 
 pub three_told : (f0 f1 f2 f3 a b c : List Fault) → f1 ≡ f0 ++ a → f2 ≡ f1 ++ b → f3 ≡ f2 ++ c → f3 ≡ f0 ++ (a ++ (b ++ c))
 three_told f0 f1 f2 f3 a b c p q r = two_told f0 f1 f3 a (b ++ c) p (two_told f1 f2 f3 b c q r)
-
-pub four_told : (f0 f1 f2 f3 f4 a b c d : List Fault) → f1 ≡ f0 ++ a → f2 ≡ f1 ++ b → f3 ≡ f2 ++ c → f4 ≡ f3 ++ d → f4 ≡ f0 ++ (a ++ (b ++ (c ++ d)))
-four_told f0 f1 f2 f3 f4 a b c d p q r s = two_told f0 f1 f4 a (b ++ (c ++ d)) p (three_told f1 f2 f3 f4 b c d q r s)
 
 -- one more part, where those before it and those after it make up the total
 pub gathered : (seen here rest next total : List Fault) → next ≡ seen ++ here → seen ++ (here ++ rest) ≡ total → next ++ rest ≡ total
