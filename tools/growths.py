@@ -85,7 +85,7 @@ def requests(programs, folder, whole):
         found = {text.split("\n")[0]: text for text in reversed(texts)}
         for text in texts if whole else [found[name] for name in TAKEN.get(path.name, [])]:
             # (what another request writes, or standard input, is not there)
-            if "\nkept " not in text and "\nfile - " not in text:
+            if "\nkept " not in text and "\nfile /dev/stdin " not in text:
                 yield Growths(path.name, text, programs, library)
 
 

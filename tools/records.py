@@ -3,7 +3,7 @@
 A record is the lines from `=== ` and its name on. Each line begins with a word that says what it is:
 
 - `.` how what comes out was found, for the reader alone;
-- `file` a file's name and its text, where `␤` is a line feed and `␉` a tab, and a place may stand between `⟦` and `⟧`; `-` is standard input;
+- `file` a file's name and its text, where `␤` is a line feed and `␉` a tab, and a place may stand between `⟦` and `⟧`; `/dev/stdin` is standard input;
 - `data` a file's name and its bytes in hexadecimal digits, `closed` the name of a file that cannot be written;
 - `words` the words after `isp`, `ispx` those after `ispx`;
 - `kept` a file's name and how its text begins: the text is what the words before write, and there is no such file where it begins otherwise;
@@ -20,7 +20,7 @@ import tempfile
 ROOT = pathlib.Path(__file__).resolve().parents[1]
 ROWS = ROOT / "tools/requests"
 SECONDS = 60
-INPUT = "-"
+INPUT = "/dev/stdin"
 
 
 def spelt_out(text):
