@@ -3,19 +3,35 @@ use Rattle.std.specs.Prelude.{◌≡◌, ◌⊎◌, Bool, true, false, not}
 use Rattle.isp_independence.specs.declared.dependence.Dependence.{Dependence}
 use Rattle.isp_independence.specs.declared.dependence.Restriction.TheVariants.{Crossing}
 use Rattle.isp_typed.specs.declared.library.Library.{Library}
-use Rattle.isp_typed.specs.declared.library.Library.TheVariants.{Min, Max, Clamp, Abs, Select}
+use Rattle.isp_typed.specs.declared.library.Library.TheVariants as library
 use Rattle.isp_typed.specs.Typed.{TExpr, t_constant, t_program_index, t_place, t_convert, t_cast, t_unary, t_binary, t_compare, t_logic, t_choose, t_call, t_library, t_packed_store, t_packed_load, TPlace, t_variable, t_element}
 use Rattle.isp_typed.specs.Typed.{TBase, t_whole, t_from, TArgument, t_by_value, t_by_name, TCall, t_called, TArguments, t_no_arguments, t_argument_then, TExprs, t_no_exprs, t_expr_then}
 use Rattle.isp_independence.specs.Dependences.{at, Unmet}
 
--- the other functions give each instance what it has by its own values
+-- whether a function of the library gives an instance what others have
 abbrev pub looks_across : Library → Bool
-looks_across Min = false
-looks_across Max = false
-looks_across Clamp = false
-looks_across Abs = false
-looks_across Select = false
-looks_across f = true
+looks_across library.ReduceAdd = true
+looks_across library.ReduceMin = true
+looks_across library.ReduceMax = true
+looks_across library.ReduceEqual = true
+looks_across library.Any = true
+looks_across library.All = true
+looks_across library.None = true
+looks_across library.ScanAdd = true
+looks_across library.ScanAnd = true
+looks_across library.ScanOr = true
+looks_across library.Broadcast = true
+looks_across library.Rotate = true
+looks_across library.Shift = true
+looks_across library.Shuffle = true
+looks_across library.ShuffleTwo = true
+looks_across library.Extract = true
+looks_across library.Insert = true
+looks_across library.Min = false
+looks_across library.Max = false
+looks_across library.Clamp = false
+looks_across library.Abs = false
+looks_across library.Select = false
 
 abbrev mutual
   pub Cross : TExpr → Dependence → Type 0

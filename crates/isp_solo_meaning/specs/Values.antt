@@ -35,7 +35,23 @@ by_instance library.Max t x y z = op_bits op.Max t x y
 by_instance library.Clamp t x y z = op_bits op.Min t (op_bits op.Max t x y) z
 by_instance library.Abs t x y z = unary_bits Absolute t x
 by_instance library.Select t x y z = if is_true x then y else z
-by_instance f t x y z = 0
+by_instance library.ReduceAdd t x y z = 0
+by_instance library.ReduceMin t x y z = 0
+by_instance library.ReduceMax t x y z = 0
+by_instance library.ReduceEqual t x y z = 0
+by_instance library.Any t x y z = 0
+by_instance library.All t x y z = 0
+by_instance library.None t x y z = 0
+by_instance library.ScanAdd t x y z = 0
+by_instance library.ScanAnd t x y z = 0
+by_instance library.ScanOr t x y z = 0
+by_instance library.Broadcast t x y z = 0
+by_instance library.Rotate t x y z = 0
+by_instance library.Shift t x y z = 0
+by_instance library.Shuffle t x y z = 0
+by_instance library.ShuffleTwo t x y z = 0
+by_instance library.Extract t x y z = 0
+by_instance library.Insert t x y z = 0
 
 -- m: the shared arrays that the run begins with        p: the instance
 module _ (m : ℕ → ℕ → ℕ) (p : ℕ) (frame : Frame) where

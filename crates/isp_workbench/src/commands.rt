@@ -10,6 +10,7 @@ use clap::Error;
 use clap::error::ErrorKind;
 use isp_base::Gang;
 use isp_case_command::test;
+use isp_check_command::check;
 use isp_code_commands::{c_file, count, trace, wasm_file};
 use isp_command_line::VERSION;
 use isp_engine::{Failure, Sink, SourceFiles, tell_end, write_text};
@@ -25,7 +26,8 @@ use std::io::Read;
 ///
 /// `run [--gang G] [--budget B] [--out NAME=FILE].. [--json] SOURCE ENTRY [NAME=VALUE]..` runs ENTRY with the arguments that words and
 /// files give, and says on `err` what went wrong. `test [--gang G] [--budget B] SOURCE` runs the cases of SOURCE.tests at each gang, and
-/// writes a line for each that differs. `explain [--gang G] [--budget B] SOURCE [ENTRY ARGUMENTS]` does what `isp check` or
+/// writes a line for each that differs. `check [--gang G] [--json] SOURCE` writes what is wrong with SOURCE, all of it, and what to write
+/// instead. `explain [--gang G] [--budget B] SOURCE [ENTRY ARGUMENTS]` does what `isp check` or
 /// `isp run` does, with the same output and the same status, and says on `err` what went wrong, where, and what to write instead.
 /// `count [--gang G] [--budget B] SOURCE ENTRY ARGUMENTS` does what `isp run` does, and writes after the answer a line of JSON with
 /// what the instructions come to. `trace`, with the same words and `[--from N] [--count M] [--lanes]`, writes the line of each step in
@@ -69,6 +71,7 @@ fn answer<F: SourceFiles + DataFiles, I: Read, O: Sink, E: Sink>(
     match request {
         Request::Run(wanted) => run(alloc, wanted, files, out, err),
         Request::Test(wanted) => test(alloc, wanted, files, out, err),
+        Request::Check(wanted) => check(alloc, wanted, files, out, err),
         Request::Explain(wanted) => explain(alloc, wanted, files, out, err),
         Request::Count(wanted) => tell_end(count(alloc, wanted, files, out), err),
         Request::Trace(wanted) => tell_end(trace(alloc, wanted, files, out), err),

@@ -4,6 +4,6 @@
 mod words;
 
 pub use words::{
-    CRequest, Call, CountRequest, ExplainRequest, LspRequest, Request, TestRequest, TraceRequest,
-    WasmRequest, read_words,
+    CRequest, Call, CheckRequest, CountRequest, ExplainRequest, LspRequest, Request, TestRequest,
+    TraceRequest, WasmRequest, read_words,
 };

@@ -13,6 +13,14 @@ pub struct Call<'a> {
     pub arguments: &'a str,
 }
 
+/// A source is checked for a gang, and all that is wrong with it shown, as JSON where that is wanted.
+#[derive(Clone, Copy, Debug)]
+pub struct CheckRequest<'a> {
+    pub gang: Gang,
+    pub source: &'a str,
+    pub is_json: bool,
+}
+
 /// A source is checked, or an entry of it run, for a gang and so many instructions at most; and what goes wrong is explained.
 #[derive(Clone, Copy, Debug)]
 pub struct ExplainRequest<'a> {
@@ -74,6 +82,7 @@ pub struct LspRequest {
 pub enum Request<'a> {
     Run(RunWords<'a>),
     Test(TestRequest<'a>),
+    Check(CheckRequest<'a>),
     Explain(ExplainRequest<'a>),
     Count(CountRequest<'a>),
     Trace(TraceRequest<'a>),
@@ -108,6 +117,11 @@ fn chosen<'a>(name: &str, inner: &ArgMatches<'a>) -> Option<Request<'a>> {
             gang: gang_of(inner),
             budget: inner.get_one::<u64>("budget").unwrap_or(u64::MAX),
             source: inner.get_str("SOURCE")?,
+        })),
+        "check" => Some(Request::Check(CheckRequest {
+            gang: gang_of(inner)?,
+            source: inner.get_str("SOURCE")?,
+            is_json: inner.get_flag("json"),
         })),
         "explain" => Some(Request::Explain(ExplainRequest {
             gang: gang_of(inner)?,
@@ -210,6 +224,7 @@ fn ispx<'a>(alloc: Global) -> Result<Command<'a>, Error> {
     let shown = named
         .subcommand(run_words(alloc)?)?
         .subcommand(test(alloc)?)?
+        .subcommand(check(alloc)?)?
         .subcommand(explain(alloc)?)?
         .subcommand(count(alloc)?)?
         .subcommand(trace(alloc)?)?;
@@ -223,12 +238,7 @@ fn run_words<'a>(alloc: Global) -> Result<Command<'a>, AllocError> {
         .arg(gang(alloc).default_value("16"))?
         .arg(free_budget(alloc))?
         .arg(output(alloc))?
-        .arg(
-            Arg::new(alloc, "json")
-                .long("json")
-                .help("Says what goes wrong as JSON, for tools")
-                .action(ArgAction::SetTrue),
-        )?
+        .arg(json(alloc))?
         .arg(
             named(alloc, "SOURCE")
                 .required(true)
@@ -252,6 +262,25 @@ fn test<'a>(alloc: Global) -> Result<Command<'a>, AllocError> {
                 .required(true)
                 .help("File with the kernels, text in ISPC"),
         )
+}
+
+fn check<'a>(alloc: Global) -> Result<Command<'a>, AllocError> {
+    Command::new(alloc, "check")
+        .about("Shows all that is wrong with SOURCE, and how to mend it")
+        .arg(gang(alloc).default_value("4"))?
+        .arg(json(alloc))?
+        .arg(
+            named(alloc, "SOURCE")
+                .required(true)
+                .help("File with the kernels, text in ISPC"),
+        )
+}
+
+fn json<'a>(alloc: Global) -> Arg<'a> {
+    Arg::new(alloc, "json")
+        .long("json")
+        .help("Says what goes wrong as JSON, for tools")
+        .action(ArgAction::SetTrue)
 }
 
 // The instructions that may run, where that is no number unless one is given.

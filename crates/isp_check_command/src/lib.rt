@@ -1,0 +1,7 @@
+//! `ispx check`: every fault of a source.
+#![tactic(auto)]
+
+mod command;
+mod page;
+
+pub use command::check;
