@@ -69,25 +69,36 @@ module _ (gang : ℕ) (frame : Frame) (calls : Calls) where
     value (t_unary op x t sp) a s = bind (value x a (tick s)) (λ m s1. Gives (mapped (unary_bits op t.elem) m) s1)
     -- the operands from left to right
     value (t_binary op x y t sp) a s =
-        bind (value x a (tick s)) (λ m s1. bind (value y a s1) (λ n s2. checked (offender gang (is_zero op t.elem) a n) Divide sp s2 (joined (op_bits op t.elem) a m n)))
+        bind (value x a (tick s)) (λ m s1.
+        bind (value y a s1) (λ n s2.
+        checked (offender gang (is_zero op t.elem) a n) Divide sp s2 (joined (op_bits op t.elem) a m n)))
     value (t_compare c x y r sp) a s =
-        bind (value x a (tick s)) (λ m s1. bind (value y a s1) (λ n s2. Gives (joined (compare_bits c (type_of x).elem) a m n) s2))
+        bind (value x a (tick s)) (λ m s1.
+        bind (value y a s1) (λ n s2.
+        Gives (joined (compare_bits c (type_of x).elem) a m n) s2))
     -- a later operand over the members that need it, if there are any
     value (t_logic l x y r sp) a s =
-        bind (value x a (tick s)) (λ m s1. bind (value_unless_empty gang (kept_by (needs l) a m) s1 (value y)) (λ n s2. Gives (settled l a m n) s2))
+        bind (value x a (tick s)) (λ m s1.
+        bind (value_unless_empty gang (kept_by (needs l) a m) s1 (value y)) (λ n s2.
+        Gives (settled l a m n) s2))
     value (t_choose c x y t sp) a s =
-        bind (value c a (tick s)) (λ k s1. bind (value_unless_empty gang (kept_by is_true a k) s1 (value x)) (λ m s2. bind (value_unless_empty gang (kept_by is_false a k) s2 (value y)) (λ n s3. Gives (selected a k m n) s3)))
+        bind (value c a (tick s)) (λ k s1.
+        bind (value_unless_empty gang (kept_by is_true a k) s1 (value x)) (λ m s2.
+        bind (value_unless_empty gang (kept_by is_false a k) s2 (value y)) (λ n s3.
+        Gives (selected a k m n) s3)))
     value (t_call c t) a s = call c a s
     value (t_library f e xs t sp) a s =
         bind (values xs a (tick s)) (λ ms s1. Gives (library_value gang e a f (argument ms 0) (argument ms 1) (argument ms 2)) s1)
     -- the base's index, the value or the variable, then the access
     value (t_packed_store b x sp) a s =
-        bind (first_element b a (tick s)) (λ z s1. bind (value x a s1)
-        (λ m s2. bind (checked (lowest gang (packed_outside (extent frame (base_array b)) z a)) Index sp s2 m)
-        (λ n s3. Gives (One (rank a gang)) (packed_kept gang (frame.named (base_array b).number) z a n s3))))
+        bind (first_element b a (tick s)) (λ z s1.
+        bind (value x a s1) (λ m s2.
+        bind (checked (lowest gang (packed_outside (extent frame (base_array b)) z a)) Index sp s2 m) (λ n s3.
+        Gives (One (rank a gang)) (packed_kept gang (frame.named (base_array b).number) z a n s3))))
     value (t_packed_load b v sp) a s =
-        bind (first_element b a (tick s)) (λ z s1. bind (checked (lowest gang (packed_outside (extent frame (base_array b)) z a)) Index sp (tick s1)
-        (packed_held (frame.named (base_array b).number) z a s1)) (λ n s2. Gives (One (rank a gang)) (written Varying v a n s2)))
+        bind (first_element b a (tick s)) (λ z s1.
+        bind (checked (lowest gang (packed_outside (extent frame (base_array b)) z a)) Index sp (tick s1) (packed_held (frame.named (base_array b).number) z a s1)) (λ n s2.
+        Gives (One (rank a gang)) (written Varying v a n s2)))
 
     -- the place is known once its index is
     pub place : TPlace → Mask → State → Val Place
@@ -101,7 +112,10 @@ module _ (gang : ℕ) (frame : Frame) (calls : Calls) where
 
     pub values : TExprs → Mask → State → Val (List Payload)
     values t_no_exprs a s = Gives [] s
-    values (t_expr_then x xs) a s = bind (value x a s) (λ m s1. bind (values xs a s1) (λ ms s2. Gives (m ∷ ms) s2))
+    values (t_expr_then x xs) a s =
+        bind (value x a s) (λ m s1.
+        bind (values xs a s1) (λ ms s2.
+        Gives (m ∷ ms) s2))
 
     -- the arguments from left to right, then the call
     pub call : TCall → Mask → State → Val Payload
@@ -109,7 +123,10 @@ module _ (gang : ℕ) (frame : Frame) (calls : Calls) where
 
     pub arguments : TArguments → Mask → State → Val (List Passed)
     arguments t_no_arguments a s = Gives [] s
-    arguments (t_argument_then x xs) a s = bind (passed x a s) (λ m s1. bind (arguments xs a s1) (λ ms s2. Gives (m ∷ ms) s2))
+    arguments (t_argument_then x xs) a s =
+        bind (passed x a s) (λ m s1.
+        bind (arguments xs a s1) (λ ms s2.
+        Gives (m ∷ ms) s2))
 
     pub passed : TArgument → Mask → State → Val Passed
     passed (t_by_value x) a s = bind (value x a s) (λ m s1. Gives (Values m) s1)

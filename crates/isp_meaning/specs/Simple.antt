@@ -31,18 +31,23 @@ module _ (gang : ℕ) (frame : Frame) (calls : Calls) where
   -- is stored in the place's own type. The index was checked when the place was read.
   abbrev pub update : BinOp → Elem → TPlace → Place → Payload → Span → Mask → State → Val Done
   update op t p q y span a s =
-      bind (checked (outside gang frame q a) Index (place_span p) s (held gang frame q a s))
-      (λ x s1. bind (checked (offender gang (is_zero op t) a y) Divide span s1 (joined (op_bits op t) a (mapped (converted (place_type p).elem t) x) y))
-      (λ z s2. Gives tt (kept gang frame q a (mapped (converted t (place_type p).elem) z) s2)))
+      bind (checked (outside gang frame q a) Index (place_span p) s (held gang frame q a s)) (λ x s1.
+      bind (checked (offender gang (is_zero op t) a y) Divide span s1 (joined (op_bits op t) a (mapped (converted (place_type p).elem t) x) y)) (λ z s2.
+      Gives tt (kept gang frame q a (mapped (converted t (place_type p).elem) z) s2)))
 
   -- the statement counts, then the target: its index goes first, then the right side, then the access
   abbrev pub simple : TSimple → Mask → State → Val Done
   simple (t_value x) a s = bind (value gang frame calls x a (tick s)) (λ m s1. Gives tt s1)
   simple (t_run c) a s = bind (call gang frame calls c a (tick s)) (λ m s1. Gives tt s1)
   simple (t_assign p x span) a s =
-      bind (place gang frame calls p a (tick s)) (λ q s1. bind (value gang frame calls x a s1) (λ m s2. bind (checked (outside gang frame q a) Index (place_span p) s2 m) (λ n s3. Gives tt (kept gang frame q a n s3))))
+      bind (place gang frame calls p a (tick s)) (λ q s1.
+      bind (value gang frame calls x a s1) (λ m s2.
+      bind (checked (outside gang frame q a) Index (place_span p) s2 m) (λ n s3.
+      Gives tt (kept gang frame q a n s3))))
   simple (t_update op t p x span) a s =
-      bind (place gang frame calls p a (tick s)) (λ q s1. bind (value gang frame calls x a s1) (λ y s2. update op t p q y span a s2))
+      bind (place gang frame calls p a (tick s)) (λ q s1.
+      bind (value gang frame calls x a s1) (λ y s2.
+      update op t p q y span a s2))
   simple (t_step op t p span) a s =
       bind (place gang frame calls p a (tick s)) (λ q s1. update op t p q (One 1) span a s1)
 

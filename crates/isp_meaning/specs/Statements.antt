@@ -52,7 +52,10 @@ module _ (gang : ℕ) (frame : Frame) (calls : Calls) where
   abbrev pub ranges : List TRange → Mask → State → Val (List Range)
   ranges [] a s = Gives [] s
   ranges (r ∷ rs) a s =
-      bind (value gang frame calls r.start a s) (λ m s1. bind (value gang frame calls r.end a s1) (λ n s2. bind (ranges rs a s2) (λ xs s3. Gives (record { index = r.index; start = number I32 (sole m); end = number I32 (sole n) } ∷ xs) s3)))
+      bind (value gang frame calls r.start a s) (λ m s1.
+      bind (value gang frame calls r.end a s1) (λ n s2.
+      bind (ranges rs a s2) (λ xs s3.
+      Gives (record { index = r.index; start = number I32 (sole m); end = number I32 (sole n) } ∷ xs) s3)))
 
   -- a test that is left out is true
   abbrev pub test_part : Option TExpr → Mask → State → Val Payload
