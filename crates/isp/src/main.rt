@@ -1,7 +1,7 @@
 //! The program `isp`: what the system gives, handed to the library.
 #![tactic(auto)]
 
-use isp_engine::command;
+use isp_commands::command;
 use isp_host::{HostFiles, HostOutput, command_words};
 use std::process::ExitCode;
 

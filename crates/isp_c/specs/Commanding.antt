@@ -1,6 +1,6 @@
 -- What isp_command does.
 use Rattle.std.specs.Prelude.{◌≡◌, ◌⊎◌, ℕ, ◌<◌, ◌≤◌, List, [], ◌∷◌, length, false, Option, None, Some, bytes_eq, if◌then◌else◌, IsUtf8}
-use Rattle.isp_engine.specs.Commands.{Commands}
+use Rattle.isp_commands.specs.Commands.{Commands}
 use Rattle.isp_engine.specs.Told.{Told}
 use Rattle.isp_reports.specs.Rooms.{fronted}
 use Rattle.isp_c.specs.declared.command.File.{File}

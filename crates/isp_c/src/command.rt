@@ -4,7 +4,8 @@ ghost use Rattle.isp_engine.specs.declared.files.FileFault.TheVariants.{CannotRe
 ghost use Rattle.isp_c.specs.Commanding.{Commanded, Did, Gives, Holds, bytes_in};
 
 use crate::texts::Text;
-use isp_engine::{FileFault, Kept, Sink, SourceFiles, command};
+use isp_commands::command;
+use isp_engine::{FileFault, Kept, Sink, SourceFiles};
 use isp_reports::put;
 use std::alloc::{AllocError, AllocFailed, Global};
 

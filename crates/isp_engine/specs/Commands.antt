@@ -1,14 +1,14 @@
--- What the program does for a request, and how it ends.
---     Runs, WroteCode   the story of a request, from its files to what went out; those of `check` and `solo` are in files of their own
---     Ends              the story of any request
---     Commands          all of that, the exit status, and the line on standard error
--- `holds` is that of specs/Stories.antt, and `tells line` that a line went to standard error.
-use Rattle.std.specs.Prelude.{◌≡◌, ◌≢◌, ◌⊎◌, ℕ, List, [], Bool, Option, Some, Result, Ok, Err, ⊤}
+-- What a command does that runs an entry, and how it ends. Those that do something else say so in crates of their own.
+--     Ran            an entry of an image was run
+--     RunEnds        the story of such a command, from its files to what went out
+--     exit_status    the status after an end
+-- `holds` is that of specs/Stories.antt.
+use Rattle.std.specs.Prelude.{◌≡◌, ◌≢◌, ◌⊎◌, ℕ, List, Bool, Option, Result, Ok, Err, ⊤}
 use Rattle.isp_base.specs.declared.types.Gang.{Gang}
 use Rattle.isp_code.specs.Listing.{Listing}
-use Rattle.isp_engine.specs.declared.commands.Job.{Job}
-use Rattle.isp_engine.specs.declared.commands.Origin.{Origin}
-use Rattle.isp_engine.specs.declared.commands.Origin.TheVariants.{Compiled, Loaded}
+use Rattle.isp_engine.specs.declared.job.Job.{Job}
+use Rattle.isp_engine.specs.declared.job.Origin.{Origin}
+use Rattle.isp_engine.specs.declared.job.Origin.TheVariants.{Compiled, Loaded}
 use Rattle.isp_engine.specs.declared.failure.Failure.{Failure}
 use Rattle.isp_engine.specs.declared.failure.Failure.TheVariants.{Source, Trapped, BudgetUsed, Code, CannotRead, Memory}
 use Rattle.isp_runs.specs.declared.fault.RunFault.{RunFault}
@@ -16,22 +16,16 @@ use Rattle.isp_runs.specs.declared.fault.RunFault.TheVariants.{WriteFailed}
 use Rattle.isp_runs.specs.declared.report.Ending.{Ending}
 use Rattle.isp_runs.specs.declared.report.Ending.TheVariants.{Ended, Trapped as Stopped, Running}
 use Rattle.isp_runs.specs.declared.report.Report.{Report}
-use Rattle.isp_command_line.specs.declared.words.Request.{Request}
-use Rattle.isp_command_line.specs.declared.words.Request.TheVariants as request
 use Rattle.isp_command_line.specs.declared.words.RunRequest.{RunRequest}
-use Rattle.isp_command_line.specs.declared.words.AsmRequest.{AsmRequest}
 use Rattle.isp_command_line.specs.declared.words.ExecRequest.{ExecRequest}
-use Rattle.isp_engine.specs.Failures.{failure_line, line_of, run_failure, status_of}
+use Rattle.isp_engine.specs.Failures.{run_failure, status_of}
 use Rattle.isp_runs.specs.Sending.{Sends}
-use Rattle.isp_output.specs.Sinks.{TookAll}
 use Rattle.isp_front.specs.Front.{IsFaulty}
 use Rattle.isp_runs.specs.Compilation.{IsCompilation}
 use Rattle.isp_runs.specs.Loading.{IsLoaded, IsNotLoaded}
 use Rattle.isp_runs.specs.Meaning.{Means}
 use Rattle.isp_runs.specs.Reports.{Executes}
-use Rattle.isp_engine.specs.Checking.{WroteVerdicts}
-use Rattle.isp_engine.specs.Solos.{SoloEnds}
-use Rattle.isp_engine.specs.Stories.{Holds, Reads, SourceFails, Stops, UnreadOf, Writes}
+use Rattle.isp_engine.specs.Stories.{Holds, Reads, Stops, UnreadOf}
 
 -- ---- an entry of an image is run
 
@@ -98,41 +92,8 @@ pub record Runs (holds : Holds) (job : Job) (old new : Option (List ℕ)) (faile
 abbrev pub RunEnds : Holds → Job → Option (List ℕ) → Option (List ℕ) → Bool → Result ⊤ Failure → Type 0
 RunEnds holds job old new failed end = Runs holds job old new failed end ⊎ Stops (NotGiven holds job) old new failed end
 
--- ---- asm
-
--- the text that is loaded as the code that the source is compiled to
-pub record Assembled (holds : Holds) (q : AsmRequest) (bytes : List ℕ) : Type 0 where
-  pub text : List ℕ
-  pub has_text : holds q.source.now (Some text)
-  pub code : Listing
-  pub compiles : IsCompilation q.gang text code
-  pub loads : IsLoaded bytes code
-
-abbrev pub WroteCode : Holds → AsmRequest → Option (List ℕ) → Option (List ℕ) → Bool → Result ⊤ Failure → Type 0
-WroteCode holds q old new failed end = ((bytes : List ℕ) × Assembled holds q bytes × Writes bytes old new failed end) ⊎ Stops (SourceFails holds q.gang q.source.now) old new failed end
-
--- ---- the whole
-
-abbrev pub Ends : Holds → Request → Option (List ℕ) → Option (List ℕ) → Bool → Result ⊤ Failure → Type 0
-Ends holds (request.Run q) old new failed end = RunEnds holds (job_of_run q) old new failed end
-Ends holds (request.Check q) old new failed end = WroteVerdicts holds q old new failed end
-Ends holds (request.Solo q) old new failed end = SoloEnds holds q old new failed end
-Ends holds (request.Asm q) old new failed end = WroteCode holds q old new failed end
-Ends holds (request.Exec q) old new failed end = RunEnds holds (job_of_exec q) old new failed end
+-- ---- the status
 
 abbrev pub exit_status : Result ⊤ Failure → ℕ
 exit_status (Ok u) = 0
 exit_status (Err f) = status_of f
-
--- words that ask for nothing: of their text on standard error nothing is said; or memory was refused while they were read
-abbrev pub Refused : (List ℕ → Type 0) → ℕ → Type 0
-Refused tells status = (status ≡ 2) ⊎ ((status ≡ 7) × tells (failure_line Memory))
-
--- some request has its whole story, and its line was told
-abbrev pub Answered : Holds → Option (List ℕ) → Option (List ℕ) → Bool → (List ℕ → Type 0) → ℕ → Type 0
-Answered holds old new failed tells status =
-    (q : Request) × (end : Result ⊤ Failure) × (status ≡ exit_status end) × Ends holds q old new failed end × tells (line_of end)
-
--- nothing went out and the words are refused, or some request was answered
-abbrev pub Commands : Holds → Option (List ℕ) → Option (List ℕ) → Bool → (List ℕ → Type 0) → ℕ → Type 0
-Commands holds old new failed tells status = (Refused tells status × TookAll [] old new failed) ⊎ Answered holds old new failed tells status

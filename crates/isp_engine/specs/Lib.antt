@@ -3,5 +3,4 @@ pub mod Told
 pub mod Failures
 pub mod Stories
 pub mod Checking
-pub mod Solos
 pub mod Commands

@@ -4,10 +4,10 @@ ghost use Rattle.isp_engine.specs.Failures.{bind_failure, code_failure, eval_fai
 
 use isp_base::Trap;
 use isp_bind::BindFault;
+use isp_entry::EvalFault;
 use isp_independence::Dependence;
 use isp_lex::{Fault, SourceFault};
 use isp_runs::{CodeFault, RunFault};
-use isp_solo::EvalFault;
 use std::alloc::AllocError;
 
 /// Why the program ends with a status other than 0. Its line on standard error is `failure_line` (specs/Failures.antt).

@@ -1,16 +1,13 @@
-//! The whole way: from a source text and arguments to a report, and from words to an exit status.
+//! From a source text to its code, and what the commands share: the files that they read, what goes out, the line of a failure.
 #![tactic(auto)]
 
-mod alone;
-mod checking;
-mod commands;
 mod compilation;
 mod failure;
 mod files;
+mod job;
 mod lines;
 mod texts;
 
-pub use commands::command;
 pub use compilation::compile;
 pub use failure::Failure;
 pub use files::{FileFault, SourceFiles, read_source, read_text};
@@ -21,5 +18,6 @@ pub use isp_runs::{
     BoundReport, CodeFault, Ending, Image, Report, RunFault, execute, execute_bound, load_code,
     run_to,
 };
+pub use job::{Job, Origin};
 pub use lines::{tell_end, tell_line};
 pub use texts::{read_file, write_bytes, write_text};

@@ -9,7 +9,6 @@ ghost use Rattle.isp_runs.specs.declared.fault.CodeFault.TheVariants.{Code as Ba
 ghost use Rattle.isp_engine.specs.Told.{Told, Wrote};
 
 use crate::failure::Failure;
-use clap::Error;
 use isp_asm::Rule;
 use isp_base::{Trap, TrapKind};
 use isp_independence::Dependence;
@@ -17,8 +16,6 @@ use isp_lex::Fault;
 use isp_output::{Sink, SinkFault, write_all};
 use isp_runs::CodeFault;
 use itoa::Buffer;
-use std::fmt;
-use std::fmt::Write;
 
 // Writes pieces one after the other, up to the first fault.
 fn write_pieces<W: Sink>(out: &mut W, pieces: &[&str]) -> Result<(), SinkFault>
@@ -53,27 +50,6 @@ pub fn tell_end<E: Sink>(end: Result<(), Failure<'_>>, err: &mut E) -> u8
             tell_line(&failure, err);
             failure.status()
         }
-    }
-}
-
-/// Writes the text of refused words, as far as the sink takes it; nothing where it has failed before.
-pub(crate) fn show<W: Sink>(error: &Error, out: &mut W) {
-    let mut shown = Shown { to: out };
-    let _ = write!(shown, "{error}");
-}
-
-/// Text for a sink.
-#[derive(Drop)]
-struct Shown<'a, W> {
-    to: &'a mut W,
-}
-
-impl<W: Sink> Write for Shown<'_, W> {
-    fn write_str(&mut self, text: &str) -> fmt::Result {
-        if self.to.failed() {
-            return Err(fmt::Error);
-        }
-        write_all(self.to, text.as_bytes()).map_err(|_| fmt::Error)
     }
 }
 

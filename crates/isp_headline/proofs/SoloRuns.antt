@@ -30,7 +30,7 @@ use Rattle.isp_runs.specs.declared.report.Report.{Report}
 use Rattle.isp_runs.specs.Meaning.{enough}
 use Rattle.isp_runs.specs.Reports.{Executes}
 use Rattle.isp_runs.specs.Sending.{answer_bytes}
-use Rattle.isp_engine.specs.Solos.{Tells}
+use Rattle.isp_commands.specs.Solos.{Tells}
 use Rattle.isp_headline.specs.Headline.{DoesAsMeant, Reported}
 use Rattle.isp_headline.specs.SoloIsRun.{EndsWith, SoloIsRun}
 use Rattle.isp_headline.proofs.Whole.{headline}

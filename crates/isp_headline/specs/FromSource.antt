@@ -17,7 +17,8 @@ use Rattle.isp_engine.specs.declared.failure.Failure.{Failure}
 use Rattle.isp_engine.specs.declared.failure.Failure.TheVariants.{Memory}
 use Rattle.isp_runs.specs.declared.fault.RunFault.{RunFault}
 use Rattle.isp_runs.specs.declared.report.Report.{Report}
-use Rattle.isp_engine.specs.Commands.{RunEnds, WroteCode, end_of, job_of_exec, job_of_run}
+use Rattle.isp_commands.specs.Commands.{WroteCode}
+use Rattle.isp_engine.specs.Commands.{RunEnds, end_of, job_of_exec, job_of_run}
 use Rattle.isp_front.specs.Front.{IsSource}
 use Rattle.isp_output.specs.Sinks.{TookAll}
 use Rattle.isp_engine.specs.Stories.{Holds}

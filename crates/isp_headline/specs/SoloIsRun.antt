@@ -12,7 +12,7 @@ use Rattle.isp_runs.specs.Compilation.{IsCompilation}
 use Rattle.isp_runs.specs.Meaning.{enough}
 use Rattle.isp_runs.specs.Reports.{Executes}
 use Rattle.isp_runs.specs.Sending.{report_bytes}
-use Rattle.isp_engine.specs.Solos.{IsTold}
+use Rattle.isp_commands.specs.Solos.{IsTold}
 
 -- `execute` answers the report of an end that sends these bytes, unless memory was refused
 abbrev pub EndsWith : List ℕ → Result Report RunFault → Type 0

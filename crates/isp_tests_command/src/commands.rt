@@ -2,7 +2,7 @@
 //! answers to each kind of request.
 use crate::fakes::{Page, Shelf};
 use isp_asm::{read, write};
-use isp_engine::command;
+use isp_commands::command;
 use std::alloc::{AllocError, Global};
 use std::process::Abort;
 

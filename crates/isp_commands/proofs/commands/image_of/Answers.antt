@@ -1,6 +1,6 @@
 use Rattle.std.proofs.lemmas.Result.{err_from_is_err_and}
-use Rattle.isp_engine.proofs.Requests.{not_compiled, not_loaded}
-use Rattle.isp_engine.proofs.commands.image_of.Goals as goal
+use Rattle.isp_commands.proofs.Requests.{not_compiled, not_loaded}
+use Rattle.isp_commands.proofs.commands.image_of.Goals as goal
 
 pub returns-in_err-compile-in-Compiled-clause-err : goal.returns-in_err-compile-in-Compiled-clause-err
 returns-in_err-compile-in-Compiled-clause-err c =

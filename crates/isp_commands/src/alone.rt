@@ -1,15 +1,13 @@
 //! An entry of a source is run by each instance of a gang alone.
 ghost use Rattle.std.specs.Prelude.{◌≡◌, ◌≢◌, false, string_bytes, Ok, Err, IfOk, IfErr};
 ghost use Rattle.isp_typed.specs.Views.{program_of};
-ghost use Rattle.isp_engine.specs.Solos.{IsTold, IsUnanswered, SoloEnds, SoloFails, Soloed, Tells, name_at};
+ghost use Rattle.isp_commands.specs.Solos.{IsTold, IsUnanswered, SoloEnds, SoloFails, Soloed, Tells, name_at};
 ghost use Rattle.isp_engine.specs.declared.failure.Failure.TheVariants.{Memory};
 
-use crate::failure::Failure;
-use crate::files::SourceFiles;
-use crate::texts::{read_file, write_text};
 use isp_base::Signature;
 use isp_bind::{answer, bind};
 use isp_command_line::SoloRequest;
+use isp_engine::{Failure, SourceFiles, read_file, write_text};
 use isp_front::front;
 use isp_output::Sink;
 use isp_rates::Checked;

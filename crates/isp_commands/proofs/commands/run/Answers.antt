@@ -1,8 +1,8 @@
 use Rattle.std.proofs.Common.{inr, sym}
 use Rattle.std.proofs.lemmas.Result.{err_from_is_err_and}
-use Rattle.isp_engine.proofs.Requests.{run_ends}
+use Rattle.isp_commands.proofs.Requests.{run_ends}
 use Rattle.isp_output.proofs.Written.{adds_nil}
-use Rattle.isp_engine.proofs.commands.run.Goals as goal
+use Rattle.isp_commands.proofs.commands.run.Goals as goal
 
 pub returns-in_err-image : goal.returns-in_err-image
 returns-in_err-image g c =

@@ -1,6 +1,6 @@
 use Rattle.std.proofs.lemmas.Result.{err_from_is_err_and}
-use Rattle.isp_engine.proofs.Solos.{err_told, ok_told, signed, unbound, unreported, unsigned}
-use Rattle.isp_engine.proofs.alone.entered.Goals as goal
+use Rattle.isp_commands.proofs.Solos.{err_told, ok_told, signed, unbound, unreported, unsigned}
+use Rattle.isp_commands.proofs.alone.entered.Goals as goal
 
 pub returns-in_default-clause-err : goal.returns-in_default-clause-err
 returns-in_default-clause-err c = unsigned c.args.checked.now c.args.entry.now c.in_default.ensures

@@ -1,8 +1,8 @@
 use Rattle.std.proofs.lemmas.Result.{err_from_is_err_and}
 use Rattle.std.proofs.Common.{refl}
 use Rattle.isp_typed.specs.Views.{program_of}
-use Rattle.isp_engine.proofs.Solos.{all_told, none_told, refused, unread_arguments, unread_source}
-use Rattle.isp_engine.proofs.alone.answered.Goals as goal
+use Rattle.isp_commands.proofs.Solos.{all_told, none_told, refused, unread_arguments, unread_source}
+use Rattle.isp_commands.proofs.alone.answered.Goals as goal
 
 pub returns-in_err-source-clause-err : goal.returns-in_err-source-clause-err
 returns-in_err-source-clause-err g c =

@@ -1,6 +1,6 @@
 use Rattle.std.proofs.lemmas.Result.{err_from_is_err_and}
-use Rattle.isp_engine.proofs.Sources.{refused_source}
-use Rattle.isp_engine.proofs.commands.assembled.Goals as goal
+use Rattle.isp_commands.proofs.Sources.{refused_source}
+use Rattle.isp_commands.proofs.commands.assembled.Goals as goal
 
 pub returns-in_err-image-clause-err : goal.returns-in_err-image-clause-err
 returns-in_err-image-clause-err g c =

@@ -1,7 +1,8 @@
 use Rattle.std.proofs.Common.{refl}
 use Rattle.std.proofs.lemmas.Result.{err_from_is_err_and}
-use Rattle.isp_engine.proofs.Requests.{no_code, unread_first, unread_second}
-use Rattle.isp_engine.proofs.commands.given.Goals as goal
+use Rattle.isp_engine.proofs.Requests.{unread_first, unread_second}
+use Rattle.isp_commands.proofs.Requests.{no_code}
+use Rattle.isp_commands.proofs.commands.given.Goals as goal
 
 pub returns-in_err-text-clause-err : goal.returns-in_err-text-clause-err
 returns-in_err-text-clause-err g c =

@@ -29,7 +29,7 @@ use Rattle.isp_engine.specs.declared.failure.Failure.TheVariants.{Source, Trappe
 use Rattle.isp_runs.specs.declared.fault.RunFault.TheVariants as run_fault
 use Rattle.isp_engine.specs.Failures.{bind_failure, eval_failure, source_failure}
 use Rattle.isp_front.specs.Front.{IsFaulty}
-use Rattle.isp_engine.specs.Solos.{Binds, IsTold, IsUnanswered, Soloed, SoloFails, Sourced, Tells}
+use Rattle.isp_commands.specs.Solos.{Binds, IsTold, IsUnanswered, Soloed, SoloFails, Sourced, Tells}
 use Rattle.isp_engine.specs.Stories.{Holds, Reads, Unread}
 use Rattle.isp_runs.proofs.Binds.{fits}
 

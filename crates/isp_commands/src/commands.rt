@@ -1,20 +1,17 @@
 //! The whole program, over what it is handed.
 ghost use Rattle.std.specs.Prelude.{◌≡◌, ◌≢◌, false, string_bytes, Some, IfOk, IfErr};
-ghost use Rattle.isp_engine.specs.Commands.{Assembled, Commands, Ends, Given, IsImage, IsNoImage, NotGiven, Ran, RunEnds, WroteCode, end_of_ending, exit_status, job_of_exec as of_exec, job_of_run as of_run};
+ghost use Rattle.isp_commands.specs.Commands.{Assembled, Commands, Ends, WroteCode};
+ghost use Rattle.isp_engine.specs.Commands.{Given, IsImage, IsNoImage, NotGiven, Ran, RunEnds, end_of_ending, exit_status, job_of_exec as of_exec, job_of_run as of_run};
 ghost use Rattle.isp_engine.specs.Told.{Told};
 ghost use Rattle.isp_engine.specs.Stories.{SourceFails};
 ghost use Rattle.isp_engine.specs.declared.failure.Failure.TheVariants.{Memory};
 
 use crate::alone::solo;
 use crate::checking::check;
-use crate::compilation::compile;
-use crate::failure::Failure;
-use crate::files::SourceFiles;
-use crate::lines::{show, tell_end};
-use crate::texts::{read_file, write_text};
+use crate::refused::show;
 use clap::error::ErrorKind;
-use isp_base::Gang;
 use isp_command_line::{AsmRequest, ExecRequest, Request, RunRequest, read_words};
+use isp_engine::{Failure, Job, Origin, SourceFiles, compile, read_file, tell_end, write_text};
 use isp_output::Sink;
 use isp_runs::{Ending, Image, load_code, run_to};
 use std::alloc::Global;
@@ -67,23 +64,6 @@ fn answer<'a, F: SourceFiles, O: Sink>(
         Request::Asm(wanted) => asm(alloc, wanted, files, out),
         Request::Exec(wanted) => run(alloc, &job_of_exec(wanted), files, out),
     }
-}
-
-/// What the code comes from that is run: a source that is compiled for a gang, or the text of code.
-#[derive(Clone, Copy)]
-enum Origin {
-    Compiled(Gang),
-    Loaded,
-}
-
-/// An entry that is run, for so many instructions at most. The text and the arguments are names of files.
-#[derive(Clone, Copy)]
-struct Job<'a> {
-    origin: Origin,
-    text: &'a str,
-    entry: &'a str,
-    arguments: &'a str,
-    budget: u64,
 }
 
 fn job_of_run<'a>(request: &RunRequest<'a>) -> Job<'a>

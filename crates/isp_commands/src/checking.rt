@@ -3,10 +3,8 @@ ghost use Rattle.std.specs.Prelude.{◌≡◌, false, string_bytes, IfOk, IfErr}
 ghost use Rattle.isp_engine.specs.Checking.{Judged, WroteVerdicts};
 ghost use Rattle.isp_engine.specs.Stories.{SourceFails};
 
-use crate::failure::Failure;
-use crate::files::SourceFiles;
-use crate::texts::{read_file, write_text};
 use isp_command_line::CheckRequest;
+use isp_engine::{Failure, SourceFiles, read_file, write_text};
 use isp_front::front;
 use isp_output::Sink;
 use isp_verdicts::verdicts;

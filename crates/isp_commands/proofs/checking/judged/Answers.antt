@@ -1,7 +1,7 @@
 use Rattle.std.proofs.lemmas.Result.{err_from_is_err_and}
 use Rattle.isp_typed.specs.Views.{program_of}
-use Rattle.isp_engine.proofs.Sources.{refused_source}
-use Rattle.isp_engine.proofs.checking.judged.Goals as goal
+use Rattle.isp_commands.proofs.Sources.{refused_source}
+use Rattle.isp_commands.proofs.checking.judged.Goals as goal
 
 pub returns-in_err-checked-clause-err : goal.returns-in_err-checked-clause-err
 returns-in_err-checked-clause-err g c =
