@@ -1,5 +1,5 @@
 -- What refused code and the answer of a run mean for a request.
-use Rattle.std.proofs.Common.{◌≡◌, ◌≢◌, ℕ, List, Bool, Option, Some, Result, refl, sym, subst, inl}
+use Rattle.std.proofs.Common.{◌≡◌, ◌≢◌, ℕ, List, Bool, Option, Result, refl, sym, subst, inl}
 use Rattle.std.specs.Prelude.{⊤}
 use Rattle.isp_base.specs.declared.types.Gang.{Gang}
 use Rattle.isp_code.specs.Listing.{Listing}
