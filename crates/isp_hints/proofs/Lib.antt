@@ -1,1 +1,3 @@
 mod More
+mod InOrder
+mod Listed

@@ -6,7 +6,7 @@ use Rattle.std.specs.List.{cons_option}
 use Rattle.isp_code.specs.Listing.{Listing, Routine, routine_of}
 use Rattle.isp_code.specs.declared.function.Function.{Function}
 use Rattle.isp_code.specs.declared.instr.Instr.{Instr}
-use Rattle.isp_hints.specs.Hints.{all_hints, hint_of, hints_in}
+use Rattle.isp_hints.specs.Accesses.{all_hints, hint_of, hints_in}
 use Rattle.isp_hints.specs.declared.hint.Hint.{Hint}
 
 pub instr_more : (code : Listing) (is : List Instr) (k : ℕ) (d : Instr) (first seen next : List Hint) → k < length is → seen ≡ first ++ hints_in code (take k is)
@@ -20,10 +20,12 @@ all_append : (code : Listing) (gs hs : List Routine) → all_hints code (gs ++ h
 all_append code [] hs = refl
 all_append code (g ∷ gs) hs = ap (λ z. hints_in code g.code ++ z) (all_append code gs hs) ∙ sym (append_assoc (hints_in code g.code) (all_hints code gs) (all_hints code hs))
 
-pub function_more : (code : Listing) (fs : List Function) (k : ℕ) (d : Function) (seen next : List Hint) → k < length fs → seen ≡ all_hints code (map routine_of (take k fs))
-    → next ≡ seen ++ hints_in code (get_or fs k d).code.items → next ≡ all_hints code (map routine_of (take (k + 1) fs))
-function_more code fs k d seen next l e n =
-    n ∙ ap (λ (z : List Hint). z ++ hints_in code (get_or fs k d).code.items) e
-    ∙ ap (λ z. all_hints code (map routine_of (take k fs)) ++ z) (sym (append-nil (hints_in code (get_or fs k d).code.items)))
+pub function_more : (code : Listing) (fs : List Function) (k : ℕ) (d : Function) (first seen next : List Hint) → k < length fs → seen ≡ first ++ all_hints code (map routine_of (take k fs))
+    → next ≡ seen ++ hints_in code (get_or fs k d).code.items → next ≡ first ++ all_hints code (map routine_of (take (k + 1) fs))
+function_more code fs k d first seen next l e n =
+    let more = hints_in code (get_or fs k d).code.items in
+    n ∙ ap (λ (z : List Hint). z ++ more) e ∙ append_assoc first (all_hints code (map routine_of (take k fs))) more
+    ∙ ap (λ z. first ++ z)
+    (ap (λ z. all_hints code (map routine_of (take k fs)) ++ z) (sym (append-nil more))
     ∙ sym (all_append code (map routine_of (take k fs)) (routine_of (get_or fs k d) ∷ []))
-    ∙ ap (all_hints code) (sym (map-append routine_of (take k fs) (get_or fs k d ∷ [])) ∙ ap (map routine_of) (sym (take_more fs k d l)))
+    ∙ ap (all_hints code) (sym (map-append routine_of (take k fs) (get_or fs k d ∷ [])) ∙ ap (map routine_of) (sym (take_more fs k d l))))

@@ -1,38 +1,31 @@
--- Where code is slow: the places of its gathers and scatters, whose elements are read and written one by one.
-use Rattle.std.specs.Prelude.{List, [], ◌∷◌, ◌++◌, Option, Some, None, slice_get}
-use Rattle.std.specs.List.{filter_map}
-use Rattle.isp_base.specs.declared.types.Span.{Span}
-use Rattle.isp_code.specs.Listing.{Listing, Routine}
-use Rattle.isp_code.specs.declared.instr.Instr.{Instr}
-use Rattle.isp_code.specs.declared.instr.Instr.TheVariants as instr
-use Rattle.isp_code.specs.declared.instr.VectorInstr.{VectorInstr}
-use Rattle.isp_code.specs.declared.instr.VectorInstr.TheVariants as vector
+-- All that is slow in a program with its code, told in the order of the places.
+--     IsHint      an access of the code is slow, or a loop of the program
+--     Before      which of two hints is told first
+--     AreHints    all of them, each once
+use Rattle.std.specs.Prelude.{◌≡◌, ◌<◌, ◌↔◌, ◌⊎◌, ℕ, List, AllPairs, Contains}
+use Rattle.isp_code.specs.Listing.{Listing}
+use Rattle.isp_typed.specs.Typed.{Program}
+use Rattle.isp_hints.specs.Accesses.{accesses_of}
+use Rattle.isp_hints.specs.Loops.{loops_of}
 use Rattle.isp_hints.specs.declared.hint.Hint.{Hint}
 use Rattle.isp_hints.specs.declared.hint.Slow.{Slow}
-use Rattle.isp_hints.specs.declared.hint.Slow.TheVariants.{Gathered, Scattered}
+use Rattle.isp_hints.specs.declared.hint.Slow.TheVariants.{Gathered, Scattered, Parted, LeftOff}
 
--- at a place that the code has
-abbrev pub at : Slow → Option Span → Option Hint
-at slow None = None
-at slow (Some place) = Some (record { slow = slow; place = place })
+abbrev pub IsHint : Listing → Program → Hint → Type 0
+IsHint code program h = Contains (accesses_of code) h ⊎ Contains (loops_of program) h
 
--- one line for each kind of instruction
-module _ (code : Listing) where
-  abbrev pub vector_hint : VectorInstr → Option Hint
-  vector_hint (vector.Gather a i k q) = at Gathered (slice_get code.places q)
-  vector_hint i = None
+-- which kind is told first of one place
+abbrev pub number_of : Slow → ℕ
+number_of Gathered = 0
+number_of Scattered = 1
+number_of Parted = 2
+number_of LeftOff = 3
 
-  abbrev pub hint_of : Instr → Option Hint
-  hint_of (instr.Vector d i) = vector_hint i
-  hint_of (instr.Scatter a i y k q) = at Scattered (slice_get code.places q)
-  hint_of i = None
+-- by where their places start, then by where these end, then by their kinds; so no hint is told before itself
+pub record Before (f g : Hint) : Type 0 where
+  pub order : (f.place.start < g.place.start) ⊎ ((f.place.start ≡ g.place.start) × ((f.place.end < g.place.end) ⊎ ((f.place.end ≡ g.place.end) × (number_of f.slow < number_of g.slow))))
 
-  abbrev pub hints_in : List Instr → List Hint
-  hints_in is = filter_map hint_of is
-
-  abbrev pub all_hints : List Routine → List Hint
-  all_hints [] = []
-  all_hints (h ∷ hs) = hints_in h.code ++ all_hints hs
-
-abbrev pub hints_of : Listing → List Hint
-hints_of code = all_hints code code.routines
+-- the hints that there are and no other, each before those that follow it
+pub record AreHints (code : Listing) (program : Program) (xs : List Hint) : Type 0 where
+  pub listed : (h : Hint) → Contains xs h ↔ IsHint code program h
+  pub ordered : AllPairs Before xs

@@ -1,18 +1,24 @@
-//! What is slow about an instruction.
+//! What is slow, and what is slow about an instruction.
 ghost use Rattle.std.specs.Prelude.{◌≡◌, slice_get};
-ghost use Rattle.isp_hints.specs.Hints.{at, hint_of, vector_hint};
+ghost use Rattle.isp_hints.specs.Accesses.{at, hint_of, vector_hint};
 
 use isp_base::Span;
 use isp_code::{Code, Instr, VectorInstr};
 
-/// Why an access is slow: its elements are read, or written, one by one.
+/// Why something is slow.
 #[derive(Clone, Copy, Debug, PartialEq, Eq)]
 pub enum Slow {
+    /// An access whose elements are read one by one.
     Gathered,
+    /// An access whose elements are written one by one.
     Scattered,
+    /// The test of a loop that instances leave one by one, while the others wait.
+    Parted,
+    /// The range of a `foreach` whose last run leaves lanes off, for each step of the ranges before it.
+    LeftOff,
 }
 
-/// An access that is slow, by its bytes in the source.
+/// Something that is slow, by its bytes in the source.
 #[derive(Clone, Copy, Debug, PartialEq, Eq)]
 pub struct Hint {
     pub slow: Slow,

@@ -1,8 +1,11 @@
-//! Where a program is slow, told from its code.
+//! Where a program is slow, told from its code and its loops.
 #![tactic(auto)]
 
+mod accesses;
 mod hint;
-mod list;
+mod loops;
+mod ordered;
+mod program;
 
 pub use hint::{Hint, Slow};
-pub use list::hints;
+pub use program::hints;

@@ -1,23 +1,21 @@
-//! All that is slow.
+//! The slow accesses of code.
 ghost use Rattle.std.specs.List.{cons_option};
-ghost use Rattle.std.specs.Prelude.{◌≡◌, ◌++◌, [], IfOk, OnOk};
-ghost use Rattle.isp_hints.specs.Hints.{hints_in, hints_of};
+ghost use Rattle.std.specs.Prelude.{◌≡◌, ◌++◌, [], OnOk};
+ghost use Rattle.isp_hints.specs.Accesses.{accesses_of, hints_in};
 
 use crate::hint::{Hint, hint_of};
 use isp_code::{Code, Instr};
-use std::alloc::{AllocError, Global};
+use std::alloc::AllocError;
 
-/// The accesses of code whose elements are read or written one by one, in the order of the code. What stands twice in
-/// the code is there twice. 0 where memory is refused.
-pub fn hints(alloc: Global, code: &Code) -> Result<Vec<Hint>, AllocError>
-    ensures { IfOk result (λ v. v.items ≡ hints_of code.now) }
+/// Tells the accesses of code whose elements are read or written one by one.
+pub(crate) fn accesses(found: &mut Vec<Hint>, code: &Code) -> Result<(), AllocError>
+    ensures { OnOk result (found.new.items ≡ found.old.items ++ accesses_of code.now) }
 {
     let functions = code.functions();
-    let mut found = Vec::new(alloc);
     for number in 0..functions.len() {
-        push_hints(&mut found, code, &functions[number].code)?;
+        push_hints(found, code, &functions[number].code)?;
     }
-    Ok(found)
+    Ok(())
 }
 
 fn push_hints(found: &mut Vec<Hint>, code: &Code, instrs: &Vec<Instr>) -> Result<(), AllocError>

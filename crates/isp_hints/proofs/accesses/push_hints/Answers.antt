@@ -1,9 +1,9 @@
 use Rattle.std.proofs.Common.{rules, ap, ◌∙◌, ◌++◌, [], Option}
 use Rattle.std.specs.List.{cons_option}
 use Rattle.isp_hints.proofs.More.{instr_more}
-use Rattle.isp_hints.specs.Hints.{hint_of}
+use Rattle.isp_hints.specs.Accesses.{hint_of}
 use Rattle.isp_hints.specs.declared.hint.Hint.{Hint}
-use Rattle.isp_hints.proofs.list.push_hints.Goals as goal
+use Rattle.isp_hints.proofs.accesses.push_hints.Goals as goal
 
 pub loop-number-preserved : goal.loop-number-preserved
 loop-number-preserved c =
