@@ -1,5 +1,5 @@
 -- A list that has the slow accesses of code and the slow loops of a program, in another order and each once.
-use Rattle.std.proofs.Common.{◌≡◌, ◌⊎◌, ◌++◌, inl, inr, sym, subst}
+use Rattle.std.proofs.Common.{◌≡◌, ◌++◌, inl, inr, sym, subst}
 use Rattle.std.specs.Prelude.{List, [], ◌↔◌, Contains}
 use Rattle.std.proofs.lemmas.List.Elements.{Contains-append_left, Contains-append_right, Contains-append_cases}
 use Rattle.isp_code.specs.Listing.{Listing}
