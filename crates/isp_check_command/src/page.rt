@@ -1,6 +1,7 @@
-//! The messages of faults, one after the other.
+//! The messages of faults, and of hints, one after the other.
+use isp_hints::Hint;
 use isp_lex::Fault;
-use isp_messages::{Source, source_message};
+use isp_messages::{Message, Source, hint_message, source_message};
 use std::alloc::{AllocError, Global};
 
 /// The message of each fault: for people, or as a line of JSON.
@@ -12,22 +13,39 @@ pub(crate) fn page_of(
 ) -> Result<String, AllocError> {
     let mut page = String::new(alloc);
     for fault in faults {
-        let text = text_of(alloc, source, *fault, is_json)?;
-        page.push_str(text.as_str())?;
+        let message = source_message(alloc, source, *fault)?;
+        push_message(&mut page, alloc, &message, is_json, 1)?;
     }
     Ok(page)
 }
 
-fn text_of(
+/// The message of each hint: for people, or as a line of JSON.
+pub(crate) fn notes_of(
     alloc: Global,
     source: Source<'_, '_>,
-    fault: Fault,
+    hints: &[Hint],
     is_json: bool,
 ) -> Result<String, AllocError> {
-    let message = source_message(alloc, source, fault)?;
-    if is_json {
-        message.json(alloc, 1)
-    } else {
-        message.text(alloc)
+    let mut page = String::new(alloc);
+    for hint in hints {
+        let message = hint_message(alloc, source, *hint)?;
+        push_message(&mut page, alloc, &message, is_json, 0)?;
     }
+    Ok(page)
+}
+
+// A message, where it is a line of JSON with the exit status.
+fn push_message(
+    page: &mut String,
+    alloc: Global,
+    message: &Message<'_, '_>,
+    is_json: bool,
+    status: u8,
+) -> Result<(), AllocError> {
+    let text = if is_json {
+        message.json(alloc, status)?
+    } else {
+        message.text(alloc)?
+    };
+    page.push_str(text.as_str())
 }

@@ -1,9 +1,10 @@
-//! What is said to people of a failure: where it is, what it is, and what to write instead.
+//! What is said to people of a failure or a hint: where it is, what it is, and what to write instead.
 #![tactic(auto)]
 
 mod bindings;
 mod close;
 mod failures;
+mod hints;
 mod message;
 mod page;
 
@@ -12,5 +13,6 @@ pub use close::closest;
 pub use failures::{
     Element, advise, entry_message, fault_message, push_advice, source_message, trap_message,
 };
+pub use hints::hint_message;
 pub use message::Message;
 pub use page::{Source, push_place};

@@ -5,14 +5,14 @@ use isp_places::place_of;
 use std::alloc::{AllocError, Global};
 use std::fmt::Write;
 
-/// What is said of a failure.
+/// What is said of a failure or a hint.
 #[derive(Drop)]
 pub struct Message<'n, 't> {
     /// The text that it is in, if it is in one.
     pub source: Option<Source<'n, 't>>,
     /// Where in the text.
     pub span: Option<Span>,
-    /// The fault, as `30 VaryingToUniform`.
+    /// The fault, as `30 VaryingToUniform`, or the hint.
     pub what: String,
     /// What that means.
     pub sentence: String,
