@@ -1,7 +1,8 @@
 //! Whether two expressions are the same but for their places.
 ghost use Rattle.std.specs.Prelude.{◌≡◌, IsTrue};
-ghost use Rattle.isp_typed.specs.Views.{argument_of, base_of, call_of, expr_of, place_of};
-ghost use Rattle.isp_alike.specs.Bare.{bare_argument, bare_base, bare_call, bare_expr, bare_place};
+ghost use Rattle.isp_typed.specs.Typed.{t_exprs};
+ghost use Rattle.isp_typed.specs.Views.{argument_of, base_of, call_of, expr_of, exprs_of, place_of};
+ghost use Rattle.isp_alike.specs.Bare.{bare_argument, bare_base, bare_call, bare_expr, bare_exprs, bare_place};
 
 use crate::spot::{same_array, same_library, same_logic, same_value};
 use isp_typed::{TypedArgument, TypedBase, TypedCall, TypedExpr, TypedPlace};
@@ -11,12 +12,26 @@ use isp_typed::{TypedArgument, TypedBase, TypedCall, TypedExpr, TypedPlace};
 pub(crate) fn same_expr(x: &TypedExpr, y: &TypedExpr) -> bool
     ensures { IsTrue result → bare_expr (expr_of x.now) ≡ bare_expr (expr_of y.now) }
 {
+    match x {
+        TypedExpr::Constant { .. }
+        | TypedExpr::ProgramIndex { .. }
+        | TypedExpr::Place(_)
+        | TypedExpr::Call { .. } => same_plain(x, y),
+        TypedExpr::Convert { .. } | TypedExpr::Cast { .. } => same_converted(x, y),
+        TypedExpr::Unary { .. } | TypedExpr::Binary { .. } => same_computed(x, y),
+        TypedExpr::Compare { .. } | TypedExpr::Logic { .. } => same_test(x, y),
+        TypedExpr::Choose { .. } => same_choice(x, y),
+        TypedExpr::Library { .. } => same_library_call(x, y),
+        TypedExpr::PackedStore { .. } | TypedExpr::PackedLoad { .. } => same_packed(x, y),
+    }
+}
+
+/// The same of two conversions, or two casts.
+#[cycle(expr)]
+fn same_converted(x: &TypedExpr, y: &TypedExpr) -> bool
+    ensures { IsTrue result → bare_expr (expr_of x.now) ≡ bare_expr (expr_of y.now) }
+{
     match (x, y) {
-        (TypedExpr::Constant { value: v, .. }, TypedExpr::Constant { value: w, .. }) => {
-            same_value(*v, *w)
-        }
-        (TypedExpr::ProgramIndex { .. }, TypedExpr::ProgramIndex { .. }) => true,
-        (TypedExpr::Place(p), TypedExpr::Place(q)) => same_place(p, q),
         (
             TypedExpr::Convert {
                 elem: d,
@@ -39,6 +54,16 @@ pub(crate) fn same_expr(x: &TypedExpr, y: &TypedExpr) -> bool
                 ..
             },
         ) => *t == *u && same_expr(a, b),
+        _ => false,
+    }
+}
+
+/// The same of two operators on one value, or two on two values.
+#[cycle(expr)]
+fn same_computed(x: &TypedExpr, y: &TypedExpr) -> bool
+    ensures { IsTrue result → bare_expr (expr_of x.now) ≡ bare_expr (expr_of y.now) }
+{
+    match (x, y) {
         (
             TypedExpr::Unary {
                 operator: o,
@@ -69,6 +94,16 @@ pub(crate) fn same_expr(x: &TypedExpr, y: &TypedExpr) -> bool
                 ..
             },
         ) => *o == *p && *t == *u && same_expr(a, c) && same_expr(b, d),
+        _ => false,
+    }
+}
+
+/// The same of two comparisons, or two of `&&` and `||`.
+#[cycle(expr)]
+fn same_test(x: &TypedExpr, y: &TypedExpr) -> bool
+    ensures { IsTrue result → bare_expr (expr_of x.now) ≡ bare_expr (expr_of y.now) }
+{
+    match (x, y) {
         (
             TypedExpr::Compare {
                 comparison: o,
@@ -101,6 +136,16 @@ pub(crate) fn same_expr(x: &TypedExpr, y: &TypedExpr) -> bool
                 ..
             },
         ) => same_logic(*o, *p) && *r == *s && same_expr(a, c) && same_expr(b, d),
+        _ => false,
+    }
+}
+
+/// The same of two `?:`.
+#[cycle(expr)]
+fn same_choice(x: &TypedExpr, y: &TypedExpr) -> bool
+    ensures { IsTrue result → bare_expr (expr_of x.now) ≡ bare_expr (expr_of y.now) }
+{
+    match (x, y) {
         (
             TypedExpr::Choose {
                 test: a,
@@ -117,9 +162,34 @@ pub(crate) fn same_expr(x: &TypedExpr, y: &TypedExpr) -> bool
                 ..
             },
         ) => *t == *u && same_expr(a, d) && same_expr(b, e) && same_expr(c, f),
-        (TypedExpr::Call { call: c, ty: t }, TypedExpr::Call { call: d, ty: u }) => {
-            *t == *u && same_call(c, d)
+        _ => false,
+    }
+}
+
+/// Whether the values of two calls of the library are the same but for their places.
+#[cycle(expr)]
+fn same_exprs(xs: &[TypedExpr], ys: &[TypedExpr]) -> bool
+    ensures { IsTrue result → bare_exprs (t_exprs (exprs_of xs.now)) ≡ bare_exprs (t_exprs (exprs_of ys.now)) }
+{
+    let mut rest = ys;
+    for value in xs {
+        let [other, more @ ..] = rest else {
+            return false;
+        };
+        if !same_expr(value, other) {
+            return false;
         }
+        rest = more;
+    }
+    rest.is_empty()
+}
+
+/// The same of two calls of the library on values.
+#[cycle(expr)]
+fn same_library_call(x: &TypedExpr, y: &TypedExpr) -> bool
+    ensures { IsTrue result → bare_expr (expr_of x.now) ≡ bare_expr (expr_of y.now) }
+{
+    match (x, y) {
         (
             TypedExpr::Library {
                 function: f,
@@ -135,22 +205,17 @@ pub(crate) fn same_expr(x: &TypedExpr, y: &TypedExpr) -> bool
                 ty: u,
                 ..
             },
-        ) => {
-            if !(same_library(*f, *g) && *d == *e && *t == *u) {
-                return false;
-            }
-            let mut rest = ys.as_slice();
-            for value in xs {
-                let [other, more @ ..] = rest else {
-                    return false;
-                };
-                if !same_expr(value, other) {
-                    return false;
-                }
-                rest = more;
-            }
-            rest.is_empty()
-        }
+        ) => same_library(*f, *g) && *d == *e && *t == *u && same_exprs(xs, ys),
+        _ => false,
+    }
+}
+
+/// The same of two packed stores, or two packed loads.
+#[cycle(expr)]
+fn same_packed(x: &TypedExpr, y: &TypedExpr) -> bool
+    ensures { IsTrue result → bare_expr (expr_of x.now) ≡ bare_expr (expr_of y.now) }
+{
+    match (x, y) {
         (
             TypedExpr::PackedStore {
                 base: a,
@@ -175,6 +240,24 @@ pub(crate) fn same_expr(x: &TypedExpr, y: &TypedExpr) -> bool
                 ..
             },
         ) => *k == *j && same_base(a, b),
+        _ => false,
+    }
+}
+
+/// The same of two constants, places or calls, or of `programIndex`.
+#[cycle(expr)]
+fn same_plain(x: &TypedExpr, y: &TypedExpr) -> bool
+    ensures { IsTrue result → bare_expr (expr_of x.now) ≡ bare_expr (expr_of y.now) }
+{
+    match (x, y) {
+        (TypedExpr::Constant { value: v, .. }, TypedExpr::Constant { value: w, .. }) => {
+            same_value(*v, *w)
+        }
+        (TypedExpr::ProgramIndex { .. }, TypedExpr::ProgramIndex { .. }) => true,
+        (TypedExpr::Place(p), TypedExpr::Place(q)) => same_place(p, q),
+        (TypedExpr::Call { call: c, ty: t }, TypedExpr::Call { call: d, ty: u }) => {
+            *t == *u && same_call(c, d)
+        }
         _ => false,
     }
 }

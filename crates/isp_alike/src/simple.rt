@@ -108,6 +108,15 @@ pub(crate) fn same_simple(x: &TypedSimple, y: &TypedSimple) -> bool
                 ..
             },
         ) => same_place(p, q) && same_expr(v, w),
+        _ => same_change(x, y),
+    }
+}
+
+/// The same of two assignments with an operator, or two steps by one.
+fn same_change(x: &TypedSimple, y: &TypedSimple) -> bool
+    ensures { IsTrue result → bare_simple (simple_of x.now) ≡ bare_simple (simple_of y.now) }
+{
+    match (x, y) {
         (
             TypedSimple::Update {
                 operator: o,

@@ -15,14 +15,30 @@ use isp_typed::{TypedBlock, TypedStmt};
 fn same_stmt(x: &TypedStmt, y: &TypedStmt) -> bool
     ensures { IsTrue result → bare_stmt (stmt_of x.now) ≡ bare_stmt (stmt_of y.now) }
 {
+    match x {
+        TypedStmt::If { .. } => same_if(x, y),
+        TypedStmt::IfElse { .. } => same_if_else(x, y),
+        TypedStmt::While { .. } | TypedStmt::Do { .. } => same_repeated(x, y),
+        TypedStmt::For { .. } => same_for(x, y),
+        TypedStmt::Foreach { .. } | TypedStmt::ForeachActive { .. } => same_foreach(x, y),
+        TypedStmt::ForeachUnique { .. } => same_unique(x, y),
+        TypedStmt::Block(_)
+        | TypedStmt::Declare { .. }
+        | TypedStmt::Simple { .. }
+        | TypedStmt::Unmasked { .. }
+        | TypedStmt::Jump { .. }
+        | TypedStmt::Return { .. }
+        | TypedStmt::Print { .. }
+        | TypedStmt::Assert { .. } => same_plain(x, y),
+    }
+}
+
+/// The same of two `if` without `else`.
+#[cycle(stmt)]
+fn same_if(x: &TypedStmt, y: &TypedStmt) -> bool
+    ensures { IsTrue result → bare_stmt (stmt_of x.now) ≡ bare_stmt (stmt_of y.now) }
+{
     match (x, y) {
-        (TypedStmt::Block(a), TypedStmt::Block(b)) => same_block(a, b),
-        (TypedStmt::Declare { items: a, .. }, TypedStmt::Declare { items: b, .. }) => {
-            same_items(a, b)
-        }
-        (TypedStmt::Simple { simple: a, .. }, TypedStmt::Simple { simple: b, .. }) => {
-            same_simple(a, b)
-        }
         (
             TypedStmt::If {
                 form: f,
@@ -39,6 +55,16 @@ fn same_stmt(x: &TypedStmt, y: &TypedStmt) -> bool
                 ..
             },
         ) => same_form(*f, *g) && *n == *m && same_expr(v, w) && same_stmt(a, b),
+        _ => false,
+    }
+}
+
+/// The same of two `if` with `else`.
+#[cycle(stmt)]
+fn same_if_else(x: &TypedStmt, y: &TypedStmt) -> bool
+    ensures { IsTrue result → bare_stmt (stmt_of x.now) ≡ bare_stmt (stmt_of y.now) }
+{
+    match (x, y) {
         (
             TypedStmt::IfElse {
                 form: f,
@@ -59,6 +85,16 @@ fn same_stmt(x: &TypedStmt, y: &TypedStmt) -> bool
         ) => {
             same_form(*f, *g) && *n == *m && same_expr(v, w) && same_stmt(a, b) && same_stmt(c, d)
         }
+        _ => false,
+    }
+}
+
+/// The same of two `while`, or two `do`.
+#[cycle(stmt)]
+fn same_repeated(x: &TypedStmt, y: &TypedStmt) -> bool
+    ensures { IsTrue result → bare_stmt (stmt_of x.now) ≡ bare_stmt (stmt_of y.now) }
+{
+    match (x, y) {
         (
             TypedStmt::While {
                 form: f,
@@ -91,6 +127,16 @@ fn same_stmt(x: &TypedStmt, y: &TypedStmt) -> bool
                 ..
             },
         ) => same_form(*f, *g) && *n == *m && same_stmt(a, b) && same_expr(v, w),
+        _ => false,
+    }
+}
+
+/// The same of two `for`.
+#[cycle(stmt)]
+fn same_for(x: &TypedStmt, y: &TypedStmt) -> bool
+    ensures { IsTrue result → bare_stmt (stmt_of x.now) ≡ bare_stmt (stmt_of y.now) }
+{
+    match (x, y) {
         (
             TypedStmt::For {
                 form: f,
@@ -121,6 +167,16 @@ fn same_stmt(x: &TypedStmt, y: &TypedStmt) -> bool
                 && same_step(p, q)
                 && same_stmt(a, b)
         }
+        _ => false,
+    }
+}
+
+/// The same of two `foreach`, or two `foreach_active`.
+#[cycle(stmt)]
+fn same_foreach(x: &TypedStmt, y: &TypedStmt) -> bool
+    ensures { IsTrue result → bare_stmt (stmt_of x.now) ≡ bare_stmt (stmt_of y.now) }
+{
+    match (x, y) {
         (
             TypedStmt::Foreach {
                 before: n,
@@ -149,6 +205,16 @@ fn same_stmt(x: &TypedStmt, y: &TypedStmt) -> bool
                 ..
             },
         ) => *n == *m && *i == *j && same_stmt(a, b),
+        _ => false,
+    }
+}
+
+/// The same of two `foreach_unique`.
+#[cycle(stmt)]
+fn same_unique(x: &TypedStmt, y: &TypedStmt) -> bool
+    ensures { IsTrue result → bare_stmt (stmt_of x.now) ≡ bare_stmt (stmt_of y.now) }
+{
+    match (x, y) {
         (
             TypedStmt::ForeachUnique {
                 before: n,
@@ -167,6 +233,23 @@ fn same_stmt(x: &TypedStmt, y: &TypedStmt) -> bool
                 ..
             },
         ) => *n == *m && *i == *j && *d == *e && same_expr(v, w) && same_stmt(a, b),
+        _ => false,
+    }
+}
+
+/// The same of two blocks, or two statements of one kind that have none inside.
+#[cycle(stmt)]
+fn same_plain(x: &TypedStmt, y: &TypedStmt) -> bool
+    ensures { IsTrue result → bare_stmt (stmt_of x.now) ≡ bare_stmt (stmt_of y.now) }
+{
+    match (x, y) {
+        (TypedStmt::Block(a), TypedStmt::Block(b)) => same_block(a, b),
+        (TypedStmt::Declare { items: a, .. }, TypedStmt::Declare { items: b, .. }) => {
+            same_items(a, b)
+        }
+        (TypedStmt::Simple { simple: a, .. }, TypedStmt::Simple { simple: b, .. }) => {
+            same_simple(a, b)
+        }
         (TypedStmt::Unmasked { body: a, .. }, TypedStmt::Unmasked { body: b, .. }) => {
             same_block(a, b)
         }

@@ -9,7 +9,7 @@ invariant-same_call-loop-given l =
     bare_arguments (t_arguments (arguments_of (drop l.given-index l.given-items))) ≡ bare_arguments (t_arguments (arguments_of l.rest))
     → bare_arguments (t_arguments (arguments_of l.given-items)) ≡ bare_arguments (t_arguments (arguments_of l.initial.rest))
 
-abbrev pub invariant-same_expr-loop-value : goal.invariant-same_expr-loop-value
-invariant-same_expr-loop-value l =
-    bare_exprs (t_exprs (exprs_of (drop l.value-index l.value-items))) ≡ bare_exprs (t_exprs (exprs_of l.rest))
-    → bare_exprs (t_exprs (exprs_of l.value-items)) ≡ bare_exprs (t_exprs (exprs_of l.initial.rest))
+abbrev pub invariant-same_exprs-loop-value : goal.invariant-same_exprs-loop-value
+invariant-same_exprs-loop-value l =
+    bare_exprs (t_exprs (exprs_of (drop l.value-index l.xs))) ≡ bare_exprs (t_exprs (exprs_of l.rest))
+    → bare_exprs (t_exprs (exprs_of l.xs)) ≡ bare_exprs (t_exprs (exprs_of l.ys))
