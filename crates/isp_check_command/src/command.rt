@@ -150,8 +150,8 @@ fn tell_notes_page<O: Sink>(
         name: request.source,
         text,
     };
-    let page = notes_of(alloc, source, found, request.is_json)?;
-    write_text(page.as_str(), out)
+    let notes = notes_of(alloc, source, found, request.is_json)?;
+    write_text(notes.as_str(), out)
 }
 
 // Says that a source is not read, and answers the exit status.

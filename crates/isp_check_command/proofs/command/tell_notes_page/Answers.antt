@@ -3,8 +3,8 @@ use Rattle.std.proofs.lemmas.Result.{err_from_is_err_and}
 use Rattle.isp_output.proofs.Written.{adds_nil}
 use Rattle.isp_check_command.proofs.command.tell_notes_page.Goals as goal
 
-pub returns-in_err-page : goal.returns-in_err-page
-returns-in_err-page g c =
+pub returns-in_err-notes : goal.returns-in_err-notes
+returns-in_err-notes g c =
     let p = err_from_is_err_and c.from_residual.result c.from_residual.ensures.1 in
     rw (p.1, p.2) (inr (refl, (sym (adds_nil _), c.requires)))
 
