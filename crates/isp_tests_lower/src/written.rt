@@ -17,7 +17,7 @@ use isp_code::{Code, Instr};
 use isp_lower::{Emitter, Line, Site};
 use isp_rates::Checked;
 use isp_registers::{MaskNumber, Slot};
-use isp_tests_support::Hoard;
+use isp_tests_support::{Hoard, hold};
 use isp_typed::TypedFunction;
 use std::alloc::{AllocError, Global};
 use std::test::Fail;
@@ -350,19 +350,17 @@ ret -
 end
 ";
 
-#[test]
-fn two_functions_by_hand(rt: HostRuntime) -> Result<(), Fail> {
-    let alloc = rt.alloc();
+/// The numbers of each call and the finished code are as worked out by hand.
+pub fn two_functions_by_hand(alloc: Global) -> Result<(), Fail> {
     let checked = no_function(alloc)?;
     let mut hoard = Hoard::new(alloc)?;
     let mut trial = Trial::new(Call::None, 0);
     hoard.ample();
     let code = two_functions(alloc, &checked, &mut trial, &mut hoard)?;
-    assert!(rt; !trial.wrong, "another number");
+    hold(!trial.wrong, "another number")?;
     let text = match code {
         Some(code) => write(alloc, &code)?,
         None => String::new(alloc),
     };
-    assert_eq!(rt; text.as_str(), TEXT);
-    Ok(())
+    hold(text.as_str() == TEXT, "another text of the code")
 }
