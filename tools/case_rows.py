@@ -5,7 +5,7 @@
 
 WHAT is `programs` (gang, source, entry, arguments, and runs with turns, kind, output, work and answer, or trap and arrays), `sources`
 (gang, source, and line, the refusal, or null) or `arguments` (parameters, arguments, and line, or answer). The format of what is written
-stands in crates/isp_tests_cases/src/cases.rt.
+stands in crates/isp_tests_programs/src/records.rt.
 """
 import json
 import sys

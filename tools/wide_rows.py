@@ -4,7 +4,7 @@
     tools/wide_rows.py              writes them: those of other files of rows, with arrays for 32 instances, and those that stand below
     tools/wide_rows.py --check      runs each run of the other files by tools/gang.py, at its own gang, and prints where that finds another
 
-The format of rows stands in crates/isp_tests_cases/src/cases.rt. A record of another file that 32 instances bring to another kind of end, or not to its
+The format of rows stands in crates/isp_tests_programs/src/records.rt. A record of another file that 32 instances bring to another kind of end, or not to its
 end soon, is left out.
 """
 import json

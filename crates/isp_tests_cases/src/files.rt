@@ -2,10 +2,10 @@
 //!
 //! A row is a format, `npy` or `image`, the bytes of a file in hexadecimal digits, `|`, and what the file
 //! holds, or its fault. `npy/` and `image/` read the bytes cut off at each place too, where the file has to end too early.
-use crate::tried::Tried;
 use hex::decode;
 use isp_base::Array;
 use isp_files::{FileFault, Flaw, Grid, read_image, read_npy};
+use isp_tests_programs::Tried;
 use isp_tests_support::parted;
 use std::alloc::{AllocError, Global};
 use std::fmt::Write;

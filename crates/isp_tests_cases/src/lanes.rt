@@ -3,10 +3,10 @@
 //! A file is a line of what must come out, and code text: whether the check takes its tables, and of how many writes of vectors the
 //! mask is known to be full, lanes that are off are read by nobody (free), the whole is read by nobody (useless), and the lanes
 //! that are off have to be kept (select).
-use crate::tried::Tried;
 use isp_asm::read;
 use isp_code::{Class, Code, Function};
 use isp_lanes_read::{LaneSet, Tables, check, find, written};
+use isp_tests_programs::Tried;
 use isp_tests_support::parted;
 use std::alloc::{AllocError, Global};
 

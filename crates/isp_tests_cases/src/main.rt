@@ -1,26 +1,31 @@
 //! What must come out, as data: the words name files, and the folder of a file says what its rows are.
 //!
-//! - In no folder of these, records of programs, which are judged, evaluated, compiled and run (src/cases.rt);
+//! - In no folder of these, records of programs, which are judged, evaluated, compiled and run (isp_tests_programs);
 //! - `texts/`, texts of code, which are read and written again (src/texts.rt);
 //! - `files/`, files of arrays and images, which are read (src/files.rt);
-//! - `lanes/`, a kernel in each, of whose code tables are found (src/lanes.rt).
+//! - `lanes/`, a kernel in each, of whose code tables are found (src/lanes.rt);
+//! - `connections/`, records of connections of a language server (src/connections.rt).
 //!
 //! Of each kind a line is printed for whatever differs, and then how many were tried and how many lines that were.
+//!
+//! The word `emitter` names no file: the calls of an emitter are tried (isp_tests_lower). Where one does not give what it should, the program ends with status 1
+//! and says which.
 #![tactic(auto)]
 
-mod alone;
-mod case;
-mod cases;
+mod connections;
 mod files;
-mod found;
 mod lanes;
 mod texts;
-mod tried;
-mod ways;
 
+use isp_tests_lower::{behind_what_code_names, memory_refused, two_functions_by_hand};
+use isp_tests_programs as programs;
+use isp_tests_programs::Tried;
 use std::alloc::{AllocError, Global};
+use std::test::Fail;
 use std::{env, fs, io};
-use tried::Tried;
+
+/// The word that names no file.
+const EMITTER: &str = "emitter";
 
 /// What a file holds.
 #[derive(Clone, Copy, PartialEq)]
@@ -29,18 +34,23 @@ enum Kind {
     Texts,
     Files,
     Lanes,
+    Connections,
 }
 
 /// The kinds, and what each has.
-const KINDS: [(Kind, &str); 4] = [
+const KINDS: [(Kind, &str); 5] = [
     (Kind::Cases, "cases"),
     (Kind::Texts, "texts"),
     (Kind::Files, "files"),
     (Kind::Lanes, "kernels"),
+    (Kind::Connections, "connections"),
 ];
 
-fn main(rt: HostRuntime) -> io::Result<()> {
+fn main(rt: HostRuntime) -> Result<(), Fail> {
     let words = env::args(&rt)?.collect::<Vec<String>>(rt.alloc())?;
+    if words.iter().any(|word| word.as_str() == EMITTER) {
+        emit(&rt)?;
+    }
     for (kind, name) in KINDS {
         let tried = all_of(&rt, words.as_slice(), kind)?;
         report(&rt, &tried, name)?;
@@ -48,11 +58,20 @@ fn main(rt: HostRuntime) -> io::Result<()> {
     Ok(())
 }
 
+// Tries an emitter: first of all, while the memory that is refused is in few pieces.
+fn emit(rt: &HostRuntime) -> Result<(), Fail> {
+    two_functions_by_hand(rt.alloc())?;
+    behind_what_code_names(rt.alloc())?;
+    let count = memory_refused(rt.alloc())?;
+    println!(rt; "an emitter, and {count} of its calls with each growth refused")?;
+    Ok(())
+}
+
 // Tries the files of one kind, after the first word.
 fn all_of(rt: &HostRuntime, words: &[String], kind: Kind) -> io::Result<Tried> {
     let mut tried = Tried::new(rt.alloc());
     for word in words.iter().skip(1) {
-        if kind_of(word.as_str()) == kind {
+        if word.as_str() != EMITTER && kind_of(word.as_str()) == kind {
             let text = fs::read_to_string(rt, word)?;
             follow(rt.alloc(), kind, text.as_str(), &mut tried)?;
         }
@@ -65,6 +84,7 @@ fn kind_of(word: &str) -> Kind {
         "texts" => Kind::Texts,
         "files" => Kind::Files,
         "lanes" => Kind::Lanes,
+        "connections" => Kind::Connections,
         _ => Kind::Cases,
     }
 }
@@ -82,10 +102,11 @@ fn folder_of(word: &str) -> &str {
 
 fn follow(alloc: Global, kind: Kind, text: &str, tried: &mut Tried) -> Result<(), AllocError> {
     match kind {
-        Kind::Cases => cases::follow(alloc, text, tried),
+        Kind::Cases => programs::follow(alloc, text, tried),
         Kind::Texts => texts::follow(alloc, text, tried),
         Kind::Files => files::follow(alloc, text, tried),
         Kind::Lanes => lanes::follow(alloc, text, tried),
+        Kind::Connections => connections::follow(alloc, text, tried),
     }
 }
 

@@ -1,8 +1,8 @@
 //! Texts of code, most of them broken: each is read, and what is read is written again.
 //!
 //! A row is a text, in which `␤` is a line feed, then `|`, and what becomes of the text: its fault, or `read`.
-use crate::tried::Tried;
 use isp_asm::{AsmFault, read, write};
+use isp_tests_programs::Tried;
 use isp_tests_support::parted;
 use std::alloc::{AllocError, Global};
 

@@ -1,6 +1,6 @@
 //! Connections with what is sent on them: messages to a server, one after another.
 //!
-//! The words name files of records. A record is the lines from `=== ` and its name on. Each line begins with a word that says what it is:
+//! A record is the lines from `=== ` and its name on. Each line begins with a word that says what it is:
 //!
 //! - `.` how what is sent was found, for the reader alone;
 //! - `says` the content of a message to the server;
@@ -8,19 +8,10 @@
 //! - `ends` the status with which the server ends after it.
 //!
 //! After each message all that is sent stands in the record, in its order.
-#![tactic(auto)]
-
 use isp_base::Gang;
 use isp_server::{Next, Server};
+use isp_tests_programs::Tried;
 use std::alloc::{AllocError, Global};
-use std::{env, fs, io};
-
-/// How many connections were tried, and a line for each that does not go as its record says.
-#[derive(Drop)]
-struct Tried {
-    count: u64,
-    differences: Vec<String>,
-}
 
 /// A connection: what was sent on it, and what its record says.
 #[derive(Drop)]
@@ -30,38 +21,12 @@ struct Connection {
     wanted: String,
 }
 
-fn main(rt: HostRuntime) -> io::Result<()> {
-    let words = env::args(&rt)?.collect::<Vec<String>>(rt.alloc())?;
-    let tried = all_of(&rt, words.as_slice())?;
-    for line in &tried.differences {
-        println!(rt; "{line}")?;
-    }
-    println!(rt;
-        "{} connections, {} differ",
-        tried.count,
-        tried.differences.len()
-    )
-}
-
-// Tries the files that are named after the first word.
-fn all_of(rt: &HostRuntime, words: &[String]) -> io::Result<Tried> {
-    let mut tried = Tried {
-        count: 0,
-        differences: Vec::new(rt.alloc()),
-    };
-    for word in words.iter().skip(1) {
-        let text = fs::read_to_string(rt, word)?;
-        follow(rt.alloc(), text.as_str(), &mut tried)?;
-    }
-    Ok(tried)
-}
-
-// Tries the records of a file.
-fn follow(alloc: Global, text: &str, tried: &mut Tried) -> Result<(), AllocError> {
+/// Tries the records of a file.
+pub(crate) fn follow(alloc: Global, text: &str, tried: &mut Tried) -> Result<(), AllocError> {
     for record in text.split("=== ").skip(1) {
-        tried.count = tried.count.saturating_add(1);
+        tried.begin();
         if let Some(difference) = difference(alloc, record)? {
-            tried.differences.push(difference)?;
+            tried.differ(difference)?;
         }
     }
     Ok(())

@@ -3,13 +3,13 @@ use std::alloc::{AllocError, Global};
 
 /// How many things were tried, and a line for each in which one does not come to what it says.
 #[derive(Drop)]
-pub(crate) struct Tried {
+pub struct Tried {
     pub count: u64,
     pub differences: Vec<String>,
 }
 
 impl Tried {
-    pub(crate) fn new(alloc: Global) -> Tried {
+    pub fn new(alloc: Global) -> Tried {
         Tried {
             count: 0,
             differences: Vec::new(alloc),
@@ -17,12 +17,12 @@ impl Tried {
     }
 
     /// One thing more is tried.
-    pub(crate) fn begin(&mut self) {
+    pub fn begin(&mut self) {
         self.count = self.count.saturating_add(1);
     }
 
     /// It does not come to what it says.
-    pub(crate) fn differ(&mut self, line: String) -> Result<(), AllocError> {
+    pub fn differ(&mut self, line: String) -> Result<(), AllocError> {
         self.differences.push(line)?;
         Ok(())
     }

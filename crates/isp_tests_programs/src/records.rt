@@ -25,8 +25,8 @@ use crate::case::Case;
 use crate::tried::Tried;
 use std::alloc::{AllocError, Global};
 
-/// Tries the records of a file.
-pub(crate) fn follow(alloc: Global, text: &str, tried: &mut Tried) -> Result<(), AllocError> {
+/// Tries the records of a file, whose text this is.
+pub fn follow(alloc: Global, text: &str, tried: &mut Tried) -> Result<(), AllocError> {
     for record in text.split("=== ").skip(1) {
         follow_record(alloc, record, tried)?;
     }
