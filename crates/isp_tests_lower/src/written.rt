@@ -17,7 +17,7 @@ use isp_code::{Code, Instr};
 use isp_lower::{Emitter, Line, Site};
 use isp_rates::Checked;
 use isp_registers::{MaskNumber, Slot};
-use isp_tests_support::{Hoard, hold};
+use isp_tests_support::Hoard;
 use isp_typed::TypedFunction;
 use std::alloc::{AllocError, Global};
 use std::test::Fail;
@@ -357,10 +357,12 @@ pub fn two_functions_by_hand(alloc: Global) -> Result<(), Fail> {
     let mut trial = Trial::new(Call::None, 0);
     hoard.ample();
     let code = two_functions(alloc, &checked, &mut trial, &mut hoard)?;
-    hold(!trial.wrong, "another number")?;
     let text = match code {
         Some(code) => write(alloc, &code)?,
         None => String::new(alloc),
     };
-    hold(text.as_str() == TEXT, "another text of the code")
+    if trial.wrong || text.as_str() != TEXT {
+        return Err(Fail::new("another number or text of the two functions"));
+    }
+    Ok(())
 }

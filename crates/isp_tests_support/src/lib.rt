@@ -10,4 +10,4 @@ mod sweeps;
 pub use hoard::Hoard;
 pub use marks::{Marked, number, parted, spelt_out};
 pub use programs::{CALLS, COUNTER, INC, LOCAL_ARRAY, PROGRAMS, Program, UNIQUE};
-pub use sweeps::{Tried, hold, sweep, sweep_call};
+pub use sweeps::{Tried, sweep, sweep_call};

@@ -4,7 +4,6 @@ ghost use Rattle.isp_tests_support.specs.declared.sweeps.Tried.TheVariants.{Righ
 
 use crate::hoard::Hoard;
 use std::alloc::Global;
-use std::fmt::Display;
 use std::test::Fail;
 
 /// As many times 16 bytes as are ever given to a call.
@@ -87,17 +86,6 @@ pub fn sweep_call<F: FnMut() -> Tried>(alloc: Global, name: &str, mut call: F) -
         }
     }
     Err(failure(name, "always refused"))
-}
-
-/// Fails with a text, unless something holds.
-pub fn hold<D: Display + Drop>(holds: bool, what: D) -> Result<(), Fail>
-    ensures { IfOk result (λ _. holds ≡ true) }
-{
-    if holds {
-        Ok(())
-    } else {
-        Err(Fail::new(what))
-    }
 }
 
 // Whether an attempt is the last, with so many times 16 bytes.
