@@ -18,7 +18,6 @@ mod lanes;
 mod texts;
 
 use isp_tests_lower::{behind_what_code_names, memory_refused, two_functions_by_hand};
-use isp_tests_programs as programs;
 use isp_tests_programs::Tried;
 use std::alloc::{AllocError, Global};
 use std::test::Fail;
@@ -102,7 +101,7 @@ fn folder_of(word: &str) -> &str {
 
 fn follow(alloc: Global, kind: Kind, text: &str, tried: &mut Tried) -> Result<(), AllocError> {
     match kind {
-        Kind::Cases => programs::follow(alloc, text, tried),
+        Kind::Cases => isp_tests_programs::follow(alloc, text, tried),
         Kind::Texts => texts::follow(alloc, text, tried),
         Kind::Files => files::follow(alloc, text, tried),
         Kind::Lanes => lanes::follow(alloc, text, tried),
