@@ -7,9 +7,10 @@ use crate::reading::{TEXT, gives};
 use crate::writes::{SENT, SHORT, image, runs};
 use isp_asm::write;
 use isp_base::Gang;
+use isp_commands::command;
 use isp_engine::{
-    CodeFault, Ending, FileFault, Image, Report, RunFault, command, compile, execute, front,
-    load_code, read_text,
+    CodeFault, Ending, FileFault, Image, Report, RunFault, compile, execute, front, load_code,
+    read_text,
 };
 use isp_lex::SourceFault;
 use isp_masks::lower;
