@@ -7,9 +7,6 @@
 //! - `connections/`, records of connections of a language server (src/connections.rt).
 //!
 //! Of each kind a line is printed for whatever differs, and then how many were tried and how many lines that were.
-//!
-//! The word `emitter` names no file: the calls of an emitter are tried (isp_tests_lower). Where one does not give what it should, the program ends with status 1
-//! and says which.
 #![tactic(auto)]
 
 mod connections;
@@ -17,14 +14,9 @@ mod files;
 mod lanes;
 mod texts;
 
-use isp_tests_lower::{behind_what_code_names, memory_refused, two_functions_by_hand};
 use isp_tests_programs::Tried;
 use std::alloc::{AllocError, Global};
-use std::test::Fail;
 use std::{env, fs, io};
-
-/// The word that names no file.
-const EMITTER: &str = "emitter";
 
 /// What a file holds.
 #[derive(Clone, Copy, PartialEq)]
@@ -45,11 +37,8 @@ const KINDS: [(Kind, &str); 5] = [
     (Kind::Connections, "connections"),
 ];
 
-fn main(rt: HostRuntime) -> Result<(), Fail> {
+fn main(rt: HostRuntime) -> io::Result<()> {
     let words = env::args(&rt)?.collect::<Vec<String>>(rt.alloc())?;
-    if words.iter().any(|word| word.as_str() == EMITTER) {
-        emit(&rt)?;
-    }
     for (kind, name) in KINDS {
         let tried = all_of(&rt, words.as_slice(), kind)?;
         report(&rt, &tried, name)?;
@@ -57,20 +46,11 @@ fn main(rt: HostRuntime) -> Result<(), Fail> {
     Ok(())
 }
 
-// Tries an emitter: first of all, while the memory that is refused is in few pieces.
-fn emit(rt: &HostRuntime) -> Result<(), Fail> {
-    two_functions_by_hand(rt.alloc())?;
-    behind_what_code_names(rt.alloc())?;
-    let count = memory_refused(rt.alloc())?;
-    println!(rt; "an emitter, and {count} of its calls with each growth refused")?;
-    Ok(())
-}
-
 // Tries the files of one kind, after the first word.
 fn all_of(rt: &HostRuntime, words: &[String], kind: Kind) -> io::Result<Tried> {
     let mut tried = Tried::new(rt.alloc());
     for word in words.iter().skip(1) {
-        if word.as_str() != EMITTER && kind_of(word.as_str()) == kind {
+        if kind_of(word.as_str()) == kind {
             let text = fs::read_to_string(rt, word)?;
             follow(rt.alloc(), kind, text.as_str(), &mut tried)?;
         }

@@ -7,7 +7,7 @@ use isp_base::{Elem, Rate};
 use isp_code::{Instr, MaskInstr, Register, ScalarInstr};
 use isp_lower::{Emitter, Line};
 use isp_typed::TypedFunction;
-use std::alloc::{AllocError, Global};
+use std::alloc::AllocError;
 use std::test::Fail;
 
 // The function has scalars 0 to 3 and masks 0 to 2, and its instructions name scalar 7 and mask 5.
@@ -28,15 +28,12 @@ fn given_behind(e: &mut Emitter, f: &TypedFunction) -> Result<[usize; 2], AllocE
     Ok([register.number as usize, mask.number as usize])
 }
 
-/// The numbers behind those that only instructions name are as wanted.
-pub fn behind_what_code_names(alloc: Global) -> Result<(), Fail> {
+#[test]
+fn behind_what_code_names(rt: HostRuntime) -> Result<(), Fail> {
+    let alloc = rt.alloc();
     let checked = no_function(alloc)?;
     let trees = all_trees(alloc)?;
     let mut e = Emitter::new(alloc, &checked);
-    let given = given_behind(&mut e, &trees.second)?;
-    if given == [8, 6] {
-        Ok(())
-    } else {
-        Err(Fail::new("other numbers than 8 and 6"))
-    }
+    assert_eq!(rt; given_behind(&mut e, &trees.second)?, [8, 6]);
+    Ok(())
 }

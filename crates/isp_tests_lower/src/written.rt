@@ -350,19 +350,19 @@ ret -
 end
 ";
 
-/// The numbers of each call and the finished code are as worked out by hand.
-pub fn two_functions_by_hand(alloc: Global) -> Result<(), Fail> {
+#[test]
+fn two_functions_by_hand(rt: HostRuntime) -> Result<(), Fail> {
+    let alloc = rt.alloc();
     let checked = no_function(alloc)?;
     let mut hoard = Hoard::new(alloc)?;
     let mut trial = Trial::new(Call::None, 0);
     hoard.ample();
     let code = two_functions(alloc, &checked, &mut trial, &mut hoard)?;
+    assert!(rt; !trial.wrong, "another number");
     let text = match code {
         Some(code) => write(alloc, &code)?,
         None => String::new(alloc),
     };
-    if trial.wrong || text.as_str() != TEXT {
-        return Err(Fail::new("another number or text of the two functions"));
-    }
+    assert_eq!(rt; text.as_str(), TEXT);
     Ok(())
 }
