@@ -1,6 +1,6 @@
 -- Which variables packed loads write is no part of how the machine stands for a state: a call is settled, and code in it runs, whatever its
 -- layout says of them.
-use Rattle.std.proofs.Common.{◌≡◌, ℕ, List, Bool, Some, None, sym, ◌∙◌}
+use Rattle.std.proofs.Common.{◌≡◌, ℕ, List, Bool, true, false, Some, None, sym, ◌∙◌}
 use Rattle.isp_base.specs.Sets.{Mask}
 use Rattle.isp_base.specs.declared.types.Rate.{Rate}
 use Rattle.isp_base.specs.declared.types.Rate.TheVariants.{Uniform, Varying}
@@ -12,7 +12,7 @@ use Rattle.isp_meaning.specs.Outcomes.{Val, Gives, Fails, Stops, Done}
 use Rattle.isp_meaning.specs.State.{State}
 use Rattle.isp_typed.specs.Typed.{TFunction}
 use Rattle.isp_typed.specs.declared.variable.ArrayVariable.{ArrayVariable}
-use Rattle.isp_lower_code.specs.Layout.{IsApart}
+use Rattle.isp_lower_code.specs.Layout.{HasNoRows, IsApart}
 use Rattle.isp_lower_code.specs.Runs.{DoneRuns, Enters, Runs}
 use Rattle.isp_lower_code.specs.Setting.{Setting, ArrayFits, ArrayFitsAt, IsCalling, IsSettled, Spares, Stands}
 
@@ -33,8 +33,8 @@ module _ (w : Setting) (k : ℕ → Bool) where
   calling i g pc q sp a ps s c f =
       record { function = f.function; here = f.here; place = f.place; at = f.at; mask = f.mask; some = f.some; inside = f.inside; hands = f.hands; result = f.result; arrays_are = f.arrays_are; out_is = f.out_is; used = f.used }
 
-  pub settled_with : w.layout.run ≡ None → IsApart (with_loaded w k).layout → IsSettled w → IsSettled (with_loaded w k)
-  settled_with none apart f =
+  pub settled_with : w.layout.run ≡ None → HasNoRows w.layout → IsApart (with_loaded w k).layout → IsSettled w → IsSettled (with_loaded w k)
+  settled_with none rows apart f =
       record {
         gang = f.gang;
         found = f.found;
@@ -48,6 +48,7 @@ module _ (w : Setting) (k : ℕ → Bool) where
         calls = λ i g pc q sp a ps s c calls. f.calls i g pc q sp a ps s c (calling i g pc q sp a ps s c calls);
         counter = λ i is. let no : None ≡ Some i = sym none ∙ is in absurd (cc);
         constants = f.constants;
+        rows = λ i n fine is. let no : true ≡ false = sym is ∙ rows i n in absurd (cc);
       }
 
   -- ---- code runs

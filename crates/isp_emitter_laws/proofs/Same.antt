@@ -1,5 +1,5 @@
 -- Two layouts in which what code asks for lies in the same registers: where values are found, and the parts that are no trees.
-use Rattle.std.proofs.Common.{◌≡◌, ℕ, List, [], ◌∷◌, ◌++◌, Option, Some, None, Bool, true, false, refl, sym, ap, ap₂, ◌∙◌}
+use Rattle.std.proofs.Common.{◌≡◌, ℕ, ◌+◌, List, [], ◌∷◌, ◌++◌, Option, Some, None, Bool, true, false, refl, sym, ap, ap₂, ◌∙◌}
 use Rattle.std.specs.Prelude.{◌&&◌, not}
 use Rattle.std.proofs.Math.Path.{fun_ext}
 use Rattle.isp_base.specs.declared.types.Elem.{Elem}
@@ -14,13 +14,13 @@ use Rattle.isp_meaning.specs.Payloads.{converted}
 use Rattle.isp_typed.specs.Typed.{TExpr, t_constant, t_program_index, t_place, t_convert, t_cast, t_unary, t_binary, t_compare, t_logic, t_choose, t_call, t_library, t_packed_store, t_packed_load, TPlace, t_variable, t_element, type_of}
 use Rattle.isp_lower_code.specs.Asks.{Ask, Nothing, Both, Register, ArrayOf, LocalOf, MaskOf, Number, Loads, lift_asks, taken, whole_asks, index_asks, is_lane, start_asks, element_asks, copy_asks, value_asks, expr_asks, target_asks}
 use Rattle.isp_lower_code.specs.Code.{variable_read, read_code}
-use Rattle.isp_lower_code.specs.Elements.{names, is_counter, counts, is_run, start_in, start_code, index_by, index_by_of}
+use Rattle.isp_lower_code.specs.Elements.{By, access, access_by, names, is_counter, counts, is_run, reached, reached_of, read_from, start_in, start_code, takes_row, index_by, index_by_of, write_from}
 use Rattle.isp_lower_code.specs.Found.{in_vector, is_kept, kept_found, operand_by, vector_of, lifted, lift_code, part_to, lift_to, convert_to, is_copied, variable_found, place_found, found, operand, operand_of, whole, whole_of, index, index_of, is_whole}
-use Rattle.isp_lower_code.specs.Instructions.{convert, constant, copy, splat, read_by}
+use Rattle.isp_lower_code.specs.Instructions.{convert, constant, copy, splat, read_by, write_by}
 use Rattle.isp_lower_code.specs.Known.{bits_as, known, unless_kept, constant_of}
 use Rattle.isp_lower_code.specs.Pieces.{two, guard, choice, pair_code}
 use Rattle.isp_lower_code.specs.Stays.{stays, stays_at, is_short}
-use Rattle.isp_lower_code.specs.Layout.{Layout}
+use Rattle.isp_lower_code.specs.Layout.{HasNoRows, Layout}
 use Rattle.isp_lower_code.specs.Rows.{numbered}
 
 -- ---- pieces of code
@@ -44,12 +44,14 @@ pair_same pc a a' b b' i i' ea eb ei =
 
 -- ---- two layouts
 
--- code calls the same functions, reads the same variables by a copy, is in no run, and finds the same constants in the same registers
+-- code calls the same functions, reads the same variables by a copy, is in no run, takes no rows, and finds the same constants in the same registers
 pub record Alike (l m : Layout) : Type 0 where
   pub rates : l.rates ≡ m.rates
   pub loaded : l.loaded ≡ m.loaded
   pub first : l.in_run ≡ false
   pub second : m.in_run ≡ false
+  pub no_first : HasNoRows l
+  pub no_second : HasNoRows m
   pub kept : (r : Rate) (t : Elem) (b : ℕ) → l.kept r t b ≡ m.kept r t b
   pub constants : (r : Rate) (t : Elem) (b : ℕ) → m.kept r t b ≡ true → l.constant r t b ≡ m.constant r t b
 
@@ -62,6 +64,18 @@ SameIn l m (LocalOf b) = l.array b.number ≡ m.array b.number
 SameIn l m (MaskOf k) = Unit {0}
 SameIn l m (Number k) = Unit {0}
 SameIn l m (Loads v) = Unit {0}
+
+-- an element is reached by one instruction
+one_access : (k : Layout) → HasNoRows k → (g r : Rate) (i : TExpr) (n : ℕ) → access k g r i n ≡ By (is_run k g i)
+one_access k none g r i n = ap (λ b. access_by (takes_row b g r) (is_run k g i)) (none i n)
+
+write_by_same : (z z' : Bool) (r : Rate) (a a' i i' x x' k p p' : ℕ) → z ≡ z' → a ≡ a' → i ≡ i' → x ≡ x' → p ≡ p' → write_by z r a i x k p ≡ write_by z' r a' i' x' k p'
+write_by_same z z' r a a' i i' x x' k p p' ez ea ei ex ep =
+    ap₂ (λ b c. write_by b r c i x k p) ez ea ∙ ap₂ (λ b c. write_by z' r a' b c k p) ei ex ∙ ap (write_by z' r a' i' x' k) ep
+
+read_by_same : (z z' : Bool) (r : Rate) (d d' a a' i i' k p p' : ℕ) → z ≡ z' → d ≡ d' → a ≡ a' → i ≡ i' → p ≡ p' → read_by z r d a i k p ≡ read_by z' r d' a' i' k p'
+read_by_same z z' r d d' a a' i i' k p p' ez ed ea ei ep =
+    ap₂ (λ b c. read_by b r c a i k p) ez ed ∙ ap₂ (λ b c. read_by z' r d' b c k p) ea ei ∙ ap (read_by z' r d' a' i' k) ep
 
 -- no index counts lanes but that of the lane
 none_counts : (k : Layout) → k.in_run ≡ false → (r : Rate) (v : ℕ) → is_counter k r v ≡ false
@@ -222,7 +236,7 @@ module _ (l m : Layout) (alike : Alike l m) where
       (lift_code m r (type_of i).rate I64 (whole m b i n) k n) (whole_of_same b i k n c c' f.1 e)
       (lift_same r (type_of i).rate I64 (whole l b i n) (whole m b i n) k n (whole_same b i n f.1) f.0)
 
-  pub run_same : (g : Rate) (i : TExpr) → is_run l g i ≡ is_run m g i
+  run_same : (g : Rate) (i : TExpr) → is_run l g i ≡ is_run m g i
   run_same Uniform i = counts_lane l alike.first i ∙ sym (counts_lane m alike.second i)
   run_same Varying i = refl
 
@@ -242,7 +256,7 @@ module _ (l m : Layout) (alike : Alike l m) where
   start_same (t_packed_store b x sp) n e f = absurd (cc)
   start_same (t_packed_load b v sp) n e f = absurd (cc)
 
-  pub by_same : (g r : Rate) (i : TExpr) (n : ℕ) → SameIn l m (element_asks g r i n (expr_asks i n)) → index_by l (is_run l g i) r i n ≡ index_by m (is_run m g i) r i n
+  by_same : (g r : Rate) (i : TExpr) (n : ℕ) → SameIn l m (element_asks g r i n (expr_asks i n)) → index_by l (is_run l g i) r i n ≡ index_by m (is_run m g i) r i n
   by_same Varying r i n f = index_same r i n f.1
   by_same Uniform r i n f =
       ap (λ b. index_by l b r i n) (counts_lane l alike.first i) ∙ go (is_lane i) refl ∙ sym (ap (λ b. index_by m b r i n) (counts_lane m alike.second i))
@@ -251,7 +265,7 @@ module _ (l m : Layout) (alike : Alike l m) where
       go true is = ap (λ b. start_in l b n) is ∙ start_same i n is f.0 ∙ sym (ap (λ b. start_in m b n) is)
       go false is = index_same r i n f.1
 
-  pub by_of_same : (g r : Rate) (i : TExpr) (k n : ℕ) (c c' : List Instr) → SameIn l m (element_asks g r i n (expr_asks i n)) → c ≡ c' → index_by_of l (is_run l g i) r i k n c ≡ index_by_of m (is_run m g i) r i k n c'
+  by_of_same : (g r : Rate) (i : TExpr) (k n : ℕ) (c c' : List Instr) → SameIn l m (element_asks g r i n (expr_asks i n)) → c ≡ c' → index_by_of l (is_run l g i) r i k n c ≡ index_by_of m (is_run m g i) r i k n c'
   by_of_same Varying r i k n c c' f e = index_of_same r i k n c c' f.1 e
   by_of_same Uniform r i k n c c' f e =
       ap (λ b. index_by_of l b r i k n c) (counts_lane l alike.first i) ∙ go (is_lane i) refl ∙ sym (ap (λ b. index_by_of m b r i k n c') (counts_lane m alike.second i))
@@ -270,11 +284,35 @@ module _ (l m : Layout) (alike : Alike l m) where
       go true = ap₂ (λ x y. copy r x y k ∷ []) e f
       go false = refl
 
-  pub read_same : (d d' : ℕ) (z : TPlace) (p k n : ℕ) → d ≡ d' → SameIn l m (target_asks z n) → read_code l d z p k n ≡ read_code m d' z p k n
-  read_same d d' (t_variable v t sp) p k n e f = variable_read_same d d' t.rate v k e f
-  read_same d d' (t_element b i t sp) p k n e f =
-      ap₂ (λ y x. read_by y t.rate x (l.array b.number) (index_by l (is_run l b.ty.rate i) t.rate i n) k p ∷ []) (run_same b.ty.rate i) e
-      ∙ ap₂ (λ a x. read_by (is_run m b.ty.rate i) t.rate d' a x k p ∷ []) f.0 (by_same b.ty.rate t.rate i n f.1)
+  pub reached_same : (g r : Rate) (i : TExpr) (n : ℕ) → SameIn l m (element_asks g r i n (expr_asks i n)) → reached l (access l g r i n) r i n ≡ reached m (access m g r i n) r i n
+  reached_same g r i n f =
+      ap (λ z. reached l z r i n) (one_access l alike.no_first g r i n) ∙ by_same g r i n f ∙ sym (ap (λ z. reached m z r i n) (one_access m alike.no_second g r i n))
+
+  pub reached_of_same : (g r : Rate) (i : TExpr) (pc p p' k n : ℕ) (c c' : List Instr) → SameIn l m (element_asks g r i n (expr_asks i n)) → c ≡ c'
+      → reached_of l (access l g r i n) r i pc p k n c ≡ reached_of m (access m g r i n) r i pc p' k n c'
+  reached_of_same g r i pc p p' k n c c' f e =
+      ap (λ z. reached_of l z r i pc p k n c) (one_access l alike.no_first g r i n) ∙ by_of_same g r i k n c c' f e
+      ∙ sym (ap (λ z. reached_of m z r i pc p' k n c') (one_access m alike.no_second g r i n))
+
+  pub read_from_same : (g r : Rate) (i : TExpr) (n : ℕ) (t : Elem) (d d' a a' x x' p p' pc pc' k j : ℕ) → d ≡ d' → a ≡ a' → x ≡ x' → p ≡ p'
+      → read_from l (access l g r i n) t r d a x p pc k j ≡ read_from m (access m g r i n) t r d' a' x' p' pc' k j
+  read_from_same g r i n t d d' a a' x x' p p' pc pc' k j ed ea ex ep =
+      ap (λ z. read_from l z t r d a x p pc k j) (one_access l alike.no_first g r i n)
+      ∙ ap (λ s. s ∷ []) (read_by_same (is_run l g i) (is_run m g i) r d d' a a' x x' k p p' (run_same g i) ed ea ex ep)
+      ∙ sym (ap (λ z. read_from m z t r d' a' x' p' pc' k j) (one_access m alike.no_second g r i n))
+
+  pub write_from_same : (g r : Rate) (i : TExpr) (n : ℕ) (t : Elem) (a a' x x' v v' p p' pc pc' k j : ℕ) → a ≡ a' → x ≡ x' → v ≡ v' → p ≡ p'
+      → write_from l (access l g r i n) t r a x v p pc k j ≡ write_from m (access m g r i n) t r a' x' v' p' pc' k j
+  write_from_same g r i n t a a' x x' v v' p p' pc pc' k j ea ex ev ep =
+      ap (λ z. write_from l z t r a x v p pc k j) (one_access l alike.no_first g r i n)
+      ∙ ap (λ s. s ∷ []) (write_by_same (is_run l g i) (is_run m g i) r a a' x x' v v' k p p' (run_same g i) ea ex ev ep)
+      ∙ sym (ap (λ z. write_from m z t r a' x' v' p' pc' k j) (one_access m alike.no_second g r i n))
+
+  pub read_same : (d d' : ℕ) (z : TPlace) (pc pc' p k n : ℕ) → d ≡ d' → SameIn l m (target_asks z n) → read_code l d z pc p k n ≡ read_code m d' z pc' p k n
+  read_same d d' (t_variable v t sp) pc pc' p k n e f = variable_read_same d d' t.rate v k e f
+  read_same d d' (t_element b i t sp) pc pc' p k n e f =
+      read_from_same b.ty.rate t.rate i n (type_of i).elem d d' (l.array b.number) (m.array b.number) (reached l (access l b.ty.rate t.rate i n) t.rate i n)
+      (reached m (access m b.ty.rate t.rate i n) t.rate i n) p p pc pc' k (n + 1) e f.0 (reached_same b.ty.rate t.rate i n f.1) refl
 
   -- ---- what stays in place
 

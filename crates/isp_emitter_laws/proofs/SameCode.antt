@@ -26,7 +26,7 @@ use Rattle.isp_lower_code.specs.Layout.{Layout, register, array_register, mask_r
 use Rattle.isp_lower_code.specs.Library.{library_code, library_rates}
 use Rattle.isp_registers.specs.Reserved.{choice_asks}
 use Rattle.isp_emitter_laws.proofs.Same.{is_kept_same, Alike, SameIn, two_same, guard_same, choice_same, joined_same, pair_same, part_same, lift_to_same, convert_same, found_same, operand_same}
-use Rattle.isp_emitter_laws.proofs.Same.{operand_of_same, argument_found, argument_of_same, index_same, index_of_same, by_of_same, read_same, short_same, sides_found}
+use Rattle.isp_emitter_laws.proofs.Same.{operand_of_same, argument_found, argument_of_same, index_same, index_of_same, reached_of_same, read_same, short_same, sides_found}
 
 -- ---- the places that code names are the same in all layouts
 
@@ -186,8 +186,10 @@ module _ (l m : Layout) (alike : Alike l m) where
     to_same d d' (t_constant v sp) pc p p' k n e ep f = ap₂ (λ z c. unless_kept z (constant c v.elem v.bits ∷ [])) (alike.kept Uniform v.elem v.bits) e
     to_same d d' (t_program_index sp) pc p p' k n e ep f = ap (λ c. expr_to m c (t_program_index sp) pc p k n) e
     to_same d d' (t_place q) pc p p' k n e ep f =
-        joined_same (index_code l q pc p k n) (index_code m q pc p' k n) (read_code l d q (p + length (index_places l q)) k n) (read_code m d' q (p' + length (index_places m q)) k n) (target_same q pc p p' k n ep f.0)
-        (ap (λ z. read_code l d q z k n) (ap₂ (λ z s. z + length s) ep (index_places_same l m q)) ∙ read_same l m alike d d' q (p' + length (index_places m q)) k n e f.0)
+        let pc1 = pc + length (index_code l q pc p k n) in
+        let pc2 = pc + length (index_code m q pc p' k n) in
+        joined_same (index_code l q pc p k n) (index_code m q pc p' k n) (read_code l d q pc1 (p + length (index_places l q)) k n) (read_code m d' q pc2 (p' + length (index_places m q)) k n) (target_same q pc p p' k n ep f.0)
+        (ap (λ z. read_code l d q pc1 z k n) (ap₂ (λ z s. z + length s) ep (index_places_same l m q)) ∙ read_same l m alike d d' q pc1 pc2 (p' + length (index_places m q)) k n e f.0)
     to_same d d' (t_convert t x) pc p p' k n e ep f =
         ap (λ z. unless_kept z (convert_to l (constant_of x) t (type_of x).rate d (found l x n) k (expr_code l x pc p k n))) (is_kept_same l m alike (constant_of x) (type_of x).rate t)
         ∙ ap (unless_kept (is_kept m (constant_of x) (type_of x).rate t))
@@ -283,7 +285,7 @@ module _ (l m : Layout) (alike : Alike l m) where
     pub target_same : (z : TPlace) (pc p p' k n : ℕ) → p ≡ p' → SameIn l m (target_asks z n) → index_code l z pc p k n ≡ index_code m z pc p' k n
     target_same (t_variable v t sp) pc p p' k n ep f = refl
     target_same (t_element b i t sp) pc p p' k n ep f =
-        by_of_same l m alike b.ty.rate t.rate i k n (expr_code l i pc p k n) (expr_code m i pc p' k n) f.1 (to_same _ _ i pc p p' k n (found_same l m alike i n f.1.1.1.1) ep f.1.1.1.1)
+        reached_of_same l m alike b.ty.rate t.rate i pc p p' k n (expr_code l i pc p k n) (expr_code m i pc p' k n) f.1 (to_same _ _ i pc p p' k n (found_same l m alike i n f.1.1.1.1) ep f.1.1.1.1)
 
     base_same : (b : TBase) (pc p p' k n : ℕ) → p ≡ p' → SameIn l m (first_asks b n) → base_code l b pc p k n ≡ base_code m b pc p' k n
     base_same (t_whole b sp) pc p p' k n ep f = ap (λ c. constant c I64 0 ∷ []) f

@@ -9,15 +9,16 @@ use Rattle.isp_typed.specs.Typed.{TExpr, t_constant, t_program_index, t_place, t
 use Rattle.isp_typed.specs.Typed.{t_packed_load, TPlace, t_variable, t_element, TSimple, t_value, t_run, t_assign, t_update, t_step, place_type, type_of}
 use Rattle.isp_lower_code.specs.Asks.{beyond, taken, work_asks, change_asks, one_asks, assign_asks, update_asks, step_asks, expr_asks, target_asks, simple_asks}
 use Rattle.isp_lower_code.specs.Code.{expr_to, expr_code, index_code, variable_from, variable_code}
-use Rattle.isp_lower_code.specs.Elements.{index_by, is_run}
+use Rattle.isp_lower_code.specs.Elements.{access, reached, read_from, write_from}
+use Rattle.isp_lower_code.specs.Pieces.{two}
 use Rattle.isp_lower_code.specs.Found.{part_to, lift_to, found, operand, operand_of}
-use Rattle.isp_lower_code.specs.Instructions.{convert, operate, operate_places, copy, read_by, write_by}
+use Rattle.isp_lower_code.specs.Instructions.{convert, operate, operate_places, copy}
 use Rattle.isp_lower_code.specs.Known.{constant_of}
 use Rattle.isp_lower_code.specs.Spans.{expr_places, index_places}
 use Rattle.isp_lower_code.specs.Stays.{writes_part, writes_last}
 use Rattle.isp_lower_code.specs.Layout.{Layout}
 use Rattle.isp_lower_code.specs.Simple.{one_of, assign_code, update_to, change_code, change_by_code, one_in, one_code, step_code, simple_code, simple_places}
-use Rattle.isp_emitter_laws.proofs.Same.{is_kept_same, Alike, SameIn, two_same, joined_same, part_same, lift_to_same, copied_same, found_same, operand_same, run_same, by_same, short_same}
+use Rattle.isp_emitter_laws.proofs.Same.{is_kept_same, Alike, SameIn, two_same, joined_same, part_same, lift_to_same, copied_same, found_same, operand_same, reached_same, read_from_same, write_from_same, short_same}
 use Rattle.isp_emitter_laws.proofs.SameCode.{places_same, index_places_same, read_places_same, call_places_same, to_same, code_same, taken_same, target_same, call_same}
 
 pub simple_places_same : (l m : Layout) (x : TSimple) → simple_places l x ≡ simple_places m x
@@ -29,16 +30,6 @@ simple_places_same l m (t_update o t z x sp) =
     ap₂ (λ a b. a ++ b) (index_places_same l m z) (ap₂ (λ a b. a ++ (b ++ operate_places o sp)) (places_same l m x) (read_places_same l m z))
 simple_places_same l m (t_step o t z sp) =
     ap₂ (λ a b. a ++ (b ++ operate_places o sp)) (index_places_same l m z) (read_places_same l m z)
-
--- ---- elements that are written and read
-
-write_same : (z z' : Bool) (r : Rate) (a a' i i' x x' k p p' : ℕ) → z ≡ z' → a ≡ a' → i ≡ i' → x ≡ x' → p ≡ p' → write_by z r a i x k p ≡ write_by z' r a' i' x' k p'
-write_same z z' r a a' i i' x x' k p p' ez ea ei ex ep =
-    ap₂ (λ b c. write_by b r c i x k p) ez ea ∙ ap₂ (λ b c. write_by z' r a' b c k p) ei ex ∙ ap (write_by z' r a' i' x' k) ep
-
-read_by_same : (z z' : Bool) (r : Rate) (d d' a a' i i' k p : ℕ) → z ≡ z' → d ≡ d' → a ≡ a' → i ≡ i' → read_by z r d a i k p ≡ read_by z' r d' a' i' k p
-read_by_same z z' r d d' a a' i i' k p ez ed ea ei =
-    ap₂ (λ b c. read_by b r c a i k p) ez ed ∙ ap₂ (λ b c. read_by z' r d' b c k p) ea ei
 
 module _ (l m : Layout) (alike : Alike l m) where
   -- ---- a variable gets a value
@@ -87,23 +78,19 @@ module _ (l m : Layout) (alike : Alike l m) where
   assign_same (t_element b i t sp) x pc p k n f =
       let ei = ap (λ s. p + length s) (places_same l m i) in
       let ex = ap₂ (λ z s. z + length s) ei (places_same l m x) in
-      two_same pc (index_code l (t_element b i t sp) pc p k n) (index_code m (t_element b i t sp) pc p k n)
-      (λ q. operand_of l t.rate x k (n + 1) (expr_code l x q (p + length (expr_places l i)) k (n + 1))
-      ++ write_by (is_run l b.ty.rate i) t.rate (l.array b.number) (index_by l (is_run l b.ty.rate i) t.rate i n) (operand l t.rate x (n + 1)) k
-      (p + length (expr_places l i) + length (expr_places l x)) ∷ [])
-      (λ q. operand_of m t.rate x k (n + 1) (expr_code m x q (p + length (expr_places m i)) k (n + 1))
-      ++ write_by (is_run m b.ty.rate i) t.rate (m.array b.number) (index_by m (is_run m b.ty.rate i) t.rate i n) (operand m t.rate x (n + 1)) k
-      (p + length (expr_places m i) + length (expr_places m x)) ∷ [])
-      (target_same l m alike (t_element b i t sp) pc p p k n refl f.0)
-      (λ q. joined_same (operand_of l t.rate x k (n + 1) (expr_code l x q (p + length (expr_places l i)) k (n + 1))) (operand_of m t.rate x k (n + 1) (expr_code m x q (p + length (expr_places m i)) k (n + 1)))
-      (write_by (is_run l b.ty.rate i) t.rate (l.array b.number) (index_by l (is_run l b.ty.rate i) t.rate i n) (operand l t.rate x (n + 1)) k (p + length (expr_places l i) + length (expr_places l x)) ∷ [])
-      (write_by (is_run m b.ty.rate i) t.rate (m.array b.number) (index_by m (is_run m b.ty.rate i) t.rate i n) (operand m t.rate x (n + 1)) k (p + length (expr_places m i) + length (expr_places m x)) ∷ [])
-      (taken_same l m alike t.rate x q (p + length (expr_places l i)) (p + length (expr_places m i)) k (n + 1) ei f.1.1)
-      (ap (λ z. z ∷ []) (write_same (is_run l b.ty.rate i) (is_run m b.ty.rate i) t.rate (l.array b.number) (m.array b.number)
-      (index_by l (is_run l b.ty.rate i) t.rate i n) (index_by m (is_run m b.ty.rate i) t.rate i n) (operand l t.rate x (n + 1))
-      (operand m t.rate x (n + 1)) k (p + length (expr_places l i) + length (expr_places l x))
-      (p + length (expr_places m i) + length (expr_places m x)) (run_same l m alike b.ty.rate i) f.0.0
-      (by_same l m alike b.ty.rate t.rate i n f.0.1) (operand_same l m alike t.rate x (n + 1) f.1.1) ex)))
+      let z = t_element b i t sp in
+      let ol = λ (q : ℕ). operand_of l t.rate x k (n + 1) (expr_code l x q (p + length (expr_places l i)) k (n + 1)) in
+      let om = λ (q : ℕ). operand_of m t.rate x k (n + 1) (expr_code m x q (p + length (expr_places m i)) k (n + 1)) in
+      let al = reached l (access l b.ty.rate t.rate i n) t.rate i n in
+      let am = reached m (access m b.ty.rate t.rate i n) t.rate i n in
+      let pl = p + length (expr_places l i) + length (expr_places l x) in
+      let pm = p + length (expr_places m i) + length (expr_places m x) in
+      let wl = λ (q : ℕ). write_from l (access l b.ty.rate t.rate i n) (type_of i).elem t.rate (l.array b.number) al (operand l t.rate x (n + 1)) pl q k (n + 2) in
+      let wm = λ (q : ℕ). write_from m (access m b.ty.rate t.rate i n) (type_of i).elem t.rate (m.array b.number) am (operand m t.rate x (n + 1)) pm q k (n + 2) in
+      two_same pc (index_code l z pc p k n) (index_code m z pc p k n) (λ q. two q (ol q) wl) (λ q. two q (om q) wm) (target_same l m alike z pc p p k n refl f.0)
+      (λ q. two_same q (ol q) (om q) wl wm (taken_same l m alike t.rate x q (p + length (expr_places l i)) (p + length (expr_places m i)) k (n + 1) ei f.1.1)
+      (λ q2. write_from_same l m alike b.ty.rate t.rate i n (type_of i).elem (l.array b.number) (m.array b.number) al am (operand l t.rate x (n + 1))
+      (operand m t.rate x (n + 1)) pl pm q2 q2 k (n + 2) f.0.0 (reached_same l m alike b.ty.rate t.rate i n f.0.1) (operand_same l m alike t.rate x (n + 1) f.1.1) ex))
 
   -- ---- a place is changed
 
@@ -115,23 +102,25 @@ module _ (l m : Layout) (alike : Alike l m) where
       ∙ ap₂ (λ a b. convert r (m.spare r t i) h' k ∷ (operate r o (m.spare r t i) (m.spare r t i) a k b ∷ convert r d (m.spare r t i) k ∷ [])) ey ep
       ∙ ap (λ a. convert r (m.spare r t i) h' k ∷ (operate r o (m.spare r t i) (m.spare r t i) y' k p' ∷ convert r a (m.spare r t i) k ∷ [])) ed
 
-  change_same : (o : BinOp) (t : Elem) (z : TPlace) (y y' p p' k n i : ℕ) → y ≡ y' → p ≡ p' → SameIn l m (target_asks z n) → SameIn l m (change_asks t z i) → change_code l o t z y p k n i ≡ change_code m o t z y' p' k n i
-  change_same o t (t_variable v u sp) y y' p p' k n i ey ep f g =
+  change_same : (o : BinOp) (t : Elem) (z : TPlace) (y y' pc p p' k n i : ℕ) → y ≡ y' → p ≡ p' → SameIn l m (target_asks z n) → SameIn l m (change_asks t z i) → change_code l o t z y pc p k n i ≡ change_code m o t z y' pc p' k n i
+  change_same o t (t_variable v u sp) y y' pc p p' k n i ey ep f g =
       update_same (same_elem u.elem t) o t u.rate (l.variable u.rate v) (m.variable u.rate v) (l.variable u.rate v) (m.variable u.rate v) y y' k i p p' f f ey ep g.0
-  change_same o t (t_element b j u sp) y y' p p' k n i ey ep f g =
-      let z = is_run l b.ty.rate j in
-      let w = is_run m b.ty.rate j in
-      let x = index_by l z u.rate j n in
-      let v = index_by m w u.rate j n in
+  change_same o t (t_element b j u sp) y y' pc p p' k n i ey ep f g =
       let c = l.spare u.rate u.elem i in
       let d = m.spare u.rate u.elem i in
-      let ez = run_same l m alike b.ty.rate j in
-      let ex = by_same l m alike b.ty.rate u.rate j n f.1 in
-      ap₂ (λ a s. a ∷ s) (read_by_same z w u.rate c d (l.array b.number) (m.array b.number) x v k p ez g.1 f.0 ex ∙ ap (read_by w u.rate d (m.array b.number) v k) ep)
-      (joined_same (update_to l (same_elem u.elem t) o t u.rate c c y k i (p + 1)) (update_to m (same_elem u.elem t) o t u.rate d d y' k i (p' + 1))
-      (write_by z u.rate (l.array b.number) x c k p ∷ []) (write_by w u.rate (m.array b.number) v d k p' ∷ [])
-      (update_same (same_elem u.elem t) o t u.rate c d c d y y' k i (p + 1) (p' + 1) g.1 g.1 ey (ap (λ a. a + 1) ep) g.0)
-      (ap (λ a. a ∷ []) (write_same z w u.rate (l.array b.number) (m.array b.number) x v c d k p p' ez f.0 ex g.1 ep)))
+      let al = reached l (access l b.ty.rate u.rate j n) u.rate j n in
+      let am = reached m (access m b.ty.rate u.rate j n) u.rate j n in
+      let ex = reached_same l m alike b.ty.rate u.rate j n f.1 in
+      let rl = read_from l (access l b.ty.rate u.rate j n) (type_of j).elem u.rate c (l.array b.number) al p pc k (i + 1) in
+      let rm = read_from m (access m b.ty.rate u.rate j n) (type_of j).elem u.rate d (m.array b.number) am p' pc k (i + 1) in
+      let ul = update_to l (same_elem u.elem t) o t u.rate c c y k i (p + 1) in
+      let um = update_to m (same_elem u.elem t) o t u.rate d d y' k i (p' + 1) in
+      let wl = λ (q : ℕ). write_from l (access l b.ty.rate u.rate j n) (type_of j).elem u.rate (l.array b.number) al c p q k (i + 1) in
+      let wm = λ (q : ℕ). write_from m (access m b.ty.rate u.rate j n) (type_of j).elem u.rate (m.array b.number) am d p' q k (i + 1) in
+      two_same pc rl rm (λ q. two q ul wl) (λ q. two q um wm)
+      (read_from_same l m alike b.ty.rate u.rate j n (type_of j).elem c d (l.array b.number) (m.array b.number) al am p p' pc pc k (i + 1) g.1 f.0 ex ep)
+      (λ q. two_same q ul um wl wm (update_same (same_elem u.elem t) o t u.rate c d c d y y' k i (p + 1) (p' + 1) g.1 g.1 ey (ap (λ a. a + 1) ep) g.0)
+      (λ q2. write_from_same l m alike b.ty.rate u.rate j n (type_of j).elem (l.array b.number) (m.array b.number) al am c d p p' q2 q2 k (i + 1) f.0 ex g.1 ep))
 
   update_code_same : (o : BinOp) (t : Elem) (z : TPlace) (x : TExpr) (pc p k n : ℕ) → SameIn l m (update_asks t z x n) → change_by_code l o t z x pc p k n ≡ change_by_code m o t z x pc p k n
   update_code_same o t z x pc p k n f =
@@ -139,16 +128,15 @@ module _ (l m : Layout) (alike : Alike l m) where
       let i = beyond z n in
       let ez = ap (λ s. p + length s) (index_places_same l m z) in
       let ex = ap₂ (λ a s. a + length s) ez (places_same l m x) in
-      two_same pc (index_code l z pc p k n) (index_code m z pc p k n)
-      (λ q. operand_of l r x k i (expr_code l x q (p + length (index_places l z)) k i) ++ change_code l o t z (operand l r x i) (p + length (index_places l z) + length (expr_places l x)) k n (i + 1))
-      (λ q. operand_of m r x k i (expr_code m x q (p + length (index_places m z)) k i) ++ change_code m o t z (operand m r x i) (p + length (index_places m z) + length (expr_places m x)) k n (i + 1))
-      (target_same l m alike z pc p p k n refl f.0)
-      (λ q. joined_same (operand_of l r x k i (expr_code l x q (p + length (index_places l z)) k i))
-      (operand_of m r x k i (expr_code m x q (p + length (index_places m z)) k i))
-      (change_code l o t z (operand l r x i) (p + length (index_places l z) + length (expr_places l x)) k n (i + 1))
-      (change_code m o t z (operand m r x i) (p + length (index_places m z) + length (expr_places m x)) k n (i + 1))
-      (taken_same l m alike r x q (p + length (index_places l z)) (p + length (index_places m z)) k i ez f.1.1.0)
-      (change_same o t z (operand l r x i) (operand m r x i) (p + length (index_places l z) + length (expr_places l x)) (p + length (index_places m z) + length (expr_places m x)) k n (i + 1) (operand_same l m alike r x i f.1.1.0) ex f.0 f.1.1.1))
+      let ol = λ (q : ℕ). operand_of l r x k i (expr_code l x q (p + length (index_places l z)) k i) in
+      let om = λ (q : ℕ). operand_of m r x k i (expr_code m x q (p + length (index_places m z)) k i) in
+      let pl = p + length (index_places l z) + length (expr_places l x) in
+      let pm = p + length (index_places m z) + length (expr_places m x) in
+      let cl = λ (q : ℕ). change_code l o t z (operand l r x i) q pl k n (i + 1) in
+      let cm = λ (q : ℕ). change_code m o t z (operand m r x i) q pm k n (i + 1) in
+      two_same pc (index_code l z pc p k n) (index_code m z pc p k n) (λ q. two q (ol q) cl) (λ q. two q (om q) cm) (target_same l m alike z pc p p k n refl f.0)
+      (λ q. two_same q (ol q) (om q) cl cm (taken_same l m alike r x q (p + length (index_places l z)) (p + length (index_places m z)) k i ez f.1.1.0)
+      (λ q2. change_same o t z (operand l r x i) (operand m r x i) q2 pl pm k n (i + 1) (operand_same l m alike r x i f.1.1.0) ex f.0 f.1.1.1))
 
   -- the number 1 at a rate
   one_in_same : (r : Rate) (t : Elem) (i : ℕ) → SameIn l m (one_asks r t i) → one_in l r t i ≡ one_in m r t i
@@ -162,13 +150,13 @@ module _ (l m : Layout) (alike : Alike l m) where
       let r = (place_type z).rate in
       let i = beyond z n in
       let ez = ap (λ s. p + length s) (index_places_same l m z) in
-      joined_same (index_code l z pc p k n) (index_code m z pc p k n)
-      (one_code l r t k i ++ change_code l o t z (one_in l r t i) (p + length (index_places l z)) k n (i + 1))
-      (one_code m r t k i ++ change_code m o t z (one_in m r t i) (p + length (index_places m z)) k n (i + 1))
-      (target_same l m alike z pc p p k n refl f.0)
-      (joined_same (one_code l r t k i) (one_code m r t k i) (change_code l o t z (one_in l r t i) (p + length (index_places l z)) k n (i + 1)) (change_code m o t z (one_in m r t i) (p + length (index_places m z)) k n (i + 1))
-      (one_code_same r t k i f.1.1.0)
-      (change_same o t z (one_in l r t i) (one_in m r t i) (p + length (index_places l z)) (p + length (index_places m z)) k n (i + 1) (one_in_same r t i f.1.1.0) ez f.0 f.1.1.1))
+      let pl = p + length (index_places l z) in
+      let pm = p + length (index_places m z) in
+      let cl = λ (q : ℕ). change_code l o t z (one_in l r t i) q pl k n (i + 1) in
+      let cm = λ (q : ℕ). change_code m o t z (one_in m r t i) q pm k n (i + 1) in
+      two_same pc (index_code l z pc p k n) (index_code m z pc p k n) (λ q. two q (one_code l r t k i) cl) (λ q. two q (one_code m r t k i) cm) (target_same l m alike z pc p p k n refl f.0)
+      (λ q. two_same q (one_code l r t k i) (one_code m r t k i) cl cm (one_code_same r t k i f.1.1.0)
+      (λ q2. change_same o t z (one_in l r t i) (one_in m r t i) q2 pl pm k n (i + 1) (one_in_same r t i f.1.1.0) ez f.0 f.1.1.1))
 
   pub simple_same : (x : TSimple) (pc p k n : ℕ) → SameIn l m (simple_asks x n) → simple_code l x pc p k n ≡ simple_code m x pc p k n
   simple_same (t_value x) pc p k n f = code_same l m alike x pc p p k n refl f

@@ -122,7 +122,7 @@ module _ (rates : ℕ → List Rate) (old new : Reserve) (keeps : KeepsPlaces ol
   alike : Alike now then
   alike =
       let loaded : (List Row → ℕ → Bool) = λ rows v. is_some (elem_in rows (Variable v)) in
-      record { rates = refl; loaded = ap loaded keeps.loaded; first = refl; second = refl; kept = same_kept; constants = same_constant }
+      record { rates = refl; loaded = ap loaded keeps.loaded; first = refl; second = refl; no_first = λ i n. refl; no_second = λ i n. refl; kept = same_kept; constants = same_constant }
 
   row_number : (q : Rate) (x : Name) (t : Elem) → HasRow old.registers q x t → number_in (rows_at (rows_of new.registers) q) x ≡ number_in (rows_at (rows_of old.registers) q) x
   row_number Uniform x t f = same_number (rows_of old.registers).scalars (rows_of new.registers).scalars x t keeps.grows.scalars f

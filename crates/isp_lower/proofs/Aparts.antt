@@ -1,5 +1,5 @@
 -- What is written apart, and then taken, is appended; and what it names is there.
-use Rattle.std.proofs.Common.{◌≡◌, ℕ, zero, suc, ◌+◌, ◌-◌, ◌≤◌, List, [], ◌∷◌, ◌++◌, length, drop, ap, subst, sym, ◌∙◌, arith, length-append}
+use Rattle.std.proofs.Common.{◌≡◌, ℕ, zero, suc, ◌+◌, ◌-◌, ◌<◌, ◌≤◌, List, [], ◌∷◌, ◌++◌, length, drop, map, ap, subst, sym, ◌∙◌, arith, length-append, Vec, Global}
 use Rattle.std.proofs.Math.Seq.{drop-append_seam}
 use Rattle.isp_base.specs.declared.types.Elem.{Elem}
 use Rattle.isp_base.specs.declared.types.Rate.{Rate}
@@ -11,33 +11,42 @@ use Rattle.isp_code.specs.declared.register.Class.{Class}
 use Rattle.isp_code.specs.declared.register.Class.TheVariants as class
 use Rattle.isp_code.specs.declared.register.Register.{Register}
 use Rattle.isp_lower.specs.Drafts.{HasAllNamed, draft_of}
+use Rattle.isp_lower_code.specs.Asks.{Ask}
 use Rattle.isp_lower_code.specs.FirstRows.{Begins}
 use Rattle.isp_registers.specs.Growth.{Grows, rows_of}
 use Rattle.isp_lower.specs.Emitted.{Appends}
 use Rattle.isp_lower_code.specs.Named.{InCode, InInstr, IsOf, count_of}
+use Rattle.isp_lower_code.specs.Own.{HasOwn}
 use Rattle.isp_lower_code.specs.Patched.{patched, retargeted}
-use Rattle.isp_lower_code.specs.Rows.{Fresh, Row, Rows, with_fresh, with_fresh_from, with_fresh_from_at, with_many_fresh}
-use Rattle.isp_lower.specs.Adding.{AddsCode}
+use Rattle.isp_lower_code.specs.Room.{GrowsBy, masks_with, registers_asked}
+use Rattle.isp_lower_code.specs.Rows.{Fresh, Row, Rows, layout_of, with_fresh, with_fresh_from, with_fresh_from_at, with_many_fresh}
+use Rattle.isp_lower.specs.Adding.{AddsCode, FewMore, layout_in}
+use Rattle.isp_lower_code.specs.Callees.{rates_in}
+use Rattle.isp_lower_code.specs.Layout.{Layout}
+use Rattle.isp_lower.specs.reader.Apart.{IsApart, TakesOver}
+use Rattle.isp_registers.specs.Reserved.{Gives, Has}
 use Rattle.isp_registers.specs.declared.registers.Registers.{Registers}
+use Rattle.isp_registers.specs.declared.reserve.Reserve.{Reserve}
 use Rattle.isp_lower.specs.declared.types.Body.{Body}
 use Rattle.isp_lower.specs.declared.types.Emitter.{Emitter}
 use Rattle.isp_lower.proofs.Naming.{code_both, code_weaker}
+use Rattle.isp_registers.proofs.Lemmas.{all_joined}
 
-module _ (a b w : Body) (c : ℕ → ℕ → List Instr) (s : List Span) (long : length b.code.items ≡ length a.code.items) (same : b.places.items ≡ a.places.items) (y : Appends b w c s) where
+module _ (a b w : Body) (c : ℕ → ℕ → List Instr) (s : List Span) (apart : IsApart a b) (y : Appends b w c s) where
   pub apart_long : length a.code.items ≤ length w.code.items
-  apart_long = omega (arith, long, ap length y.code, length-append b.code.items (c (length b.code.items) (length b.places.items)))
+  apart_long = omega (arith, apart.code, ap length y.code, length-append b.code.items (c (length b.code.items) (length b.places.items)))
 
-  pub apart_appends : (z : Body) → z.code.items ≡ a.code.items ++ drop (length a.code.items) w.code.items → z.places.items ≡ w.places.items → z.texts ≡ a.texts → Appends a z c s
-  apart_appends z code places texts =
+  apart_appends : (z : Body) → TakesOver a w z → Appends a z c s
+  apart_appends z taken =
       record {
         code =
-            code ∙ ap (λ n. a.code.items ++ drop n w.code.items) (sym long)
+            taken.code ∙ ap (λ n. a.code.items ++ drop n w.code.items) (sym apart.code)
             ∙ ap (λ is. a.code.items ++ drop (length b.code.items) is) y.code
             ∙ ap (λ is. a.code.items ++ is) (drop-append_seam b.code.items (c (length b.code.items) (length b.places.items)))
-            ∙ ap (λ n. a.code.items ++ c n (length b.places.items)) long
-            ∙ ap (λ ps. a.code.items ++ c (length a.code.items) (length ps)) same;
-        places = places ∙ y.places ∙ ap (λ ps. ps ++ s) same;
-        texts = texts;
+            ∙ ap (λ n. a.code.items ++ c n (length b.places.items)) apart.code
+            ∙ ap (λ ps. a.code.items ++ c (length a.code.items) (length ps)) apart.places;
+        places = taken.places ∙ y.places ∙ ap (λ ps. ps ++ s) apart.places;
+        texts = taken.texts;
       }
 
 -- ---- registers and masks are only added
@@ -51,7 +60,7 @@ more_of r z k m g le class.Vector = longer (rows_of r).vectors (rows_of z).vecto
 more_of r z k m g le class.Array = longer (rows_of r).arrays (rows_of z).arrays g.arrays
 more_of r z k m g le class.Mask = le
 
-pub all_named : (old new : Emitter) (c : ℕ → ℕ → List Instr) (s : List Span) → AddsCode old new c s
+all_named : (old new : Emitter) (c : ℕ → ℕ → List Instr) (s : List Span) → AddsCode old new c s
     → InCode (IsOf (rows_of new.reserved.registers) new.reserved.masks) (c (length old.body.code.items) (length old.body.places.items))
     → HasAllNamed (draft_of old) → HasAllNamed (draft_of new)
 all_named old new c s w part h =
@@ -60,6 +69,61 @@ all_named old new c s w part h =
     let more = more_of old.reserved.registers new.reserved.registers old.reserved.masks new.reserved.masks w.rows w.masks in
     let before : InCode Q old.body.code.items = code_weaker P Q (λ x lt. omega (arith, lt, more x.class)) old.body.code.items h in
     subst (InCode Q) (sym w.appends.code) (code_both Q old.body.code.items (c (length old.body.code.items) (length old.body.places.items)) before part)
+
+-- ---- an emitter reserves what is asked for on a copy, and takes it over with what was written apart
+
+module _ (old : Emitter) (copy asked : Reserve) (a : Ask) (same : copy ≡ old.reserved) (gives : Gives copy asked a) where
+  grown : Grows old.reserved.registers asked.registers
+  grown = subst (λ (r : Reserve). Grows r.registers asked.registers) same gives.rows
+
+  more : old.reserved.masks ≤ asked.masks
+  more = subst (λ (r : Reserve). r.masks ≤ asked.masks) same gives.masks
+
+  pub asked_has : HasOwn (draft_of old).rows a → Has asked a
+  asked_has own = all_joined old.reserved asked grown a gives.has own
+
+  pub asked_mask : (k : ℕ) → k < old.reserved.masks → k < asked.masks
+  asked_mask k lt = omega (arith, lt, more)
+
+  module _ (new : Emitter) (rest : new ≡ record old { reserved = asked; body = new.body }) where
+    pub taken_few : FewMore (draft_of old) (draft_of new) a
+    taken_few = subst (λ e. FewMore (draft_of old) (draft_of e) a) (sym rest) (record {
+      rows = subst (λ (r : Reserve). GrowsBy (registers_asked a) (rows_of r.registers) (rows_of asked.registers)) same gives.few;
+      masks = subst (λ (r : Reserve). asked.masks ≡ masks_with r.masks a) same gives.masks_are;
+    })
+
+    pub taken_has : HasOwn (draft_of old).rows a → Has new.reserved a
+    taken_has own = subst (λ (e : Emitter). Has e.reserved a) (sym rest) (asked_has own)
+
+    -- the code is the same where the registers of the new emitter lie
+    module _ (l : Layout) (at : l ≡ layout_of (rates_in (draft_of old).callees) (rows_of asked.registers)) where
+      pub taken_layout : l ≡ layout_in new
+      taken_layout = at ∙ sym (ap layout_in rest)
+
+      module _ (c : Layout → ℕ → ℕ → List Instr) (s : Layout → List Span) (b w : Body) (apart : IsApart old.body b) (y : Appends b w (c l) (s l)) (taken : TakesOver old.body w new.body) where
+        pub taken_code : AddsCode old new (c (layout_in new)) (s (layout_in new))
+        taken_code =
+            let appends = apart_appends old.body b w (c l) (s l) apart y new.body taken in
+            subst (λ z. AddsCode old new (c z) (s z)) taken_layout (subst (λ e. AddsCode old e (c l) (s l)) (sym rest) (record {
+              appends = appends;
+              rows = grown;
+              masks = more;
+              kept = ap (λ (ts : Vec (Vec ℕ Global) Global). record (draft_of old) {
+                places = new.body.places.items;
+                texts = map (λ t. t.items) ts.items;
+                rows = rows_of asked.registers;
+                masks = asked.masks;
+                code = new.body.code.items;
+              }) appends.texts;
+            }))
+
+        pub taken_named : ((pc p : ℕ) → InCode (IsOf (rows_of asked.registers) asked.masks) (c (layout_of (rates_in (draft_of old).callees) (rows_of asked.registers)) pc p)) → HasAllNamed (draft_of old) → HasAllNamed (draft_of new)
+        taken_named named h =
+            let there = named (length old.body.code.items) (length old.body.places.items) in
+            all_named old new (c (layout_in new)) (s (layout_in new)) taken_code
+            (subst (λ (e : Emitter). InCode (IsOf (rows_of e.reserved.registers) e.reserved.masks) (c (layout_in e) (length old.body.code.items) (length old.body.places.items))) (sym rest) there) h
+
+-- ---- rows are longer
 
 one_longer : (t : Elem) (xs : List Row) → length xs ≤ length (with_fresh t xs)
 one_longer t xs = omega (arith, length-append xs (record { name = Fresh (length xs); elem = t } ∷ []))

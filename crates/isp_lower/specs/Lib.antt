@@ -4,3 +4,4 @@ pub mod Headings
 pub mod Drafts
 pub mod Adding
 pub mod Behind
+pub mod reader

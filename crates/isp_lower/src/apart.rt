@@ -1,6 +1,7 @@
 //! Code that is written apart first, so that a refusal leaves no trace.
-ghost use Rattle.std.specs.Prelude.{◌≡◌, ◌≤◌, ◌++◌, drop, length, IfOk, OnErr, OnOk};
+ghost use Rattle.std.specs.Prelude.{◌≡◌, ◌≤◌, length, IfOk, OnErr, OnOk};
 ghost use Rattle.isp_lower.specs.Emitted.{Unchanged};
+ghost use Rattle.isp_lower.specs.reader.Apart.{IsApart, TakesOver};
 
 use crate::line::Line;
 use crate::types::Body;
@@ -22,8 +23,7 @@ impl Body {
     /// A body of as many instructions and of the same places, without a text: what is written after them is numbered as in
     /// this one, where it names no text.
     pub(crate) fn apart(&self, alloc: Global) -> Result<Body, AllocError>
-        ensures code { IfOk result (λ b. length b.code.items ≡ length self.now.code.items) }
-        ensures places { IfOk result (λ b. b.places.items ≡ self.now.places.items) }
+        ensures { IfOk result (λ b. IsApart self.now b) }
     {
         Ok(Body {
             places: Vec::from_slice(alloc, self.places.as_slice())?,
@@ -36,9 +36,7 @@ impl Body {
     /// refused, all stays as it was.
     pub(crate) fn join(&mut self, mut written: Body) -> Result<(), AllocError>
         requires { length self.old.code.items ≤ length written.code.items }
-        ensures code { OnOk result (self.new.code.items ≡ self.old.code.items ++ drop (length self.old.code.items) written.code.items) }
-        ensures places { OnOk result (self.new.places.items ≡ written.places.items) }
-        ensures texts { OnOk result (self.new.texts ≡ self.old.texts) }
+        ensures taken { OnOk result (TakesOver self.old written self.new) }
         ensures refused { OnErr result (Unchanged self.old self.new) }
     {
         let mut more = written.code.split_off(self.code.len())?;

@@ -9,7 +9,7 @@ use Rattle.isp_typed.specs.Nodes.{typed_nodes, place_nodes, base_nodes, call_nod
 use Rattle.isp_typed.specs.Typed.{TExpr, t_constant, t_program_index, t_place, t_convert, t_cast, t_unary, t_binary, t_compare, t_logic, t_choose, t_call, t_library, t_packed_store, t_packed_load, type_of, place_type}
 use Rattle.isp_typed.specs.Typed.{TPlace, t_variable, t_element, TBase, t_whole, t_from, TArgument, t_by_value, t_by_name, TCall, t_called, TArguments, t_no_arguments, t_argument_then, TExprs, t_no_exprs}
 use Rattle.isp_typed.specs.Typed.{t_expr_then, TSimple, t_value, t_run, t_assign, t_update, t_step}
-use Rattle.isp_lower_code.specs.Asks.{Ask, lift_asks, run_asks, start_asks, place_asks, test_asks, sides_ask, value_asks, copy_asks, read_asks, work_asks, change_asks}
+use Rattle.isp_lower_code.specs.Asks.{lift_asks, run_asks, start_asks, place_asks, test_asks, sides_ask, value_asks, copy_asks, read_asks, work_asks, change_asks}
 use Rattle.isp_lower_code.specs.Asks.{first_slot, second_slot, beyond, expr_asks, target_asks, first_asks, values_asks, call_asks, arguments_asks, argument_asks, simple_asks}
 use Rattle.isp_lower_code.specs.Callees.{later, next_rate}
 use Rattle.isp_lower_code.specs.Library.{library_rates}

@@ -1,35 +1,31 @@
 -- Assignments: the target's index, the right side, the access; and a value that nobody takes.
-use Rattle.std.proofs.Common.{◌≡◌, ℕ, ◌+◌, ◌<◌, ◌≤◌, [], ◌∷◌, ◌++◌, length, sym, ◌∙◌, subst, arith, length-append}
+use Rattle.std.proofs.Common.{◌≡◌, ℕ, ◌+◌, ◌<◌, ◌≤◌, ◌++◌, length, ◌∙◌, arith, length-append}
 use Rattle.isp_base.specs.Sets.{Mask}
 use Rattle.isp_base.specs.declared.types.Span.{Span}
 use Rattle.isp_code.specs.Conf.{Conf}
 use Rattle.isp_typed.specs.Fine.{heads}
 use Rattle.isp_typed.specs.Typed.{TExpr, TPlace, t_variable, t_element, t_assign, t_value, type_of}
 use Rattle.isp_meaning.specs.State.{State, tick}
-use Rattle.isp_base.specs.declared.trap.TrapKind.TheVariants.{Index}
-use Rattle.isp_meaning.specs.Outcomes.{Gives, bind, checked}
-use Rattle.isp_meaning.specs.Places.{outside, kept}
 use Rattle.isp_meaning.specs.Expressions.{place}
 use Rattle.isp_meaning.specs.Simple.{simple}
 use Rattle.isp_lower_code.specs.Setting.{Setting, IsSettled, gang_of, calls_of, AreAt, Holds}
 use Rattle.isp_lower_code.specs.Runs.{Enters, DoneRuns}
 use Rattle.isp_lower_code.specs.Code.{index_code, expr_code}
-use Rattle.isp_lower_code.specs.Elements.{index_by, is_run}
+use Rattle.isp_lower_code.specs.Elements.{access, reached, write_from}
 use Rattle.isp_lower_code.specs.Found.{operand, operand_of, found}
-use Rattle.isp_lower_code.specs.Instructions.{write_by}
 use Rattle.isp_lower_code.specs.Spans.{expr_places}
 use Rattle.isp_lower_code.specs.Simple.{assign_code, assign_places}
 use Rattle.isp_lower_code.proofs.Base.{are_front, are_back, spares_less}
-use Rattle.isp_lower_code.proofs.Found.{few}
+use Rattle.isp_lower_code.proofs.Found.{few, operand_low}
 use Rattle.isp_lower_code.proofs.Nodes.{enters_part, enters_later, operand_runs}
 use Rattle.isp_lower_code.proofs.PlainNodes.{means}
 use Rattle.isp_lower_code.proofs.ElementRuns.{PlaceHolds}
 use Rattle.isp_lower_code.proofs.Exprs.{expr_runs}
 use Rattle.isp_lower_code.proofs.Done.{done_after, bind_done}
 use Rattle.isp_lower_code.proofs.Places.{place_runs, place_kept}
-use Rattle.isp_lower_code.proofs.Writes.{element_done}
+use Rattle.isp_lower_code.proofs.Reached.{access_done}
 use Rattle.isp_lower_code.proofs.Variables.{variable_runs}
-use Rattle.isp_lower_code.proofs.Kept.{Keeps, runs_kept, value_still}
+use Rattle.isp_lower_code.proofs.Kept.{Keeps, low_more, runs_kept, value_still}
 use Rattle.isp_lower_code.proofs.Parts.{ExprParts, SimpleParts}
 use Rattle.isp_lower_code.specs.Asks.{beyond}
 
@@ -58,36 +54,34 @@ module _ (w : Setting) (ready : IsSettled w) where
       let p1 = p + length (expr_places w.layout i) in
       let cx = expr_code w.layout x pc1 p1 k m in
       let ca = operand_of w.layout r x k m cx in
-      let v = is_run w.layout y.ty.rate i in
-      let j = index_by w.layout v t.rate i n in
+      let v = access w.layout y.ty.rate t.rate i n in
       let u = operand w.layout r x m in
       let pw = p1 + length (expr_places w.layout x) in
-      let last = write_by v t.rate (w.layout.array y.number) j u k pw ∷ [] in
+      let last = write_from w.layout v (type_of i).elem t.rate (w.layout.array y.number) (reached w.layout v t.rate i n) u pw (pc1 + length ca) k (n + 2) in
       let end = pc + length (ci ++ (ca ++ last)) in
-      let to : pc1 + length ca + 1 ≡ end = omega (arith, length-append ci (ca ++ last), length-append ca last) in
+      let to : pc1 + length ca + length last ≡ end = omega (arith, length-append ci (ca ++ last), length-append ca last) in
       let h1 : AreAt w.routine.code pc1 (ca ++ last) = are_back w.routine.code pc ci (ca ++ last) has in
       let ha : AreAt w.routine.code pc1 ca = are_front w.routine.code pc1 ca last h1 in
       let pl = are_back w.code.places p (expr_places w.layout i) _ places in
-      bind_done w ready c pc1 n 1 q (PlaceHolds w ready z n a) (place (gang_of w) w.frame (calls_of w) z a (tick s)) _ end n
-      (place_runs w ready z pc p k n 1 q a (tick s) c (omega arith) fit.0 (are_front w.routine.code pc ci _ has) (are_front w.code.places p (expr_places w.layout i) _ places) (enters_part w ready pc k n q q a s c (omega arith) b))
+      bind_done w ready c pc1 n 12 q (PlaceHolds w ready z n a) (place (gang_of w) w.frame (calls_of w) z a (tick s)) _ end n
+      (place_runs w ready z pc p k n 12 q a (tick s) c (omega arith) fit.0 (are_front w.routine.code pc ci _ has) (are_front w.code.places p (expr_places w.layout i) _ places) (enters_part w ready pc k n q q a s c (omega arith) b))
       (λ at s1 ok.
       let c1 = ok.conf in
       done_after w ready c c1 ok.steps end n q _ ok.comes ok.spares ok.masks
-      (bind_done w ready c1 (pc1 + length ca) m 1 (ok.steps + q) (λ d c'. Holds r a u d c' × Keeps w m c1 c') (means w ready x a s1) _ end n
-      (runs_kept w c1 (pc1 + length ca) m (1 + (ok.steps + q)) (Holds r a u) (means w ready x a s1) s1 ok.stands (value_still w ready x m a s1 fit.2)
-      (operand_runs w ready c1 pc1 k m (ok.steps + q) (1 + (ok.steps + q)) a s1 r t.elem x cx fit.1 (omega arith)
-      (enters_later w ready pc pc1 k n m (ok.steps + q) q (1 + q) a s s1 c (omega arith) b ok (omega arith)) ha
-      (λ at. expr_runs w ready x pc1 p1 k m (ok.steps + q) (1 + (1 + (ok.steps + q))) a s1 c1 fit.2 at
+      (bind_done w ready c1 (pc1 + length ca) m 12 (ok.steps + q) (λ d c'. Holds r a u d c' × Keeps w m c1 c') (means w ready x a s1) _ end n
+      (runs_kept w c1 (pc1 + length ca) m (12 + (ok.steps + q)) (Holds r a u) (means w ready x a s1) s1 ok.stands (value_still w ready x m a s1 fit.2)
+      (operand_runs w ready c1 pc1 k m (11 + (ok.steps + q)) (12 + (ok.steps + q)) a s1 r t.elem x cx fit.1 (omega arith)
+      (enters_later w ready pc pc1 k n m (11 + (ok.steps + q)) q (12 + q) a s s1 c (omega arith) b ok (omega arith)) ha
+      (λ at. expr_runs w ready x pc1 p1 k m (11 + (ok.steps + q)) (1 + (12 + (ok.steps + q))) a s1 c1 fit.2 at
       (are_front w.code.places p1 (expr_places w.layout x) _ pl) (omega arith)
-      (enters_later w ready pc pc1 k n m (ok.steps + q) q (1 + q) a s s1 c (omega arith) b ok (omega arith)))))
+      (enters_later w ready pc pc1 k n m (11 + (ok.steps + q)) q (12 + q) a s s1 c (omega arith) b ok (omega arith)))))
       (λ d s2 ok2.
-      let h = place_kept w ready z n a at c1 ok2.conf fit.0 ok2.holds.1 ok.holds in
-      subst (λ g. DoneRuns w c1 end n (ok.steps + q) (bind (checked (outside (gang_of w) w.frame g a) Index sv s2 d) (λ b s3. Gives tt (kept (gang_of w) w.frame g a b s3)))) (sym h.1)
-      (element_done w ready v t.rate y.ty.rate y (type_of i).elem h.0 d a s2 c1 ok2.conf ok2.steps (pc1 + length ca) end k j u n (ok.steps + q) pw sv
-      (ready.arrays y fit.0.0).is fit.0.1 (ready.arrays y fit.0.0).few b.some b.inside ok2.comes ok2.at to
-      (are_back w.routine.code pc1 ca last h1).0 (are_back w.code.places p1 (expr_places w.layout x) _ pl).0 ok2.stands
+      access_done w ready y i t sv n fit.0 at d c1 ok2.conf ok2.steps (pc1 + length ca) end k u (n + 2) pw (ok.steps + q) a s2 (omega arith) (omega arith)
+      (low_more w r (m + 1) (n + 2) u (omega arith) (operand_low w ready r t.elem x m fit.1 fit.2)) ok2.comes ok2.at
+      (are_back w.routine.code pc1 ca last h1) to (are_back w.code.places p1 (expr_places w.layout x) _ pl).0 ok2.stands
       (spares_less w n m c1 ok2.conf (omega arith) ok2.spares) (λ r g. ok2.masks r (omega arith))
-      (ok2.masks k (omega arith) ∙ ok.masks k lk ∙ b.mask) (omega (arith, ok2.bound)) h.2 ok2.holds.0))))
+      (ok2.masks k (omega arith) ∙ ok.masks k lk ∙ b.mask) b.some b.inside lk (omega (arith, ok2.bound))
+      (place_kept w ready z n a at c1 ok2.conf fit.0 ok2.holds.1 ok.holds) ok2.holds.0)))
 
   pub value_runs : (x : TExpr) (pc p k n q : ℕ) (a : Mask) (s : State) (c : Conf) → ExprParts w x n
       → AreAt w.routine.code pc (expr_code w.layout x pc p k n) → AreAt w.code.places p (expr_places w.layout x) → Enters w pc k n a s c q

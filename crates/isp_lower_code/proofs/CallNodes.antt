@@ -31,7 +31,6 @@ use Rattle.isp_lower_code.specs.Setting.{ArrayFitsAt, Setting, IsSettled, gang_o
 use Rattle.isp_lower_code.specs.Runs.{Comes, Enters, Runs}
 use Rattle.isp_lower_code.specs.Code.{argument_register, argument_registers, arguments_code, calling}
 use Rattle.isp_lower_code.specs.Found.{operand}
-use Rattle.isp_lower_code.specs.Instructions.{constant}
 use Rattle.isp_lower_code.specs.Spans.{arguments_places}
 use Rattle.isp_lower_code.proofs.Base.{are_front, are_back, comes_none, at_to, spares_all, spares_less}
 use Rattle.isp_lower_code.proofs.Rates.{Filled}

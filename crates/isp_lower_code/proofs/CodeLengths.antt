@@ -1,6 +1,6 @@
 -- The code of expressions, assignments and declarations is short: at most 32 instructions for each node of an expression, or of
 -- what is declared. An assignment has at most 64 for each, since the number 1 of `++` and `--` is no node.
-use Rattle.std.proofs.Common.{ℕ, ◌+◌, ◌*◌, ◌≤◌, List, [], ◌∷◌, length, Option, Some, None, Bool, true, false, arith, length-append}
+use Rattle.std.proofs.Common.{ℕ, ◌+◌, ◌*◌, ◌≤◌, List, [], ◌∷◌, ◌++◌, length, Option, Some, None, Bool, true, false, arith, length-append}
 use Rattle.isp_base.specs.Ranks.{same_elem}
 use Rattle.isp_base.specs.declared.operators.BinOp.{BinOp}
 use Rattle.isp_base.specs.declared.types.Elem.{Elem}
@@ -15,9 +15,9 @@ use Rattle.isp_typed.specs.Typed.{TPlace, t_variable, t_element, place_type, TBa
 use Rattle.isp_typed.specs.Typed.{TExprs, t_no_exprs, t_expr_then, TItem, t_plain, t_with_value, t_with_size, TSimple, t_value, t_run, t_assign, t_update, t_step, type_of}
 use Rattle.isp_lower_code.specs.Callees.{next_rate, later}
 use Rattle.isp_lower_code.specs.Code.{read_code, value_registers, calling, base_register, expr_to, index_code, base_code, values_code, call_code, arguments_code, argument_code, expr_code, variable_from, variable_code}
-use Rattle.isp_lower_code.specs.Elements.{is_run, index_by}
+use Rattle.isp_lower_code.specs.Elements.{access, reached, read_from, write_from}
 use Rattle.isp_lower_code.specs.Found.{part_to, lift_to, convert_to, is_kept, found, operand, operand_of, index_of}
-use Rattle.isp_lower_code.specs.Instructions.{copy, unary, compare, operate, write_by, constant, packed_store, packed_load}
+use Rattle.isp_lower_code.specs.Instructions.{copy, unary, compare, operate, constant, packed_store, packed_load}
 use Rattle.isp_lower_code.specs.Items.{zero_each, zero_code, item_code, item_places, items_code}
 use Rattle.isp_lower_code.specs.Known.{constant_of}
 use Rattle.isp_lower_code.specs.Layout.{Layout, register}
@@ -25,9 +25,9 @@ use Rattle.isp_lower_code.specs.Library.{library_code, library_rates}
 use Rattle.isp_lower_code.specs.Simple.{beyond, one_of, assign_code, update_to, change_code, change_by_code, one_in, one_code, step_code, simple_code}
 use Rattle.isp_lower_code.specs.Spans.{expr_places, index_places, base_places, arguments_places, argument_places}
 use Rattle.isp_lower_code.specs.Stays.{is_short, writes_part, writes_last}
-use Rattle.isp_lower_code.proofs.PieceLengths.{behind_long, both_long, three_long, unless_less, library_few, pair_long, logic_long, choose_long, lift_to_few, operand_of_long, convert_long, index_of_long, index_by_long, read_few}
+use Rattle.isp_lower_code.proofs.PieceLengths.{behind_long, both_long, three_long, unless_less, library_few, pair_long, logic_long, choose_long, lift_to_few, operand_of_long, convert_long, index_of_long, RowsShort, reached_long, read_few, read_from_few, write_from_few}
 
-module _ (l : Layout) where
+module _ (l : Layout) (short : RowsShort l) where
   -- ---- the code of a tree
 
   mutual
@@ -36,7 +36,8 @@ module _ (l : Layout) where
     expr_to_long d (t_program_index sp) pc p k n = omega arith
     expr_to_long d (t_place q) pc p k n =
         let p1 = p + length (index_places l q) in
-        omega (arith, length-append (index_code l q pc p k n) (read_code l d q p1 k n), index_code_long q pc p k n, read_few l d q p1 k n)
+        let pc1 = pc + length (index_code l q pc p k n) in
+        omega (arith, length-append (index_code l q pc p k n) (read_code l d q pc1 p1 k n), index_code_long q pc p k n, read_few l d q pc1 p1 k n)
     expr_to_long d (t_convert e x) pc p k n =
         let f = found l x n in
         let r = (type_of x).rate in
@@ -104,7 +105,7 @@ module _ (l : Layout) where
     index_code_long (t_variable v t sp) pc p k n = omega arith
     index_code_long (t_element b i t sp) pc p k n =
         let f = found l i n in
-        index_by_long l (is_run l b.ty.rate i) t.rate i k n (expr_to l f i pc p k n) (typed_nodes i) (expr_to_long f i pc p k n)
+        reached_long l short b.ty.rate t.rate i pc p k n (expr_to l f i pc p k n) (expr_to_long f i pc p k n)
 
     base_code_long : (b : TBase) (pc p k n : ℕ) → length (base_code l b pc p k n) + 31 ≤ 32 * base_nodes b
     base_code_long (t_whole b sp) pc p k n = omega arith
@@ -172,26 +173,42 @@ module _ (l : Layout) where
   assign_long (t_variable v t sp) x pc p k n = omega (arith, variable_long t.rate v x pc p k n)
   assign_long (t_element b i t sp) x pc p k n =
       let q = t_element b i t sp in
-      let z = is_run l b.ty.rate i in
+      let z = access l b.ty.rate t.rate i n in
       let a = index_code l q pc p k n in
       let pc1 = pc + length a in
       let p1 = p + length (expr_places l i) in
       let y = operand_of l t.rate x k (n + 1) (expr_code l x pc1 p1 k (n + 1)) in
-      let last = write_by z t.rate (l.array b.number) (index_by l z t.rate i n) (operand l t.rate x (n + 1)) k (p1 + length (expr_places l x)) in
-      three_long a y (last ∷ []) (place_nodes q) (typed_nodes x) (index_code_long q pc p k n) (operand_long t.rate x pc1 p1 k (n + 1)) (omega arith)
+      let at = reached l z t.rate i n in
+      let v = operand l t.rate x (n + 1) in
+      let p2 = p1 + length (expr_places l x) in
+      let pc2 = pc1 + length y in
+      let last = write_from l z (type_of i).elem t.rate (l.array b.number) at v p2 pc2 k (n + 2) in
+      three_long a y last (place_nodes q) (typed_nodes x) (index_code_long q pc p k n) (operand_long t.rate x pc1 p1 k (n + 1))
+      (omega (arith, write_from_few l z (type_of i).elem t.rate (l.array b.number) at v p2 pc2 k (n + 2)))
 
   update_few : (z : Bool) (o : BinOp) (t : Elem) (r : Rate) (d h y k i p : ℕ) → length (update_to l z o t r d h y k i p) ≤ 3
   update_few true o t r d h y k i p = omega arith
   update_few false o t r d h y k i p = omega arith
 
-  change_few : (o : BinOp) (t : Elem) (q : TPlace) (y p k n i : ℕ) → length (change_code l o t q y p k n i) ≤ 5
-  change_few o t (t_variable v u sp) y p k n i =
+  change_few : (o : BinOp) (t : Elem) (q : TPlace) (y pc p k n i : ℕ) → length (change_code l o t q y pc p k n i) ≤ 27
+  change_few o t (t_variable v u sp) y pc p k n i =
       omega (arith, update_few (same_elem u.elem t) o t u.rate (l.variable u.rate v) (l.variable u.rate v) y k i p)
-  change_few o t (t_element b j u sp) y p k n i =
-      let z = is_run l b.ty.rate j in
+  change_few o t (t_element b j u sv) y pc p k n i =
+      let z = access l b.ty.rate u.rate j n in
       let s = l.spare u.rate u.elem i in
-      let e = index_by l z u.rate j n in
-      omega (arith, length-append (update_to l (same_elem u.elem t) o t u.rate s s y k i (p + 1)) (write_by z u.rate (l.array b.number) e s k p ∷ []), update_few (same_elem u.elem t) o t u.rate s s y k i (p + 1))
+      let e = reached l z u.rate j n in
+      let a = read_from l z (type_of j).elem u.rate s (l.array b.number) e p pc k (i + 1) in
+      let m = update_to l (same_elem u.elem t) o t u.rate s s y k i (p + 1) in
+      let pc2 = pc + length a + length m in
+      let c = write_from l z (type_of j).elem u.rate (l.array b.number) e s p pc2 k (i + 1) in
+      omega (
+        arith,
+        length-append a (m ++ c),
+        length-append m c,
+        update_few (same_elem u.elem t) o t u.rate s s y k i (p + 1),
+        read_from_few l z (type_of j).elem u.rate s (l.array b.number) e p pc k (i + 1),
+        write_from_few l z (type_of j).elem u.rate (l.array b.number) e s p pc2 k (i + 1),
+      )
 
   change_by_long : (o : BinOp) (t : Elem) (q : TPlace) (x : TExpr) (pc p k n : ℕ) → length (change_by_code l o t q x pc p k n) ≤ 32 * (place_nodes q + typed_nodes x)
   change_by_long o t q x pc p k n =
@@ -202,16 +219,18 @@ module _ (l : Layout) where
       let p1 = p + length (index_places l q) in
       let p2 = p1 + length (expr_places l x) in
       let y = operand_of l r x k m (expr_code l x pc1 p1 k m) in
-      three_long a y (change_code l o t q (operand l r x m) p2 k n (m + 1)) (place_nodes q) (typed_nodes x) (index_code_long q pc p k n)
-      (operand_long r x pc1 p1 k m) (change_few o t q (operand l r x m) p2 k n (m + 1))
+      let pc2 = pc1 + length y in
+      three_long a y (change_code l o t q (operand l r x m) pc2 p2 k n (m + 1)) (place_nodes q) (typed_nodes x) (index_code_long q pc p k n)
+      (operand_long r x pc1 p1 k m) (omega (arith, change_few o t q (operand l r x m) pc2 p2 k n (m + 1)))
 
   step_long : (o : BinOp) (t : Elem) (q : TPlace) (pc p k n : ℕ) → length (step_code l o t q pc p k n) ≤ 32 * (place_nodes q + 1)
   step_long o t q pc p k n =
       let r = (place_type q).rate in
       let m = beyond q n in
       let p1 = p + length (index_places l q) in
-      three_long (index_code l q pc p k n) (one_code l r t k m) (change_code l o t q (one_in l r t m) p1 k n (m + 1)) (place_nodes q) 1
-      (index_code_long q pc p k n) (operand_long r (one_of t) 0 0 k m) (change_few o t q (one_in l r t m) p1 k n (m + 1))
+      let pc2 = pc + length (index_code l q pc p k n) + length (one_code l r t k m) in
+      three_long (index_code l q pc p k n) (one_code l r t k m) (change_code l o t q (one_in l r t m) pc2 p1 k n (m + 1)) (place_nodes q) 1
+      (index_code_long q pc p k n) (operand_long r (one_of t) 0 0 k m) (omega (arith, change_few o t q (one_in l r t m) pc2 p1 k n (m + 1)))
 
   pub simple_long : (x : TSimple) (pc p k n : ℕ) → length (simple_code l x pc p k n) ≤ 64 * simple_nodes x
   simple_long (t_value x) pc p k n = omega (arith, expr_long x pc p k n)

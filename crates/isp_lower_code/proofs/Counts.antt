@@ -13,15 +13,15 @@ use Rattle.isp_typed.specs.Typed.{TExpr, t_constant, t_program_index, t_place, t
 use Rattle.isp_typed.specs.Typed.{t_element, TItem, t_plain, t_with_value, t_with_size, TSimple, t_assign, t_update, t_step, ty_of}
 use Rattle.isp_typed.specs.declared.variable.ArrayVariable.{ArrayVariable}
 use Rattle.isp_typed.specs.declared.variable.Logic.TheVariants.{And}
-use Rattle.isp_lower_code.specs.Layout.{Layout, IsApart}
+use Rattle.isp_lower_code.specs.Layout.{Layout, IsApart, no_rows}
 use Rattle.isp_lower_code.specs.Simple.{simple_code}
 use Rattle.isp_lower_code.specs.Items.{items_code}
 
 -- variables v, y, z of each type, an array a and an index i of type int64, in a function with any registers and without packed loads,
--- outside the body of a `foreach`, where no constant is kept
+-- outside the body of a `foreach`, where no constant is kept and no index is taken as a row
 module _ (any : Layout) (a : ArrayVariable) (v y z i : ℕ) (sp : Span) where
   abbrev l : Layout
-  l = record any { loaded = λ x. false; in_run = false; kept = λ r t b. false }
+  l = record any { loaded = λ x. false; in_run = false; kept = λ r t b. false; is_row = no_rows }
 
   abbrev at : Rate → Elem → ℕ → TPlace
   at r t x = t_variable x (ty_of r t) sp

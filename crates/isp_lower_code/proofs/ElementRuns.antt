@@ -1,4 +1,4 @@
--- The code of an index gives the place of an element, and an element is read there.
+-- The code of an index gives the place of an element, and an element is read there by one instruction.
 use Rattle.std.proofs.Common.{◌≡◌, ℕ, ◌+◌, ◌*◌, ◌<◌, ◌≤◌, List, [], ◌∷◌, ◌++◌, length, Some, Bool, true, false, refl, sym, ap, ◌∙◌, subst, arith, length-append, inl, inr}
 use Rattle.std.specs.Prelude.{slice_get, pos}
 use Rattle.isp_base.specs.Access.{is_outside}
@@ -20,7 +20,6 @@ use Rattle.isp_meaning.specs.Payloads.{Payload, Each, sole, mapped, converted, o
 use Rattle.isp_meaning.specs.Outcomes.{Val, Gives, Fails, Stops, bind, checked}
 use Rattle.isp_meaning.specs.Places.{Place, Variable, Element, variable, outside, held}
 use Rattle.isp_base.specs.declared.types.Ty.{Ty}
-use Rattle.isp_typed.specs.Fine.{heads}
 use Rattle.isp_typed.specs.declared.variable.ArrayVariable.{ArrayVariable}
 use Rattle.isp_typed.specs.Typed.{TExpr, t_program_index, t_place}
 use Rattle.isp_typed.specs.Typed.{TPlace, t_variable, t_element}
@@ -28,26 +27,24 @@ use Rattle.isp_typed.specs.Typed.{type_of}
 use Rattle.isp_lower_code.specs.Layout.{register, array_register}
 use Rattle.isp_lower_code.specs.Setting.{ArrayFits, Setting, IsSettled, gang_of, AreAt, At, Stands, at_rate, held_at, Holds, Spares, Allowed}
 use Rattle.isp_lower_code.specs.Runs.{Comes, Enters, Runs}
-use Rattle.isp_lower_code.specs.Code.{expr_code}
-use Rattle.isp_lower_code.specs.Elements.{index_by, index_by_of, is_run, start_code}
+use Rattle.isp_lower_code.specs.Elements.{Access, By, Row, access, index_by, index_by_of, is_run, start_code}
 use Rattle.isp_lower_code.specs.Found.{found, lift_code, is_whole, whole, whole_of, index, index_of}
 use Rattle.isp_lower_code.specs.Instructions.{constant, read_by}
-use Rattle.isp_lower_code.specs.Spans.{expr_places}
+use Rattle.isp_lower_code.specs.RowAccess.{row_place}
 use Rattle.isp_lower_code.proofs.Base.{are_front, are_back, comes_none, at_to, moved_by, spares_all}
 use Rattle.isp_lower_code.proofs.Rates.{held_same, at_mapped}
 use Rattle.isp_lower_code.proofs.Lines.{set_at, place_named}
 use Rattle.isp_lower_code.proofs.Access.{as_whole, found_items, filled_items, size_at, item_at, get_at, read_is, outside_is, read_by_line}
 use Rattle.isp_lower_code.proofs.Values.{wrap_bits, zero_first}
 use Rattle.isp_lower_code.proofs.Combine.{runs_on, ok_less, renamed, lift_runs}
-use Rattle.isp_lower_code.proofs.Found.{few, found_typed}
-use Rattle.isp_lower_code.proofs.Targets.{Target, InSlot, target, Leaves, bind_leaves, write_leaves}
-use Rattle.isp_lower_code.proofs.Nodes.{enters_part}
+use Rattle.isp_lower_code.proofs.Found.{found_typed}
+use Rattle.isp_lower_code.proofs.Targets.{Target, InSlot, target, Leaves, write_leaves}
 use Rattle.isp_lower_code.proofs.Parts.{ExprParts, SpareFits, RunParts}
 use Rattle.isp_lower_code.specs.Asks.{is_lane}
 use Rattle.isp_lower_code.specs.Rated.{Reaches}
 use Rattle.isp_lower_code.proofs.Consecutive.{IndexHolds, RunFits, counts_reach, counts_run, lane_reaches, lanes_by, lanes_count, run_is, Counter, Counting, counter_is, counts_part}
 use Rattle.isp_lower_code.specs.Consecutive.{RunHolds}
-use Rattle.isp_lower_code.proofs.PlainNodes.{means, constant_runs, convert_runs, RunsHere, NodeRuns}
+use Rattle.isp_lower_code.proofs.PlainNodes.{means, constant_runs, convert_runs}
 
 module _ (w : Setting) (ready : IsSettled w) where
   -- ---- places: the index is taken at slot n
@@ -57,10 +54,15 @@ module _ (w : Setting) (ready : IsSettled w) where
   ElementHolds z y i t n a v c =
       (m : Payload) × (v ≡ Element y (type_of i).elem m) × IndexHolds z y.ty.rate t.rate a (index_by w.layout z t.rate i n) (mapped (as_whole (is_whole (type_of i).elem) (type_of i).elem) m) c.scalars c.vectors
 
+  -- or once the scalar of its row is there
+  abbrev pub AccessHolds : Access → ArrayVariable → TExpr → Ty → ℕ → Mask → Place → Conf → Type 0
+  AccessHolds (By z) y i t n a v c = ElementHolds z y i t n a v c
+  AccessHolds Row y i t n a v c = v ≡ row_place y (type_of i).elem (c.scalars (w.layout.row_at i n)) a
+
   -- and of a place
   abbrev pub PlaceHolds : TPlace → ℕ → Mask → Place → Conf → Type 0
   PlaceHolds (t_variable v t sp) n a z c = z ≡ Variable v t
-  PlaceHolds (t_element y i t sp) n a z c = ElementHolds (is_run w.layout y.ty.rate i) y i t n a z c
+  PlaceHolds (t_element y i t sp) n a z c = AccessHolds (access w.layout y.ty.rate t.rate i n) y i t n a z c
 
   -- an index as int64
   pub whole_runs : (i : TExpr) (z : Bool) (pc k n q rest : ℕ) (a : Mask) (s : State) (c : Conf) (code : List Instr) → is_whole (type_of i).elem ≡ z
@@ -236,23 +238,3 @@ module _ (w : Setting) (ready : IsSettled w) where
       (λ none. read_is w t.rate y.ty.rate y e (is_whole e) z a s c2.scalars ve j g re refl fy.few some (λ r h. (inside r h).0) hold.holds none)
       (filled_items t.rate (get_at w y.ty.rate y s) c2.scalars ve a j)
       (line ∙ is1 ∙ is2 ∙ is3 ∙ is4 ∙ is5)
-
-  pub element_node : (u : Target) (y : ArrayVariable) (i : TExpr) (t : Ty) (sp : Span) → RunsHere w ready i → NodeRuns w ready u (t_place (t_element y i t sp))
-  element_node u y i t sp ih pc p k n q rest a s c fit ty has places le b =
-      let fi : heads i ≤ 1 = few w i n fit.0.4 in
-      let ci = expr_code w.layout i pc p k n in
-      let z = is_run w.layout y.ty.rate i in
-      let cj = index_by_of w.layout z t.rate i k n ci in
-      let d = target w.layout u t.rate t.elem n in
-      let rd = read_by z t.rate d (w.layout.array y.number) (index_by w.layout z t.rate i n) k (p + length (expr_places w.layout i)) in
-      let to : pc + length cj + 1 ≡ pc + length (cj ++ rd ∷ []) = omega (arith, length-append cj (rd ∷ [])) in
-      bind_leaves w ready u d c (pc + length cj) n 1 rest (PlaceHolds (t_element y i t sp) n a) (bind (means w ready i a (tick s)) (λ m s1. Gives (Element y (type_of i).elem m) s1)) _ _ n t.rate a
-      (element_index_runs y i t pc k n (32 + q) (1 + rest) a (tick s) c ci (omega arith) (enters_part w ready pc k n (32 + q) q a s c (omega arith) b) fit.0.4 fit.0.2 fit.0.3 fit.0.5 (are_front w.routine.code pc cj _ has)
-      (λ at. ih pc p k n (32 + q) (1 + (1 + (1 + rest))) a (tick s) c fit.0.4 at (are_front w.code.places p (expr_places w.layout i) _ places) (omega arith) (enters_part w ready pc k n (32 + q) q a s c (omega arith) b)))
-      (λ at s1 ok.
-      let h = ok.holds in
-      subst (λ g. Leaves w u d c (pc + length (cj ++ rd ∷ [])) n rest t.rate a (checked (outside (gang_of w) w.frame g a) Index sp s1 (held (gang_of w) w.frame g a s1))) (sym h.1)
-      (element_runs u z (index_by w.layout z t.rate i n) y i t sp c ok.conf ok.steps (pc + length cj) _ k n (p + length (expr_places w.layout i)) rest
-      a s1 h.0 (ready.arrays y fit.0.0) fit.0.1 ok.comes ok.at to (are_back w.routine.code pc cj (rd ∷ []) has).0
-      (are_back w.code.places p (expr_places w.layout i) _ places).0 ok.stands ok.spares ok.masks (ok.masks k b.low ∙ b.mask) b.some b.inside
-      (omega (arith, ok.bound)) h.2))

@@ -32,7 +32,7 @@ use Rattle.isp_lower_code.proofs.InRow.{AllHold}
 use Rattle.isp_lower_code.proofs.Kept.{arguments_still, values_still}
 use Rattle.isp_lower_code.proofs.Parts.{ExprParts, ArgumentParts}
 use Rattle.isp_lower_code.proofs.PlainNodes.{means, number_runs, index_node, variable_runs, converted_runs, unary_node, binary_node, compare_node}
-use Rattle.isp_lower_code.proofs.ElementRuns.{element_node}
+use Rattle.isp_lower_code.proofs.Reached.{element_node}
 use Rattle.isp_lower_code.proofs.ChoiceNodes.{cast_runs, choose_any}
 use Rattle.isp_lower_code.proofs.PackedNodes.{BaseRuns, whole_base, from_base, packed_store_node, packed_load_node}
 use Rattle.isp_lower_code.proofs.LibraryNodes.{held_both, ValuesRun, library_node}

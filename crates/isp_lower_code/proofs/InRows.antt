@@ -1,6 +1,6 @@
 -- A routine that has the registers of some rows, and a listing with places enough and a routine for each function: in these the code of a
 -- tree is sound, where the rows have what it asks for.
-use Rattle.std.proofs.Common.{◌≡◌, ℕ, zero, suc, ◌+◌, ◌-◌, ◌<◌, List, [], ◌∷◌, length, map, Option, Some, None, Bool, true, false, refl, sym, ap, subst, ◌∙◌, arith}
+use Rattle.std.proofs.Common.{◌≡◌, ℕ, zero, suc, ◌+◌, ◌-◌, ◌<◌, List, [], ◌∷◌, length, map, Some, None, Bool, true, false, refl, ap, ◌∙◌, arith}
 use Rattle.std.specs.Prelude.{nat_le, ◌&&◌, slice_get}
 use Rattle.std.proofs.lemmas.Bool.{le-leb}
 use Rattle.std.proofs.lemmas.List.{length-map}
@@ -134,6 +134,7 @@ linked fs n rows masks code = record {
   rates = refl;
   constants = kept_there (with_rows rows masks code) (rates_in fs) rows
       (rows_made rows masks code);
+  rows = λ vars i n fine rated is. absurd (cc);
   headers = λ f g e. record
       { routine = routine_for g; found = routine_at fs f g e; params = params_held (params_of g); returns = refl };
 }

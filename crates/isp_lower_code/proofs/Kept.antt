@@ -29,7 +29,7 @@ use Rattle.isp_lower_code.specs.Callees.{later}
 use Rattle.isp_lower_code.specs.Found.{is_copied}
 use Rattle.isp_lower_code.specs.Layout.{Layout}
 use Rattle.isp_lower_code.specs.Library.{library_rates}
-use Rattle.isp_lower_code.specs.Setting.{Setting, IsSettled, gang_of, calls_of, Stands, Spares, held_at}
+use Rattle.isp_lower_code.specs.Setting.{Setting, IsSettled, IsVarying, gang_of, calls_of, Stands, Spares, held_at}
 use Rattle.isp_lower_code.specs.Runs.{Runs}
 pub use Rattle.isp_lower_code.proofs.Base.{IsRead, is_read}
 use Rattle.isp_lower_code.proofs.Parts.{ExprParts, BaseParts, ValuesParts, CallParts, ArgumentsParts, ArgumentParts}
@@ -69,6 +69,7 @@ pub record KeepsLow (w : Setting) (n : ℕ) (scalars : ℕ → ℕ) (vectors : �
   pub scalars_stay : (x : ℕ) → Low w Uniform n x → scalars' x ≡ scalars x
   pub vectors_stay : (x : ℕ) → Low w Varying n x → vectors' x ≡ vectors x
   pub place_stays : (i : ℕ) → w.layout.run ≡ Some i → scalars' (w.layout.place Uniform) ≡ scalars (w.layout.place Uniform)
+  pub singles_stay : (v : ℕ) → IsVarying w.function.variables v → scalars' (w.layout.variable Uniform v) ≡ scalars (w.layout.variable Uniform v)
 
 abbrev pub Keeps : Setting → ℕ → Conf → Conf → Type 0
 Keeps w n c c' = KeepsLow w n c.scalars c.vectors c'.scalars c'.vectors
@@ -76,7 +77,7 @@ Keeps w n c c' = KeepsLow w n c.scalars c.vectors c'.scalars c'.vectors
 module _ (w : Setting) where
   -- a value that changes no other variable keeps these registers
   pub kept_of : (n : ℕ) (c c' : Conf) (s s' : State) → Stands w s c → Stands w s' c' → KeepsVariables w.layout.loaded s s' → Spares w n c c' → Keeps w n c c'
-  kept_of n c c' s s' st st' k sp = record { scalars_stay = scalar; vectors_stay = vector; place_stays = λ i e. place w.layout.run i e st.run st'.run }
+  kept_of n c c' s s' st st' k sp = record { scalars_stay = scalar; vectors_stay = vector; place_stays = λ i e. place w.layout.run i e st.run st'.run; singles_stay = sp.singles_stay }
     where
       scalar : (x : ℕ) → Low w Uniform n x → c'.scalars x ≡ c.scalars x
       scalar x (inl v) = ap c'.scalars v.2 ∙ st'.uniforms v.0 v.3 ∙ ap (λ f. f v.0) k.0 ∙ sym (st.uniforms v.0 v.3) ∙ ap c.scalars (sym v.2)
@@ -120,6 +121,7 @@ module _ (w : Setting) where
     scalars_stay = λ x low. h.scalars_stay x (low_more w Uniform n m x le low) ∙ k.scalars_stay x low;
     vectors_stay = λ x low. h.vectors_stay x (low_more w Varying n m x le low) ∙ k.vectors_stay x low;
     place_stays = λ i e. h.place_stays i e ∙ k.place_stays i e;
+    singles_stay = λ v is. h.singles_stay v is ∙ k.singles_stay v is;
   }
 
   pub held_kept : (r : Rate) (n : ℕ) (c c' : Conf) (a : Mask) (x : ℕ) → Keeps w n c c' → Low w r n x → held_at r c'.scalars c'.vectors a x ≡ held_at r c.scalars c.vectors a x

@@ -23,6 +23,8 @@ mod Choose
 mod Short
 mod PlainNodes
 mod ElementRuns
+mod RowScalars
+mod Reached
 mod ChoiceNodes
 mod PackedNodes
 mod LibraryNodes
@@ -57,6 +59,7 @@ mod SoundLibrary
 mod SoundFound
 mod SoundParts
 mod SoundCalls
+mod SoundElements
 mod SoundExprs
 mod SoundSimples
 mod Counts

@@ -11,7 +11,7 @@ use Rattle.isp_base.specs.declared.types.Rate.TheVariants.{Uniform, Varying}
 use Rattle.isp_typed.specs.Typed.{TExpr, t_constant, t_program_index, t_place, t_convert, t_cast, t_unary, t_binary, t_compare, t_logic, t_choose, t_call, t_library, t_packed_store, t_packed_load, TPlace}
 use Rattle.isp_typed.specs.Typed.{t_variable, t_element, TBase, t_whole, t_from, TArgument, t_by_value, t_by_name, TCall, t_called, TArguments, t_no_arguments, t_argument_then, TExprs, t_no_exprs, t_expr_then}
 use Rattle.isp_typed.specs.Typed.{TFunction, TItem, t_plain, t_with_value, t_with_size, TSimple, t_value, t_run, t_assign, t_update, t_step, place_type, ty_of, type_of}
-use Rattle.isp_typed.specs.Fine.{heads, HoldsArray, HoldsValue, params_of}
+use Rattle.isp_typed.specs.Fine.{FineExpr, heads, HoldsArray, HoldsValue, params_of}
 use Rattle.isp_typed.specs.declared.variable.Holds.{Holds}
 use Rattle.isp_typed.specs.declared.variable.Holds.TheVariants as holds
 use Rattle.isp_typed.specs.declared.variable.Variable.{Variable as Declared}
@@ -137,6 +137,7 @@ module _ (w : Setting) where
     PlaceParts (t_variable v t sp) n = IsTyped w t.rate (w.layout.variable t.rate v) t.elem × HoldsValue w.function.variables v (ty_of t.rate t.elem)
     PlaceParts (t_element b i t sp) n =
         HoldsArray w.function.variables b × Reaches b.ty.rate t.rate × Reaches (type_of i).rate t.rate × SpareFits (type_of i).rate I64 n × ExprParts i n × RunParts b.ty.rate i n
+        × FineExpr w.program.functions w.function.variables i
 
     -- the array of a packed call is one for the gang, its index uniform, and taken at slot n
     pub BaseParts : TBase → ℕ → Type 0

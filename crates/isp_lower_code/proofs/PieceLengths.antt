@@ -1,5 +1,5 @@
 -- Pieces of code are short: each has a few instructions besides those of its parts, which are at most 32 for each node of their trees.
-use Rattle.std.proofs.Common.{ℕ, suc, ◌+◌, ◌*◌, ◌≤◌, List, [], ◌∷◌, ◌++◌, length, Option, Some, None, Bool, true, false, arith, length-append}
+use Rattle.std.proofs.Common.{◌≡◌, ℕ, suc, ◌+◌, ◌*◌, ◌≤◌, List, [], ◌∷◌, ◌++◌, length, Option, Some, None, Bool, true, false, refl, arith, length-append}
 use Rattle.std.specs.Prelude.{nat_eq}
 use Rattle.isp_base.specs.declared.types.Elem.{Elem}
 use Rattle.isp_base.specs.declared.types.Elem.TheVariants.{I64}
@@ -10,6 +10,7 @@ use Rattle.isp_base.specs.declared.types.Value.{Value}
 use Rattle.isp_code.specs.declared.instr.Instr.{Instr}
 use Rattle.isp_code.specs.declared.instr.Instr.TheVariants as instr
 use Rattle.isp_code.specs.declared.instr.JumpTest.TheVariants as jump
+use Rattle.isp_typed.specs.Nodes.{typed_nodes}
 use Rattle.isp_typed.specs.Typed.{TExpr, TPlace, t_variable, t_element, type_of}
 use Rattle.isp_typed.specs.declared.library.Library.{Library}
 use Rattle.isp_typed.specs.declared.library.Library.TheVariants as library
@@ -17,12 +18,14 @@ use Rattle.isp_typed.specs.declared.variable.Logic.{Logic}
 use Rattle.isp_typed.specs.declared.variable.Logic.TheVariants.{And, Or}
 use Rattle.isp_lower_code.specs.Asks.{is_lane}
 use Rattle.isp_lower_code.specs.Code.{variable_read, read_code, choose_code, choose_to}
-use Rattle.isp_lower_code.specs.Elements.{start_code, index_by_of}
+use Rattle.isp_lower_code.specs.Elements.{Access, By, Row, access, access_by, index_by_of, is_run, reached, reached_of, read_from, start_code, takes_row, write_from}
 use Rattle.isp_lower_code.specs.Found.{is_whole, lift_code, lift_to, convert_to, is_copied, in_vector, found, operand, operand_of, whole, whole_of, index_of}
 use Rattle.isp_lower_code.specs.Instructions.{convert, copy, select, the_others, jump_off, jump_on}
 use Rattle.isp_lower_code.specs.Known.{constant_of, known, unless_kept}
 use Rattle.isp_lower_code.specs.Layout.{Layout}
 use Rattle.isp_lower_code.specs.Library.{library_code}
+use Rattle.isp_lower_code.specs.RowCode.{row_read, row_write}
+use Rattle.isp_lower_code.proofs.RowScalars.{takes}
 use Rattle.isp_lower_code.specs.Pieces.{guard, choice, move, move_code, pair_code, needing, decided, logic_code, choose_rest}
 
 -- a few more after what is short
@@ -32,7 +35,7 @@ behind_long a b y la lb = omega (arith, length-append a b)
 pub both_long : (a b : List Instr) (x y : ℕ) → length a ≤ 32 * x → length b ≤ 32 * y → length (a ++ b) ≤ 32 * (x + y)
 both_long a b x y la lb = omega (arith, length-append a b)
 
-pub three_long : (a b c : List Instr) (x y : ℕ) → length a + 31 ≤ 32 * x → length b + 7 ≤ 32 * y → length c ≤ 5 → length (a ++ (b ++ c)) ≤ 32 * (x + y)
+pub three_long : (a b c : List Instr) (x y : ℕ) → length a + 31 ≤ 32 * x → length b + 7 ≤ 32 * y → length c ≤ 38 → length (a ++ (b ++ c)) ≤ 32 * (x + y)
 three_long a b c x y la lb lc = omega (arith, length-append a (b ++ c), length-append b c)
 
 pub unless_less : (z : Bool) (code : List Instr) → length (unless_kept z code) ≤ length code
@@ -200,7 +203,7 @@ module _ (l : Layout) where
   start_few true n = omega arith
   start_few false n = omega arith
 
-  pub index_by_long : (z : Bool) (r : Rate) (i : TExpr) (k n : ℕ) (code : List Instr) (y : ℕ) → length code + 8 ≤ 32 * y → length (index_by_of l z r i k n code) + 31 ≤ 32 * suc y
+  index_by_long : (z : Bool) (r : Rate) (i : TExpr) (k n : ℕ) (code : List Instr) (y : ℕ) → length code + 8 ≤ 32 * y → length (index_by_of l z r i k n code) + 31 ≤ 32 * suc y
   index_by_long true r i k n code y h = omega (arith, start_few (is_lane i) n)
   index_by_long false r i k n code y h = omega (arith, index_of_long r i k n code y h)
 
@@ -208,6 +211,29 @@ module _ (l : Layout) where
   variable_few true d r v k = omega arith
   variable_few false d r v k = omega arith
 
-  pub read_few : (d : ℕ) (q : TPlace) (p k n : ℕ) → length (read_code l d q p k n) ≤ 1
-  read_few d (t_variable v t sp) p k n = variable_few (is_copied l t.rate v) d t.rate v k
-  read_few d (t_element b i t sp) p k n = omega arith
+  -- an access is one instruction, or twelve
+  pub read_from_few : (z : Access) (t : Elem) (r : Rate) (d b x p pc k m : ℕ) → length (read_from l z t r d b x p pc k m) ≤ 12
+  read_from_few (By z) t r d b x p pc k m = omega arith
+  read_from_few Row t r d b x p pc k m = let twelve : length (row_read l t x d b p pc k m) ≡ 12 = refl in omega (arith, twelve)
+
+  pub write_from_few : (z : Access) (t : Elem) (r : Rate) (b x v p pc k m : ℕ) → length (write_from l z t r b x v p pc k m) ≤ 12
+  write_from_few (By z) t r b x v p pc k m = omega arith
+  write_from_few Row t r b x v p pc k m = let twelve : length (row_write l t x v b p pc k m) ≡ 12 = refl in omega (arith, twelve)
+
+  pub read_few : (d : ℕ) (q : TPlace) (pc p k n : ℕ) → length (read_code l d q pc p k n) ≤ 12
+  read_few d (t_variable v t sp) pc p k n = omega (arith, variable_few (is_copied l t.rate v) d t.rate v k)
+  read_few d (t_element b i t sp) pc p k n =
+      let z = access l b.ty.rate t.rate i n in
+      read_from_few z (type_of i).elem t.rate d (l.array b.number) (reached l z t.rate i n) p pc k (n + 1)
+
+  -- the code of an index that is taken as a row is as short as that of the index
+  abbrev pub RowsShort : Type 0
+  RowsShort = (i : TExpr) (pc p k n : ℕ) → l.is_row i n ≡ true → length (l.row i pc p k n) + 8 ≤ 32 * typed_nodes i
+
+  pub reached_long : RowsShort → (g r : Rate) (i : TExpr) (pc p k n : ℕ) (code : List Instr) → length code + 8 ≤ 32 * typed_nodes i
+      → length (reached_of l (access l g r i n) r i pc p k n code) + 31 ≤ 32 * suc (typed_nodes i)
+  reached_long short g r i pc p k n code h = go (takes_row (l.is_row i n) g r) refl
+    where
+      go : (d : Bool) → takes_row (l.is_row i n) g r ≡ d → length (reached_of l (access_by d (is_run l g i)) r i pc p k n code) + 31 ≤ 32 * suc (typed_nodes i)
+      go false e = index_by_long (is_run l g i) r i k n code (typed_nodes i) h
+      go true e = let le = short i pc p k n (takes l g r i n e).taken in omega (arith, le)

@@ -15,8 +15,9 @@ use Rattle.isp_meaning.specs.Expressions.{place}
 use Rattle.isp_lower_code.specs.Setting.{Setting, IsSettled, gang_of, calls_of, AreAt}
 use Rattle.isp_lower_code.specs.Runs.{Enters, Runs}
 use Rattle.isp_lower_code.specs.Code.{expr_code, index_code}
-use Rattle.isp_lower_code.specs.Elements.{index_by, is_run, start_in}
+use Rattle.isp_lower_code.specs.Elements.{access_by, index_by, is_run, start_in, takes_row}
 use Rattle.isp_lower_code.specs.Found.{index}
+use Rattle.isp_lower_code.specs.RowAccess.{row_place}
 use Rattle.isp_lower_code.specs.Spans.{index_places}
 use Rattle.isp_lower_code.specs.Held.{held_at}
 use Rattle.isp_lower_code.specs.Rated.{Reaches}
@@ -24,7 +25,9 @@ use Rattle.isp_lower_code.proofs.Base.{comes_none, at_to, spares_all}
 use Rattle.isp_lower_code.proofs.Found.{few, index_low}
 use Rattle.isp_lower_code.proofs.Nodes.{enters_part}
 use Rattle.isp_lower_code.proofs.Consecutive.{IndexHolds, InReach, lanes_by, run_lane, Counting, counter_is, run_is}
-use Rattle.isp_lower_code.proofs.ElementRuns.{PlaceHolds, element_index_runs}
+use Rattle.isp_lower_code.proofs.ElementRuns.{AccessHolds, PlaceHolds}
+use Rattle.isp_lower_code.proofs.Reached.{access_runs}
+use Rattle.isp_lower_code.proofs.RowScalars.{scalar_stays, takes}
 use Rattle.isp_lower_code.proofs.Exprs.{expr_runs}
 use Rattle.isp_lower_code.proofs.Kept.{Keeps, held_kept, low_spare}
 use Rattle.isp_lower_code.proofs.Parts.{ExprParts, PlaceParts}
@@ -32,7 +35,7 @@ use Rattle.isp_lower_code.specs.Asks.{beyond, is_lane}
 
 module _ (w : Setting) (ready : IsSettled w) where
   -- the index goes first
-  pub place_runs : (z : TPlace) (pc p k n d q : ℕ) (a : Mask) (s : State) (c : Conf) → d ≤ 20 → PlaceParts w z n
+  pub place_runs : (z : TPlace) (pc p k n d q : ℕ) (a : Mask) (s : State) (c : Conf) → d ≤ 30 → PlaceParts w z n
       → AreAt w.routine.code pc (index_code w.layout z pc p k n) → AreAt w.code.places p (index_places w.layout z) → Enters w pc k n a s c q
       → Runs w c (pc + length (index_code w.layout z pc p k n)) n (d + q) (PlaceHolds w ready z n a) (place (gang_of w) w.frame (calls_of w) z a s)
   place_runs (t_variable v t sv) pc p k n d q a s c le fit has places b = record {
@@ -49,7 +52,7 @@ module _ (w : Setting) (ready : IsSettled w) where
   place_runs (t_element y i t sv) pc p k n d q a s c le fit has places b =
       let fi : heads i ≤ 1 = few w i n fit.4 in
       let xi = expr_code w.layout i pc p k n in
-      element_index_runs w ready y i t pc k n (32 + q) (d + q) a (tick s) c xi (omega arith) (enters_part w ready pc k n (32 + q) q a s c (omega arith) b) fit.4 fit.2 fit.3 fit.5 has
+      access_runs w ready y i t sv n fit pc p k (32 + q) (d + q) a (tick s) c xi (omega arith) (enters_part w ready pc k n (32 + q) q a s c (omega arith) b) has places
       (λ at. expr_runs w ready i pc p k n (32 + q) (1 + (1 + (d + q))) a (tick s) c fit.4 at places (omega arith) (enters_part w ready pc k n (32 + q) q a s c (omega arith) b))
 
   pub index_kept : (z : Bool) (br r : Rate) (i : TExpr) (n : ℕ) (a : Mask) (m : Payload) (c c' : Conf) → (z ≡ true → is_run w.layout br i ≡ true)
@@ -76,4 +79,11 @@ module _ (w : Setting) (ready : IsSettled w) where
   -- and stays known
   pub place_kept : (z : TPlace) (n : ℕ) (a : Mask) (at : Place) (c c' : Conf) → PlaceParts w z n → Keeps w (beyond z n) c c' → PlaceHolds w ready z n a at c → PlaceHolds w ready z n a at c'
   place_kept (t_variable v t sv) n a at c c' fit k h = h
-  place_kept (t_element y i t sv) n a at c c' fit k h = (h.0, h.1, index_kept (is_run w.layout y.ty.rate i) y.ty.rate t.rate i n a _ c c' (λ e. e) fit.2 fit.4 k h.2)
+  place_kept (t_element y i t sv) n a at c c' fit k h = go (takes_row (w.layout.is_row i n) y.ty.rate t.rate) refl h
+    where
+      go : (d : Bool) → takes_row (w.layout.is_row i n) y.ty.rate t.rate ≡ d → AccessHolds w ready (access_by d (is_run w.layout y.ty.rate i)) y i t n a at c
+          → AccessHolds w ready (access_by d (is_run w.layout y.ty.rate i)) y i t n a at c'
+      go false e h = (h.0, h.1, index_kept (is_run w.layout y.ty.rate i) y.ty.rate t.rate i n a _ c c' (λ e. e) fit.2 fit.4 k h.2)
+      go true e h =
+          let it = ready.rows i n fit.6 (takes w.layout y.ty.rate t.rate i n e).taken in
+          h ∙ ap (λ u. row_place y (type_of i).elem u a) (sym (scalar_stays w n (w.layout.row_at i n) c c' k it.scalar))

@@ -161,7 +161,7 @@ module _ (fs : List TFunction) (vars : List Variable) where
     place_tree : (z : TPlace) → FinePlace fs vars z → PlaceRated fs z → PlaceTree fs z
     place_tree (t_variable v t sp) f r = tt
     place_tree (t_element b i t sp) f r =
-        (subst (λ u. Reaches b.ty.rate u.rate) (sym f.2) (reaches_first b.ty.rate (type_of i).rate), subst (λ u. Reaches (type_of i).rate u.rate) (sym f.2) (reaches_second b.ty.rate (type_of i).rate), expr_tree i f.1 r, sym (ap (λ u. u.elem) f.2))
+        (subst (λ u. Reaches b.ty.rate u.rate) (sym f.2) (reaches_first b.ty.rate (type_of i).rate), subst (λ u. Reaches (type_of i).rate u.rate) (sym f.2) (reaches_second b.ty.rate (type_of i).rate), expr_tree i f.1 r, sym (ap (λ u. u.elem) f.2), (vars, f.1, r))
 
     base_tree : (b : TBase) → FineBase fs vars b → BaseRated fs b → BaseTree fs b
     base_tree (t_whole b sp) f r = (reaches_uniform b.ty.rate r, f.1)

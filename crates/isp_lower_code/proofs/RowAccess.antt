@@ -1,6 +1,6 @@
 -- Elements in a row, by the code of specs/RowAccess: where the test says that there is room, a run reads what each lane's own index means, and
 -- else these indices do.
-use Rattle.std.proofs.Common.{◌≡◌, ◌≢◌, ℕ, ◌+◌, ◌<◌, ◌≤◌, ◌^◌, Some, Bool, true, false, refl, sym, ap, ◌∙◌, subst, arith, ℤ, pos, mod-eq_of_lt}
+use Rattle.std.proofs.Common.{◌≡◌, ◌≢◌, ℕ, ◌+◌, ◌<◌, ◌≤◌, ◌^◌, length, Some, Bool, true, false, refl, sym, ap, ◌∙◌, subst, arith, ℤ, pos, mod-eq_of_lt}
 use Rattle.std.specs.Prelude.{◌-◌, ◌-ℤ◌, ◌+ℤ◌, ◌≤ℤ◌, if◌then◌else◌, not, slice_get}
 use Rattle.std.proofs.lemmas.Int.{ints}
 use Rattle.isp_base.specs.Maps.{Lanes, Map, on, over, map1, map2}
@@ -42,7 +42,7 @@ use Rattle.isp_lower_code.specs.Found.{is_whole}
 use Rattle.isp_lower_code.specs.Instructions.{compare, compute, constant, convert, jump_on, read, read_by, read_run, splat, write, write_by, write_run}
 use Rattle.isp_lower_code.specs.Layout.{mask_register, register}
 use Rattle.isp_lower_code.specs.Rated.{Reaches}
-use Rattle.isp_lower_code.specs.RowAccess.{IsRowType, RowFits, RowReads, RowWrites, lane_indices, last_start, row_asks, row_code, row_read, row_write}
+use Rattle.isp_lower_code.specs.RowAccess.{IsRowType, RowFits, RowReads, RowWrites, lane_indices, last_start, row_asks, row_code, row_place, row_read, row_write}
 use Rattle.isp_lower_code.specs.Runs.{Comes, DoneRuns, Enters, Runs}
 use Rattle.isp_lower_code.specs.Setting.{AreAt, At, Holds, IsSettled, Setting, Spares, Stands, gang_of}
 use Rattle.isp_lower_code.specs.Tables.{IsTyped}
@@ -55,7 +55,7 @@ use Rattle.isp_lower_code.proofs.Found.{whole_is}
 use Rattle.isp_lower_code.proofs.Jumps.{jump_at, jump_comes, jumped}
 use Rattle.isp_lower_code.proofs.Lines.{compare_line, compute_line, convert_line, set_at}
 use Rattle.isp_lower_code.proofs.Rates.{filled_on, on_map1, on_map2}
-use Rattle.isp_lower_code.proofs.Targets.{InSlot}
+use Rattle.isp_lower_code.proofs.Targets.{InSlot, InVariable, Leaves, Target, target}
 use Rattle.isp_lower_code.proofs.Writes.{element_done}
 
 -- ---- numbers
@@ -171,6 +171,10 @@ module _ (w : Setting) (ready : IsSettled w) where
       }
   done_behind c pc to n q (Fails t s1) has r = failed_less w ready c 1 q t s1 r
   done_behind c pc to n q (Stops s1) has r = stopped_less w ready w.turns c 1 q s1 r
+
+  leaves_behind : (u : Target) (c : Conf) (pc to n q : ℕ) (a : Mask) (d : ℕ) (v : Val Payload) → slice_get w.routine.code pc ≡ Some (instr.Jump to) → Leaves w u d c pc n (1 + q) Varying a v → Leaves w u d c to n q Varying a v
+  leaves_behind InSlot c pc to n q a d v has r = jumped_behind c pc to n q a d v has r
+  leaves_behind (InVariable x) c pc to n q a d v has r = λ other. done_behind c pc to n q _ has (r other)
 
 -- a vector that is written for the members of a set
 got : (c : Conf) (d : ℕ) (a : Mask) (f : Lanes) → on a ((set_at Varying c d (Each (on a f))).vectors d) ≡ on a f
@@ -431,9 +435,9 @@ module _ (w : Setting) (ready : IsSettled w) (y : ArrayVariable) (t : Elem) (x p
 
   -- ---- read
 
-  module _ (e : Elem) (has : AreAt w.routine.code pc (row_read w.layout t x (w.layout.spare Varying e n) (w.layout.array y.number) p pc k m)) where
+  module _ (g : Target) (e : Elem) (has : AreAt w.routine.code pc (row_read w.layout t x (target w.layout g Varying e n) (w.layout.array y.number) p pc k m)) where
     abbrev dest : ℕ
-    dest = w.layout.spare Varying e n
+    dest = target w.layout g Varying e n
 
     abbrev by_run : Instr
     by_run = read_run dest (w.layout.array y.number) (w.layout.spare Uniform I64 m) k p
@@ -446,17 +450,17 @@ module _ (w : Setting) (ready : IsSettled w) (y : ArrayVariable) (t : Elem) (x p
 
     read_on : (z : Bool) (j pc1 pc2 steps : ℕ) (c2 : Conf) → Way w ready m s c c2 steps pc1 → pc1 + 1 ≡ pc2
         → slice_get w.routine.code pc1 ≡ Some (read_by z Varying dest (w.layout.array y.number) j k p) → (r : ℕ) → steps + 1 + r ≤ 12 + q
-        → IndexHolds z y.ty.rate Varying a j (mapped (as_whole (is_whole t) t) index) c2.scalars c2.vectors → Runs w c pc2 n r (Holds Varying a dest) means
+        → IndexHolds z y.ty.rate Varying a j (mapped (as_whole (is_whole t) t) index) c2.scalars c2.vectors → Leaves w g dest c pc2 n r Varying a means
     read_on z j pc1 pc2 steps c2 way next at r few holds =
         let used = b.used in
-        element_runs w ready InSlot z j y (t_constant (record { elem = t; bits = 0 }) sp) (ty_of Varying e) sp c c2 steps pc1 pc2 k n p r a s index (ready.arrays y fits.held)
+        element_runs w ready g z j y (t_constant (record { elem = t; bits = 0 }) sp) (ty_of Varying e) sp c c2 steps pc1 pc2 k n p r a s index (ready.arrays y fits.held)
         (shared_reaches y.ty.rate) way.comes way.at next at place way.stands (spares_less w n m c c2 fits.free way.spares) (λ i h. way.masks i) (way.masks k ∙ b.mask) b.some b.inside
         (omega (arith, used, few)) holds
 
-    reads : (d : Bool) → space ≡ d → Runs w c (pc + 12) n q (Holds Varying a dest) means
+    reads : (d : Bool) → space ≡ d → Leaves w g dest c (pc + 12) n q Varying a means
     reads true f =
-        subst (λ z. Runs w c z n q (Holds Varying a dest) means) past
-        (jumped_behind w ready c (pc + 1 + 1 + 1 + 1 + 1) (other + 6) n q a dest means has.1.1.1.1.1.0
+        subst (λ z. Leaves w g dest c z n q Varying a means) past
+        (leaves_behind w ready g c (pc + 1 + 1 + 1 + 1 + 1) (other + 6) n q a dest means has.1.1.1.1.1.0
         (read_on true (w.layout.spare Uniform I64 m) (pc + 1 + 1 + 1 + 1) (pc + 1 + 1 + 1 + 1 + 1) 4 begun (runs_way by_run by_lanes has f) refl has.1.1.1.1.0 (1 + q) (omega arith) (run_index f)))
     reads false f =
         read_on false (w.layout.spare Varying I64 m) (pc + 1 + 1 + 1 + 1 + 1 + 1 + 1 + 1 + 1 + 1 + 1) (pc + 12) 8 listed (lists_way by_run by_lanes has f) end has.1.1.1.1.1.1.1.1.1.1.1.0 q
@@ -494,9 +498,17 @@ module _ (w : Setting) (ready : IsSettled w) (y : ArrayVariable) (t : Elem) (x p
         write_on false (w.layout.spare Varying I64 m) (pc + 1 + 1 + 1 + 1 + 1 + 1 + 1 + 1 + 1 + 1 + 1) (pc + 12) 8 listed (lists_way to_run to_lanes has f) end has.1.1.1.1.1.1.1.1.1.1.1.0 q
         (omega arith) list_index (vectors_stay w ready t fits.row x k m pc a s c fits.away fits.typed fits.table b.mask in_gang begin other pc v apart)
 
+-- into a spare register, or a variable
+pub row_leaves : (w : Setting) → IsSettled w → (g : Target) (y : ArrayVariable) (t e : Elem) (x pc p k n m q : ℕ) (sp : Span) (a : Mask) (s : State) (c : Conf) → RowFits w y t x n m
+    → AreAt w.routine.code pc (row_read w.layout t x (target w.layout g Varying e n) (w.layout.array y.number) p pc k m)
+    → slice_get w.code.places p ≡ Some sp → Enters w pc k n a s c (12 + q)
+    → Leaves w g (target w.layout g Varying e n) c (pc + length (row_read w.layout t x (target w.layout g Varying e n) (w.layout.array y.number) p pc k m)) n q Varying a
+    (checked (outside (gang_of w) w.frame (row_place y t (c.scalars x) a) a) Index sp s (held (gang_of w) w.frame (row_place y t (c.scalars x) a) a s))
+row_leaves w ready g y t e x pc p k n m q sp a s c fits has place b =
+    reads w ready y t x pc p k n m q sp a s c fits place b g e has (compare_to LessOrEqual (number t (c.scalars x)) (number t (last_held t))) refl
+
 pub row_reads : RowReads
-row_reads w ready y t e x pc p k n m q sp a s c fits has place b =
-    reads w ready y t x pc p k n m q sp a s c fits place b e has (compare_to LessOrEqual (number t (c.scalars x)) (number t (last_held t))) refl
+row_reads w ready y t e x pc p k n m q sp a s c fits has place b = row_leaves w ready InSlot y t e x pc p k n m q sp a s c fits has place b
 
 pub row_writes : RowWrites
 row_writes w ready y t x v pc p k n m q sp a z s c fits apart value has place b =

@@ -32,6 +32,7 @@ use Rattle.isp_steady.proofs.Lemmas.{array_fine, linear_counts_on, scalars_are_f
 use Rattle.isp_lower_code.specs.Asks.{Ask, expr_asks}
 use Rattle.isp_lower_code.specs.Code.{expr_code}
 use Rattle.isp_lower_code.specs.Fits.{ExprFits, InTable}
+use Rattle.isp_lower_code.specs.Layout.{HasNoRows}
 use Rattle.isp_lower_code.specs.Found.{found}
 use Rattle.isp_lower_code.specs.Runs.{Enters, Failed, Runs}
 use Rattle.isp_lower_code.specs.Scalar.{AreVarying, IsBy, ScalarsHold}
@@ -127,8 +128,8 @@ module _ (w : Setting) (known : ℕ → Known) where
   calling i g pc q sp a ps s c f =
       record { function = f.function; here = f.here; place = f.place; at = f.at; mask = f.mask; some = f.some; inside = f.inside; hands = f.hands; result = f.result; arrays_are = f.arrays_are; out_is = f.out_is; used = f.used }
 
-  settled : IsSettled w → IsSettled (singled_in w known)
-  settled f =
+  settled : IsSettled w → HasNoRows w.layout → IsSettled (singled_in w known)
+  settled f none =
       record {
         gang = f.gang;
         found = f.found;
@@ -144,6 +145,7 @@ module _ (w : Setting) (known : ℕ → Known) where
             let k = f.counter i is in
             record { typed = k.typed; constant = constant_stays known w.function.variables i k.constant; unloaded = k.unloaded };
         constants = f.constants;
+        rows = λ i n fine is. let no : true ≡ false = sym is ∙ none i n in absurd (cc);
       }
 
   table : (a : Ask) → InTable w a → InTable (singled_in w known) a
@@ -194,7 +196,7 @@ module _ (w : Setting) (known : ℕ → Known) where
 
   -- ---- the code runs
 
-  module _ (ready : IsSettled w) (scalars : ℕ → ℕ) (x : TExpr) where
+  module _ (ready : IsSettled w) (none : HasNoRows w.layout) (scalars : ℕ → ℕ) (x : TExpr) where
     abbrev there : Setting
     there = singled_in w known
 
@@ -250,7 +252,7 @@ module _ (w : Setting) (known : ℕ → Known) where
         runs : Runs there c end n (4 + q) (Holds (type_of (alone x)).rate a (found w.layout (alone x) n)) (value (gang_of w) w.frame (calls_of w) (alone x) a (lent known scalars s))
         runs =
             let parts = expr_parts there (alone x) n fits in
-            expr_runs there (settled ready) (alone x) pc p k n q (4 + q) a (lent known scalars s) c parts has places (omega (arith, few there (alone x) n parts)) enters
+            expr_runs there (settled ready none) (alone x) pc p k n q (4 + q) a (lent known scalars s) c parts has places (omega (arith, few there (alone x) n parts)) enters
 
         by : (Is : Mask → ℕ → Payload → Type 0) → ((u : ℕ) (m : Payload) → Is a u m → IsBy (steady known x) (elem_of x) a u m) → (type_of (alone x)).rate ≡ Uniform
             → SameForAll (gang_of w) w.frame (calls_of w) known scalars x Is a s

@@ -1,5 +1,5 @@
 -- Each instruction of the code of an expression has its operands.
-use Rattle.std.proofs.Common.{◌≡◌, ℕ, ◌+◌, ◌<◌, ◌≤◌, List, [], ◌∷◌, ◌++◌, length, Option, Some, Bool, true, false, refl, sym, ap, ◌∙◌, subst, arith}
+use Rattle.std.proofs.Common.{◌≡◌, ℕ, ◌+◌, ◌<◌, List, [], ◌∷◌, ◌++◌, length, Option, Some, Bool, true, false, refl, sym, ap, ◌∙◌, subst, arith}
 use Rattle.isp_base.specs.declared.types.Elem.{Elem}
 use Rattle.isp_base.specs.declared.types.Elem.TheVariants.{Bool as Truth, I64}
 use Rattle.isp_base.specs.declared.types.Rate.{Rate}
@@ -23,10 +23,9 @@ use Rattle.isp_lower_code.specs.Callees.{rate_held, rates_held, rates_of}
 use Rattle.isp_lower_code.specs.Header.{returns_of}
 use Rattle.isp_lower_code.specs.Layout.{Layout, register}
 use Rattle.isp_lower_code.specs.Code.{variable_read, choose_to, expr_to, base_register, base_code, index_code, read_code, expr_code, values_code, value_registers, argument_registers, argument_code, arguments_code, call_code, calling}
-use Rattle.isp_lower_code.specs.Elements.{index_by, is_run}
 use Rattle.isp_lower_code.specs.Found.{convert_to, is_copied, is_kept, part_to, lift_to, found, operand, operand_of}
 use Rattle.isp_lower_code.specs.Instructions.{constant, compare, unary, operate, operate_places, packed_store, packed_load, select}
-use Rattle.isp_lower_code.specs.Known.{constant_of, unless_kept}
+use Rattle.isp_lower_code.specs.Known.{constant_of}
 use Rattle.isp_lower_code.specs.Spans.{expr_places, index_places, read_places, base_places, values_places, argument_places, arguments_places, call_places}
 use Rattle.isp_lower_code.specs.Stays.{is_short}
 use Rattle.isp_typed.specs.Fine.{rates_of as rate_of_all}
@@ -36,9 +35,11 @@ use Rattle.isp_lower_code.specs.Callees.{later, next_rate}
 use Rattle.isp_lower_code.specs.Library.{library_code, library_rates}
 use Rattle.isp_lower_code.specs.Asks.{argument_asks, arguments_asks, base_asks, call_asks, expr_asks, first_slot, operand_asks, second_slot, target_asks, values_asks}
 use Rattle.isp_lower_code.specs.Sound.{AreSound, Links, PartSound, IsRegister, HasArray, Granted}
-use Rattle.isp_lower_code.proofs.SoundLines.{IsArray, array_is, copy_sound, packed_store_sound, packed_load_sound, unary_sound, compare_sound, operate_sound, constant_sound, index_sound as lane_sound, read_by_sound}
-use Rattle.isp_lower_code.proofs.SoundFound.{part_there, found_there, operand_there, index_there, element_index_there}
-use Rattle.isp_lower_code.proofs.SoundParts.{unless_sound, few_front, few_back, Here, AnyMask, here_both, here_then, pair_sound, logic_sound, lift_to_sound, operand_sound, convert_to_sound, index_sound, choose_sound, short_sound, element_index_sound}
+use Rattle.isp_lower_code.proofs.SoundLines.{IsArray, copy_sound, packed_store_sound, packed_load_sound, unary_sound, compare_sound, operate_sound, constant_sound, index_sound as lane_sound}
+use Rattle.isp_lower_code.proofs.SoundFound.{part_there, found_there, operand_there, index_there}
+use Rattle.isp_lower_code.proofs.SoundParts.{unless_sound, few_front, few_back, Here, AnyMask, here_both, here_then, pair_sound, logic_sound, lift_to_sound, operand_sound, convert_to_sound, index_sound, choose_sound, short_sound}
+pub use Rattle.isp_lower_code.proofs.SoundElements.{Named}
+use Rattle.isp_lower_code.proofs.SoundElements.{array_there, reached_sound, read_from_sound}
 use Rattle.isp_lower_code.proofs.Trees.{IsWord, ExprTree, OperandTree, PlaceTree, BaseTree, ValuesTree, CallTree, ArgumentsTree, ArgumentTree}
 use Rattle.isp_lower_code.proofs.InRow.{enough}
 use Rattle.isp_lower_code.proofs.LibraryTypes.{LibraryTyped, part_elems}
@@ -46,33 +47,20 @@ use Rattle.isp_lower_code.proofs.SoundLibrary.{ThereFrom, library_sound, there_f
 use Rattle.isp_lower_code.proofs.SoundCalls.{taken_there, result_given, result_there, arguments_passed, calling_sound}
 use Rattle.isp_lower_code.specs.Rated.{Reaches}
 
-module _ (code : Listing) (h : Routine) (l : Layout) where
-  -- the places are there that some trees name
-  abbrev pub Named : ℕ → List Span → Type 0
-  Named p places = p + length places ≤ length code.places
-
-  -- an array has elements of the type of a place, and is shared where the place is uniform
-  pub array_there : (b : ArrayVariable) (r : Rate) (t : Elem) → HasArray h l b → Reaches b.ty.rate r → b.ty.elem ≡ t → IsArray code h r (l.array b.number) t
-  array_there b r t f re e = array_is code h b.ty.rate r b.ty.elem t (l.array b.number) f re e
-
 module _ (fs : List TFunction) (code : Listing) (h : Routine) (l : Layout) (links : Links fs code h l) where
   -- a value in register d
   abbrev ToSound : TExpr → Type 0
   ToSound x =
       (d pc p k n : ℕ) → ExprTree fs x → Granted h l (expr_asks x n) → IsRegister h (type_of x).rate d (type_of x).elem → k < h.masks → Named code h l p (expr_places l x) → Here code h pc (expr_to l d x pc p k n)
 
-  pub read_there : (q : TPlace) (d pc p k n : ℕ) → PlaceTree fs q → Granted h l (target_asks q n) → IsRegister h (place_type q).rate d (place_type q).elem → k < h.masks → Named code h l p (read_places l q) → AreSound code h (read_code l d q p k n)
-  read_there (t_variable v t sp) d pc p k n is f hd lk lp = go (is_copied l t.rate v)
+  read_there : (q : TPlace) (d pc p k n : ℕ) → PlaceTree fs q → Granted h l (target_asks q n) → IsRegister h (place_type q).rate d (place_type q).elem → k < h.masks → Named code h l p (read_places l q) → Here code h pc (read_code l d q pc p k n)
+  read_there (t_variable v t sp) d pc p k n is f hd lk lp = λ lt. go (is_copied l t.rate v)
     where
       go : (b : Bool) → AreSound code h (variable_read l b d t.rate v k)
       go true = (copy_sound code h t.rate t.elem d (l.variable t.rate v) k hd f lk, tt)
       go false = tt
   read_there (t_element b i t sp) d pc p k n is f hd lk lp =
-      let z = is_run l b.ty.rate i in (
-        read_by_sound code h z t.rate t.elem d (l.array b.number) (index_by l z t.rate i n) k p hd (array_there code h l b t.rate t.elem f.0 is.0 is.3)
-            (element_index_there fs h l links.constants code b t.rate i n is.1 is.2 f.0 f.1) lk (omega (arith, lp)),
-        tt,
-      )
+      read_from_sound fs code h l links b i t sp n is f d pc p k (n + 1) (omega arith) (omega arith) hd lk (omega (arith, lp))
 
   choose_there : (b : Bool) (d : ℕ) (c x y : TExpr) (t : Ty) (sp : Span) (pc k n : ℕ) (test : List Instr) (one other : ℕ → ℕ → ℕ → List Instr)
       → is_short l t.rate c x y ≡ b → ExprTree fs (t_choose c x y t sp) → Granted h l (expr_asks (t_choose c x y t sp) n)
@@ -128,9 +116,10 @@ module _ (fs : List TFunction) (code : Listing) (h : Routine) (l : Layout) (link
         unless_sound code h (l.kept Uniform v.elem v.bits) pc (constant d v.elem v.bits ∷ []) (λ lt. (constant_sound code h v.elem d v.bits hd, tt))
     expr_sound (t_program_index sp) d pc p k n is f hd lk lp = λ lt. (lane_sound code h d k hd lk, tt)
     expr_sound (t_place q) d pc p k n is f hd lk lp =
-        here_both code h pc (index_code l q pc p k n) (read_code l d q (p + length (index_places l q)) k n)
+        let pc1 = pc + length (index_code l q pc p k n) in
+        here_both code h pc (index_code l q pc p k n) (read_code l d q pc1 (p + length (index_places l q)) k n)
         (place_sound q pc p k n is f.0 lk (few_front (length code.places) p (index_places l q) (read_places l q) lp))
-        (λ lt. read_there q d pc (p + length (index_places l q)) k n is f.0 hd lk
+        (read_there q d pc1 (p + length (index_places l q)) k n is f.0 hd lk
         (few_back (length code.places) p (index_places l q) (read_places l q) lp))
     expr_sound (t_convert e x) d pc p k n is f hd lk lp =
         unless_sound code h (is_kept l (constant_of x) (type_of x).rate e) pc (convert_to l (constant_of x) e (type_of x).rate d (found l x n) k (expr_code l x pc p k n))
@@ -247,7 +236,7 @@ module _ (fs : List TFunction) (code : Listing) (h : Routine) (l : Layout) (link
     pub place_sound : (q : TPlace) (pc p k n : ℕ) → PlaceTree fs q → Granted h l (target_asks q n) → k < h.masks → Named code h l p (index_places l q) → Here code h pc (index_code l q pc p k n)
     place_sound (t_variable v t sp) pc p k n is f lk lp = λ lt. tt
     place_sound (t_element b i t sp) pc p k n is f lk lp =
-        element_index_sound code h fs l links.constants b t.rate i pc k n (expr_code l i pc p k n) is.1 is.2 f.1 lk (λ lt. expr_sound i (found l i n) pc p k n is.2 f.1.1.1.1 (found_there fs h l links.constants i n is.2 f.1.1.1.1) lk lp lt)
+        reached_sound fs code h l links b i t sp n is f pc p k (expr_code l i pc p k n) lk lp (λ lt. expr_sound i (found l i n) pc p k n is.2 f.1.1.1.1 (found_there fs h l links.constants i n is.2 f.1.1.1.1) lk lp lt)
 
     pub values_sound : (rs : List Rate) (xs : TExprs) (pc p k n : ℕ) → ValuesTree fs rs xs → Granted h l (values_asks rs xs n) → k < h.masks → Named code h l p (values_places l xs) → Here code h pc (values_code l rs xs pc p k n)
     values_sound rs t_no_exprs pc p k n is f lk lp = λ lt. tt

@@ -1,5 +1,5 @@
 -- Each instruction of the code of what stands before a semicolon has its operands, and so has that of declarations.
-use Rattle.std.proofs.Common.{◌≡◌, ℕ, ◌+◌, ◌<◌, List, [], ◌∷◌, ◌++◌, length, None, Bool, true, false, refl, ◌∙◌, arith}
+use Rattle.std.proofs.Common.{◌≡◌, ℕ, ◌+◌, ◌≤◌, ◌<◌, List, [], ◌∷◌, ◌++◌, length, None, Bool, true, false, refl, ◌∙◌, arith}
 use Rattle.isp_base.specs.Ranks.{same_elem}
 use Rattle.isp_base.specs.declared.operators.BinOp.{BinOp}
 use Rattle.isp_base.specs.declared.types.Elem.{Elem}
@@ -10,9 +10,9 @@ use Rattle.isp_code.specs.Listing.{Listing, Routine}
 use Rattle.isp_typed.specs.Typed.{TExpr, TPlace, t_variable, t_element, TItem, t_plain, t_with_value, t_with_size, TFunction, TSimple, t_value, t_run, t_assign, t_update, t_step, place_type, type_of}
 use Rattle.isp_lower_code.specs.Layout.{Layout}
 use Rattle.isp_lower_code.specs.Code.{expr_to, expr_code, index_code, variable_from, variable_code}
-use Rattle.isp_lower_code.specs.Elements.{index_by, is_run}
+use Rattle.isp_lower_code.specs.Elements.{access, reached, read_from, write_from}
 use Rattle.isp_lower_code.specs.Found.{part_to, lift_to, found, operand, operand_of}
-use Rattle.isp_lower_code.specs.Instructions.{copy, operate_places, write_by}
+use Rattle.isp_lower_code.specs.Instructions.{copy, operate_places}
 use Rattle.isp_lower_code.specs.Spans.{expr_places, index_places}
 use Rattle.isp_lower_code.specs.Stays.{writes_part, writes_last}
 use Rattle.isp_lower_code.specs.Items.{zero_code, zero_each, item_code, item_places, items_code, items_places}
@@ -20,10 +20,11 @@ use Rattle.isp_lower_code.specs.Asks.{beyond, change_asks, item_asks, items_asks
 use Rattle.isp_lower_code.specs.Simple.{update_to, change_code, change_places, one_in, one_code, assign_code, assign_places, change_by_code, step_code, simple_code, simple_places, one_of}
 use Rattle.isp_lower_code.specs.Sound.{AreSound, Links, PartSound, IsRegister, Granted}
 use Rattle.isp_lower_code.proofs.Splits.{same_elem-is}
-use Rattle.isp_lower_code.proofs.SoundExprs.{Named, array_there, call_sound, expr_sound, place_sound, part_sound, value_sound}
-use Rattle.isp_lower_code.proofs.SoundFound.{part_there, lift_there, found_there, operand_there, element_index_there}
-use Rattle.isp_lower_code.proofs.SoundLines.{copy_sound, convert_sound, operate_sound, constant_sound, splat_sound, sound_both, read_by_sound, write_by_sound}
-use Rattle.isp_lower_code.proofs.SoundParts.{few_front, few_back, Here, here_both, here_then, lift_sound, lift_to_sound}
+use Rattle.isp_lower_code.proofs.SoundElements.{read_from_sound, write_from_sound}
+use Rattle.isp_lower_code.proofs.SoundExprs.{Named, call_sound, expr_sound, place_sound, part_sound, value_sound}
+use Rattle.isp_lower_code.proofs.SoundFound.{part_there, found_there, operand_there}
+use Rattle.isp_lower_code.proofs.SoundLines.{copy_sound, convert_sound, operate_sound, constant_sound, splat_sound}
+use Rattle.isp_lower_code.proofs.SoundParts.{few_front, few_back, Here, here_both, here_then, lift_to_sound}
 use Rattle.isp_lower_code.proofs.Parts.{IsNumber}
 use Rattle.isp_lower_code.proofs.Trees.{ExprTree, ItemTree, ItemsTree, OperandTree, PlaceTree, SimpleTree}
 
@@ -63,15 +64,14 @@ module _ (fs : List TFunction) (code : Listing) (h : Routine) (l : Layout) (link
       let ci = index_code l (t_element b i t sp) pc p k n in
       let pc1 = pc + length ci in
       let cx = operand_of l t.rate x k (n + 1) (expr_code l x pc1 (p + length pi) k (n + 1)) in
-      let z = is_run l b.ty.rate i in
-      let last = write_by z t.rate (l.array b.number) (index_by l z t.rate i n) (operand l t.rate x (n + 1)) k (p + length pi + length px) in
+      let z = access l b.ty.rate t.rate i n in
+      let pc2 = pc1 + length cx in
+      let last = write_from l z (type_of i).elem t.rate (l.array b.number) (reached l z t.rate i n) (operand l t.rate x (n + 1)) (p + length pi + length px) pc2 k (n + 2) in
       let low = few_back (length code.places) (p + length pi) px (sp ∷ []) back in
-      here_both code h pc ci (cx ++ last ∷ []) (place_sound fs code h l links (t_element b i t sp) pc p k n iz fz lk (few_front (length code.places) p pi (px ++ sp ∷ []) lp))
-      (here_then code h pc1 cx last (part_sound fs code h l links t.rate t.elem x pc1 (p + length pi) k (n + 1) o ix f lk
+      here_both code h pc ci (cx ++ last) (place_sound fs code h l links (t_element b i t sp) pc p k n iz fz lk (few_front (length code.places) p pi (px ++ sp ∷ []) lp))
+      (here_both code h pc1 cx last (part_sound fs code h l links t.rate t.elem x pc1 (p + length pi) k (n + 1) o ix f lk
       (few_front (length code.places) (p + length pi) px (sp ∷ []) back))
-      (write_by_sound code h z t.rate t.elem (l.array b.number) (index_by l z t.rate i n) (operand l t.rate x (n + 1)) k
-      (p + length pi + length px) (array_there code h l b t.rate t.elem fz.0 iz.0 iz.3)
-      (element_index_there fs h l links.constants code b t.rate i n iz.1 iz.2 fz.0 fz.1)
+      (write_from_sound fs code h l links b i t sp n iz fz (operand l t.rate x (n + 1)) pc2 (p + length pi + length px) k (n + 2) (omega arith) (omega arith)
       (operand_there fs h l links.constants t.rate t.elem x (n + 1) o ix f) lk (omega (arith, low))))
 
   -- ---- an operator on a place
@@ -85,23 +85,24 @@ module _ (fs : List TFunction) (code : Listing) (h : Routine) (l : Layout) (link
   update_sound false o t u r d x y k i p sp e is hd hx hy f lk lp =
       (convert_sound code h r t u (l.spare r t i) x k f hx lk, (operate_sound code h r o t (l.spare r t i) (l.spare r t i) y k p sp is f f hy lk lp, (convert_sound code h r u t d (l.spare r t i) k hd f lk, tt)))
 
-  change_sound : (o : BinOp) (t : Elem) (z : TPlace) (y p k n i : ℕ) (sp : Span) → IsNumber t → PlaceTree fs z → Granted h l (target_asks z n)
-      → Granted h l (change_asks t z i) → IsRegister h (place_type z).rate y t → k < h.masks → Named code h l p (change_places l o z sp)
-      → AreSound code h (change_code l o t z y p k n i)
-  change_sound o t (t_variable v u s) y p k n i sp is iz fz f hy lk lp =
+  change_sound : (o : BinOp) (t : Elem) (z : TPlace) (y pc p k n i : ℕ) (sp : Span) → IsNumber t → PlaceTree fs z → beyond z n ≤ i → i ≤ beyond z n + 1
+      → Granted h l (target_asks z n) → Granted h l (change_asks t z i) → IsRegister h (place_type z).rate y t → k < h.masks → Named code h l p (change_places l o z sp)
+      → Here code h pc (change_code l o t z y pc p k n i)
+  change_sound o t (t_variable v u s) y pc p k n i sp is iz low high fz f hy lk lp = λ lt.
       update_sound (same_elem u.elem t) o t u.elem u.rate (l.variable u.rate v) (l.variable u.rate v) y k i p sp refl is fz fz hy f.0 lk lp
-  change_sound o t (t_element b j u s) y p k n i sp is iz fz f hy lk lp =
-      let there = array_there code h l b u.rate u.elem fz.0 iz.0 iz.3 in
-      let z = is_run l b.ty.rate j in
-      let at = element_index_there fs h l links.constants code b u.rate j n iz.1 iz.2 fz.0 fz.1 in
+  change_sound o t (t_element b j u s) y pc p k n i sp is iz low high fz f hy lk lp =
+      let z = access l b.ty.rate u.rate j n in
+      let e = reached l z u.rate j n in
       let d = l.spare u.rate u.elem i in
+      let first = read_from l z (type_of j).elem u.rate d (l.array b.number) e p pc k (i + 1) in
       let middle = update_to l (same_elem u.elem t) o t u.rate d d y k i (p + 1) in
-      let last = write_by z u.rate (l.array b.number) (index_by l z u.rate j n) d k p in (
-        read_by_sound code h z u.rate u.elem d (l.array b.number) (index_by l z u.rate j n) k p f.1 there at lk (omega (arith, lp)),
-        sound_both code h
-            middle (last ∷ []) (update_sound (same_elem u.elem t) o t u.elem u.rate d d y k i (p + 1) sp refl is f.1 f.1 hy f.0 lk (omega (arith, lp)))
-            (write_by_sound code h z u.rate u.elem (l.array b.number) (index_by l z u.rate j n) d k p there at f.1 lk (omega (arith, lp)), tt),
-      )
+      let pc2 = pc + length first + length middle in
+      let last = write_from l z (type_of j).elem u.rate (l.array b.number) e d p pc2 k (i + 1) in
+      here_both code h pc first (middle ++ last)
+      (read_from_sound fs code h l links b j u s n iz fz d pc p k (i + 1) (omega (arith, low)) (omega (arith, high)) f.1 lk (omega (arith, lp)))
+      (here_both code h (pc + length first) middle last
+      (λ lt. update_sound (same_elem u.elem t) o t u.elem u.rate d d y k i (p + 1) sp refl is f.1 f.1 hy f.0 lk (omega (arith, lp)))
+      (write_from_sound fs code h l links b j u s n iz fz d pc2 p k (i + 1) (omega (arith, low)) (omega (arith, high)) f.1 lk (omega (arith, lp))))
 
   change_by_sound : (o : BinOp) (t : Elem) (z : TPlace) (x : TExpr) (pc p k n : ℕ) (sp : Span) → IsNumber t → PlaceTree fs z
       → OperandTree (place_type z).rate t x → ExprTree fs x → Granted h l (target_asks z n)
@@ -115,11 +116,12 @@ module _ (fs : List TFunction) (code : Listing) (h : Routine) (l : Layout) (link
       let cz = index_code l z pc p k n in
       let pc1 = pc + length cz in
       let cx = operand_of l (place_type z).rate x k m (expr_code l x pc1 (p + length pz) k m) in
-      let last = change_code l o t z (operand l (place_type z).rate x m) (p + length pz + length px) k n (m + 1) in
+      let pc2 = pc1 + length cx in
+      let last = change_code l o t z (operand l (place_type z).rate x m) pc2 (p + length pz + length px) k n (m + 1) in
       here_both code h pc cz (cx ++ last) (place_sound fs code h l links z pc p k n iz fz lk (few_front (length code.places) p pz (px ++ change_places l o z sp) lp))
       (here_both code h pc1 cx last (part_sound fs code h l links (place_type z).rate t x pc1 (p + length pz) k m ox ix f lk
       (few_front (length code.places) (p + length pz) px (change_places l o z sp) back))
-      (λ lt. change_sound o t z (operand l (place_type z).rate x m) (p + length pz + length px) k n (m + 1) sp is iz fz fc
+      (change_sound o t z (operand l (place_type z).rate x m) pc2 (p + length pz + length px) k n (m + 1) sp is iz (omega arith) (omega arith) fz fc
       (operand_there fs h l links.constants (place_type z).rate t x m ox ix f) lk
       (few_back (length code.places) (p + length pz) px (change_places l o z sp) back)))
 
@@ -132,11 +134,12 @@ module _ (fs : List TFunction) (code : Listing) (h : Routine) (l : Layout) (link
       let cz = index_code l z pc p k n in
       let fit : OperandTree r t (one_of t) = record { elem = refl; reaches = tt } in
       let one = one_code l r t k m in
-      let last = change_code l o t z (one_in l r t m) (p + length pz) k n (m + 1) in
+      let pc2 = pc + length cz + length one in
+      let last = change_code l o t z (one_in l r t m) pc2 (p + length pz) k n (m + 1) in
       here_both code h pc cz (one ++ last) (place_sound fs code h l links z pc p k n iz f.0 lk
       (few_front (length code.places) p pz (change_places l o z sp) lp))
       (here_both code h (pc + length cz) one last (part_sound fs code h l links r t (one_of t) (pc + length cz) 0 k m fit tt
-      (f.1.1.0.1, f.1.1.0.0) lk (omega arith)) (λ lt. change_sound o t z (one_in l r t m) (p + length pz) k n (m + 1) sp is iz f.0 f.1.1.1
+      (f.1.1.0.1, f.1.1.0.0) lk (omega arith)) (change_sound o t z (one_in l r t m) pc2 (p + length pz) k n (m + 1) sp is iz (omega arith) (omega arith) f.0 f.1.1.1
       (operand_there fs h l links.constants r t (one_of t) m fit tt (f.1.1.0.1, f.1.1.0.0)) lk
       (few_back (length code.places) p pz (change_places l o z sp) lp)))
 

@@ -1,5 +1,5 @@
 -- What is demanded of the tree alone: operands have the types in which their node works, a uniform part may stand in a
--- varying node and never the reverse, and a conversion's operand is no conversion.
+-- varying node and never the reverse, and a conversion's operand is no conversion. Names and types accept an index, with some variables.
 use Rattle.std.proofs.Common.{◌≡◌, List, [], ◌∷◌, Option, Some, None, true}
 use Rattle.std.specs.Prelude.{slice_get, ◌||◌}
 use Rattle.isp_base.specs.Ranks.{same_elem}
@@ -8,7 +8,7 @@ use Rattle.isp_base.specs.declared.types.Elem.TheVariants.{Bool as Truth, I32, U
 use Rattle.isp_base.specs.declared.types.Rate.{Rate}
 use Rattle.isp_base.specs.declared.types.Rate.TheVariants.{Uniform, Varying}
 use Rattle.isp_base.specs.declared.types.Ty.{Ty}
-use Rattle.isp_typed.specs.Fine.{WorksIn, heads, params_of}
+use Rattle.isp_typed.specs.Fine.{FineExpr, WorksIn, heads, params_of}
 use Rattle.isp_typed.specs.declared.variable.Holds.{Holds}
 use Rattle.isp_typed.specs.declared.variable.Holds.TheVariants as holds
 use Rattle.isp_typed.specs.declared.variable.Variable.{Variable}
@@ -17,7 +17,7 @@ use Rattle.isp_typed.specs.Typed.{t_element, TBase, t_whole, t_from, base_array,
 use Rattle.isp_typed.specs.Typed.{TFunction, TItem, t_plain, t_with_value, t_with_size, TSimple, t_value, t_run, t_assign, t_update, t_step, place_type, type_of}
 use Rattle.isp_lower_code.specs.Callees.{next_rate, later}
 use Rattle.isp_lower_code.specs.Library.{library_rates}
-use Rattle.isp_lower_code.specs.Rated.{Reaches}
+use Rattle.isp_lower_code.specs.Rated.{IsRated, Reaches}
 use Rattle.isp_lower_code.proofs.LibraryTypes.{LibraryTyped}
 use Rattle.isp_lower_code.proofs.Parts.{IsNumber}
 
@@ -54,7 +54,7 @@ module _ (fs : List TFunction) where
     pub PlaceTree : TPlace → Type 0
     PlaceTree (t_variable v t sp) = Unit {0}
     PlaceTree (t_element b i t sp) =
-        Reaches b.ty.rate t.rate × Reaches (type_of i).rate t.rate × ExprTree i × (b.ty.elem ≡ t.elem)
+        Reaches b.ty.rate t.rate × Reaches (type_of i).rate t.rate × ExprTree i × (b.ty.elem ≡ t.elem) × ((vars : List Variable) × FineExpr fs vars i × IsRated fs i)
 
     -- the array of a packed call is one for the gang, and its elements have 32 bits
     pub BaseTree : TBase → Type 0

@@ -30,23 +30,24 @@ use Rattle.isp_base.specs.declared.trap.TrapKind.TheVariants.{Index}
 use Rattle.isp_base.specs.declared.types.Rate.TheVariants.{Uniform, Varying}
 use Rattle.isp_typed.specs.Fine.{heads}
 use Rattle.isp_typed.specs.Typed.{TExpr, TPlace, t_variable, t_element, place_type, t_called, TSimple, t_value, t_run, t_assign, t_update, t_step, type_of}
-use Rattle.isp_meaning.specs.Places.{Place, Element, variable, written, outside, held, kept}
+use Rattle.isp_meaning.specs.Places.{Place, variable, written, outside, held, kept}
 use Rattle.isp_meaning.specs.Expressions.{place}
 use Rattle.isp_meaning.specs.Simple.{simple, update}
 use Rattle.isp_lower_code.specs.Runs.{Enters, DoneRuns}
 use Rattle.isp_lower_code.specs.Code.{index_code, expr_code}
-use Rattle.isp_lower_code.specs.Elements.{index_by, is_run}
+use Rattle.isp_lower_code.specs.Elements.{access, reached, read_from, write_from}
 use Rattle.isp_lower_code.specs.Found.{found, in_vector, kept_found, lifted, lift_code, operand, operand_by, operand_of}
-use Rattle.isp_lower_code.specs.Instructions.{constant, write_by, convert, operate, operate_places}
+use Rattle.isp_lower_code.specs.Instructions.{constant, convert, operate, operate_places}
 use Rattle.isp_lower_code.specs.Known.{unless_kept}
 use Rattle.isp_lower_code.specs.Spans.{index_places, expr_places}
 use Rattle.isp_lower_code.proofs.Splits.{same_elem-is}
 use Rattle.isp_lower_code.proofs.Found.{few, operand_low}
 use Rattle.isp_lower_code.proofs.PlainNodes.{means, variable_held}
-use Rattle.isp_lower_code.proofs.ElementRuns.{PlaceHolds, element_runs}
+use Rattle.isp_lower_code.proofs.ElementRuns.{PlaceHolds}
+use Rattle.isp_lower_code.proofs.Reached.{access_done, access_leaves}
 use Rattle.isp_lower_code.proofs.Exprs.{expr_runs}
 use Rattle.isp_lower_code.proofs.Done.{done_after, bind_done, bind_checked}
-use Rattle.isp_lower_code.proofs.Places.{place_runs, place_kept, index_kept}
+use Rattle.isp_lower_code.proofs.Places.{place_runs, place_kept}
 use Rattle.isp_lower_code.proofs.Assigns.{beyond_more, assign_runs, value_runs}
 use Rattle.isp_lower_code.proofs.Alone.{run_runs}
 use Rattle.isp_lower_code.proofs.Nodes.{enters_part, enters_later, operand_runs}
@@ -59,10 +60,9 @@ use Rattle.isp_lower_code.proofs.Rates.{at_mapped, at_joined, at_offender, fille
 use Rattle.isp_lower_code.proofs.Lines.{set_at, value_at, convert_line, operate_at}
 use Rattle.isp_lower_code.proofs.Combine.{write_runs, lift_runs}
 use Rattle.isp_lower_code.proofs.Targets.{Target, InSlot, InVariable, target, Leaves, write_sure}
-use Rattle.isp_lower_code.proofs.Writes.{element_done}
 use Rattle.isp_lower_code.proofs.Nodes.{one_runs}
 use Rattle.isp_lower_code.proofs.Values.{number_is, wrap_bits}
-use Rattle.isp_lower_code.proofs.Kept.{Low, Keeps, is_read, runs_kept, kept_same, keeps_on, held_kept, checked_still, value_still}
+use Rattle.isp_lower_code.proofs.Kept.{Low, Keeps, low_spare, is_read, runs_kept, kept_same, keeps_on, held_kept, checked_still, value_still}
 use Rattle.isp_lower_code.proofs.Parts.{ChangeFits, IsNumber, SimpleParts, SpareFits, WorkFits}
 use Rattle.isp_lower_code.specs.Asks.{beyond}
 use Rattle.isp_lower_code.specs.Tables.{IsTyped}
@@ -203,12 +203,12 @@ module _ (w : Setting) (ready : IsSettled w) where
 
   -- the place is read, the operator works, the place is written
   pub change_runs : (o : BinOp) (t : Elem) (z : TPlace) (sp : Span) (at : Place) (v : Payload) (pc p k n i y q : ℕ) (a : Mask) (s : State) (c : Conf)
-      → ChangeFits w t z n i → beyond z n ≤ i → n ≤ i → k < n → Low w (place_type z).rate i y → At w c pc → c.masks k ≡ a
-      → any (gang_of w) a ≡ true → ((r : ℕ) → a r ≡ true → Allowed w r) → Stands w s c → 6 + q ≤ 32 * s.work → PlaceHolds w ready z n a at c
-      → Holds (place_type z).rate a y v c → AreAt w.routine.code pc (change_code w.layout o t z y p k n i)
+      → ChangeFits w t z n i → beyond z n ≤ i → i ≤ beyond z n + 1 → n ≤ i → k < n → Low w (place_type z).rate i y → At w c pc → c.masks k ≡ a
+      → any (gang_of w) a ≡ true → ((r : ℕ) → a r ≡ true → Allowed w r) → Stands w s c → 28 + q ≤ 32 * s.work → PlaceHolds w ready z n a at c
+      → Holds (place_type z).rate a y v c → AreAt w.routine.code pc (change_code w.layout o t z y pc p k n i)
       → AreAt w.code.places p (change_places w.layout o z sp)
-      → DoneRuns w c (pc + length (change_code w.layout o t z y p k n i)) n q (update (gang_of w) w.frame (calls_of w) o t z at v sp a s)
-  change_runs o t (t_variable x u sv) sp at v pc p k n i y q a s c fit lz le lk low here em some inside st us h hy has places =
+      → DoneRuns w c (pc + length (change_code w.layout o t z y pc p k n i)) n q (update (gang_of w) w.frame (calls_of w) o t z at v sp a s)
+  change_runs o t (t_variable x u sv) sp at v pc p k n i y q a s c fit lz hi le lk low here em some inside st us h hy has places =
       let same = same_elem u.elem t in
       let r = u.rate in
       let f = w.layout.variable r x in
@@ -220,29 +220,30 @@ module _ (w : Setting) (ready : IsSettled w) where
       (done_less n i c end q _ le
       (update_leaves (InVariable x) same o t u.elem r f y c pc k i q p a s (variable r x a s) v sp fit.number (same_elem-is u.elem t) fit.target.0
       fit.working fit.target.0 low here em some (omega arith) st (omega (arith, us)) (variable_held w ready r x a s c (is_read w r u.elem x fit.target.1) st) hy has places fit.other)))
-  change_runs o t (t_element b j u sv) sp at v pc p k n i y q a s c fit lz le lk low here em some inside st us h hy has places =
+  change_runs o t (t_element b j u sv) sp at v pc p k n i y q a s c fit lz hi le lk low here em some inside st us h hy has places =
       let same = same_elem u.elem t in
       let r = u.rate in
       let z = t_element b j u sv in
       let f = w.layout.spare r u.elem i in
-      let v1 = is_run w.layout b.ty.rate j in
-      let at_j = index_by w.layout v1 r j n in
+      let v1 = access w.layout b.ty.rate r j n in
+      let at_j = reached w.layout v1 r j n in
+      let rd = read_from w.layout v1 (type_of j).elem r f (w.layout.array b.number) at_j p pc k (i + 1) in
+      let pc1 = pc + length rd in
       let cu = update_to w.layout same o t r f f y k i (p + 1) in
-      let last = write_by v1 r (w.layout.array b.number) at_j f k p ∷ [] in
-      let pc2 = pc + 1 + length cu in
-      let end = pc + length (change_code w.layout o t z y p k n i) in
-      let to : pc2 + 1 ≡ end = omega (arith, length-append cu last) in
+      let pc2 = pc1 + length cu in
+      let last = write_from w.layout v1 (type_of j).elem r (w.layout.array b.number) at_j f p pc2 k (i + 1) in
+      let end = pc + length (rd ++ (cu ++ last)) in
+      let to : pc2 + length last ≡ end = omega (arith, length-append rd (cu ++ last), length-append cu last) in
+      let h1 : AreAt w.routine.code pc1 (cu ++ last) = are_back w.routine.code pc rd (cu ++ last) has in
       let who = offender (gang_of w) (is_zero o t) a v in
-      let m0 = h.0 in
-      let put_there = λ (m : Payload) (s2 : State). kept (gang_of w) w.frame (Element b (type_of j).elem m0) a m s2 in
-      let x = held (gang_of w) w.frame (Element b (type_of j).elem m0) a s in
+      let put_there = λ (m : Payload) (s2 : State). kept (gang_of w) w.frame at a m s2 in
+      let x = held (gang_of w) w.frame at a s in
       let val = joined (op_bits o t) a (mapped (converted u.elem t) x) v in
-      subst (λ g. DoneRuns w c end n q (update (gang_of w) w.frame (calls_of w) o t z g v sp a s)) (sym h.1)
-      (bind_checked w ready c (pc + 1) i 5 q (Holds r a f) (outside (gang_of w) w.frame (Element b (type_of j).elem m0) a) Index sv s x
+      bind_checked w ready c pc1 i 16 q (Holds r a f) (outside (gang_of w) w.frame at a) Index sv s x
       (λ x1 s1. bind (checked who Divide sp s1 (joined (op_bits o t) a (mapped (converted u.elem t) x1) v))
       (λ m s2. done put_there (mapped (converted t u.elem) m) s2)) end n
-      (element_runs w ready InSlot v1 at_j b j u sv c c 0 pc (pc + 1) k i p (5 + q) a s m0 (ready.arrays b fit.target.0) fit.target.1 (comes_none w c)
-      here refl has.0 places.0 st (spares_all w i c) (λ g l. refl) em some inside (omega (arith, us)) h.2)
+      (access_leaves w ready b j u sv n fit.target InSlot at c c 0 pc pc1 k i p (16 + q) a s le (omega (arith, hi)) (comes_none w c)
+      here (are_front w.routine.code pc rd (cu ++ last) has) refl places.0 st (spares_all w i c) (λ g l. refl) em some inside (omega (arith, lk, le)) (omega (arith, us)) h)
       (λ none ok.
       let c1 = ok.conf in
       let q1 = ok.steps + q in
@@ -250,18 +251,18 @@ module _ (w : Setting) (ready : IsSettled w) where
       let here_kept : Keeps w i c c1 = kept_same w i c c1 s st ok.stands ok.spares in
       done_after w ready c c1 ok.steps end n q _ ok.comes (spares_less w n i c c1 le ok.spares) (λ g l. ok.masks g (omega arith))
       (subst (λ g. DoneRuns w c1 end n q1 g) (sym (twice who Divide sp s val (mapped (converted t u.elem)) put_there))
-      (bind_done w ready c1 pc2 i 1 q1 (λ m c'. Holds r a f m c' × Keeps w i c1 c') (bind (checked who Divide sp s val) (λ m s3. Gives (mapped (converted t u.elem) m) s3)) (done put_there) end n
-      (runs_kept w c1 pc2 i (1 + q1) (Holds r a f) (bind (checked who Divide sp s val) (λ m s3. Gives (mapped (converted t u.elem) m) s3)) s ok.stands (checked_still w who Divide sp s val (mapped (converted t u.elem)))
-      (update_leaves InSlot same o t u.elem r f y c1 (pc + 1) k i (1 + q1) (p + 1) a s x v sp fit.number (same_elem-is u.elem t) fit.back fit.working
+      (bind_done w ready c1 pc2 i 12 q1 (λ m c'. Holds r a f m c' × Keeps w i c1 c') (bind (checked who Divide sp s val) (λ m s3. Gives (mapped (converted t u.elem) m) s3)) (done put_there) end n
+      (runs_kept w c1 pc2 i (12 + q1) (Holds r a f) (bind (checked who Divide sp s val) (λ m s3. Gives (mapped (converted t u.elem) m) s3)) s ok.stands (checked_still w who Divide sp s val (mapped (converted t u.elem)))
+      (update_leaves InSlot same o t u.elem r f y c1 pc1 k i (12 + q1) (p + 1) a s x v sp fit.number (same_elem-is u.elem t) fit.back fit.working
       fit.back low ok.at e1 some (omega arith) ok.stands (omega (arith, ok.bound)) ok.holds (hy ∙ sym (held_kept w r i c c1 a y here_kept low))
-      (are_front w.routine.code (pc + 1) cu last has.1) places.1))
+      (are_front w.routine.code pc1 cu last h1) places.1))
       (λ m s3 ok2.
-      let h2 = index_kept w ready v1 b.ty.rate r j n a _ c ok2.conf (λ e. e) fit.target.2 fit.target.4 (keeps_on w (n + 1) i c c1 ok2.conf lz (kept_same w (n + 1) c c1 s st ok.stands (spares_less w (n + 1) i c c1 lz ok.spares)) ok2.holds.1) h.2 in
+      let keeps = keeps_on w (n + 1) i c c1 ok2.conf lz (kept_same w (n + 1) c c1 s st ok.stands (spares_less w (n + 1) i c c1 lz ok.spares)) ok2.holds.1 in
       subst (λ g. DoneRuns w c1 end n q1 (bind (checked g Index sv s3 m) (done put_there))) none
-      (element_done w ready v1 r b.ty.rate b (type_of j).elem m0 m a s3 c1 ok2.conf ok2.steps pc2 end k at_j f n q1 p sv
-      (ready.arrays b fit.target.0).is fit.target.1 (ready.arrays b fit.target.0).few some inside ok2.comes ok2.at to
-      (are_back w.routine.code (pc + 1) cu last has.1).0 places.0 ok2.stands (spares_less w n i c1 ok2.conf le ok2.spares)
-      (λ g l. ok2.masks g (omega arith)) (ok2.masks k (omega arith) ∙ e1) (omega (arith, ok2.bound)) h2 ok2.holds.0))))))
+      (access_done w ready b j u sv n fit.target at m c1 ok2.conf ok2.steps pc2 end k f (i + 1) p q1 a s3 (omega (arith, le)) (omega (arith, hi))
+      (low_spare w r u.elem (i + 1) i (omega arith)) ok2.comes ok2.at (are_back w.routine.code pc1 cu last h1) to places.0 ok2.stands
+      (spares_less w n i c1 ok2.conf le ok2.spares) (λ g l. ok2.masks g (omega arith)) (ok2.masks k (omega arith) ∙ e1) some inside lk (omega (arith, ok2.bound))
+      (place_kept w ready z n a at c ok2.conf fit.target keeps h) ok2.holds.0)))))
 
   -- ---- `op=`
 
@@ -282,28 +283,28 @@ module _ (w : Setting) (ready : IsSettled w) where
       let ca = operand_of w.layout r x k m cx in
       let y = operand w.layout r x m in
       let pw = p1 + length (expr_places w.layout x) in
-      let last = change_code w.layout o t z y pw k n (m + 1) in
+      let last = change_code w.layout o t z y (pc1 + length ca) pw k n (m + 1) in
       let end = pc + length (ci ++ (ca ++ last)) in
       let to : pc1 + length ca + length last ≡ end = omega (arith, length-append ci (ca ++ last), length-append ca last) in
       let h1 : AreAt w.routine.code pc1 (ca ++ last) = are_back w.routine.code pc ci (ca ++ last) has in
       let ha : AreAt w.routine.code pc1 ca = are_front w.routine.code pc1 ca last h1 in
       let pl = are_back w.code.places p (index_places w.layout z) _ places in
-      bind_done w ready c pc1 n 8 q (PlaceHolds w ready z n a) (place (gang_of w) w.frame (calls_of w) z a (tick s)) _ end n
-      (place_runs w ready z pc p k n 8 q a (tick s) c (omega arith) fit.0.target (are_front w.routine.code pc ci _ has) (are_front w.code.places p (index_places w.layout z) _ places) (enters_part w ready pc k n q q a s c (omega arith) b))
+      bind_done w ready c pc1 n 30 q (PlaceHolds w ready z n a) (place (gang_of w) w.frame (calls_of w) z a (tick s)) _ end n
+      (place_runs w ready z pc p k n 30 q a (tick s) c (omega arith) fit.0.target (are_front w.routine.code pc ci _ has) (are_front w.code.places p (index_places w.layout z) _ places) (enters_part w ready pc k n q q a s c (omega arith) b))
       (λ at s1 ok.
       let c1 = ok.conf in
       done_after w ready c c1 ok.steps end n q _ ok.comes ok.spares ok.masks
-      (bind_done w ready c1 (pc1 + length ca) m 6 (ok.steps + q) (λ d c'. Holds r a y d c' × Keeps w m c1 c') (means w ready x a s1) _ end n
-      (runs_kept w c1 (pc1 + length ca) m (6 + (ok.steps + q)) (Holds r a y) (means w ready x a s1) s1 ok.stands (value_still w ready x m a s1 fit.2)
-      (operand_runs w ready c1 pc1 k m (8 + (ok.steps + q)) (6 + (ok.steps + q)) a s1 r t x cx fit.1 (omega arith)
-      (enters_later w ready pc pc1 k n m (8 + (ok.steps + q)) q (8 + q) a s s1 c more.0 b ok (omega arith)) ha
-      (λ at. expr_runs w ready x pc1 p1 k m (8 + (ok.steps + q)) (1 + (6 + (ok.steps + q))) a s1 c1 fit.2 at
+      (bind_done w ready c1 (pc1 + length ca) m 28 (ok.steps + q) (λ d c'. Holds r a y d c' × Keeps w m c1 c') (means w ready x a s1) _ end n
+      (runs_kept w c1 (pc1 + length ca) m (28 + (ok.steps + q)) (Holds r a y) (means w ready x a s1) s1 ok.stands (value_still w ready x m a s1 fit.2)
+      (operand_runs w ready c1 pc1 k m (30 + (ok.steps + q)) (28 + (ok.steps + q)) a s1 r t x cx fit.1 (omega arith)
+      (enters_later w ready pc pc1 k n m (30 + (ok.steps + q)) q (30 + q) a s s1 c more.0 b ok (omega arith)) ha
+      (λ at. expr_runs w ready x pc1 p1 k m (30 + (ok.steps + q)) (1 + (28 + (ok.steps + q))) a s1 c1 fit.2 at
       (are_front w.code.places p1 (expr_places w.layout x) _ pl) (omega arith)
-      (enters_later w ready pc pc1 k n m (8 + (ok.steps + q)) q (8 + q) a s s1 c more.0 b ok (omega arith)))))
+      (enters_later w ready pc pc1 k n m (30 + (ok.steps + q)) q (30 + q) a s s1 c more.0 b ok (omega arith)))))
       (λ v s2 ok2.
       done_after w ready c1 ok2.conf ok2.steps end n (ok.steps + q) _ ok2.comes (spares_less w n m c1 ok2.conf more.0 ok2.spares) (λ g l. ok2.masks g (omega (arith, more.0)))
       (subst (λ g. DoneRuns w ok2.conf g n (ok2.steps + (ok.steps + q)) (update (gang_of w) w.frame (calls_of w) o t z at v sp a s2)) to
-      (change_runs o t z sp at v (pc1 + length ca) pw k n (m + 1) y (ok2.steps + (ok.steps + q)) a s2 ok2.conf fit.0 (omega arith)
+      (change_runs o t z sp at v (pc1 + length ca) pw k n (m + 1) y (ok2.steps + (ok.steps + q)) a s2 ok2.conf fit.0 (omega arith) (omega arith)
       (omega (arith, more.0)) lk (operand_low w ready r t x m fit.1 fit.2) ok2.at (ok2.masks k (omega (arith, more.0)) ∙ ok.masks k lk ∙ b.mask)
       b.some b.inside ok2.stands (omega (arith, ok2.bound)) (place_kept w ready z n a at c1 ok2.conf fit.0.target ok2.holds.1 ok.holds)
       ok2.holds.0 (are_back w.routine.code pc1 ca last h1) (are_back w.code.places p1 (expr_places w.layout x) _ pl))))))
@@ -374,21 +375,21 @@ module _ (w : Setting) (ready : IsSettled w) where
       let p1 = p + length (index_places w.layout z) in
       let ca = one_code w.layout r t k m in
       let y = one_in w.layout r t m in
-      let last = change_code w.layout o t z y p1 k n (m + 1) in
+      let last = change_code w.layout o t z y (pc1 + length ca) p1 k n (m + 1) in
       let end = pc + length (ci ++ (ca ++ last)) in
       let to : pc1 + length ca + length last ≡ end = omega (arith, length-append ci (ca ++ last), length-append ca last) in
       let h1 : AreAt w.routine.code pc1 (ca ++ last) = are_back w.routine.code pc ci (ca ++ last) has in
       let ha : AreAt w.routine.code pc1 ca = are_front w.routine.code pc1 ca last h1 in
-      bind_done w ready c pc1 n 8 q (PlaceHolds w ready z n a) (place (gang_of w) w.frame (calls_of w) z a (tick s)) _ end n
-      (place_runs w ready z pc p k n 8 q a (tick s) c (omega arith) fit.0.target (are_front w.routine.code pc ci _ has) (are_front w.code.places p (index_places w.layout z) _ places) (enters_part w ready pc k n q q a s c (omega arith) b))
+      bind_done w ready c pc1 n 30 q (PlaceHolds w ready z n a) (place (gang_of w) w.frame (calls_of w) z a (tick s)) _ end n
+      (place_runs w ready z pc p k n 30 q a (tick s) c (omega arith) fit.0.target (are_front w.routine.code pc ci _ has) (are_front w.code.places p (index_places w.layout z) _ places) (enters_part w ready pc k n q q a s c (omega arith) b))
       (λ at s1 ok.
       let c1 = ok.conf in
       let e1 : c1.masks k ≡ a = ok.masks k lk ∙ b.mask in
-      let ok2 : Ok w c1 (pc1 + length ca) m (6 + (ok.steps + q)) (Holds r a y (One 1)) s1 = one_ok r t pc1 k m (6 + (ok.steps + q)) a s1 c1 fit.0.number fit.1 (omega (arith, more.0)) e1 b.inside ok.at ok.stands (omega (arith, ok.bound)) ha in
+      let ok2 : Ok w c1 (pc1 + length ca) m (28 + (ok.steps + q)) (Holds r a y (One 1)) s1 = one_ok r t pc1 k m (28 + (ok.steps + q)) a s1 c1 fit.0.number fit.1 (omega (arith, more.0)) e1 b.inside ok.at ok.stands (omega (arith, ok.bound)) ha in
       done_after w ready c c1 ok.steps end n q _ ok.comes ok.spares ok.masks
       (done_after w ready c1 ok2.conf ok2.steps end n (ok.steps + q) _ ok2.comes (spares_less w n m c1 ok2.conf more.0 ok2.spares) (λ g l. ok2.masks g (omega (arith, more.0)))
       (subst (λ g. DoneRuns w ok2.conf g n (ok2.steps + (ok.steps + q)) (update (gang_of w) w.frame (calls_of w) o t z at (One 1) sp a s1)) to
-      (change_runs o t z sp at (One 1) (pc1 + length ca) p1 k n (m + 1) y (ok2.steps + (ok.steps + q)) a s1 ok2.conf fit.0 (omega arith)
+      (change_runs o t z sp at (One 1) (pc1 + length ca) p1 k n (m + 1) y (ok2.steps + (ok.steps + q)) a s1 ok2.conf fit.0 (omega arith) (omega arith)
       (omega (arith, more.0)) lk (operand_low w ready r t (one_of t) m (record { elem = refl; reaches = tt; lift = fit.2 }) fit.1) ok2.at
       (ok2.masks k (omega (arith, more.0)) ∙ e1) b.some b.inside ok2.stands (omega (arith, ok2.bound))
       (place_kept w ready z n a at c1 ok2.conf fit.0.target (kept_same w m c1 ok2.conf s1 ok.stands ok2.stands ok2.spares) ok.holds) ok2.holds

@@ -29,7 +29,7 @@ use Rattle.isp_lower_code.proofs.Values.{wrap_bits}
 use Rattle.isp_lower_code.proofs.Targets.{InVariable}
 use Rattle.isp_lower_code.proofs.Nodes.{enters_part, operand_runs}
 use Rattle.isp_lower_code.proofs.PlainNodes.{means, NodeRuns, constant_runs, index_node, convert_node, unary_node, binary_node, compare_node, copied_node}
-use Rattle.isp_lower_code.proofs.ElementRuns.{element_node}
+use Rattle.isp_lower_code.proofs.Reached.{element_node}
 use Rattle.isp_lower_code.proofs.ChoiceNodes.{choose_node}
 use Rattle.isp_lower_code.proofs.PackedNodes.{packed_store_node, packed_load_node}
 use Rattle.isp_lower_code.proofs.LibraryNodes.{library_node}

@@ -1,13 +1,9 @@
 -- The text of code can have the code of a tree, since it is sound in a routine that ends after it.
 use Rattle.std.proofs.Common.{◌≡◌, ◌≤◌, ◌<◌, ◌+◌, ℕ, List, length, arith}
 use Rattle.isp_base.specs.declared.types.Span.{Span}
-use Rattle.isp_code.specs.Listing.{Listing, Routine}
-use Rattle.isp_code.specs.Writable.{place_fits}
 use Rattle.isp_code.specs.declared.instr.Instr.{Instr}
 use Rattle.isp_code.specs.declared.instr.Instr.TheVariants as instr
-use Rattle.isp_typed.specs.Fine.{FineExpr, FineSimple}
-use Rattle.isp_typed.specs.Typed.{TExpr, TFunction, TSimple}
-use Rattle.isp_typed.specs.declared.variable.Variable.{Variable}
+use Rattle.isp_typed.specs.Typed.{TFunction}
 use Rattle.isp_lower_code.specs.Asked.{CodeIsWritten, IsWritten}
 use Rattle.isp_lower_code.specs.Callees.{rates_in}
 use Rattle.isp_lower_code.specs.Code.{expr_code}
@@ -15,7 +11,7 @@ use Rattle.isp_lower_code.specs.Rows.{Rows, layout_of}
 use Rattle.isp_lower_code.specs.Simple.{simple_code, simple_places}
 use Rattle.isp_lower_code.specs.Sound.{AreSound}
 use Rattle.isp_lower_code.specs.Spans.{expr_places}
-use Rattle.isp_lower_code.proofs.InRows.{expr_in_rows, in_rows, many, many_long, simple_in_rows, with_places}
+use Rattle.isp_lower_code.proofs.InRows.{expr_in_rows, in_rows, many_long, simple_in_rows, with_places}
 use Rattle.isp_lower_code.proofs.Rated.{expr_tree, simple_tree}
 use Rattle.isp_lower_code.proofs.SmallNumbers.{numbers_small}
 use Rattle.isp_lower_code.proofs.SoundConstants.{constants_fit}

@@ -17,9 +17,9 @@ use Rattle.isp_typed.specs.Typed.{t_called, TArguments, t_no_arguments, t_argume
 use Rattle.isp_lower_code.specs.Callees.{next_rate, later}
 use Rattle.isp_lower_code.specs.Layout.{Layout, register, mask_register, array_register}
 use Rattle.isp_lower_code.specs.Library.{library_code, library_rates}
-use Rattle.isp_lower_code.specs.Elements.{is_run, index_by, index_by_of}
+use Rattle.isp_lower_code.specs.Elements.{access, reached, reached_of, read_from}
 use Rattle.isp_lower_code.specs.Found.{part_to, lift_to, convert_to, is_copied, is_kept, found, operand, operand_of, index, index_of}
-use Rattle.isp_lower_code.specs.Instructions.{copy, unary, compare, operate, read_by, constant, select, packed_store, packed_load, jump_on}
+use Rattle.isp_lower_code.specs.Instructions.{copy, unary, compare, operate, constant, select, packed_store, packed_load, jump_on}
 use Rattle.isp_lower_code.specs.Known.{constant_of, unless_kept}
 use Rattle.isp_lower_code.specs.Pieces.{two, choice, move_code, pair_code, logic_code, choose_rest}
 use Rattle.isp_lower_code.specs.Spans.{expr_places, index_places, base_places, arguments_places, argument_places}
@@ -32,11 +32,11 @@ module _ (l : Layout) where
   variable_read true d r v k = copy r d (l.variable r v) k ∷ []
   variable_read false d r v k = []
 
-  abbrev pub read_code : ℕ → TPlace → ℕ → ℕ → ℕ → List Instr
-  read_code d (t_variable v t sp) p k n = variable_read (is_copied l t.rate v) d t.rate v k
-  read_code d (t_element b i t sp) p k n =
-      let z = is_run l b.ty.rate i in
-      read_by z t.rate d (l.array b.number) (index_by l z t.rate i n) k p ∷ []
+  abbrev pub read_code : ℕ → TPlace → ℕ → ℕ → ℕ → ℕ → List Instr
+  read_code d (t_variable v t sp) pc p k n = variable_read (is_copied l t.rate v) d t.rate v k
+  read_code d (t_element b i t sp) pc p k n =
+      let z = access l b.ty.rate t.rate i n in
+      read_from l z (type_of i).elem t.rate d (l.array b.number) (reached l z t.rate i n) p pc k (n + 1)
 
   abbrev pub choose_code : Rate → Rate → Elem → TExpr → TExpr → ℕ → ℕ → ℕ → ℕ → List Instr → (ℕ → ℕ → ℕ → List Instr) → (ℕ → ℕ → ℕ → List Instr) → List Instr
   choose_code Uniform r t x y c pc k n test a b =
@@ -82,7 +82,7 @@ module _ (l : Layout) where
     pub expr_to : ℕ → TExpr → ℕ → ℕ → ℕ → ℕ → List Instr
     expr_to d (t_constant v sp) pc p k n = unless_kept (l.kept Uniform v.elem v.bits) (constant d v.elem v.bits ∷ [])
     expr_to d (t_program_index sp) pc p k n = instr.Vector (register Varying d) (vector.Index (mask_register k)) ∷ []
-    expr_to d (t_place q) pc p k n = index_code q pc p k n ++ read_code d q (p + length (index_places l q)) k n
+    expr_to d (t_place q) pc p k n = two pc (index_code q pc p k n) (λ pc1. read_code d q pc1 (p + length (index_places l q)) k n)
     expr_to d (t_convert e x) pc p k n =
         unless_kept (is_kept l (constant_of x) (type_of x).rate e) (convert_to l (constant_of x) e (type_of x).rate d (found l x n) k (expr_to (found l x n) x pc p k n))
     expr_to d (t_cast x t sp) pc p k n =
@@ -120,7 +120,7 @@ module _ (l : Layout) where
     -- the index of a place
     pub index_code : TPlace → ℕ → ℕ → ℕ → ℕ → List Instr
     index_code (t_variable v t sp) pc p k n = []
-    index_code (t_element b i t sp) pc p k n = index_by_of l (is_run l b.ty.rate i) t.rate i k n (expr_to (found l i n) i pc p k n)
+    index_code (t_element b i t sp) pc p k n = reached_of l (access l b.ty.rate t.rate i n) t.rate i pc p k n (expr_to (found l i n) i pc p k n)
 
     pub base_code : TBase → ℕ → ℕ → ℕ → ℕ → List Instr
     base_code (t_whole b sp) pc p k n = constant (l.spare Uniform I64 n) I64 0 ∷ []

@@ -6,7 +6,7 @@ use Rattle.isp_typed.specs.Fine.{FineExpr, FineSimple, FineItem}
 use Rattle.isp_typed.specs.Typed.{TExpr, TSimple, TItem, t_plain, t_with_value, t_with_size}
 use Rattle.isp_lower_code.specs.Asks.{Ask, expr_asks, simple_asks, items_asks}
 use Rattle.isp_lower_code.specs.Rated.{IsRated, SimpleRated, ItemsRated}
-use Rattle.isp_lower_code.specs.Setting.{Setting, OtherAt}
+use Rattle.isp_lower_code.specs.Standing.{Setting, OtherAt}
 use Rattle.isp_lower_code.specs.Tables.{Table}
 
 -- a variable that is declared counts no lanes

@@ -3,7 +3,7 @@ use Rattle.std.specs.Prelude.{ℕ, [], List, Option, Some, None, Bool, true, fal
 use Rattle.isp_base.specs.declared.types.Elem.{Elem}
 use Rattle.isp_base.specs.declared.types.Value.{Value}
 use Rattle.isp_code.specs.declared.instr.Instr.{Instr}
-use Rattle.isp_typed.specs.Typed.{TExpr, t_constant, t_program_index, t_place, t_convert, t_cast, t_unary, t_binary, t_compare, t_logic, t_choose, t_call, t_library, t_packed_store, t_packed_load}
+use Rattle.isp_typed.specs.Typed.{TExpr, t_constant, t_convert}
 use Rattle.isp_meaning.specs.Payloads.{converted}
 
 abbrev pub constant_of : TExpr → Option Value

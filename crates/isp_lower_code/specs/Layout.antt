@@ -4,14 +4,17 @@
 -- register. With them stand the rates of the parameters of functions that code calls, by the functions' numbers, and which variables
 -- packed loads write: a varying one of these is copied where it is read, since a later part may write it. A varying variable may count the
 -- lanes of a run, from the number in the place's register on; and code may be for lanes of such a run alone. Constants of a type and
--- with some bits may be kept at a rate: each has a register, which holds it while the function runs.
+-- with some bits may be kept at a rate: each has a register, which holds it while the function runs. Indices may be taken as rows: at which
+-- slots which, the code of the scalar from which such an index counts on, given its instruction, place, mask and slot, and the scalar's register.
 use Rattle.std.specs.Prelude.{◌≡◌, ◌≢◌, ℕ, List, Option, Some, None, Bool, true, false}
 use Rattle.isp_base.specs.declared.types.Elem.{Elem}
 use Rattle.isp_base.specs.declared.types.Rate.{Rate}
 use Rattle.isp_base.specs.declared.types.Rate.TheVariants.{Uniform, Varying}
+use Rattle.isp_code.specs.declared.instr.Instr.{Instr}
 use Rattle.isp_code.specs.declared.register.Class.{Class}
 use Rattle.isp_code.specs.declared.register.Class.TheVariants as class
 use Rattle.isp_code.specs.declared.register.Register.{Register}
+use Rattle.isp_typed.specs.Typed.{TExpr}
 
 pub record Layout : Type 0 where
   pub variable : Rate → ℕ → ℕ
@@ -26,6 +29,9 @@ pub record Layout : Type 0 where
   pub loaded : ℕ → Bool
   pub kept : Rate → Elem → ℕ → Bool
   pub constant : Rate → Elem → ℕ → ℕ
+  pub is_row : TExpr → ℕ → Bool
+  pub row : TExpr → (pc p k n : ℕ) → List Instr
+  pub row_at : TExpr → ℕ → ℕ
 
 pub record IsApart (l : Layout) : Type 0 where
   pub variables : (r : Rate) (v w : ℕ) → v ≢ w → l.variable r v ≢ l.variable r w
@@ -49,13 +55,20 @@ pub record IsApart (l : Layout) : Type 0 where
   pub kept_place : (r : Rate) (t : Elem) (b : ℕ) → l.kept r t b ≡ true → l.constant r t b ≢ l.place r
   pub kept_fresh : (r : Rate) (t : Elem) (b j : ℕ) → l.kept r t b ≡ true → l.constant r t b ≢ l.fresh r j
 
+-- no index is taken as a row
+abbrev pub no_rows : TExpr → ℕ → Bool
+no_rows i n = false
+
+abbrev pub HasNoRows : Layout → Type 0
+HasNoRows l = (i : TExpr) (n : ℕ) → l.is_row i n ≡ false
+
 -- For lanes that need be no members of a run: a variable still counts those that are. For members of a run of which a variable counts the
--- lanes: if there is no other, and no packed load writes the variable.
+-- lanes: if there is no other, and no packed load writes the variable. Rows are of the lanes for which they were set.
 abbrev pub outside : Layout → Layout
-outside l = record l { in_run = false }
+outside l = record l { in_run = false; is_row = no_rows }
 
 abbrev pub run_in : Bool → Option ℕ → Layout → ℕ → Layout
-run_in false None l i = record l { run = Some i; in_run = true }
+run_in false None l i = record l { run = Some i; in_run = true; is_row = no_rows }
 run_in false (Some j) l i = outside l
 run_in true o l i = outside l
 

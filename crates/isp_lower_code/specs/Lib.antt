@@ -8,11 +8,13 @@ pub mod Calls
 pub mod Pieces
 pub mod Known
 pub mod Found
+pub mod RowCode
 pub mod Elements
 pub mod Spans
 pub mod Stays
 pub mod Code
 pub mod Consecutive
+pub mod Standing
 pub mod Setting
 pub mod Runs
 pub mod Rated

@@ -6,7 +6,7 @@ use Rattle.isp_base.specs.Ranks.{rank, same_elem}
 use Rattle.isp_base.specs.declared.types.Elem.{Elem}
 use Rattle.isp_base.specs.declared.types.Rate.{Rate}
 use Rattle.isp_base.specs.declared.types.Rate.TheVariants.{Uniform, Varying}
-use Rattle.isp_lower_code.specs.Layout.{Layout}
+use Rattle.isp_lower_code.specs.Layout.{Layout, no_rows}
 
 pub data Name : Type 0 where
   Variable : ℕ → Name
@@ -78,6 +78,9 @@ layout_of rates rows =
       kept = λ r t b. keeps
           (rows_at rows r) t b;
       constant = λ r t b. number_in (rows_at rows r) (Kept t b);
+      is_row = no_rows;
+      row = λ i pc p k n. [];
+      row_at = λ i n. 0;
     }
 
 -- the number of the register that a layout has for a name

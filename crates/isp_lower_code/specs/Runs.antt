@@ -6,7 +6,7 @@ use Rattle.isp_base.specs.declared.trap.Trap.{Trap}
 use Rattle.isp_code.specs.Conf.{Conf}
 use Rattle.isp_meaning.specs.State.{State}
 use Rattle.isp_meaning.specs.Outcomes.{Val, Gives, Fails, Stops, Done}
-use Rattle.isp_lower_code.specs.Setting.{Setting, Allowed, gang_of, At, Stands, Spares}
+use Rattle.isp_lower_code.specs.Standing.{Setting, Allowed, gang_of, At, Stands, Spares}
 pub use Rattle.isp_lower_code.specs.Steps.{ComesIn, FailedIn, StoppedIn}
 
 module _ (w : Setting) where

@@ -1,127 +1,51 @@
--- A call of a compiled function, and when the machine in it stands for a state of the meaning.
-use Rattle.std.specs.Prelude.{◌≡◌, ◌≢◌, ◌≤◌, ◌<◌, ℕ, suc, ◌+◌, ◌*◌, ◌-◌, ◌^◌, List, [], ◌∷◌, length, Option, None, Some, Bool, true, false, slice_get}
-use Rattle.isp_base.specs.Maps.{Lanes}
-use Rattle.isp_base.specs.Sets.{Mask, any}
-use Rattle.isp_base.specs.Types.{gang_width}
+-- What the laws ask of a call of a compiled function.
+use Rattle.std.specs.Prelude.{◌≡◌, ◌≤◌, ◌<◌, ℕ, suc, ◌+◌, length, Some, true, slice_get}
+use Rattle.isp_base.specs.Sets.{Mask}
 use Rattle.isp_base.specs.declared.types.Elem.{Elem}
 use Rattle.isp_base.specs.declared.types.Rate.{Rate}
-use Rattle.isp_base.specs.declared.types.Rate.TheVariants.{Uniform, Varying}
-use Rattle.isp_base.specs.declared.types.Span.{Span}
-use Rattle.isp_code.specs.Conf as machine
-use Rattle.isp_code.specs.Conf.{Home, Conf}
-use Rattle.isp_code.specs.Lines.{local_size}
-use Rattle.isp_code.specs.Listing.{Listing, Routine}
-use Rattle.isp_code.specs.Registers.{is_per_lane, passed, elem_of}
-use Rattle.isp_code.specs.declared.instr.Call.{Call}
-use Rattle.isp_code.specs.declared.instr.Instr.TheVariants as instr
-use Rattle.isp_typed.specs.Fine.{HoldsArray, HoldsValue, params_of}
-use Rattle.isp_typed.specs.Typed.{Program, TFunction, ty_of}
+use Rattle.isp_base.specs.declared.types.Rate.TheVariants.{Uniform}
+use Rattle.isp_code.specs.Conf.{Conf}
+use Rattle.isp_code.specs.Registers.{elem_of}
+use Rattle.isp_typed.specs.Fine.{FineExpr, HoldsArray, HoldsValue}
+use Rattle.isp_typed.specs.Typed.{TExpr, ty_of, type_of}
 use Rattle.isp_typed.specs.declared.variable.ArrayVariable.{ArrayVariable}
-use Rattle.isp_typed.specs.declared.variable.Variable.{Variable}
-use Rattle.isp_meaning.specs.State.{State, Frame, extent}
-use Rattle.isp_meaning.specs.Expressions.{Passed, Calls}
-use Rattle.isp_meaning.specs.Calls.{most_calls, calls_at}
+use Rattle.isp_meaning.specs.Calls.{most_calls}
+use Rattle.isp_meaning.specs.Expressions.{value}
+use Rattle.isp_meaning.specs.State.{State}
+use Rattle.isp_steady.specs.Values.{IsCounted}
 use Rattle.isp_lower_code.specs.Callees.{rates_in}
-use Rattle.isp_lower_code.specs.Calls.{AreHanded, Takes, CallRuns}
-use Rattle.isp_lower_code.specs.Layout.{Layout, IsApart, array_register, register}
+use Rattle.isp_lower_code.specs.Fits.{InTable}
+use Rattle.isp_lower_code.specs.Layout.{IsApart, register}
+use Rattle.isp_lower_code.specs.RowCode.{IsRowType, row_asks}
+use Rattle.isp_lower_code.specs.Runs.{Enters, Runs}
+use Rattle.isp_lower_code.specs.Spans.{expr_places}
+use Rattle.isp_lower_code.specs.Tables.{IsTyped}
 pub use Rattle.isp_lower_code.specs.Held.{at_rate, held_at, Holds, ConstantsHold}
-use Rattle.isp_lower_code.specs.Consecutive.{RunHolds}
-use Rattle.isp_base.specs.declared.types.Elem.TheVariants.{I32}
+pub use Rattle.isp_lower_code.specs.Standing.{Setting, with_turns, gang_of, Allowed, calls_of, ArrayFitsAt, ArrayFits, AreAt, IsAt, At, IsCalling, CallsRun, is_constant, IsCounter, IsUniform, IsVarying, StandsFor, IsOther, OtherAt, Stands, SparesStay, Spares}
 
--- The program and its code, the function that runs with its routine and registers, what stays during the call on both
--- sides, the calls that wait, how many turns a loop makes each time it is entered, and how many calls deeper may run. Where a variable
--- counts the lanes of a run, these are its members, and the number from which it counts has these bits.
-pub record Setting : Type 0 where
-  pub program : Program
-  pub code : Listing
-  pub function : TFunction
-  pub routine : Routine
-  pub layout : Layout
-  pub home : Home
-  pub waiting : List machine.Frame
-  pub frame : Frame
-  pub turns : ℕ
-  pub left : ℕ
-  pub members : Mask
-  pub start : ℕ
+-- A scalar register that stays as it is while slots after n are used: that of a variable, of a constant that is kept, or a spare one of slot n.
+pub data IsScalar (w : Setting) (n x : ℕ) : Type 0 where
+  OfVariable : (v : ℕ) (r : Rate) (t : Elem) → HoldsValue w.function.variables v (ty_of r t) → x ≡ w.layout.variable Uniform v → IsScalar w n x
+  OfConstant : (t : Elem) (b : ℕ) → w.layout.kept Uniform t b ≡ true → x ≡ w.layout.constant Uniform t b → IsScalar w n x
+  OfSlot : (t : Elem) → x ≡ w.layout.spare Uniform t n → IsScalar w n x
 
--- the same call where a loop makes so many turns
-abbrev pub with_turns : Setting → ℕ → Setting
-with_turns w m = record w { turns = m }
-
-abbrev pub gang_of : Setting → ℕ
-gang_of w = gang_width w.code.gang
-
--- who may run: instances of the gang, and, where code is for the lanes of a run, members of it
-abbrev pub Allowed : Setting → ℕ → Type 0
-Allowed w p = (p < gang_of w) × (w.layout.in_run ≡ true → w.members p ≡ true)
-
--- what calls mean from here
-abbrev pub calls_of : Setting → Calls
-calls_of w = calls_at w.program w.turns w.left
-
--- ---- an array: the machine's register is what the variable is, and one that all share is an open store
-
-module _ (w : Setting) where
-  abbrev pub ArrayFitsAt : Rate → ArrayVariable → Type 0
-  ArrayFitsAt Uniform b =
-      (is_per_lane w.routine (array_register (w.layout.array b.number)) ≡ false) × (w.home.named (w.layout.array b.number) ≡ w.frame.named b.number)
-  ArrayFitsAt Varying b =
-      (is_per_lane w.routine (array_register (w.layout.array b.number)) ≡ true) × (local_size (slice_get w.routine.locals (w.layout.array b.number - passed w.routine)) ≡ w.frame.own_sizes b.number)
-
-  pub record ArrayFits (b : ArrayVariable) : Type 0 where
-    pub is : ArrayFitsAt b.ty.rate b
-    pub below : b.ty.rate ≡ Uniform → w.frame.named b.number < w.frame.opened
-    pub few : extent w.frame b ≤ 2 ^ 63
-
--- some things stand in a list from a place on
-abbrev pub AreAt : {A : Type 0} → List A → ℕ → List A → Type 0
-AreAt xs n [] = Unit {0}
-AreAt xs n (y ∷ ys) = (slice_get xs n ≡ Some y) × AreAt xs (n + 1) ys
-
--- the machine stands at this instruction of the call
-pub record IsAt (home home' : Home) (waiting waiting' : List machine.Frame) (pc pc' : ℕ) : Type 0 where
-  pub home_is : home ≡ home'
-  pub waiting_is : waiting ≡ waiting'
-  pub pc_is : pc ≡ pc'
-
-abbrev pub At : Setting → Conf → ℕ → Type 0
-At w c pc = IsAt c.home w.home c.waiting w.waiting c.pc pc
-
--- where an instruction calls a function: what is handed over stands in its registers, and the state is the machine's
-pub record IsCalling (w : Setting) (k : Call) (g : TFunction) (pc q : ℕ) (sp : Span) (a : Mask) (ps : List Passed) (s : State) (c : Conf) : Type 0 where
-  pub function : slice_get w.program.functions k.function ≡ Some g
-  pub here : slice_get w.routine.code pc ≡ Some (instr.Call k)
-  pub place : slice_get w.code.places k.place ≡ Some sp
-  pub at : At w c pc
-  pub mask : c.masks k.mask.number ≡ a
-  pub some : any (gang_of w) a ≡ true
-  pub inside : (p : ℕ) → a p ≡ true → p < gang_of w
-  pub hands : AreHanded a c (params_of g) ps k.arguments
-  pub result : Takes g.answer k.result
-  pub arrays_are : c.arrays ≡ s.arrays
-  pub out_is : c.out ≡ s.out
-  pub used : 1 + q ≤ 32 * s.work
-
--- each call from here does what it means, with the levels that are left
-abbrev pub CallsRun : Setting → Type 0
-CallsRun w =
-    (k : Call) (g : TFunction) (pc q : ℕ) (sp : Span) (a : Mask) (ps : List Passed) (s : State) (c : Conf) → IsCalling w k g pc q sp a ps s c → CallRuns w.code w.turns c k q (calls_of w k.function sp a ps w.frame s)
-
-abbrev pub is_constant : Option Variable → Bool
-is_constant None = false
-is_constant (Some x) = x.constant
-
--- the variable that counts the lanes of a run is a constant, its register an int32
-pub record IsCounter (w : Setting) (i : ℕ) : Type 0 where
-  pub typed : elem_of w.routine (register Varying (w.layout.variable Varying i)) ≡ I32
-  pub constant : is_constant (slice_get w.function.variables i) ≡ true
-  pub unloaded : w.layout.loaded i ≡ false
+-- The code of an index that is taken as a row at slot n leaves the scalar from which the index counts on, for the members of the mask, or traps as
+-- the index does. What accesses need stands in the table: one that is read tests at the slot after it, one that is written two or three after.
+pub record RowRuns (w : Setting) (i : TExpr) (n : ℕ) : Type 0 where
+  pub row : IsRowType (type_of i).elem
+  pub typed : IsTyped w Uniform (w.layout.row_at i n) (type_of i).elem
+  pub scalar : IsScalar w n (w.layout.row_at i n)
+  pub table : (m : ℕ) → n < m → m ≤ n + 3 → InTable w (row_asks (type_of i).elem m)
+  pub runs : (pc p k q : ℕ) (a : Mask) (s : State) (c : Conf) → AreAt w.routine.code pc (w.layout.row i pc p k n)
+      → AreAt w.code.places p (expr_places w.layout i) → Enters w pc k n a s c q
+      → Runs w c (pc + length (w.layout.row i pc p k n)) n (4 + q)
+      (λ m c'. IsCounted (type_of i).elem a (c'.scalars (w.layout.row_at i n)) m)
+      (value (gang_of w) w.frame (calls_of w) i a s)
 
 -- The routine is that of the call, its registers are apart, it hands over as the functions' parameters ask, and its arrays
 -- are those of the function's variables, with the same stores open on both sides; those that run and those that may still
--- run are as many calls as there may be; a call from here does what it means; and the registers of constants that are kept have
--- their types.
+-- run are as many calls as there may be; a call from here does what it means; the registers of constants that are kept have
+-- their types; and the code of indices that are taken as rows does what they mean.
 pub record IsSettled (w : Setting) : Type 0 where
   pub gang : w.code.gang ≡ w.program.gang
   pub found : slice_get w.code.routines w.home.fn ≡ Some w.routine
@@ -135,51 +59,4 @@ pub record IsSettled (w : Setting) : Type 0 where
   pub calls : CallsRun w
   pub counter : (i : ℕ) → w.layout.run ≡ Some i → IsCounter w i
   pub constants : (r : Rate) (t : Elem) (b : ℕ) → w.layout.kept r t b ≡ true → elem_of w.routine (register r (w.layout.constant r t b)) ≡ t
-
--- a uniform variable of a function
-abbrev pub IsUniform : List Variable → ℕ → Type 0
-IsUniform vars v = (t : Elem) × HoldsValue vars v (ty_of Uniform t)
-
--- and a varying one
-abbrev pub IsVarying : List Variable → ℕ → Type 0
-IsVarying vars v = (t : Elem) × HoldsValue vars v (ty_of Varying t)
-
--- Registers, own arrays, arrays and output stand for a state, and registers of constants hold these. A scalar register with the number of
--- a variable that is not uniform may hold anything. It is stated of these parts alone, so that a step that changes other parts of the
--- machine leaves the fact as it is.
-pub record StandsFor (vars : List Variable) (l : Layout) (gang : ℕ) (start : ℕ) (members : Mask) (ones : ℕ → ℕ) (each : ℕ → Lanes) (owns : ℕ → ℕ → Lanes) (one : ℕ)
-    (in_each : Lanes) (stores : ℕ → Lanes) (text : List ℕ) (scalars : ℕ → ℕ) (vectors : ℕ → Lanes) (own : ℕ → ℕ → Lanes) (arrays : ℕ → Lanes)
-    (out : List ℕ) : Type 0 where
-  pub uniforms : (v : ℕ) → IsUniform vars v → scalars (l.variable Uniform v) ≡ ones v
-  pub varying : (v : ℕ) → vectors (l.variable Varying v) ≡ each v
-  pub result : scalars (l.result Uniform) ≡ one
-  pub results : vectors (l.result Varying) ≡ in_each
-  pub own_arrays : (v : ℕ) → own (l.array v) ≡ owns v
-  pub arrays_are : arrays ≡ stores
-  pub out_is : out ≡ text
-  pub run : RunHolds l.run start members (scalars (l.place Uniform)) each
-  pub constants : ConstantsHold l gang scalars vectors
-
--- a variable that is not the one that counts the lanes of a run
-abbrev pub IsOther : Setting → ℕ → Type 0
-IsOther w v = (i : ℕ) → w.layout.run ≡ Some i → i ≢ v
-
--- where it is written at a rate: one that is uniform counts none
-abbrev pub OtherAt : Setting → Rate → ℕ → Type 0
-OtherAt w Uniform v = Unit {0}
-OtherAt w Varying v = IsOther w v
-
-abbrev pub Stands : Setting → State → Conf → Type 0
-Stands w s c = StandsFor w.function.variables w.layout (gang_of w) w.start w.members s.uniforms s.varying s.own s.result s.results s.arrays s.out c.scalars c.vectors c.own c.arrays c.out
-
--- the spare registers of lower slots, all fresh registers, and the scalar registers with the numbers of varying variables are as they were,
--- whatever variables are written
-pub record SparesStay (vars : List Variable) (l : Layout) (n : ℕ) (scalars : ℕ → ℕ) (vectors : ℕ → Lanes) (scalars' : ℕ → ℕ) (vectors' : ℕ → Lanes) : Type 0 where
-  pub scalars_stay : (t : Elem) (j : ℕ) → j < n → scalars' (l.spare Uniform t j) ≡ scalars (l.spare Uniform t j)
-  pub vectors_stay : (t : Elem) (j : ℕ) → j < n → vectors' (l.spare Varying t j) ≡ vectors (l.spare Varying t j)
-  pub fresh_scalars : (j : ℕ) → scalars' (l.fresh Uniform j) ≡ scalars (l.fresh Uniform j)
-  pub fresh_vectors : (j : ℕ) → vectors' (l.fresh Varying j) ≡ vectors (l.fresh Varying j)
-  pub singles_stay : (v : ℕ) → IsVarying vars v → scalars' (l.variable Uniform v) ≡ scalars (l.variable Uniform v)
-
-abbrev pub Spares : Setting → ℕ → Conf → Conf → Type 0
-Spares w n c c' = SparesStay w.function.variables w.layout n c.scalars c.vectors c'.scalars c'.vectors
+  pub rows : (i : TExpr) (n : ℕ) → FineExpr w.program.functions w.function.variables i → w.layout.is_row i n ≡ true → RowRuns w i n

@@ -12,14 +12,17 @@ use Rattle.isp_code.specs.Registers.{elem_of, is_per_lane, is_local}
 use Rattle.isp_code.specs.declared.instr.Instr.{Instr}
 use Rattle.isp_code.specs.declared.register.Class.TheVariants as class
 use Rattle.isp_code.specs.declared.function.Param.{Param}
-use Rattle.isp_typed.specs.Fine.{params_of}
-use Rattle.isp_typed.specs.Typed.{TExpr, TFunction, TSimple, TItem}
+use Rattle.isp_typed.specs.Fine.{FineExpr, params_of}
+use Rattle.isp_typed.specs.Typed.{TExpr, TFunction, TSimple, TItem, type_of}
 use Rattle.isp_typed.specs.declared.variable.Variable.{Variable}
 use Rattle.isp_lower_code.specs.Callees.{rates_in}
 use Rattle.isp_lower_code.specs.Header.{kind_of, elem_held, returns_of}
 use Rattle.isp_typed.specs.declared.variable.ArrayVariable.{ArrayVariable}
 use Rattle.isp_lower_code.specs.Layout.{Layout, class_at, register, array_register}
+use Rattle.isp_lower_code.specs.Rated.{IsRated}
+use Rattle.isp_lower_code.specs.RowCode.{IsRowType, row_asks}
 use Rattle.isp_lower_code.specs.Rows.{Name, numbered}
+use Rattle.isp_lower_code.specs.Spans.{expr_places}
 use Rattle.isp_lower_code.specs.Asks.{Ask, All, expr_asks, simple_asks, items_asks}
 use Rattle.isp_lower_code.specs.Tables.{IsLoadedIn}
 
@@ -99,8 +102,17 @@ module _ (h : Routine) where
 abbrev pub HasKept : Routine → Layout → Type 0
 HasKept h l = (r : Rate) (t : Elem) (b : ℕ) → l.kept r t b ≡ true → IsRegister h r (l.constant r t b) t
 
--- each function has its routine, code hands over at the rates of the parameters, and constants that are kept have their registers
+-- the code of an index that is taken as a row at slot n has its operands; so have the scalar, and what accesses need
+pub record RowLinked (code : Listing) (h : Routine) (l : Layout) (i : TExpr) (n : ℕ) : Type 0 where
+  pub row : IsRowType (type_of i).elem
+  pub scalar : IsRegister h Uniform (l.row_at i n) (type_of i).elem
+  pub granted : (m : ℕ) → n < m → m ≤ n + 3 → Granted h l (row_asks (type_of i).elem m)
+  pub sound : PartSound code h (expr_places l i) (λ pc p k. l.row i pc p k n)
+
+-- each function has its routine, code hands over at the rates of the parameters, constants that are kept have their registers, and so have
+-- indices that are taken as rows
 pub record Links (fs : List TFunction) (code : Listing) (h : Routine) (l : Layout) : Type 0 where
   pub rates : l.rates ≡ rates_in fs
   pub headers : (f : ℕ) (g : TFunction) → slice_get fs f ≡ Some g → HasHeader code f g
   pub constants : HasKept h l
+  pub rows : (vars : List Variable) (i : TExpr) (n : ℕ) → FineExpr fs vars i → IsRated fs i → l.is_row i n ≡ true → RowLinked code h l i n

@@ -2,7 +2,7 @@
 use Rattle.std.specs.Prelude.{Bool, true, false, not, ◌&&◌}
 use Rattle.isp_base.specs.declared.types.Rate.{Rate}
 use Rattle.isp_base.specs.declared.types.Rate.TheVariants.{Uniform, Varying}
-use Rattle.isp_typed.specs.Typed.{TExpr, t_constant, t_program_index, t_place, t_convert, t_cast, t_unary, t_binary, t_compare, t_logic, t_choose, t_call, t_library, t_packed_store, t_packed_load, t_variable, t_element, type_of}
+use Rattle.isp_typed.specs.Typed.{TExpr, t_constant, t_place, t_convert, t_cast, t_logic, t_choose, t_variable, type_of}
 use Rattle.isp_meaning.specs.Calls.{same_rate}
 use Rattle.isp_lower_code.specs.Layout.{Layout}
 use Rattle.isp_lower_code.specs.Found.{is_copied, is_kept}

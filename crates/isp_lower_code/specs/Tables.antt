@@ -11,7 +11,7 @@ use Rattle.isp_typed.specs.declared.variable.Variable.{Variable}
 use Rattle.isp_lower_code.specs.Asks.{Ask, All}
 use Rattle.isp_lower_code.specs.Layout.{Layout, register}
 use Rattle.isp_lower_code.specs.Rows.{Name, numbered}
-use Rattle.isp_lower_code.specs.Setting.{Setting}
+use Rattle.isp_lower_code.specs.Standing.{Setting}
 
 -- the register of a rate and a number has this type
 abbrev pub IsTyped : Setting → Rate → ℕ → Elem → Type 0

@@ -87,6 +87,7 @@ module _ (program : Program) (code : Listing) (all : AreCompiled program code) (
     arrays = arrays_fit program code f h g l n xs is.arrays sig short;
     counter = λ i e. let no : Some i ≡ None = sym e ∙ is.run in absurd (cc);
     constants = is.kept_typed;
+    rows = λ i n fine e. let no : true ≡ false = sym e ∙ is.rows i n in absurd (cc);
     calls = calls_run program code all 255 f h g l (λ a. a) [] (handed 0 xs) (first_frame xs) n is.found (opened_there n) (sizes_there n) refl;
   }
 

@@ -14,7 +14,7 @@ use Rattle.isp_meaning.specs.Outcomes.{Res, Went, Trapped, Cut}
 use Rattle.isp_meaning.specs.State.{State}
 use Rattle.isp_meaning.specs.Statements.{run}
 use Rattle.isp_lower_code.specs.Consecutive.{RunHolds}
-use Rattle.isp_lower_code.specs.Layout.{Layout, IsApart, outside, run_in, within}
+use Rattle.isp_lower_code.specs.Layout.{Layout, IsApart, no_rows, outside, run_in, within}
 use Rattle.isp_lower_code.specs.Setting.{ArrayFitsAt, AreAt, At, IsCounter, IsSettled, Setting, Spares, Stands, calls_of, gang_of, is_constant}
 use Rattle.isp_lower_code.specs.Tables.{IsTyped}
 use Rattle.isp_lower_code.proofs.Lemmas.{none_holds}
@@ -29,9 +29,9 @@ use Rattle.isp_masks_code.specs.StmtRuns.{EntersAt, StmtRuns}
 abbrev pub with_layout : Setting → Layout → Mask → ℕ → Setting
 with_layout w l m b = record w { layout = l; members = m; start = b }
 
--- which variable counts, and whether code is for members alone, is no matter to registers
+-- which variable counts, and whether code is for members alone, is no matter to registers; rows are left behind
 abbrev pub run_as : Layout → Option ℕ → Bool → Layout
-run_as l o d = record l { run = o; in_run = d }
+run_as l o d = record l { run = o; in_run = d; is_row = no_rows }
 
 apart_same : (l : Layout) (o : Option ℕ) (d : Bool) → IsApart l → IsApart (run_as l o d)
 apart_same l o d a = record {
@@ -94,6 +94,7 @@ module _ (w : Setting) (o : Option ℕ) (d : Bool) (m : Mask) (b : ℕ) where
         });
     counter = counter;
     constants = ready.constants;
+    rows = λ i n fine is. absurd (cc);
   }
 
   pub stands_there : (s : State) (c : Conf) → Stands w s c → RunHolds o b m (c.scalars (w.layout.place Uniform)) s.varying → Stands there s c

@@ -169,6 +169,7 @@ module _ (program : Program) (code : Listing) (all : AreCompiled program code) w
         calls = runs;
         counter = λ i e. let no : Some i ≡ None = sym e ∙ compiled.compiled.run in absurd (cc);
         constants = compiled.compiled.kept_typed;
+        rows = λ i m fine e. let no : true ≡ false = sym e ∙ compiled.compiled.rows i m in absurd (cc);
       }
 
       -- ---- the body

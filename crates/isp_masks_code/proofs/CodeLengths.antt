@@ -22,7 +22,7 @@ use Rattle.isp_lower_code.specs.Instructions.{copy}
 use Rattle.isp_lower_code.specs.Layout.{Layout, outside}
 use Rattle.isp_lower_code.specs.Spans.{expr_places}
 use Rattle.isp_lower_code.specs.declared.constant.Constant.{Constant}
-use Rattle.isp_lower_code.proofs.Lemmas.{expr_long, operand_long, index_long, values_long, simple_long, items_long, expr_places_few, values_places_few, simple_places_few, items_places_few}
+use Rattle.isp_lower_code.proofs.Lemmas.{RowsShort, expr_long, operand_long, index_long, values_long, simple_long, items_long, expr_places_few, values_places_few, simple_places_few, items_places_few}
 use Rattle.isp_masks_code.specs.Asserts.{fails_code}
 use Rattle.isp_masks_code.specs.Exits.{all_go_on, both_go_on, exits_of, leaving_of}
 use Rattle.isp_masks_code.specs.Fors.{first_code, step_code, first_places, test_places, step_places}
@@ -35,6 +35,7 @@ use Rattle.isp_masks_code.specs.Rounds.{values_of}
 use Rattle.isp_masks_code.specs.Sets.{leave_code}
 use Rattle.isp_masks_code.specs.Spots.{Numbers, Spot, body_spot, first_spot, past}
 use Rattle.isp_masks_code.specs.Statements.{answer_code, behind, run_bodies, function_code, if_code, if_else_code, rest_code, test_place, block_code, block_places, block_texts, body_layout, returned, stmt_code, stmt_places, stmt_texts, stmts_code, stmts_places, stmts_texts}
+use Rattle.isp_masks_code.proofs.Bodies.{body_as}
 use Rattle.isp_masks_code.proofs.ConstantBodies.{constants_short}
 use Rattle.isp_masks_code.proofs.PieceLengths.{Most, jump_long, fails_long, if_long, if_else_long, do_long, for_long, endless_long, active_long, unique_long, ranges_long}
 use Rattle.isp_masks_code.proofs.Prints.{parts_counted, words_counted}
@@ -72,19 +73,19 @@ values_nodes (x ∷ xs) = ap (λ n. typed_nodes x + n) (values_nodes xs)
 
 -- ---- parts of statements
 
-module _ (l : Layout) where
+module _ (l : Layout) (short : RowsShort l) where
   value_long : (x : TExpr) (pc p k n : ℕ) → length (expr_code l x pc p k n) ≤ 32 * typed_nodes x
-  value_long x pc p k n = omega (arith, expr_long l x pc p k n)
+  value_long x pc p k n = omega (arith, expr_long l short x pc p k n)
 
   -- what may be left out is no code
   first_long : (o : Option TFirst) (pc p k n : ℕ) → length (first_code l o pc p k n) ≤ 64 * nodes_of_option first_nodes o
   first_long None pc p k n = omega arith
-  first_long (Some (t_first_declare xs s)) pc p k n = omega (arith, items_long l xs pc p k n)
-  first_long (Some (t_first_simple x)) pc p k n = omega (arith, simple_long l x pc p k n)
+  first_long (Some (t_first_declare xs s)) pc p k n = omega (arith, items_long l short xs pc p k n)
+  first_long (Some (t_first_simple x)) pc p k n = omega (arith, simple_long l short x pc p k n)
 
   step_long : (o : Option TSimple) (pc p k n : ℕ) → length (step_code l o pc p k n) ≤ 64 * nodes_of_option step_nodes o
   step_long None pc p k n = omega arith
-  step_long (Some x) pc p k n = omega (arith, simple_long l x pc p k n)
+  step_long (Some x) pc p k n = omega (arith, simple_long l short x pc p k n)
 
   bounds_long : (rs : List TRange) (pc p k n : ℕ) → length (bounds_code l rs pc p k n) ≤ 32 * nodes_of_all range_nodes rs
   bounds_long [] pc p k n = omega arith
@@ -95,7 +96,7 @@ module _ (l : Layout) where
       let pc1 = pc + length ca in
       let cb = bound_code l r.end pc1 p1 k (n + 1) in
       let cc = bounds_code l rs (pc1 + length cb) p2 k (n + 1 + 1) in
-      omega (arith, length-append ca (cb ++ cc), length-append cb cc, index_long l Uniform r.start pc p k n, index_long l Uniform r.end pc1 p1 k (n + 1), bounds_long rs (pc1 + length cb) p2 k (n + 1 + 1))
+      omega (arith, length-append ca (cb ++ cc), length-append cb cc, index_long l short Uniform r.start pc p k n, index_long l short Uniform r.end pc1 p1 k (n + 1), bounds_long rs (pc1 + length cb) p2 k (n + 1 + 1))
 
   foreach_long : (rs : List TRange) (pc p k n a : ℕ) (body : RunBodies) → Most a body.full → Most a body.rest → length (foreach_code l rs pc p k n body) ≤ a + a + 40 * nodes_of_all range_nodes rs + 27
   foreach_long rs pc p k n a body fa fb =
@@ -108,10 +109,10 @@ module _ (l : Layout) where
       omega (arith, length-append ca (cb ++ cc), length-append cb cc, bounds_long rs pc1 p k (n + 1 + 1), ranges_long l n h a body rs [] (n + 1 + 1) (places_slot n rs) pc2 fa fb, ranges_low rs)
 
   answer_long : (answer : Option Ty) (x : TExpr) (pc p k n : ℕ) → length (answer_code l answer x pc p k n) ≤ 32 * typed_nodes x
-  answer_long None x pc p k n = omega (arith, expr_long l x pc p k n)
+  answer_long None x pc p k n = omega (arith, expr_long l short x pc p k n)
   answer_long (Some t) x pc p k n =
       let ca = operand_of l t.rate x k n (expr_code l x pc p k n) in
-      omega (arith, length-append ca (copy t.rate (l.result t.rate) (operand l t.rate x n) k ∷ []), operand_long l t.rate x pc p k n)
+      omega (arith, length-append ca (copy t.rate (l.result t.rate) (operand l t.rate x n) k ∷ []), operand_long l short t.rate x pc p k n)
 
   print_long : (text : List ℕ) (xs : List TExpr) (pc p t k n : ℕ) → count_by (λ c. c == percent) text ≡ length xs
       → length (print_code l text xs pc p t k n) ≤ 34 * nodes_of_all typed_nodes xs + 1
@@ -119,7 +120,7 @@ module _ (l : Layout) where
       let rs = own_rates xs in
       let regs = value_registers l rs (t_exprs xs) n in
       let ca = values_code l rs (t_exprs xs) pc p k n in
-      omega (arith, length-append ca (parts_code (parts text) rs regs t k), values_long l rs (t_exprs xs) pc p k n, parts_counted text xs rs regs t k count, values_nodes xs, values_some xs)
+      omega (arith, length-append ca (parts_code (parts text) rs regs t k), values_long l short rs (t_exprs xs) pc p k n, parts_counted text xs rs regs t k count, values_nodes xs, values_some xs)
 
 less : {m n : ℕ} → m + 4 ≤ n → m ≤ n
 less le = omega (arith, le)
@@ -134,19 +135,19 @@ rest_long false (t_stmt_then x xs) k pc a code fa = omega (arith, fa (pc + 1))
 
 module _ (fs : List TFunction) (vars : List Variable) (answer : Option Ty) where
   mutual
-    stmt_long : (l : Layout) (x : TStmt) → FineStmt fs vars answer x → (pc : ℕ) (z : Numbers) (spot : Spot) → length (stmt_code l answer x pc z spot) + 4 ≤ 128 * (stmt_nodes x + stmt_again x)
-    stmt_long l (t_block b) f pc z spot = body_long l b f pc z spot
-    stmt_long l (t_declare xs s) f pc z spot = omega (arith, items_long l xs pc z.place spot.on spot.slot)
-    stmt_long l (t_simple x s) f pc z spot = omega (arith, simple_long l x pc z.place spot.on spot.slot)
-    stmt_long l (t_if g m e x s) f pc z spot =
+    stmt_long : (l : Layout) → RowsShort l → (x : TStmt) → FineStmt fs vars answer x → (pc : ℕ) (z : Numbers) (spot : Spot) → length (stmt_code l answer x pc z spot) + 4 ≤ 128 * (stmt_nodes x + stmt_again x)
+    stmt_long l short (t_block b) f pc z spot = body_long l short b f pc z spot
+    stmt_long l short (t_declare xs s) f pc z spot = omega (arith, items_long l short xs pc z.place spot.on spot.slot)
+    stmt_long l short (t_simple x s) f pc z spot = omega (arith, simple_long l short x pc z.place spot.on spot.slot)
+    stmt_long l short (t_if g m e x s) f pc z spot =
         let z1 = past (expr_places l e) z in
         let ca = expr_code l e pc z.place spot.on spot.slot in
         let first = λ (pc1 : ℕ) (part : Spot). stmt_code l answer x pc1 z1 part in
         let r = (type_of e).rate in
         let y = found l e spot.slot in
-        let h : length (if_code (leaving_of x) g r y (pc + length ca) spot first) ≤ 128 * (stmt_nodes x + stmt_again x) + 7 = if_long (leaving_of x) g r y (pc + length ca) (128 * (stmt_nodes x + stmt_again x)) spot first (λ pc1 part. less (stmt_long l x f.2 pc1 z1 part)) in
-        omega (arith, length-append ca (if_code (leaving_of x) g r y (pc + length ca) spot first), expr_long l e pc z.place spot.on spot.slot, h)
-    stmt_long l (t_if_else g m e x y s) f pc z spot =
+        let h : length (if_code (leaving_of x) g r y (pc + length ca) spot first) ≤ 128 * (stmt_nodes x + stmt_again x) + 7 = if_long (leaving_of x) g r y (pc + length ca) (128 * (stmt_nodes x + stmt_again x)) spot first (λ pc1 part. less (stmt_long l short x f.2 pc1 z1 part)) in
+        omega (arith, length-append ca (if_code (leaving_of x) g r y (pc + length ca) spot first), expr_long l short e pc z.place spot.on spot.slot, h)
+    stmt_long l short (t_if_else g m e x y s) f pc z spot =
         let z1 = past (expr_places l e) z in
         let ca = expr_code l e pc z.place spot.on spot.slot in
         let first = λ (pc1 : ℕ) (part : Spot). stmt_code l answer x pc1 z1 part in
@@ -154,26 +155,26 @@ module _ (fs : List TFunction) (vars : List Variable) (answer : Option Ty) where
         let code = if_else_code (both_go_on x y) g (type_of e).rate (found l e spot.slot) (pc + length ca) spot first second in
         let h : length code ≤ 128 * (stmt_nodes x + stmt_again x) + 128 * (stmt_nodes y + stmt_again y) + 8 =
         if_else_long (both_go_on x y) g (type_of e).rate (found l e spot.slot) (pc + length ca) (128 * (stmt_nodes x + stmt_again x)) (128 * (stmt_nodes y + stmt_again y)) spot first second
-        (λ pc1 part. less (stmt_long l x f.2 pc1 z1 part)) (λ pc1 part. less (stmt_long l y f.3 pc1 (behind l x z1) part)) in
-        omega (arith, length-append ca code, expr_long l e pc z.place spot.on spot.slot, h)
-    stmt_long l (t_while g m e x s) f pc z spot =
+        (λ pc1 part. less (stmt_long l short x f.2 pc1 z1 part)) (λ pc1 part. less (stmt_long l short y f.3 pc1 (behind l x z1) part)) in
+        omega (arith, length-append ca code, expr_long l short e pc z.place spot.on spot.slot, h)
+    stmt_long l short (t_while g m e x s) f pc z spot =
         let n = spot.slot in
         let z1 = past (expr_places l e) z in
         let p2 = test_place l x None z1 in
         let h =
         for_long (is_wide g (type_of e).rate) (exits_of x) (type_of e).rate (found l e (n + 3)) pc (32 * typed_nodes e) (32 * typed_nodes e) (128 * (stmt_nodes x + stmt_again x)) 0 spot
         (λ pc1. expr_code l e pc1 z.place n (n + 3)) (λ pc1. expr_code l e pc1 p2 n (n + 3)) (λ pc1. stmt_code l answer x pc1 z1 (body_spot n)) no_code
-        (λ pc1. value_long l e pc1 z.place n (n + 3)) (λ pc1. value_long l e pc1 p2 n (n + 3)) (λ pc1. less (stmt_long l x f.2 pc1 z1 (body_spot n))) (λ pc1. omega arith) in
+        (λ pc1. value_long l short e pc1 z.place n (n + 3)) (λ pc1. value_long l short e pc1 p2 n (n + 3)) (λ pc1. less (stmt_long l short x f.2 pc1 z1 (body_spot n))) (λ pc1. omega arith) in
         omega (arith, h)
-    stmt_long l (t_do g m x e s) f pc z spot =
+    stmt_long l short (t_do g m x e s) f pc z spot =
         let n = spot.slot in
         let p2 = test_place l x None z in
         let h =
         do_long (is_wide g (type_of e).rate) (exits_of x) (type_of e).rate (found l e (n + 3)) pc (32 * typed_nodes e) (128 * (stmt_nodes x + stmt_again x)) spot
         (λ pc1. expr_code l e pc1 p2 n (n + 3)) (λ pc1. stmt_code l answer x pc1 z (body_spot n))
-        (λ pc1. value_long l e pc1 p2 n (n + 3)) (λ pc1. less (stmt_long l x f.1 pc1 z (body_spot n))) in
+        (λ pc1. value_long l short e pc1 p2 n (n + 3)) (λ pc1. less (stmt_long l short x f.1 pc1 z (body_spot n))) in
         omega (arith, h)
-    stmt_long l (t_for g m first None step i x s) f pc z spot =
+    stmt_long l short (t_for g m first None step i x s) f pc z spot =
         let n = spot.slot in
         let z1 = past (first_places l first) z in
         let ca = first_code l first pc z.place spot.on n in
@@ -181,9 +182,9 @@ module _ (fs : List TFunction) (vars : List Variable) (answer : Option Ty) where
         let next = λ (pc2 : ℕ). step_code l step pc2 (behind l x z1).place n (n + 3) in
         let code = endless_code (exits_of x) (pc + length ca) spot body next in
         let h : length code ≤ 128 * (stmt_nodes x + stmt_again x) + 64 * nodes_of_option step_nodes step + 9 =
-        endless_long (exits_of x) (pc + length ca) (128 * (stmt_nodes x + stmt_again x)) (64 * nodes_of_option step_nodes step) spot body next (λ pc2. less (stmt_long l x f.5 pc2 z1 (body_spot n))) (λ pc2. step_long l step pc2 (behind l x z1).place n (n + 3)) in
-        omega (arith, length-append ca code, first_long l first pc z.place spot.on n, h)
-    stmt_long l (t_for g m first (Some e) step i x s) f pc z spot =
+        endless_long (exits_of x) (pc + length ca) (128 * (stmt_nodes x + stmt_again x)) (64 * nodes_of_option step_nodes step) spot body next (λ pc2. less (stmt_long l short x f.5 pc2 z1 (body_spot n))) (λ pc2. step_long l short step pc2 (behind l x z1).place n (n + 3)) in
+        omega (arith, length-append ca code, first_long l short first pc z.place spot.on n, h)
+    stmt_long l short (t_for g m first (Some e) step i x s) f pc z spot =
         let n = spot.slot in
         let z1 = past (first_places l first) z in
         let z2 = past (expr_places l e) z1 in
@@ -196,65 +197,65 @@ module _ (fs : List TFunction) (vars : List Variable) (answer : Option Ty) where
         let code = for_code (is_wide g (type_of e).rate) (exits_of x) (type_of e).rate (found l e (n + 3)) (pc + length ca) spot entry test body next in
         let h : length code ≤ 32 * typed_nodes e + 32 * typed_nodes e + 128 * (stmt_nodes x + stmt_again x) + 64 * nodes_of_option step_nodes step + 12 =
         for_long (is_wide g (type_of e).rate) (exits_of x) (type_of e).rate (found l e (n + 3)) (pc + length ca) (32 * typed_nodes e) (32 * typed_nodes e) (128 * (stmt_nodes x + stmt_again x)) (64 * nodes_of_option step_nodes step) spot
-        entry test body next (λ pc2. value_long l e pc2 z1.place n (n + 3)) (λ pc2. value_long l e pc2 p2 n (n + 3)) (λ pc2. less (stmt_long l x f.5 pc2 z2 (body_spot n))) (λ pc2. step_long l step pc2 (behind l x z2).place n (n + 3)) in
-        omega (arith, length-append ca code, first_long l first pc z.place spot.on n, h)
-    stmt_long l (t_foreach w m rs x s) f pc z spot =
+        entry test body next (λ pc2. value_long l short e pc2 z1.place n (n + 3)) (λ pc2. value_long l short e pc2 p2 n (n + 3)) (λ pc2. less (stmt_long l short x f.5 pc2 z2 (body_spot n))) (λ pc2. step_long l short step pc2 (behind l x z2).place n (n + 3)) in
+        omega (arith, length-append ca code, first_long l short first pc z.place spot.on n, h)
+    stmt_long l short (t_foreach w m rs x s) f pc z spot =
         let lb = body_layout l rs in
         let k = runs_slot spot.slot rs in
         let z1 = past (ranges_places l rs) z in
         let room = 128 * (stmt_nodes x + stmt_again x) in
-        let most : (z2 : Numbers) (pc1 : ℕ) → length (stmt_code lb answer x pc1 z2 (body_spot k)) ≤ room = λ z2 pc1. less (stmt_long lb x f.2 pc1 z2 (body_spot k)) in
-        let h = foreach_long l rs pc z.place spot.on spot.slot room (run_bodies lb answer x k z1) (most z1) (most (behind lb x z1)) in
+        let most : (z2 : Numbers) (pc1 : ℕ) → length (stmt_code lb answer x pc1 z2 (body_spot k)) ≤ room = λ z2 pc1. less (stmt_long lb (body_as RowsShort l rs short (λ o d i pc p k n is. absurd (cc))) x f.2 pc1 z2 (body_spot k)) in
+        let h = foreach_long l short rs pc z.place spot.on spot.slot room (run_bodies lb answer x k z1) (most z1) (most (behind lb x z1)) in
         omega (arith, h)
-    stmt_long l (t_foreach_active w m i x s) f pc z spot =
+    stmt_long l short (t_foreach_active w m i x s) f pc z spot =
         let at = body_spot (spot.slot + 1) in
         let h =
-        active_long (l.variable Uniform i) pc spot.on spot.slot (128 * (stmt_nodes x + stmt_again x)) (λ pc1. stmt_code l answer x pc1 z at) (λ pc1. less (stmt_long l x f.2 pc1 z at)) in
+        active_long (l.variable Uniform i) pc spot.on spot.slot (128 * (stmt_nodes x + stmt_again x)) (λ pc1. stmt_code l answer x pc1 z at) (λ pc1. less (stmt_long l short x f.2 pc1 z at)) in
         omega (arith, h)
-    stmt_long l (t_foreach_unique w m i t e x s) f pc z spot =
+    stmt_long l short (t_foreach_unique w m i t e x s) f pc z spot =
         let k = spot.on in
         let n = spot.slot in
         let z1 = past (expr_places l e) z in
         let h =
         unique_long (values_of l (elem_of e) i n) (operand_of l Varying e k n (expr_code l e pc z.place k n)) (operand l Varying e n) pc k n (128 * (stmt_nodes x + stmt_again x))
-        (λ pc1. stmt_code l answer x pc1 z1 (body_spot (n + 1))) (λ pc1. less (stmt_long l x f.3 pc1 z1 (body_spot (n + 1)))) in
-        omega (arith, operand_long l Varying e pc z.place k n, h)
-    stmt_long l (t_unmasked w b s) f pc z spot = omega (arith, body_long (outside l) b f (pc + 1) z (body_spot spot.slot))
-    stmt_long l (t_jump j w s) f pc z spot = omega (arith, jump_long j spot.on spot.continued)
-    stmt_long l (t_return w None s) f pc z spot = omega arith
-    stmt_long l (t_return w (Some x) s) f pc z spot =
+        (λ pc1. stmt_code l answer x pc1 z1 (body_spot (n + 1))) (λ pc1. less (stmt_long l short x f.3 pc1 z1 (body_spot (n + 1)))) in
+        omega (arith, operand_long l short Varying e pc z.place k n, h)
+    stmt_long l short (t_unmasked w b s) f pc z spot = omega (arith, body_long (outside l) (λ i pc p k n is. absurd (cc)) b f (pc + 1) z (body_spot spot.slot))
+    stmt_long l short (t_jump j w s) f pc z spot = omega (arith, jump_long j spot.on spot.continued)
+    stmt_long l short (t_return w None s) f pc z spot = omega arith
+    stmt_long l short (t_return w (Some x) s) f pc z spot =
         let ca = answer_code l answer x pc z.place spot.on spot.slot in
-        omega (arith, length-append ca (leave_code spot.returned spot.on), answer_long l answer x pc z.place spot.on spot.slot)
-    stmt_long l (t_print w text xs s) f pc z spot = omega (arith, print_long l text xs pc z.place z.text spot.on spot.slot f.0)
-    stmt_long l (t_assert x c s) f pc z spot =
+        omega (arith, length-append ca (leave_code spot.returned spot.on), answer_long l short answer x pc z.place spot.on spot.slot)
+    stmt_long l short (t_print w text xs s) f pc z spot = omega (arith, print_long l short text xs pc z.place z.text spot.on spot.slot f.0)
+    stmt_long l short (t_assert x c s) f pc z spot =
         let ca = expr_code l x pc z.place spot.on spot.slot in
         let p = z.place + length (expr_places l x) in
         let r = (type_of x).rate in
         let y = found l x spot.slot in
-        omega (arith, length-append ca (fails_code r y (pc + length ca) p spot.on spot.slot), expr_long l x pc z.place spot.on spot.slot, fails_long r y (pc + length ca) p spot.on spot.slot)
+        omega (arith, length-append ca (fails_code r y (pc + length ca) p spot.on spot.slot), expr_long l short x pc z.place spot.on spot.slot, fails_long r y (pc + length ca) p spot.on spot.slot)
 
-    body_long : (l : Layout) (b : TBlock) → FineBlock fs vars answer b → (pc : ℕ) (z : Numbers) (spot : Spot) → length (block_code l answer b pc z spot) + 4 ≤ 128 * (block_nodes b + block_again b)
-    body_long l (t_braces xs s) f pc z spot = omega (arith, stmts_long l xs f pc z spot)
+    body_long : (l : Layout) → RowsShort l → (b : TBlock) → FineBlock fs vars answer b → (pc : ℕ) (z : Numbers) (spot : Spot) → length (block_code l answer b pc z spot) + 4 ≤ 128 * (block_nodes b + block_again b)
+    body_long l short (t_braces xs s) f pc z spot = omega (arith, stmts_long l short xs f pc z spot)
 
-    stmts_long : (l : Layout) (xs : TStmts) → FineStmts fs vars answer xs → (pc : ℕ) (z : Numbers) (spot : Spot) → length (stmts_code l answer xs pc z spot) ≤ 128 * (stmts_nodes xs + stmts_again xs)
-    stmts_long l t_no_stmts f pc z spot = omega arith
-    stmts_long l (t_stmt_then x xs) f pc z spot =
+    stmts_long : (l : Layout) → RowsShort l → (xs : TStmts) → FineStmts fs vars answer xs → (pc : ℕ) (z : Numbers) (spot : Spot) → length (stmts_code l answer xs pc z spot) ≤ 128 * (stmts_nodes xs + stmts_again xs)
+    stmts_long l short t_no_stmts f pc z spot = omega arith
+    stmts_long l short (t_stmt_then x xs) f pc z spot =
         let ca = stmt_code l answer x pc z spot in
         let rest = λ (pc1 : ℕ). stmts_code l answer xs pc1 (behind l x z) spot in
         let code = rest_code (all_go_on x) xs spot.on (pc + length ca) rest in
-        let h : length code ≤ 128 * (stmts_nodes xs + stmts_again xs) + 1 = rest_long (all_go_on x) xs spot.on (pc + length ca) (128 * (stmts_nodes xs + stmts_again xs)) rest (λ pc1. stmts_long l xs f.1 pc1 (behind l x z) spot) in
-        omega (arith, length-append ca code, stmt_long l x f.0 pc z spot, h)
+        let h : length code ≤ 128 * (stmts_nodes xs + stmts_again xs) + 1 = rest_long (all_go_on x) xs spot.on (pc + length ca) (128 * (stmts_nodes xs + stmts_again xs)) rest (λ pc1. stmts_long l short xs f.1 pc1 (behind l x z) spot) in
+        omega (arith, length-append ca code, stmt_long l short x f.0 pc z spot, h)
 
-  pub block_long : (l : Layout) (b : TBlock) → FineBlock fs vars answer b → (pc : ℕ) (z : Numbers) (spot : Spot) → length (block_code l answer b pc z spot) ≤ 128 * (block_nodes b + block_again b)
-  block_long l b f pc z spot = omega (arith, body_long l b f pc z spot)
+  pub block_long : (l : Layout) → RowsShort l → (b : TBlock) → FineBlock fs vars answer b → (pc : ℕ) (z : Numbers) (spot : Spot) → length (block_code l answer b pc z spot) ≤ 128 * (block_nodes b + block_again b)
+  block_long l short b f pc z spot = omega (arith, body_long l short b f pc z spot)
 
   -- with the constants that are kept, and the return
-  pub function_long : (l : Layout) (ks : List Constant) (b : TBlock) → keep_steps ks ≤ 24 → FineBlock fs vars answer b → (pc : ℕ) (z : Numbers)
+  pub function_long : (l : Layout) → RowsShort l → (ks : List Constant) (b : TBlock) → keep_steps ks ≤ 24 → FineBlock fs vars answer b → (pc : ℕ) (z : Numbers)
       → length (function_code l answer ks b pc z) ≤ 128 * (block_nodes b + block_again b) + 32
-  function_long l ks b le f pc z =
+  function_long l short ks b le f pc z =
       let ca = constants_code l 3 ks in
       let cb = block_code l answer b (pc + length ca) z first_spot in
-      omega (arith, length-append (ca ++ cb) (instr.Return (returned l answer) ∷ []), length-append ca cb, constants_short l 3 ks le, body_long l b f (pc + length ca) z first_spot)
+      omega (arith, length-append (ca ++ cb) (instr.Return (returned l answer) ∷ []), length-append ca cb, constants_short l 3 ks le, body_long l short b f (pc + length ca) z first_spot)
 
 -- ---- places
 

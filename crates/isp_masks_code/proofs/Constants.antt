@@ -1,22 +1,12 @@
 -- What the text of code asks of a function besides numbers of 32 bits: its names are words, its local arrays have 1 to 65,536 elements,
 -- and its constants have 64 bits.
-use Rattle.std.proofs.Common.{◌≡◌, ℕ, zero, suc, ◌-◌, ◌^◌, ◌<◌, ◌≤◌, ℤ, pos, negsuc, ◌-ℤ◌, neg_ℤ, int_lt, nat_lt, nat_le, List, [], ◌∷◌, length, take, drop, Bool, true, false, not, ◌&&◌, refl, sym, ap, ◌∙◌, subst, lt-ltb, le-leb, arith}
+use Rattle.std.proofs.Common.{◌≡◌, ℕ, zero, suc, nat_le, List, [], ◌∷◌, length, take, drop, Bool, true, false, ◌&&◌, refl, sym, ap, ◌∙◌, subst, le-leb, arith}
 use Rattle.std.specs.List.{All, list_all}
-use Rattle.std.proofs.lemmas.Bool.{and_from, and_parts, le-ltb, ltb-false, not-true, not_from_false}
-use Rattle.isp_base.specs.Values.{width, greatest}
+use Rattle.std.proofs.lemmas.Bool.{and_from, and_parts}
 use Rattle.isp_base.specs.declared.signature.Parameter.{Parameter}
-use Rattle.isp_base.specs.declared.types.Elem.{Elem}
-use Rattle.isp_base.specs.declared.types.Elem.TheVariants.{Bool as Truth, I8, U8, I16, U16, I32, U32, I64, U64}
-use Rattle.isp_code.specs.Fine.{has_value}
 use Rattle.isp_code.specs.Listing.{Listing, Routine}
-use Rattle.isp_code.specs.Registers.{elem_of}
-use Rattle.isp_code.specs.Writable.{constant_fits, constant_in, is_first_byte, is_word_byte, local_fits, name_fits, param_fits, parts_fit, scalar_constant}
+use Rattle.isp_code.specs.Writable.{constant_in, is_first_byte, is_word_byte, local_fits, name_fits, param_fits, parts_fit}
 use Rattle.isp_code.specs.declared.function.Local.{Local}
-use Rattle.isp_code.specs.declared.instr.Instr.{Instr}
-use Rattle.isp_code.specs.declared.instr.Instr.TheVariants as instr
-use Rattle.isp_code.specs.declared.instr.ScalarInstr.{ScalarInstr}
-use Rattle.isp_code.specs.declared.instr.ScalarInstr.TheVariants as scalar
-use Rattle.isp_code.specs.declared.register.Register.{Register}
 use Rattle.isp_lex.specs.Bytes as bytes
 use Rattle.isp_lex.specs.Lexing.{IsWord}
 use Rattle.isp_typed.specs.Fine.{AreParams, FineFunction, IsDeclared, IsParam}

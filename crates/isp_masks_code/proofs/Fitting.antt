@@ -1,7 +1,7 @@
 -- What the laws use of a statement, from what is asked of it.
 use Rattle.std.proofs.Common.{◌≡◌, ◌≤◌, ℕ, ◌+◌, List, [], ◌∷◌, length, Option, Some, None, refl, ap, Bool, true, false, subst, arith}
 use Rattle.isp_base.specs.Ranks.{operand}
-use Rattle.isp_base.specs.declared.types.Elem.TheVariants.{I32, I64}
+use Rattle.isp_base.specs.declared.types.Elem.TheVariants.{Bool as Truth, I32, I64}
 use Rattle.isp_base.specs.declared.types.Rate.{Rate}
 use Rattle.isp_base.specs.declared.types.Rate.TheVariants.{Uniform, Varying}
 use Rattle.isp_base.specs.declared.types.Ty.{Ty}
@@ -13,7 +13,7 @@ use Rattle.isp_lower_code.specs.Asks.{Ask}
 use Rattle.isp_lower_code.specs.Fits.{ItemsOther}
 use Rattle.isp_lower_code.specs.Rated.{Reaches}
 use Rattle.isp_lower_code.specs.Setting.{Setting, OtherAt, is_constant}
-use Rattle.isp_lower_code.proofs.Lemmas.{ExprTree, IsHeldIn, OperandTree, Owned, OwnTable, owned, expr_fits, operand_fits, values_fit, simple_fits, items_fit, RunConstant, all_grow, simple_other}
+use Rattle.isp_lower_code.proofs.Lemmas.{AreFine, ExprTree, IsHeldIn, OperandTree, Owned, OwnTable, owned, expr_fits, operand_fits, values_fit, simple_fits, items_fit, RunConstant, all_grow, simple_other}
 use Rattle.isp_masks_code.specs.Prints.{own_rates}
 use Rattle.isp_masks_code.specs.Asks.{answer_asks, unique_asks, bound_asks, bounds_asks, places_asks, ranges_asks, part_slot, parts_slot, first_asks, test_part_asks, step_asks, stmt_asks, block_asks, stmts_asks}
 use Rattle.isp_masks_code.specs.Ranges.{places_slot, runs_slot}
@@ -28,7 +28,7 @@ use Rattle.isp_masks_code.specs.Statements.{body_layout}
 use Rattle.isp_lower_code.specs.Layout.{Layout, outside}
 use Rattle.isp_lower_code.specs.Rows.{Name, Variable, Result, Spare, Place, Fresh, Kept}
 use Rattle.isp_lower_code.specs.Tables.{AnyMask, IsLoadedIn, IsNamedIn}
-use Rattle.isp_typed.specs.Fine.{FineBlock, FineFirst, FineRange, FineSimple, FineStmt, FineStmts, HoldsArray}
+use Rattle.isp_typed.specs.Fine.{FineBlock, FineExpr, FineFirst, FineReturned, FineValue, FineRange, FineSimple, FineStmt, FineStmts, HoldsArray}
 use Rattle.isp_typed.specs.Indices.{foreach_index}
 use Rattle.isp_tree.specs.Sound.{IfAny}
 use Rattle.isp_code.specs.Listing.{Routine}
@@ -45,21 +45,23 @@ module _ (w : Setting) where
   abbrev Named : Ask → Type 0
   Named a = Owned w a
 
-  answer_fits : (answer : Option Ty) (x : TExpr) (n : ℕ) → AnswerTree w.program.functions answer x → Named (answer_asks answer x n) → AnswerFits w answer x n
-  answer_fits None x n t b = expr_fits w x n t b
-  answer_fits (Some u) x n t b = (operand_fits w u.rate u.elem x n t.0 b.1, expr_fits w x n t.1 b.1.1)
+  answer_fits : (answer : Option Ty) (x : TExpr) (n : ℕ) → FineReturned w.program.functions w.function.variables answer (Some x) → AnswerTree w.program.functions answer x → Named (answer_asks answer x n) → AnswerFits w answer x n
+  answer_fits None x n ok t b = absurd ok
+  answer_fits (Some u) x n ok t b = (operand_fits w u.rate u.elem x n t.0 b.1, expr_fits w x n ok.0 t.1 b.1.1)
 
   -- a bound of a `foreach`
   one_for_all : (g : Rate) → Reaches g Uniform → g ≡ Uniform
   one_for_all Uniform re = refl
   one_for_all Varying re = absurd re
 
-  bound_fits : (x : TExpr) (n : ℕ) → OperandTree Uniform I32 x → ExprTree w.program.functions x → Named (bound_asks x n) → BoundParts w x n
-  bound_fits x n o t i = (one_for_all (type_of x).rate o.reaches, o.elem, i.0.0, expr_fits w x n t i.1.1.1)
+  bound_fits : (x : TExpr) (n : ℕ) → FineExpr w.program.functions w.function.variables x → OperandTree Uniform I32 x → ExprTree w.program.functions x → Named (bound_asks x n) → BoundParts w x n
+  bound_fits x n ok o t i = (one_for_all (type_of x).rate o.reaches, o.elem, i.0.0, expr_fits w x n ok t i.1.1.1)
 
-  bounds_fit : (rs : List TRange) (n : ℕ) → RangesTree w.program.functions rs → Named (bounds_asks rs n) → BoundsParts w rs n
-  bounds_fit [] n t i = tt
-  bounds_fit (r ∷ rs) n t i = (bound_fits r.start n t.0 t.1 i.0, bound_fits r.end (n + 1) t.2 t.3 i.1.1.0, bounds_fit rs (n + 1 + 1) t.4 i.1.1.1.1)
+  bounds_fit : (rs : List TRange) (n : ℕ) → All (FineRange w.program.functions w.function.variables) rs → RangesTree w.program.functions rs → Named (bounds_asks rs n) → BoundsParts w rs n
+  bounds_fit [] n ok t i = tt
+  bounds_fit (r ∷ rs) n ok t i =
+      let one = ok 0 r (omega arith) in
+      (bound_fits r.start n one.start.0 t.0 t.1 i.0, bound_fits r.end (n + 1) one.end.0 t.2 t.3 i.1.1.0, bounds_fit rs (n + 1 + 1) (λ k d lt. ok (suc k) d (omega (arith, lt))) t.4 i.1.1.1.1)
 
   places_fit : (rs : List TRange) (m : ℕ) → Named (places_asks rs m) → RangesTyped w rs m
   places_fit [] m i = tt
@@ -79,16 +81,16 @@ module _ (w : Setting) where
   foreach_fits rs n fine some le t i = record {
     few = le;
     measures = record { first = i.0.0.0; numbers = i.0.1.0.0; lanes = i.0.1.1.0.0; short = i.0.1.1.1.1.0.0; one = i.0.1.1.1.1.1.1.0.0 };
-    bounds = bounds_fit rs (n + 1 + 1) t i.1.0;
+    bounds = bounds_fit rs (n + 1 + 1) fine t i.1.0;
     places = places_fit rs (places_slot n rs) i.1.1.0;
     some = some;
     constants = ranges_constant rs fine;
   }
 
-  unique_fits : (v : ℕ) (u : Elem) (e : TExpr) (n : ℕ) → OperandTree Varying (operand u) e → ExprTree w.program.functions e → Named (unique_asks v u e n) → UniqueFits w v u e n
-  unique_fits v u e n o t i = record {
+  unique_fits : (v : ℕ) (u : Elem) (e : TExpr) (n : ℕ) → FineExpr w.program.functions w.function.variables e → OperandTree Varying (operand u) e → ExprTree w.program.functions e → Named (unique_asks v u e n) → UniqueFits w v u e n
+  unique_fits v u e n ok o t i = record {
     operand = operand_fits w Varying (elem_of e) e n (record { elem = refl; reaches = o.reaches }) i.0;
-    expr = expr_fits w e n t i.0.1;
+    expr = expr_fits w e n ok t i.0.1;
     all = i.1.0.0;
     index = i.1.1.0.0;
     single = (u, i.1.1.0.1);
@@ -100,16 +102,16 @@ module _ (w : Setting) where
   -- the parts of a `for` that may be left out
   first_fits : (o : Option TFirst) (n : ℕ) → RunConstant w → IfAny (FineFirst w.program.functions w.function.variables) o → FirstFree w.layout.run o → FirstTree w.program.functions o → Named (first_asks o n) → FirstFits w o n
   first_fits None n k f free t i = tt
-  first_fits (Some (t_first_declare xs sp)) n k f free t i = items_fit w xs n t i (items_other xs free)
-  first_fits (Some (t_first_simple x)) n k f free t i = simple_fits w x n t i (simple_other w k x f)
+  first_fits (Some (t_first_declare xs sp)) n k f free t i = items_fit w xs n f t i (items_other xs free)
+  first_fits (Some (t_first_simple x)) n k f free t i = simple_fits w x n f t i (simple_other w k x f)
 
-  test_fits : (o : Option TExpr) (n : ℕ) → TestTree w.program.functions o → Named (test_part_asks o n) → TestFits w o n
-  test_fits None n t i = tt
-  test_fits (Some e) n t i = expr_fits w e n t.0 i
+  test_fits : (o : Option TExpr) (n : ℕ) → IfAny (FineValue w.program.functions w.function.variables Truth) o → TestTree w.program.functions o → Named (test_part_asks o n) → TestFits w o n
+  test_fits None n ok t i = tt
+  test_fits (Some e) n ok t i = expr_fits w e n ok.0 t.0 i
 
   step_fits : (o : Option TSimple) (n : ℕ) → RunConstant w → IfAny (FineSimple w.program.functions w.function.variables) o → StepTree w.program.functions o → Named (step_asks o n) → StepFits w o n
   step_fits None n k f t i = tt
-  step_fits (Some x) n k f t i = simple_fits w x n t i (simple_other w k x f)
+  step_fits (Some x) n k f t i = simple_fits w x n f t i (simple_other w k x f)
 
 -- a table is told of registers alone
 named_same : (h : Routine) (l : Layout) (o : Option ℕ) (d : Bool) (r : Rate) (x : Name) (t : Elem) → IsNamedIn h l r x t → IsNamedIn h (run_as l o d) r x t
@@ -124,6 +126,10 @@ table_same : (h : Routine) (l : Layout) (vars : List variable.Variable) (o : Opt
 table_same h l vars o d a f =
     all_grow (IsHeldIn h l vars) (IsHeldIn h (run_as l o d) vars) (HoldsArray vars) (HoldsArray vars) (HoldsArray vars) (HoldsArray vars) AnyMask AnyMask
     (IsLoadedIn l) (IsLoadedIn l) (λ r x t f. (named_same h l o d r x t f.0, f.1)) (λ y f. f) (λ y f. f) (λ k f. f) (λ v f. f) a f
+
+values_fine : (w : Setting) (xs : List TExpr) → All (FineExpr w.program.functions w.function.variables) xs → AreFine w (t_exprs xs)
+values_fine w [] f = tt
+values_fine w (x ∷ xs) f = (f 0 x (omega arith), values_fine w xs (λ k d lt. f (suc k) d (omega (arith, lt))))
 
 none_of : (o : Option ℕ) → NoneYet o → o ≡ None
 none_of None f = refl
@@ -143,15 +149,15 @@ mutual
   pub stmt_fits : (x : TStmt) (w : Setting) (n : ℕ) → RunConstant w → FineStmt w.program.functions w.function.variables w.frame.answer x
       → StmtFree w.layout.run x → StmtTree w.program.functions w.frame.answer x → Owned w (stmt_asks w.frame.answer x n) → StmtParts w x n
   stmt_fits (t_block b) w n k f free t i = block_fits b w n k f free t i
-  stmt_fits (t_declare xs sp) w n k f free t i = items_fit w xs n t i (items_other w xs free)
-  stmt_fits (t_simple x sp) w n k f free t i = simple_fits w x n t i (simple_other w k x f)
-  stmt_fits (t_if g j e x sp) w n k f free t i = (expr_fits w e n t.0 i.0, stmt_fits x w (part_slot g (type_of e).rate n) k f.2 free t.1 i.1.1)
+  stmt_fits (t_declare xs sp) w n k f free t i = items_fit w xs n f t i (items_other w xs free)
+  stmt_fits (t_simple x sp) w n k f free t i = simple_fits w x n f t i (simple_other w k x f)
+  stmt_fits (t_if g j e x sp) w n k f free t i = (expr_fits w e n f.1.0 t.0 i.0, stmt_fits x w (part_slot g (type_of e).rate n) k f.2 free t.1 i.1.1)
   stmt_fits (t_if_else g j e x y sp) w n k f free t i =
-      (expr_fits w e n t.0 i.0, stmt_fits x w (parts_slot (type_of e).rate n) k f.2 free.0 t.1 i.1.1.0, stmt_fits y w (parts_slot (type_of e).rate n) k f.3 free.1 t.2 i.1.1.1)
-  stmt_fits (t_while g j e x sp) w n k f free t i = (expr_fits w e (n + 3) t.0.0 i.1.0, stmt_fits x w (n + 3) k f.2 free t.1 i.1.1)
-  stmt_fits (t_do g j x e sp) w n k f free t i = (expr_fits w e (n + 3) t.0.0 i.1.1, stmt_fits x w (n + 3) k f.1 free t.1 i.1.0)
+      (expr_fits w e n f.1.0 t.0 i.0, stmt_fits x w (parts_slot (type_of e).rate n) k f.2 free.0 t.1 i.1.1.0, stmt_fits y w (parts_slot (type_of e).rate n) k f.3 free.1 t.2 i.1.1.1)
+  stmt_fits (t_while g j e x sp) w n k f free t i = (expr_fits w e (n + 3) f.1.0 t.0.0 i.1.0, stmt_fits x w (n + 3) k f.2 free t.1 i.1.1)
+  stmt_fits (t_do g j x e sp) w n k f free t i = (expr_fits w e (n + 3) f.2.0 t.0.0 i.1.1, stmt_fits x w (n + 3) k f.1 free t.1 i.1.0)
   stmt_fits (t_for g j first e step z x sp) w n k f free t i =
-      (first_fits w first n k f.2 free.0 t.0 i.0, test_fits w e (n + 3) t.1 i.1.1.0, step_fits w step (n + 3) k f.4 t.2 i.1.1.1.0, stmt_fits x w (n + 3) k f.5 free.1 t.3 i.1.1.1.1)
+      (first_fits w first n k f.2 free.0 t.0 i.0, test_fits w e (n + 3) f.3 t.1 i.1.1.0, step_fits w step (n + 3) k f.4 t.2 i.1.1.1.0, stmt_fits x w (n + 3) k f.5 free.1 t.3 i.1.1.1.1)
   stmt_fits (t_foreach g j rs x sp) w n k f free t i =
       let none = none_of w.layout.run free.0 in
       let fits = foreach_fits w rs n f.1 t.3 t.0 t.1 i.0 in (
@@ -163,14 +169,14 @@ mutual
             (λ o d. table_same w.routine w.layout w.function.variables o d (stmt_asks w.frame.answer x (runs_slot n rs + 3)) i.1)),
       )
   stmt_fits (t_foreach_active g j z x sp) w n k f free t i = ((I64, i.0.0.1), stmt_fits x w (n + 1 + 3) k f.2 free t i.1)
-  stmt_fits (t_foreach_unique g j z u e x sp) w n k f free t i = (unique_fits w z u e n t.0 t.1 i.0, stmt_fits x w (n + 1 + 3) k f.3 free t.2 i.1)
+  stmt_fits (t_foreach_unique g j z u e x sp) w n k f free t i = (unique_fits w z u e n f.2.0 t.0 t.1 i.0, stmt_fits x w (n + 1 + 3) k f.3 free t.2 i.1)
   stmt_fits (t_unmasked g b sp) w n k f free t i =
       block_fits b (with_layout w (outside w.layout) w.members w.start) (n + 3) k f free t (table_same w.routine w.layout w.function.variables w.layout.run false (block_asks w.frame.answer b (n + 3)) i.1)
   stmt_fits (t_jump j g sp) w n k f free t i = tt
   stmt_fits (t_return g None sp) w n k f free t i = tt
-  stmt_fits (t_return g (Some x) sp) w n k f free t i = answer_fits w w.frame.answer x n t i
-  stmt_fits (t_print g text xs sp) w n k f free t i = (t.0, values_fit w (own_rates xs) (t_exprs xs) n t.1 i)
-  stmt_fits (t_assert x c sp) w n k f free t i = expr_fits w x n t.0 i.0
+  stmt_fits (t_return g (Some x) sp) w n k f free t i = answer_fits w w.frame.answer x n f t i
+  stmt_fits (t_print g text xs sp) w n k f free t i = (t.0, values_fit w (own_rates xs) (t_exprs xs) n (values_fine w xs f.1) t.1 i)
+  stmt_fits (t_assert x c sp) w n k f free t i = expr_fits w x n f.0.0 t.0 i.0
 
   pub block_fits : (b : TBlock) (w : Setting) (n : ℕ) → RunConstant w → FineBlock w.program.functions w.function.variables w.frame.answer b
       → BlockFree w.layout.run b → BlockTree w.program.functions w.frame.answer b → Owned w (block_asks w.frame.answer b n) → BlockParts w b n

@@ -204,7 +204,7 @@ numbers_fit program code accepted has places texts =
     let low = has.each f h.0 g h.1 eg in
     let fine = fine_at program code accepted has f h.0 h.1 in
     let same = ap length low.code_is in
-    let most = function_long program.functions h.0.variables h.0.answer (layout_of (rates_in program.functions) low.rows) low.constants h.0.body low.keeps.short fine.body 0 low.numbers in
+    let most = function_long program.functions h.0.variables h.0.answer (layout_of (rates_in program.functions) low.rows) (λ i pc p k n is. absurd (cc)) low.constants h.0.body low.keeps.short fine.body 0 low.numbers in
     let twice = functions_twice program accepted f h.0 h.1 in
     let short : length g.code ≤ 4294967296 = omega (arith, same, most, twice, nodes_of_one program f h.0 h.1, accepted.fine.few) in
     numbers_small code g places texts short g.code (body_sound code g (bodies program code accepted has f g eg)))

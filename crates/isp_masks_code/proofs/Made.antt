@@ -97,7 +97,7 @@ module _ (fs : List TFunction) (code : Listing) (h : TFunction) (g : Routine) (r
     variables = h.variables;
     fine = fine.body;
     rated = plain;
-    links = record { rates = refl; headers = headers; constants = kept_there g (rates_in fs) rows made.types };
+    links = record { rates = refl; headers = headers; constants = kept_there g (rates_in fs) rows made.types; rows = λ vars i n fine rated is. absurd (cc) };
     present = present.present;
     masks = made.masks;
     constants = made.constants;
@@ -136,6 +136,7 @@ made_compiled program code f h g rows z gang source found fine plain free made s
   free = free;
   run = refl;
   outside = refl;
+  rows = λ i n. refl;
   constants = made.constants;
   keeps = made.keeps;
   kept_typed = λ r t b e. (kept_there g (rates_in program.functions) rows made.types r t b e).1;

@@ -222,7 +222,7 @@ module _ (code : Listing) (h : Routine) where
 
   -- which variable counts the lanes of a run is no matter to what is there
   links_same : (fs : List TFunction) (l : Layout) (o : Option ℕ) (d : Bool) → Links fs code h l → Links fs code h (run_as l o d)
-  links_same fs l o d links = record { rates = links.rates; headers = links.headers; constants = links.constants }
+  links_same fs l o d links = record { rates = links.rates; headers = links.headers; constants = links.constants; rows = λ vars i n fine rated is. absurd (cc) }
 
   register_same : (l : Layout) (o : Option ℕ) (d : Bool) (r : Rate) (x : Name) (t : Elem) → HasRegister h l r x t → HasRegister h (run_as l o d) r x t
   register_same l o d r (Variable v) t f = f

@@ -1,5 +1,5 @@
 -- Refusals of a part, as refusals of the whole.
-use Rattle.std.proofs.Common.{ℕ, List}
+use Rattle.std.proofs.Common.{ℕ, List, Result, Ok, Err, IfOk}
 use Rattle.isp_base.specs.declared.types.Gang.{Gang}
 use Rattle.isp_lex.specs.declared.fault.Fault.{Fault}
 use Rattle.isp_front.specs.Front.{IsFaulty}
@@ -45,3 +45,8 @@ module _ (gang : Gang) (text : List ℕ) (at : ℕ) (name : List ℕ) where
   by_clash P k OfLibrary h = absurd h
   by_clash P k (Clash g) h = k g h
   by_clash P k Captured h = tt
+
+-- what two clauses say of an answer, together
+pub both_ok : {T E : Type 0} {P Q R : T → Type 0} (r : Result T E) → ((v : T) → P v → Q v → R v) → IfOk r P → IfOk r Q → IfOk r R
+both_ok (Ok v) f p q = f v p q
+both_ok (Err e) f p q = tt

@@ -39,6 +39,11 @@ pub record IsName (name : List ℕ) : Type 0 where
   pub word : IsText (kind.Word name) name
   pub short : length name ≤ limit
 
+-- one that may be given: no function of the library has it
+pub record MayBeGiven (name : List ℕ) : Type 0 where
+  pub named : IsName name
+  pub own : library_named name ≡ None
+
 -- ---- renaming
 
 -- all names of x, as spans
@@ -55,8 +60,9 @@ pub record IsAlike (gang : Gang) (text : List ℕ) (program : Program) (tokens :
   pub same : bare_program other ≡ bare_program (program_renamed x name program)
   pub alike : kinds others.items ≡ map (renamed_kind starts name) tokens.items
 
--- the spans name what stands at the byte, and with another name there the text means the same
+-- the name may be given, the spans name what stands at the byte, and with the name there the text means the same
 pub record IsRenaming (gang : Gang) (text : List ℕ) (at : ℕ) (name : List ℕ) (spans : List Span) : Type 0 where
+  pub given : MayBeGiven name
   pub program : Program
   pub tokens : TokenList
   pub notes : List Note

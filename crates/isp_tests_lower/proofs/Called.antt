@@ -16,7 +16,7 @@ use Rattle.isp_emitter_laws.specs.Called.{FinishedIsWritten, IsFinished}
 use Rattle.isp_emitter_laws.specs.Parts.{PartsStay, SamePart}
 use Rattle.isp_emitter_laws.specs.Staying.{RegistersGrow}
 use Rattle.isp_emitter_laws.specs.Written.{WrittenRuns}
-use Rattle.isp_lower.specs.Adding.{Adds, FewMore, expr_in, layout_in, simple_in}
+use Rattle.isp_lower.specs.Adding.{Adds, FewMore, Takes, expr_in, layout_in, simple_in}
 use Rattle.isp_lower.specs.Behind.{NextIsBehind}
 use Rattle.isp_lower.specs.Drafts.{CanBeWritten, Draft, HasAllNamed, begun, draft_of, finished, first_draft, next_register, with_instr, with_register}
 use Rattle.isp_lower.specs.Written.{Piece}
@@ -54,25 +54,42 @@ begins_all rows = record { scalars = all rows.scalars; vectors = all rows.vector
     all : (xs : List Row) → Begins xs xs
     all xs = record { more = []; is = sym (append-nil xs) }
 
+sum_numbers : AsksAreFew → HasNumbers (expr_asks sum 3)
+sum_numbers asks = asks.expr_numbers [] variables sum 3 (omega arith) (sum_is_fine []) (omega arith)
+
+assignment_numbers : AsksAreFew → HasNumbers (simple_asks assignment 3)
+assignment_numbers asks = asks.simple_numbers [] variables assignment 3 (omega arith) (assignment_is_fine []) (omega arith)
+
 module _ (p : Program) (f : TFunction) (is : IsFunction variables f) (d : Draft) (begun_is : d ≡ begun f (first_draft p)) where
   rows_are : d.rows ≡ first_rows variables None
   rows_are = ap (λ (d : Draft). d.rows) begun_is ∙ ap (λ vs. first_rows vs f.answer) is.variables ∙ ap (first_rows variables) is.answer
 
-  pub sum_own : OwnIsThere → HasOwn d.rows (expr_asks sum 3)
+  sum_own : OwnIsThere → HasOwn d.rows (expr_asks sum 3)
   sum_own own = subst (λ rows. HasOwn rows (expr_asks sum 3)) (sym rows_are) (own.exprs [] variables None (first_rows variables None) sum 3 (begins_all _) (sum_is_fine []))
 
-  pub assignment_own : OwnIsThere → HasOwn d.rows (simple_asks assignment 3)
+  assignment_own : OwnIsThere → HasOwn d.rows (simple_asks assignment 3)
   assignment_own own =
       subst (λ rows. HasOwn rows (simple_asks assignment 3)) (sym rows_are) (own.simples [] variables None (first_rows variables None) assignment 3 (begins_all _) (assignment_is_fine []))
 
   room : (a : Ask) → registers_asked a ≤ 100 → HasRoom d.rows a
   room a few = rw rows_are (record { scalars = omega (arith, few); vectors = omega (arith, few); arrays = omega arith })
 
-  pub sum_room : AsksAreFew → HasRoom d.rows (expr_asks sum 3)
+  sum_room : AsksAreFew → HasRoom d.rows (expr_asks sum 3)
   sum_room asks = room (expr_asks sum 3) (let few = asks.expr_registers sum 3 in omega (arith, few))
 
-  pub assignment_room : AsksAreFew → HasRoom d.rows (simple_asks assignment 3)
+  assignment_room : AsksAreFew → HasRoom d.rows (simple_asks assignment 3)
   assignment_room asks = room (simple_asks assignment 3) (let few = asks.simple_registers assignment 3 in omega (arith, few))
+
+  begun_mask : 0 < d.masks
+  begun_mask = omega (arith, ap (λ (d : Draft). d.masks) begun_is)
+
+  pub sum_takes : OwnIsThere → AsksAreFew → Takes d (expr_asks sum 3) site
+  sum_takes own asks =
+      record { begun = ap (λ (d : Draft). is_some d.heading) begun_is; own = sum_own own; mask = begun_mask; numbers = sum_numbers asks; room = sum_room asks }
+
+  pub assignment_takes : OwnIsThere → AsksAreFew → Takes d (simple_asks assignment 3) site
+  assignment_takes own asks =
+      record { begun = ap (λ (d : Draft). is_some d.heading) begun_is; own = assignment_own own; mask = begun_mask; numbers = assignment_numbers asks; room = assignment_room asks }
 
   pub none_named : HasAllNamed d
   none_named = subst HasAllNamed (sym begun_is) tt
@@ -82,12 +99,6 @@ module _ (p : Program) (f : TFunction) (is : IsFunction variables f) (d : Draft)
   next_few behind e a few more named =
       let begins = ap (λ (rows : Rows). length rows.scalars) rows_are in
       omega (arith, behind.registers e Uniform named, more.rows.scalars, few, begins)
-
-pub sum_numbers : AsksAreFew → HasNumbers (expr_asks sum 3)
-sum_numbers asks = asks.expr_numbers [] variables sum 3 (omega arith) (sum_is_fine []) (omega arith)
-
-pub assignment_numbers : AsksAreFew → HasNumbers (simple_asks assignment 3)
-assignment_numbers asks = asks.simple_numbers [] variables assignment 3 (omega arith) (assignment_is_fine []) (omega arith)
 
 pub sum_few : AsksAreFew → registers_asked (expr_asks sum 3) ≤ 100
 sum_few asks = let few = asks.expr_registers sum 3 in omega (arith, few)

@@ -16,7 +16,7 @@ use Rattle.isp_typed.specs.declared.variable.Variable.{Variable}
 use Rattle.isp_lex.specs.Lexing.{limit}
 use Rattle.isp_lower_code.specs.Asks.{Ask, expr_asks, simple_asks, target_asks}
 use Rattle.isp_lower_code.specs.Code.{expr_code}
-use Rattle.isp_lower.specs.Adding.{Adds, AddsCode, FewMore, expr_in, layout_in, simple_in}
+use Rattle.isp_lower.specs.Adding.{Adds, AddsCode, FewMore, Takes, expr_in, layout_in, simple_in}
 use Rattle.isp_lower_code.specs.Lines.{has_small_numbers}
 use Rattle.isp_lower.specs.Drafts.{CanBeWritten, Draft, IsBegun, draft_of, next_register, routine_at_work, with_instr, with_target}
 use Rattle.isp_lower_code.specs.FirstRows.{Begins, array_rows, first_rows}
@@ -100,30 +100,33 @@ room : (d : Draft) (n : ℕ) (a : Ask) → HasFew n d → n + registers_asked a 
 room d n a few less =
     record { scalars = omega (arith, few.scalars, less); vectors = omega (arith, few.vectors, less); arrays = omega (arith, few.arrays, less) }
 
-pub sum_numbers : (x : TExpr) → x ≡ sum → HasNumbers (expr_asks x 3)
+sum_numbers : (x : TExpr) → x ≡ sum → HasNumbers (expr_asks x 3)
 sum_numbers x e = rw e (tt, (omega arith, ((tt, (tt, tt)), (tt, tt))))
 
-pub assignment_numbers : (s : TSimple) → s ≡ assignment → HasNumbers (simple_asks s 3)
+assignment_numbers : (s : TSimple) → s ≡ assignment → HasNumbers (simple_asks s 3)
 assignment_numbers s e =
     let double : HasNumbers (expr_asks doubled 4) = (tt, (omega arith, ((tt, ((tt, (tt, (tt, (tt, tt)))), tt)), (tt, tt)))) in
     rw e ((tt, (tt, (tt, (tt, tt)))), (omega arith, (tt, (tt, (omega arith, ((tt, double), (tt, tt)))))))
 
 -- with its jump the second has its registers, its array and its masks
 module _ (f g : TFunction) (d : Draft) (is : IsFunction variables g) (j : HasJump f g d) where
-  pub jump_begun : IsBegun d
+  jump_begun : IsBegun d
   jump_begun = ap (λ (d : Draft). is_some d.heading) j.is
 
-  pub jump_mask : 0 < d.masks
+  jump_mask : 0 < d.masks
   jump_mask = omega (arith, ap (λ (d : Draft). d.masks) j.is)
 
-  pub sum_own : (x : TExpr) → x ≡ sum → HasOwn d.rows (expr_asks x 3)
+  sum_own : (x : TExpr) → x ≡ sum → HasOwn d.rows (expr_asks x 3)
   sum_own x e = rw (j.is, is.variables, is.answer, e) (tt, (tt, ((tt, (refl, tt)), (tt, tt))))
 
   jump_few : HasFew 10 d
   jump_few = rw (j.is, is.variables, is.answer) (record { code = omega arith; places = omega arith; scalars = omega arith; vectors = omega arith; arrays = omega arith })
 
-  pub sum_room : (x : TExpr) → x ≡ sum → HasRoom d.rows (expr_asks x 3)
+  sum_room : (x : TExpr) → x ≡ sum → HasRoom d.rows (expr_asks x 3)
   sum_room x e = room d 10 (expr_asks x 3) jump_few (rw e (omega arith))
+
+  pub sum_takes : (x : TExpr) → x ≡ sum → Takes d (expr_asks x 3) site
+  sum_takes x e = record { begun = jump_begun; own = sum_own x e; mask = jump_mask; numbers = sum_numbers x e; room = sum_room x e }
 
   pub jump_code : HasCode f g 10 d
   jump_code = record {
@@ -147,18 +150,22 @@ module _ (f g : TFunction) (n : ℕ) (d : Draft) (c : HasCode f g n d) where
   pub code_begun : IsBegun d
   code_begun = ap is_some c.heading
 
-  pub code_mask : 0 < d.masks
+  code_mask : 0 < d.masks
   code_mask = omega (arith, c.masks)
 
-  pub assignment_own : (s : TSimple) → IsFunction variables g → s ≡ assignment → HasOwn d.rows (simple_asks s 3)
+  assignment_own : (s : TSimple) → IsFunction variables g → s ≡ assignment → HasOwn d.rows (simple_asks s 3)
   assignment_own s is e =
       let held : elem_in d.rows.arrays (VariableName 0) ≡ Some I32 = rw (c.arrays.is, is.variables) refl in
       let at : HasOwn d.rows (target_asks (element read) 4) = (held, (tt, (tt, (tt, tt)))) in
       let double : HasOwn d.rows (expr_asks doubled 4) = (tt, (tt, ((tt, (at, tt)), (tt, tt)))) in
       rw e (at, (tt, (tt, (tt, (tt, ((tt, double), (tt, tt)))))))
 
-  pub assignment_room : (s : TSimple) → n ≤ 20 → s ≡ assignment → HasRoom d.rows (simple_asks s 3)
+  assignment_room : (s : TSimple) → n ≤ 20 → s ≡ assignment → HasRoom d.rows (simple_asks s 3)
   assignment_room s less e = room d n (simple_asks s 3) c.few (rw e (omega (arith, less)))
+
+  pub assignment_takes : (s : TSimple) → IsFunction variables g → n ≤ 20 → s ≡ assignment → Takes d (simple_asks s 3) site
+  assignment_takes s is less e =
+      record { begun = code_begun; own = assignment_own s is e; mask = code_mask; numbers = assignment_numbers s e; room = assignment_room s less e }
 
   pub jump_there : 0 < length d.code
   jump_there = rw c.code (omega arith)

@@ -133,12 +133,7 @@ fn chosen<'a>(name: &str, inner: &ArgMatches<'a>) -> Option<Request<'a>> {
             run: run_of(inner)?,
             lines: inner.get_flag("lines"),
         })),
-        "trace" => Some(Request::Trace(TraceRequest {
-            run: run_of(inner)?,
-            from: inner.get_one::<u64>("from")?,
-            count: inner.get_one::<u64>("count")?,
-            lanes: inner.get_flag("lanes"),
-        })),
+        "trace" => trace_of(inner).map(Request::Trace),
         "c" => Some(Request::C(CRequest {
             gang: gang_of(inner),
             is_header: inner.get_flag("header"),
@@ -153,6 +148,15 @@ fn chosen<'a>(name: &str, inner: &ArgMatches<'a>) -> Option<Request<'a>> {
         })),
         _ => None,
     }
+}
+
+fn trace_of<'a>(inner: &ArgMatches<'a>) -> Option<TraceRequest<'a>> {
+    Some(TraceRequest {
+        run: run_of(inner)?,
+        from: inner.get_one::<u64>("from")?,
+        count: inner.get_one::<u64>("count")?,
+        lanes: inner.get_flag("lanes"),
+    })
 }
 
 fn words_of<'a>(alloc: Global, inner: &ArgMatches<'a>) -> Result<Option<RunWords<'a>>, AllocError> {

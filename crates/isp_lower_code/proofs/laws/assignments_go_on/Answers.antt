@@ -1,4 +1,4 @@
-use Rattle.std.proofs.Common.{◌≡◌, ◌+◌, length, subst}
+use Rattle.std.proofs.Common.{◌+◌, length, subst}
 use Rattle.isp_lower_code.specs.Runs.{DoneRuns}
 use Rattle.isp_lower_code.specs.Setting.{with_turns}
 use Rattle.isp_lower_code.specs.Simple.{simple_code}

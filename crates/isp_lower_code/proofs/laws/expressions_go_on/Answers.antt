@@ -1,5 +1,4 @@
-use Rattle.std.proofs.Common.{◌≡◌, ◌+◌, arith, length, subst}
-use Rattle.isp_meaning.specs.Outcomes.{Stops}
+use Rattle.std.proofs.Common.{◌+◌, arith, length, subst}
 use Rattle.isp_typed.specs.Typed.{type_of}
 use Rattle.isp_lower_code.specs.Code.{expr_code}
 use Rattle.isp_lower_code.specs.Found.{found}

@@ -4,13 +4,13 @@ use Rattle.serde_json.specs.View.{view}
 use Rattle.isp_server.specs.Completions.{library_item}
 use Rattle.isp_server.specs.Library.{signatures}
 use Rattle.isp_server.specs.reader.Signatures.{signature_view}
-use Rattle.isp_server.proofs.Libraries.{all_done, count, one_more}
+use Rattle.isp_server.proofs.Libraries.{all_done, few, one_more}
 use Rattle.isp_server.proofs.completion.push_library.Goals as goal
 
 pub overflow_add-number : goal.overflow_add-number
 overflow_add-number c =
     let within : c.loop-found.number < length signatures = slice_get_within signatures c.loop-found.number (signature_view c.in-Some.found) (sym c.in-Some.ensures) in
-    omega (arith, count)
+    omega (arith, few)
 
 pub loop-found-smaller : goal.loop-found-smaller
 loop-found-smaller c =

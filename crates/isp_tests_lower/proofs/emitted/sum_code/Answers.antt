@@ -1,16 +1,14 @@
 -- Each call has what it asks, and the finished code does what the tree means.
 use Rattle.std.proofs.Common.{◌≡◌, ◌∙◌, ap, arith, is_some, subst, sym}
 use Rattle.std.proofs.lemmas.Result.{IfOk-weaker}
-use Rattle.isp_lower.specs.Adding.{Adds, FewMore, expr_in}
+use Rattle.isp_lower.specs.Adding.{Adds, FewMore, Takes, expr_in}
 use Rattle.isp_lower.specs.Drafts.{Draft, begun, draft_of, finished, with_instr}
 use Rattle.isp_lower_code.specs.Asks.{expr_asks}
-use Rattle.isp_lower_code.specs.Own.{HasOwn}
-use Rattle.isp_lower_code.specs.Room.{HasNumbers, HasRoom}
 use Rattle.isp_registers.specs.Reserved.{Has}
 use Rattle.isp_typed.specs.Views.{function_of, program_of}
 use Rattle.isp_tests_lower.specs.Runs.{SumRuns}
 use Rattle.isp_tests_lower.specs.Trees.{sum, site, variables}
-use Rattle.isp_tests_lower.proofs.Called.{can_be_written, next_few, none_named, sum_few, sum_numbers, sum_own, sum_room, sum_runs, sum_written}
+use Rattle.isp_tests_lower.proofs.Called.{can_be_written, next_few, none_named, sum_few, sum_runs, sum_takes, sum_written}
 use Rattle.isp_tests_lower.proofs.Drafted.{sum_fine, sum_rated, heading_fits, second_small}
 use Rattle.isp_tests_lower.proofs.emitted.sum_code.Goals as goal
 
@@ -25,13 +23,9 @@ expr-requires c =
     let first = c.in_ok-begin.ensures.begun ∙ ap (begun f) c.new-e.ensures in
     let is = c.requires.tree in
     record {
-      begun = ap (λ (d : Draft). is_some d.heading) first;
       fine = sum_fine _ _ is;
       rated = sum_rated _ _ is;
-      own = subst (λ x. HasOwn d.rows (expr_asks x 3)) (sym is) (sum_own p f c.requires.function d first c.own_is_there.ensures);
-      mask = omega (arith, ap (λ (d : Draft). d.masks) first);
-      numbers = subst (λ x. HasNumbers (expr_asks x 3)) (sym is) (sum_numbers c.asks_are_few.ensures);
-      room = subst (λ x. HasRoom d.rows (expr_asks x 3)) (sym is) (sum_room p f c.requires.function d first c.asks_are_few.ensures);
+      takes = subst (λ x. Takes d (expr_asks x 3) site) (sym is) (sum_takes p f c.requires.function d first c.own_is_there.ensures c.asks_are_few.ensures);
     }
 
 pub fresh-requires : goal.fresh-requires

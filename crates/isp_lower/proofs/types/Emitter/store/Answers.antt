@@ -1,74 +1,46 @@
-use Rattle.std.proofs.Common.{◌≡◌, ◌≤◌, ◌<◌, ℕ, map, ap, subst, arith, Vec, Global}
 use Rattle.isp_typed.specs.Views.{simple_of}
 use Rattle.isp_lower_code.specs.Asks.{simple_asks}
+use Rattle.isp_lower_code.specs.Simple.{simple_code, simple_places}
 use Rattle.isp_lower.specs.Drafts.{draft_of}
-use Rattle.isp_registers.specs.Growth.{Grows, rows_of}
-use Rattle.isp_lower_code.specs.Room.{GrowsBy, masks_with, registers_asked}
-use Rattle.isp_registers.specs.declared.reserve.Reserve.{Reserve}
-use Rattle.isp_lower.proofs.Aparts.{all_named, apart_appends, apart_long}
-use Rattle.isp_registers.proofs.Lemmas.{all_joined}
 use Rattle.isp_lower_code.proofs.Lemmas.{simple_tree}
+use Rattle.isp_lower.proofs.Aparts.{apart_long, asked_has, asked_mask, taken_code, taken_few, taken_has, taken_named}
 use Rattle.isp_lower.proofs.NamedThere.{simple_named}
 use Rattle.isp_lower.proofs.types.Emitter.store.Goals as goal
 
 pub simple-requires-2 : goal.simple-requires-2
 simple-requires-2 c =
-    let asked = c.simple.new.self in
-    let gives = c.in_ok-simple.ensures in
-    let grown : Grows c.args.self.now.reserved.registers asked.registers = subst (λ (r : Reserve). Grows r.registers asked.registers) c.in_ok-asked.ensures gives.rows in
-    all_joined c.args.self.now.reserved asked grown (simple_asks (simple_of c.args.x.now) c.args.site.slot.number) gives.has c.requires.own
+    let asks = simple_asks (simple_of c.args.x.now) c.args.site.slot.number in
+    c.scope-on.ensures.present asks (asked_has c.args.self.now _ _ asks c.in_ok-more.ensures.reserved c.in_ok-simple.ensures c.requires.takes.own)
 
-pub join-requires : goal.join-requires
-join-requires c = apart_long c.args.self.now.body c.in_ok-written.written c.simple-2.new.b _ _ c.in_ok-written.ensures.code c.in_ok-written.ensures.places c.in_ok-simple-2.ensures
+pub add-requires : goal.add-requires
+add-requires c = apart_long c.args.self.now.body c.in_ok-more.more.body c.simple-2.new.b _ _ c.in_ok-more.ensures.body c.in_ok-simple-2.ensures
 
 pub returns-clause-code : goal.returns-clause-code
 returns-clause-code c =
-    let asked = c.simple.new.self in
-    let gives = c.in_ok-simple.ensures in
-    let grown : Grows c.args.self.now.reserved.registers asked.registers = subst (λ (r : Reserve). Grows r.registers asked.registers) c.in_ok-asked.ensures gives.rows in
-    let more : c.args.self.now.reserved.masks ≤ asked.masks = subst (λ (r : Reserve). r.masks ≤ asked.masks) c.in_ok-asked.ensures gives.masks in
-    record {
-      appends = apart_appends c.args.self.now.body c.in_ok-written.written c.simple-2.new.b _ _ c.in_ok-written.ensures.code
-          c.in_ok-written.ensures.places c.in_ok-simple-2.ensures c.join.new.self c.in_ok-join.ensures.code c.in_ok-join.ensures.places
-          c.in_ok-join.ensures.texts;
-      rows = grown;
-      masks = more;
-      kept = ap (λ (ts : Vec (Vec ℕ Global) Global). record (draft_of c.args.self.now) {
-        places = c.join.new.self.places.items;
-        texts = map (λ t. t.items) ts.items;
-        rows = rows_of asked.registers;
-        masks = asked.masks;
-        code =
-            c.join.new.self.code.items;
-      }) c.in_ok-join.ensures.texts;
-    }
+    let x = simple_of c.args.x.now in
+    let k = c.args.site.mask.number in
+    let n = c.args.site.slot.number in
+    taken_code c.args.self.now _ _ (simple_asks x n) c.in_ok-more.ensures.reserved c.in_ok-simple.ensures c.add.new.self c.in_ok-add.ensures.rest _ c.scope-on.ensures.layout
+    (λ l pc p. simple_code l x pc p k n) (λ l. simple_places l x) c.in_ok-more.more.body c.simple-2.new.b c.in_ok-more.ensures.body c.in_ok-simple-2.ensures c.in_ok-add.ensures.body
 
 pub returns-clause-has : goal.returns-clause-has
 returns-clause-has c =
-    let asked = c.simple.new.self in
-    let gives = c.in_ok-simple.ensures in
-    let grown : Grows c.args.self.now.reserved.registers asked.registers = subst (λ (r : Reserve). Grows r.registers asked.registers) c.in_ok-asked.ensures gives.rows in
-    all_joined c.args.self.now.reserved asked grown (simple_asks (simple_of c.args.x.now) c.args.site.slot.number) gives.has c.requires.own
-
-pub returns-clause-all_named : goal.returns-clause-all_named
-returns-clause-all_named c =
-    let asked = c.simple.new.self in
-    let gives = c.in_ok-simple.ensures in
-    let grown : Grows c.args.self.now.reserved.registers asked.registers = subst (λ (r : Reserve). Grows r.registers asked.registers) c.in_ok-asked.ensures gives.rows in
-    let more : c.args.self.now.reserved.masks ≤ asked.masks = subst (λ (r : Reserve). r.masks ≤ asked.masks) c.in_ok-asked.ensures gives.masks in
-    let low : c.args.site.mask.number < asked.masks = omega (arith, c.requires.mask, more) in
-    λ h.
-    all_named c.args.self.now _ _ _ (returns-clause-code c)
-    (simple_named (draft_of c.args.self.now).callees asked _ _ c.args.site.mask.number c.args.site.slot.number low (simple_of c.args.x.now)
-    (simple_tree (draft_of c.args.self.now).callees c.requires.fine.0 (simple_of c.args.x.now) c.requires.fine.1 c.requires.rated)
-    (all_joined c.args.self.now.reserved asked grown (simple_asks (simple_of c.args.x.now) c.args.site.slot.number) gives.has c.requires.own)) h
+    taken_has c.args.self.now _ _ (simple_asks (simple_of c.args.x.now) c.args.site.slot.number) c.in_ok-more.ensures.reserved c.in_ok-simple.ensures c.add.new.self c.in_ok-add.ensures.rest c.requires.takes.own
 
 pub returns-clause-few : goal.returns-clause-few
 returns-clause-few c =
-    let asked = c.simple.new.self in
+    taken_few c.args.self.now _ _ (simple_asks (simple_of c.args.x.now) c.args.site.slot.number) c.in_ok-more.ensures.reserved c.in_ok-simple.ensures c.add.new.self c.in_ok-add.ensures.rest
+
+pub returns-clause-all_named : goal.returns-clause-all_named
+returns-clause-all_named c =
+    let x = simple_of c.args.x.now in
+    let k = c.args.site.mask.number in
+    let n = c.args.site.slot.number in
+    let old = c.args.self.now in
+    let copied = c.in_ok-more.ensures.reserved in
     let gives = c.in_ok-simple.ensures in
-    let asks = simple_asks (simple_of c.args.x.now) c.args.site.slot.number in
-    record {
-      rows = subst (λ (r : Reserve). GrowsBy (registers_asked asks) (rows_of r.registers) (rows_of asked.registers)) c.in_ok-asked.ensures gives.few;
-      masks = subst (λ (r : Reserve). asked.masks ≡ masks_with r.masks asks) c.in_ok-asked.ensures gives.masks_are;
-    }
+    let tree = simple_tree (draft_of old).callees c.requires.fine.0 x c.requires.fine.1 c.requires.rated in
+    let low = asked_mask old _ _ (simple_asks x n) copied gives k c.requires.takes.mask in
+    taken_named old _ _ (simple_asks x n) copied gives c.add.new.self c.in_ok-add.ensures.rest _ c.scope-on.ensures.layout
+    (λ l pc p. simple_code l x pc p k n) (λ l. simple_places l x) c.in_ok-more.more.body c.simple-2.new.b c.in_ok-more.ensures.body c.in_ok-simple-2.ensures c.in_ok-add.ensures.body
+    (λ pc p. simple_named (draft_of old).callees c.simple.new.self pc p k n low x tree (asked_has old _ _ (simple_asks x n) copied gives c.requires.takes.own))
