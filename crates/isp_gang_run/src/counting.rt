@@ -29,7 +29,7 @@ impl Work {
         self.add(1);
     }
 
-    /// So much more.
+    /// As many more.
     pub fn add(&mut self, more: u64)
         ensures { self.new.count ≡ capped (self.old.count + more) }
     {

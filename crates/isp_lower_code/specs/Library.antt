@@ -29,7 +29,23 @@ works_at library.Max r = r
 works_at library.Clamp r = r
 works_at library.Abs r = r
 works_at library.Select r = r
-works_at f r = Varying
+works_at library.ReduceAdd r = Varying
+works_at library.ReduceMin r = Varying
+works_at library.ReduceMax r = Varying
+works_at library.ReduceEqual r = Varying
+works_at library.Any r = Varying
+works_at library.All r = Varying
+works_at library.None r = Varying
+works_at library.ScanAdd r = Varying
+works_at library.ScanAnd r = Varying
+works_at library.ScanOr r = Varying
+works_at library.Broadcast r = Varying
+works_at library.Rotate r = Varying
+works_at library.Shift r = Varying
+works_at library.Shuffle r = Varying
+works_at library.ShuffleTwo r = Varying
+works_at library.Extract r = Varying
+works_at library.Insert r = Varying
 
 -- a value is taken at that rate, but for one that is asked uniform
 abbrev pub rate_taken : Rate → Bool → Rate

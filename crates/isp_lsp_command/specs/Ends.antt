@@ -18,7 +18,7 @@ abbrev pub TakesFirst : Connection → List ℕ → List ℕ → Next → Type 0
 TakesFirst c bytes sent next =
     (start : ℕ) × (end : ℕ) × (new : Connection) × IsMessage bytes start end × TakesOne c (slice_range bytes start end) new sent next
 
--- Of the input so much was read that `rest` is left of it, and `sent` is what was sent for the messages before that. `old` and
+-- The input was read up to `rest`, which is left of it, and `sent` is what was sent for the messages before that. `old` and
 -- `written` are what the output held and holds, `at_end` says that the input has ended.
 abbrev pub Ends : Connection → List ℕ → List ℕ → Type 0 → Option (List ℕ) → Option (List ℕ) → Bool → LspEnd → Type 0
 -- the next message ends the server with this status

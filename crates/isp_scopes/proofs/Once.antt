@@ -27,7 +27,7 @@ module _ (ts : List Token) where
   still_seen i k true is h g = g
   still_seen i k false is h g = or_from (bytes_eq (name_at ts k) (name_at ts i)) (is_hidden ts i is) h g
 
-  -- a name that none of those behind it hides is hidden by none that is left of them
+  -- a name that none of those after it hides is hidden by none that is left of them
   not_hidden : (i : ℕ) (is : List ℕ) → is_hidden ts i is ≡ false → is_hidden ts i (each_once ts is) ≡ false
   not_hidden i [] h = refl
   not_hidden i (k ∷ is) h =

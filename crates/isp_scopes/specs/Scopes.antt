@@ -1,5 +1,5 @@
 -- Which names are in scope at a place, by the tokens of the text before it, and which functions a text has.
---     variables_of ts     the variables in scope behind the tokens ts
+--     variables_of ts     the variables in scope after the tokens ts
 --     functions_of ts     the functions whose heads stand among them
 -- A name is told by the number of the token that declares it. Nothing is parsed, so a text that is no program yet has names too.
 use Rattle.std.specs.Prelude.{ℕ, ◌≢◌, ◌+◌, ◌-◌, ◌==◌, ◌&&◌, ◌||◌, not, nat_lt, nat_le, bytes_eq, Bool, true, false, if◌then◌else◌, List, [], ◌∷◌, ◌++◌, filter, map, reverse, slice_get, Option, Some, None}
@@ -19,7 +19,7 @@ use Rattle.isp_scopes.specs.declared.scopes.Scoped.{Scoped}
 use Rattle.isp_scopes.specs.declared.scopes.What.{What}
 use Rattle.isp_scopes.specs.declared.scopes.What.TheVariants as what
 
--- ---- where one stands behind some tokens: how many blocks are open, how many brackets of the statement, whether a word that
+-- ---- where one stands after some tokens: how many blocks are open, how many brackets of the statement, whether a word that
 -- comes next is declared, and at how many open brackets a comma goes on with a declaration
 
 abbrev pub start : Standing
@@ -36,10 +36,10 @@ declares Word s = is_name s.next && not (s.depth == 0 && s.brackets == 0)
 declares _ s = false
 
 -- and right after the bracket of a `foreach`
-abbrev pub behind_paren : Next → Next
-behind_paren Nothing = Nothing
-behind_paren Heading = Name
-behind_paren Name = Nothing
+abbrev pub after_paren : Next → Next
+after_paren Nothing = Nothing
+after_paren Heading = Name
+after_paren Name = Nothing
 
 -- and after a comma of the declaration, not of a call in it: `int a = f(x, y), b`
 abbrev pub goes_on : ℕ → Option ℕ → Bool
@@ -55,7 +55,7 @@ abbrev pub moved : Sign → Standing → Standing
 moved Word s = record s { next = Nothing; commas = if declares Word s then Some s.brackets else s.commas }
 moved TypeWord s = record s { next = Name }
 moved Foreach s = record s { next = Heading }
-moved Paren s = record s { brackets = s.brackets + 1; next = behind_paren s.next }
+moved Paren s = record s { brackets = s.brackets + 1; next = after_paren s.next }
 moved Bracket s = record s { brackets = s.brackets + 1; next = Nothing }
 moved Close s = record s { brackets = s.brackets - 1; next = Nothing; commas = still (s.brackets - 1) s.commas }
 moved Comma s = record s { next = if goes_on s.brackets s.commas then Name else Nothing }
@@ -94,7 +94,7 @@ ends Semicolon s = s.brackets == 0
 ends BlockClose s = true
 ends _ s = false
 
--- but the tokens behind it go on with an `if` by `else`, and with a `do` by `while`
+-- but the tokens after it go on with an `if` by `else`, and with a `do` by `while`
 abbrev pub resumed : List Token → What → Bool
 resumed ts what.If = starts_with mark.Else ts
 resumed ts what.Do = starts_with mark.While ts
@@ -113,7 +113,7 @@ abbrev pub with_added : Option What → ℕ → ℕ → List Scoped → List Sco
 with_added None i d vs = vs
 with_added (Some w) i d vs = record { token = i; depth = d; what = w } ∷ vs
 
--- behind one more token, whose number is i, with the tokens ts behind it
+-- after one more token, whose number is i, with the tokens ts after it
 abbrev pub with_token : List Token → ℕ → Sign → Standing → List Scoped → List Scoped
 with_token ts i g s vs = if ends g s then left ts (moved g s).depth vs else with_added (added g s vs) i s.depth vs
 

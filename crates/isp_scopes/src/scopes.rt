@@ -1,4 +1,4 @@
-//! What is in scope behind some tokens.
+//! What is in scope after some tokens.
 ghost use Rattle.std.specs.Prelude.{◌≡◌, ◌≤◌, ◌==◌, ◌&&◌, [], not, if◌then◌else◌, IfOk, OnOk, length, reverse};
 ghost use Rattle.isp_lex.specs.Tokens.{starts_with};
 ghost use Rattle.isp_scopes.specs.Scopes.{added, in_statement, is_resumed, is_variable, left, moved, outlives, resumed, scan, start, stays, with_added, with_token};
@@ -147,26 +147,26 @@ fn add(
     Ok(())
 }
 
-// What is in scope behind one more token.
+// What is in scope after one more token.
 fn pass(
     found: &mut Vec<Scoped>,
     rest: &[Token],
     token: usize,
     sign: Sign,
     at: Standing,
-    behind: Standing,
+    after: Standing,
 ) -> Result<(), AllocError>
-    ensures { OnOk result (behind ≡ moved sign at → reverse found.new.items ≡ with_token rest.now token sign at (reverse found.old.items)) }
+    ensures { OnOk result (after ≡ moved sign at → reverse found.new.items ≡ with_token rest.now token sign at (reverse found.old.items)) }
 {
     if ends(sign, at) {
-        close(found, rest, behind.depth);
+        close(found, rest, after.depth);
         return Ok(());
     }
     let what = added(sign, at, found.as_slice());
     add(found, what, token, at.depth)
 }
 
-/// What is in scope behind some tokens, the outermost first.
+/// What is in scope after some tokens, the outermost first.
 pub fn scopes(alloc: Global, tokens: &[Token]) -> Result<Vec<Scoped>, AllocError>
     requires { length tokens.now ≤ 1048576 }
     ensures { IfOk result (λ v. reverse v.items ≡ scan 0 start [] tokens.now) }
@@ -175,9 +175,9 @@ pub fn scopes(alloc: Global, tokens: &[Token]) -> Result<Vec<Scoped>, AllocError
     let mut at = start();
     for (i, token) in tokens.iter().enumerate() {
         let sign = sign_of(&token.kind);
-        let behind = moved(sign, at);
-        pass(&mut found, &tokens[i + 1..], i, sign, at, behind)?;
-        at = behind;
+        let after = moved(sign, at);
+        pass(&mut found, &tokens[i + 1..], i, sign, at, after)?;
+        at = after;
     }
     Ok(found)
 }

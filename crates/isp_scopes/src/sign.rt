@@ -14,7 +14,7 @@ pub enum Sign {
     Foreach,
     If,
     Do,
-    /// Any other word behind which a statement is the body of another, as `while`.
+    /// Any other word after which a statement is the body of another, as `while`.
     Body,
     Paren,
     Bracket,

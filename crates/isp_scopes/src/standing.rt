@@ -1,6 +1,6 @@
-//! Where one stands in a text behind some of its tokens.
+//! Where one stands in a text after some of its tokens.
 ghost use Rattle.std.specs.Prelude.{◌≡◌, ◌≤◌, ◌<◌, ◌+◌, ◌^◌};
-ghost use Rattle.isp_scopes.specs.Scopes.{behind_paren, declares, ends, goes_on, moved, start, still};
+ghost use Rattle.isp_scopes.specs.Scopes.{after_paren, declares, ends, goes_on, moved, start, still};
 
 use crate::sign::Sign;
 
@@ -14,7 +14,7 @@ pub enum Next {
     Name,
 }
 
-/// Where one stands in a text behind some of its tokens.
+/// Where one stands in a text after some of its tokens.
 #[derive(Clone, Copy)]
 pub struct Standing {
     /// How many blocks are open.
@@ -59,8 +59,8 @@ pub fn ends(sign: Sign, at: Standing) -> bool
     }
 }
 
-fn behind_paren(next: Next) -> Next
-    ensures { result ≡ behind_paren next }
+fn after_paren(next: Next) -> Next
+    ensures { result ≡ after_paren next }
 {
     match next {
         Next::Heading => Next::Name,
@@ -86,7 +86,7 @@ fn still(brackets: usize, commas: Option<usize>) -> Option<usize>
     }
 }
 
-fn behind_word(at: Standing) -> Standing
+fn after_word(at: Standing) -> Standing
     ensures { result ≡ moved Sign.Word at }
 {
     let commas = if declares(Sign::Word, at) {
@@ -101,7 +101,7 @@ fn behind_word(at: Standing) -> Standing
     }
 }
 
-fn behind_comma(at: Standing) -> Standing
+fn after_comma(at: Standing) -> Standing
     ensures { result ≡ moved Sign.Comma at }
 {
     let next = if goes_on(at.brackets, at.commas) {
@@ -112,7 +112,7 @@ fn behind_comma(at: Standing) -> Standing
     Standing { next, ..at }
 }
 
-fn behind_close(at: Standing) -> Standing
+fn after_close(at: Standing) -> Standing
     ensures { result ≡ moved Sign.Close at }
 {
     let brackets = at.brackets.saturating_sub(1);
@@ -130,7 +130,7 @@ fn in_block(depth: usize) -> Standing
     Standing { depth, ..start() }
 }
 
-/// Where one stands behind one more token.
+/// Where one stands after one more token.
 pub fn moved(sign: Sign, at: Standing) -> Standing
     requires depth { at.depth + 1 < 2 ^ 64 }
     requires brackets { at.brackets + 1 < 2 ^ 64 }
@@ -139,7 +139,7 @@ pub fn moved(sign: Sign, at: Standing) -> Standing
     ensures brackets { result.brackets ≤ at.brackets + 1 }
 {
     match sign {
-        Sign::Word => behind_word(at),
+        Sign::Word => after_word(at),
         Sign::TypeWord => Standing {
             next: Next::Name,
             ..at
@@ -150,7 +150,7 @@ pub fn moved(sign: Sign, at: Standing) -> Standing
         },
         Sign::Paren => Standing {
             brackets: at.brackets + 1,
-            next: behind_paren(at.next),
+            next: after_paren(at.next),
             ..at
         },
         Sign::Bracket => Standing {
@@ -158,8 +158,8 @@ pub fn moved(sign: Sign, at: Standing) -> Standing
             next: Next::Nothing,
             ..at
         },
-        Sign::Close => behind_close(at),
-        Sign::Comma => behind_comma(at),
+        Sign::Close => after_close(at),
+        Sign::Comma => after_comma(at),
         Sign::Semicolon => Standing {
             next: Next::Nothing,
             commas: None,

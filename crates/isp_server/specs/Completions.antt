@@ -29,7 +29,7 @@ name_items kind tokens found = map (λ i. name_item kind (name_at tokens i)) fou
 abbrev pub completions : List Token → List Token → List Data
 completions before all = name_items 6 before (variables_of before) ++ (name_items 3 all (functions_of all) ++ map library_item signatures)
 
--- Of a text that has no tokens, as while a comment is not closed behind the place, functions are told by the tokens before the place.
+-- Of a text that has no tokens, as while a comment is not closed after the place, functions are told by the tokens before the place.
 pub data CompletesBehind (before : List Token) (text : List ℕ) (d : Data) : Type 0 where
   by_all : (all : List Token) → Lexes 0 text all [] → length text ≤ limit → d ≡ array (items_of (completions before all)) → CompletesBehind before text d
   by_before : (fault : Fault) → IsRefused (Refused fault) text → d ≡ array (items_of (completions before before)) → CompletesBehind before text d

@@ -27,7 +27,23 @@ by_itself library.Max = true
 by_itself library.Clamp = true
 by_itself library.Abs = true
 by_itself library.Select = true
-by_itself f = false
+by_itself library.ReduceAdd = false
+by_itself library.ReduceMin = false
+by_itself library.ReduceMax = false
+by_itself library.ReduceEqual = false
+by_itself library.Any = false
+by_itself library.All = false
+by_itself library.None = false
+by_itself library.ScanAdd = false
+by_itself library.ScanAnd = false
+by_itself library.ScanOr = false
+by_itself library.Broadcast = false
+by_itself library.Rotate = false
+by_itself library.Shift = false
+by_itself library.Shuffle = false
+by_itself library.ShuffleTwo = false
+by_itself library.Extract = false
+by_itself library.Insert = false
 
 module _ (known : ℕ → Known) where
   abbrev mutual

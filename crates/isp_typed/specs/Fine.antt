@@ -17,7 +17,7 @@ use Rattle.isp_base.specs.Ranks.{same_elem, operand}
 use Rattle.isp_base.specs.Values.{greatest}
 use Rattle.isp_tree.specs.Sound.{InText, IfAny}
 use Rattle.isp_typed.specs.declared.library.Library.{Library}
-use Rattle.isp_typed.specs.declared.library.Library.TheVariants.{Any, All as AllTrue, None as NoneTrue, Select}
+use Rattle.isp_typed.specs.declared.library.Library.TheVariants as the
 use Rattle.isp_typed.specs.declared.library.Part.{Part}
 use Rattle.isp_typed.specs.declared.variable.ArrayVariable.{ArrayVariable}
 use Rattle.isp_typed.specs.declared.variable.Holds.{Holds}
@@ -82,11 +82,28 @@ WorksIn Not e = e ≡ Truth
 
 -- `any`, `all` and `none` are of bools, `select` of values of any type, the other functions of whole numbers
 abbrev pub LibraryWorksIn : Library → Elem → Type 0
-LibraryWorksIn Any e = e ≡ Truth
-LibraryWorksIn AllTrue e = e ≡ Truth
-LibraryWorksIn NoneTrue e = e ≡ Truth
-LibraryWorksIn Select e = Unit {0}
-LibraryWorksIn f e = IsWhole e
+LibraryWorksIn the.ReduceAdd e = IsWhole e
+LibraryWorksIn the.ReduceMin e = IsWhole e
+LibraryWorksIn the.ReduceMax e = IsWhole e
+LibraryWorksIn the.ReduceEqual e = IsWhole e
+LibraryWorksIn the.Any e = e ≡ Truth
+LibraryWorksIn the.All e = e ≡ Truth
+LibraryWorksIn the.None e = e ≡ Truth
+LibraryWorksIn the.ScanAdd e = IsWhole e
+LibraryWorksIn the.ScanAnd e = IsWhole e
+LibraryWorksIn the.ScanOr e = IsWhole e
+LibraryWorksIn the.Broadcast e = IsWhole e
+LibraryWorksIn the.Rotate e = IsWhole e
+LibraryWorksIn the.Shift e = IsWhole e
+LibraryWorksIn the.Shuffle e = IsWhole e
+LibraryWorksIn the.ShuffleTwo e = IsWhole e
+LibraryWorksIn the.Extract e = IsWhole e
+LibraryWorksIn the.Insert e = IsWhole e
+LibraryWorksIn the.Min e = IsWhole e
+LibraryWorksIn the.Max e = IsWhole e
+LibraryWorksIn the.Clamp e = IsWhole e
+LibraryWorksIn the.Abs e = IsWhole e
+LibraryWorksIn the.Select e = Unit {0}
 
 -- how many conversions stand at the head of an expression
 abbrev pub heads : TExpr → ℕ
