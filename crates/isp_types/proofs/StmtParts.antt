@@ -33,12 +33,12 @@ module _ (gang : Gang) (hs : List Heading) where
   test_judged f ns ms x a b = cc
 
   module _ (answer : Result (Option Ty) Fault) where
-    pub body_judged : (d : Result TStmt Fault) (ns ms : List Binding) (vars more : List Variable) (a : Stmt)
-        → d ≡ judge_stmt gang hs answer ns (length ns) vars a → ns ≡ ms → vars ≡ more → d ≡ judge_stmt gang hs answer ms (length ms) more a
-    body_judged d ns ms vars more a e f g = cc
+    pub body_judged : (d : Result TStmt Fault) (ns ms : List Binding) (vars more : List Variable) (a b : Stmt)
+        → d ≡ judge_stmt gang hs answer ns (length ns) vars a → ns ≡ ms → vars ≡ more → a ≡ b → d ≡ judge_stmt gang hs answer ms (length ms) more b
+    body_judged d ns ms vars more a b e f g h = cc
 
-    pub rest_judged : (d : Result (Option TExpr × (Option TSimple × TStmt)) Fault) (body : Result TStmt Fault) (after ns ms : List Binding) (vars more : List Variable) (x : Option Expr) (p : Option Simple) (a : Stmt)
+    pub rest_judged : (d : Result (Option TExpr × (Option TSimple × TStmt)) Fault) (body : Result TStmt Fault) (after ns ms : List Binding) (vars more : List Variable) (x : Option Expr) (p : Option Simple) (a b : Stmt)
         → d ≡ both (perhaps (judge_test gang hs after) x) (both (perhaps (judge_simple gang hs after) p) body)
-        → body ≡ judge_stmt gang hs answer ns (length ns) vars a → after ≡ ns → ns ≡ ms → vars ≡ more
-        → d ≡ both (perhaps (judge_test gang hs ms) x) (both (perhaps (judge_simple gang hs ms) p) (judge_stmt gang hs answer ms (length ms) more a))
-    rest_judged d body after ns ms vars more x p a e j s f g = cc
+        → body ≡ judge_stmt gang hs answer ns (length ns) vars a → after ≡ ns → ns ≡ ms → vars ≡ more → a ≡ b
+        → d ≡ both (perhaps (judge_test gang hs ms) x) (both (perhaps (judge_simple gang hs ms) p) (judge_stmt gang hs answer ms (length ms) more b))
+    rest_judged d body after ns ms vars more x p a b e j s f g h = cc

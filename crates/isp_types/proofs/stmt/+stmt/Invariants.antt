@@ -10,9 +10,9 @@ use Rattle.isp_types.proofs.stmt.+stmt.Given as goal
 
 abbrev pub invariant-block-loop-s : goal.invariant-block-loop-s
 invariant-block-loop-s l = record {
-  names : take (length l.initial.walk.scope) l.walk.scope ≡ l.initial.walk.scope;
-  variables : stmts_variables l.context.setting.gang l.context.setting.headers.now l.walk.scope l.walk.variables.items (all (read_stmts (drop l.s-index l.s-items)))
-      ≡ stmts_variables l.context.setting.gang l.context.setting.headers.now l.initial.walk.scope l.initial.walk.variables.items (all (read_stmts l.s-items));
-  value : joined (made listed_stmts l.done) (judge_stmts l.context.setting.gang l.context.setting.headers.now l.context.answer l.walk.scope l.start l.walk.variables.items (all (read_stmts (drop l.s-index l.s-items))))
-      ≡ judge_stmts l.context.setting.gang l.context.setting.headers.now l.context.answer l.initial.walk.scope l.start l.initial.walk.variables.items (all (read_stmts l.s-items));
+  names : take (length l.initial.scope) l.scope ≡ l.initial.scope;
+  variables : stmts_variables l.setting.gang l.setting.headers.now l.scope l.variables.items (all (read_stmts (drop l.s-index l.s-items)))
+      ≡ stmts_variables l.setting.gang l.setting.headers.now l.initial.scope l.initial.variables.items (all (read_stmts l.s-items));
+  value : joined (made listed_stmts l.done) (judge_stmts l.setting.gang l.setting.headers.now l.answer l.scope l.start l.variables.items (all (read_stmts (drop l.s-index l.s-items))))
+      ≡ judge_stmts l.setting.gang l.setting.headers.now l.answer l.initial.scope l.start l.initial.variables.items (all (read_stmts l.s-items));
 }
