@@ -3,8 +3,8 @@ use Rattle.std.proofs.Common.{◌≡◌, ℕ, zero, suc, ◌+◌, ◌-◌, ◌/�
 use Rattle.std.specs.Prelude.{⊤, nat_lt, replicate, codes}
 use Rattle.std.proofs.lemmas.List.{append-nil, length-replicate}
 use Rattle.std.specs.List.{flat_map}
-use Rattle.byteorder.specs.Endian.{little_bytes, little_number}
-use Rattle.byteorder.specs.Numbers.{length-bytes_low_first, little_number-reads_back}
+use Rattle.isp_files.specs.Endian.{little_bytes, little_number}
+use Rattle.isp_files.proofs.Bytes.{length-bytes, little_back as number_little}
 use Rattle.isp_base.specs.Cells.{cell_width}
 use Rattle.isp_base.specs.Rows.{Row, Fit}
 use Rattle.isp_base.specs.Values.{width}
@@ -88,7 +88,7 @@ little_back n rest small =
     let bs = little_bytes 2 n ++ rest in
     let room : 2 ≤ length bs = omega arith in
     when_false (nat_lt (length bs) 2) (flawed Ends []) (Ok (little_number 2 bs, rest)) (le-ltb (length bs) 2 room)
-    ∙ ap (λ (k : ℕ). let r : Read ℕ = Ok (k, rest) in r) (little_number-reads_back 2 n rest small)
+    ∙ ap (λ (k : ℕ). let r : Read ℕ = Ok (k, rest) in r) (number_little 2 n rest small)
 
 -- an element is at most the greatest of its type, which its bytes hold
 abbrev size : Elem → ℕ
@@ -109,8 +109,8 @@ elements_back : (a : Row) → Fit a.elem a.bits → elements_of a.elem (Some (le
 elements_back a fit =
     ap (elements_of a.elem (Some (length a.bits))) (sym (append-nil (flat_map (little_bytes (size a.elem)) a.bits)))
     ∙ numbers_back little_number little_bytes (size a.elem) (2 ^ width a.elem - 1)
-    (λ x rest h. little_number-reads_back (size a.elem) x rest (fits_bytes a.elem x h))
-    (λ x. length-bytes_low_first 0 (size a.elem) x)
+    (λ x rest h. number_little (size a.elem) x rest (fits_bytes a.elem x h))
+    (λ x. length-bytes 0 (size a.elem) x)
     a.bits [] (λ k. let h = fit k in omega (arith, h))
 
 -- what is done with what was read

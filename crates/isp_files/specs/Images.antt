@@ -1,7 +1,7 @@
 -- What a file of an image holds: PGM, of grey samples, or PPM, of red, green and blue ones; both with samples in bytes (P5, P6).
 --     image_of bytes    the rows from above, in each the samples from the left, those of one place together; or the first flaw and its byte
 use Rattle.std.specs.Prelude.{ℕ, ◌==◌, ◌||◌, not, List, [], ◌∷◌, length, Bool, true, false, nat_lt, Option, Some, None, Result, Ok, ⊤, if◌then◌else◌}
-use Rattle.byteorder.specs.Endian.{big_number}
+use Rattle.isp_files.specs.Endian.{big_number}
 use Rattle.isp_base.specs.declared.types.Elem.{Elem}
 use Rattle.isp_base.specs.declared.types.Elem.TheVariants.{U8, U16}
 use Rattle.isp_files.specs.Files.{Sheet, count_of, file_of}

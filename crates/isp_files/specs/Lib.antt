@@ -1,4 +1,5 @@
 pub mod Reading
+pub mod Endian
 pub mod Files
 pub mod Npy
 pub mod Images

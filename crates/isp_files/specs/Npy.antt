@@ -3,7 +3,7 @@
 -- A file is: its magic, its version, the length of its header, the header, the elements.
 use Rattle.std.specs.Prelude.{ℕ, zero, suc, ◌-◌, ◌/◌, ◌^◌, ◌==◌, ◌||◌, ◌&&◌, not, List, [], ◌∷◌, length, take, drop, slice_index, bytes_eq, codes, Bool, nat_lt, Option, Some, None, Result, Ok, Err, ⊤, if◌then◌else◌}
 use Rattle.std.specs.List.{prefix_len}
-use Rattle.byteorder.specs.Endian.{little_number}
+use Rattle.isp_files.specs.Endian.{little_number}
 use Rattle.isp_base.specs.Cells.{cell_width}
 use Rattle.isp_base.specs.Values.{width}
 use Rattle.isp_base.specs.declared.types.Elem.{Elem}

@@ -4,7 +4,7 @@
 use Rattle.std.specs.Prelude.{ℕ, ◌+◌, ◌-◌, ◌/◌, ◌%◌, List, [], ◌∷◌, ◌++◌, length, codes, replicate, Bool, true, false}
 use Rattle.std.specs.Fmt.{decimal}
 use Rattle.std.specs.List.{flat_map}
-use Rattle.byteorder.specs.Endian.{big_bytes, little_bytes}
+use Rattle.isp_files.specs.Endian.{big_bytes, little_bytes}
 use Rattle.isp_base.specs.Cells.{cell_width}
 use Rattle.isp_base.specs.Rows.{Row}
 use Rattle.isp_base.specs.declared.types.Elem.{Elem}

@@ -5,11 +5,11 @@ ghost use Rattle.isp_files.specs.Images.{blank_of, elem_of, ends_line, gap_of, i
 ghost use Rattle.isp_files.specs.declared.fault.FileFault.TheVariants as fault;
 ghost use Rattle.isp_files.specs.declared.fault.Slip.TheVariants as slip;
 
+use crate::endian::Endian;
 use crate::fault::{FileFault, Flaw, Slip};
 use crate::grid::{Grid, count, placed};
 use crate::numbers::{Cell, numbers};
 use crate::reader::{Reader, is_blank};
-use byteorder::BigEndian;
 use isp_base::{Array, Elem};
 use std::alloc::Global;
 
@@ -168,7 +168,7 @@ fn samples(
     let Some(count) = count else {
         return Err(reader.flawed(Flaw::TooMany));
     };
-    numbers::<BigEndian>(alloc, cell(most), count, reader)
+    numbers(alloc, Endian::Big, cell(most), count, reader)
 }
 
 // How samples stand in bytes.

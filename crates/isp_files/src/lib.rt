@@ -1,6 +1,7 @@
 //! Arrays in files that others write and read: NumPy's NPY, and the images PGM and PPM.
 #![tactic(auto)]
 
+mod endian;
 mod entry;
 mod fault;
 mod grid;

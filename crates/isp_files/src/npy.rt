@@ -6,12 +6,12 @@ ghost use Rattle.isp_files.specs.Npy.{elements_of, little_of, npy_of, opening_of
 ghost use Rattle.isp_files.specs.declared.fault.FileFault.TheVariants as fault;
 ghost use Rattle.isp_files.specs.declared.fault.Slip.TheVariants as slip;
 
+use crate::endian::Endian;
 use crate::fault::{FileFault, Flaw, Slip};
 use crate::grid::{Grid, count, placed};
 use crate::header::header;
 use crate::numbers::{Cell, numbers};
 use crate::reader::Reader;
-use byteorder::{ByteOrder, LittleEndian};
 use isp_base::{Array, Elem, low_mask};
 use std::alloc::Global;
 
@@ -80,7 +80,7 @@ fn little(reader: &mut Reader<'_>, size: usize) -> Result<usize, Slip>
             left: 0,
         });
     }
-    let number = LittleEndian::read_uint(bytes, size);
+    let number = Endian::Little.number(bytes, size);
     reader.skip(size);
     Ok(number as usize)
 }
@@ -99,7 +99,7 @@ fn elements(
         return Err(reader.flawed(Flaw::TooMany));
     };
     let cell = cell(elem);
-    numbers::<LittleEndian>(alloc, cell, count, reader)
+    numbers(alloc, Endian::Little, cell, count, reader)
 }
 
 // How the elements of a type stand in bytes.

@@ -1,12 +1,13 @@
 //! Elements in bytes.
 ghost use Rattle.std.specs.Prelude.{◌≡◌, ◌≢◌, ◌<◌, ◌≤◌, ◌^◌, ◌++◌, IfErr, IfOk, Ok, Err};
 ghost use Rattle.isp_base.specs.Values.{width};
+ghost use Rattle.isp_files.specs.Endian.{number_in};
 ghost use Rattle.isp_files.specs.Reading.{numbers_of, one_of};
 ghost use Rattle.isp_files.specs.declared.fault.Slip.TheVariants as slip;
 
+use crate::endian::Endian;
 use crate::fault::{Flaw, Slip};
 use crate::reader::Reader;
-use byteorder::ByteOrder;
 use isp_base::{Array, Elem};
 use std::alloc::Global;
 
@@ -19,8 +20,9 @@ pub(crate) struct Cell {
 }
 
 /// So many elements.
-pub(crate) fn numbers<T: ByteOrder>(
+pub(crate) fn numbers(
     alloc: Global,
+    endian: Endian,
     cell: Cell,
     count: usize,
     reader: &mut Reader<'_>,
@@ -29,13 +31,13 @@ pub(crate) fn numbers<T: ByteOrder>(
     requires few { cell.size ≤ 8 }
     requires fits { cell.most < 2 ^ width cell.elem }
     ensures elem { IfOk result (λ a. a.elem ≡ cell.elem) }
-    ensures ok { IfOk result (λ a. numbers_of T.number_of cell.size cell.most count reader.old ≡ Ok (a.bits, reader.new)) }
-    ensures err { IfErr result (λ e. e ≢ slip.Memory → numbers_of T.number_of cell.size cell.most count reader.old ≡ Err e) }
+    ensures ok { IfOk result (λ a. numbers_of (number_in endian) cell.size cell.most count reader.old ≡ Ok (a.bits, reader.new)) }
+    ensures err { IfErr result (λ e. e ≢ slip.Memory → numbers_of (number_in endian) cell.size cell.most count reader.old ≡ Err e) }
 {
     let mut array = Array::empty(alloc, cell.elem);
     let mut left = count;
     while left > 0 {
-        let bits = number::<T>(cell, reader)?;
+        let bits = number(endian, cell, reader)?;
         array.push(bits)?;
         left -= 1;
     }
@@ -43,12 +45,12 @@ pub(crate) fn numbers<T: ByteOrder>(
 }
 
 // One element.
-fn number<T: ByteOrder>(cell: Cell, reader: &mut Reader<'_>) -> Result<u64, Slip>
+fn number(endian: Endian, cell: Cell, reader: &mut Reader<'_>) -> Result<u64, Slip>
     requires some { 1 ≤ cell.size }
     requires few { cell.size ≤ 8 }
     ensures fits { IfOk result (λ n. n ≤ cell.most) }
-    ensures ok { IfOk result (λ n. one_of T.number_of cell.size cell.most reader.old ≡ Ok (n, reader.new)) }
-    ensures err { IfErr result (λ e. one_of T.number_of cell.size cell.most reader.old ≡ Err e) }
+    ensures ok { IfOk result (λ n. one_of (number_in endian) cell.size cell.most reader.old ≡ Ok (n, reader.new)) }
+    ensures err { IfErr result (λ e. one_of (number_in endian) cell.size cell.most reader.old ≡ Err e) }
 {
     let bytes = reader.rest();
     if bytes.len() < cell.size {
@@ -57,7 +59,7 @@ fn number<T: ByteOrder>(cell: Cell, reader: &mut Reader<'_>) -> Result<u64, Slip
             left: 0,
         });
     }
-    let number = T::read_uint(bytes, cell.size);
+    let number = endian.number(bytes, cell.size);
     if number > cell.most {
         return Err(reader.flawed(Flaw::NoValue));
     }

@@ -1,13 +1,13 @@
 //! Arrays as the bytes of files.
-ghost use Rattle.std.specs.Prelude.{◌≡◌, ◌<◌, ◌≤◌, ◌*◌, ◌/◌, ◌^◌, ◌++◌, OnOk, IfOk};
+ghost use Rattle.std.specs.Prelude.{◌≡◌, ◌≤◌, ◌*◌, ◌/◌, ◌++◌, OnOk, IfOk};
 ghost use Rattle.std.specs.Fmt.{decimal};
 ghost use Rattle.std.specs.List.{flat_map};
 ghost use Rattle.isp_base.specs.Cells.{cell_width};
-ghost use Rattle.isp_base.specs.Values.{width};
+ghost use Rattle.isp_files.specs.Endian.{bytes_in};
 ghost use Rattle.isp_files.specs.Writing.{dict_text, header_text, image_bytes, image_magic, length_text, most_text};
 ghost use Rattle.isp_files.specs.Writing.{npy_bytes, opened, padding_text, sizes_text, type_name};
 
-use byteorder::{BigEndian, ByteOrder, LittleEndian};
+use crate::endian::Endian;
 use isp_base::{Array, Elem};
 use itoa::Buffer;
 use std::alloc::{AllocError, Global};
@@ -19,7 +19,7 @@ pub fn write_npy(alloc: Global, shape: &[usize], array: &Array) -> Result<Vec<u8
 {
     let header = header(alloc, array.elem(), shape)?;
     let mut bytes = opened(alloc, &header)?;
-    push_elements::<LittleEndian>(&mut bytes, array)?;
+    push_elements(&mut bytes, Endian::Little, array)?;
     Ok(bytes)
 }
 
@@ -36,7 +36,7 @@ pub fn write_image(
     let mut bytes = Vec::new(alloc);
     bytes.extend_from_slice(if is_color { b"P6 " } else { b"P5 " })?;
     push_sizes(&mut bytes, height, width, array.elem())?;
-    push_elements::<BigEndian>(&mut bytes, array)?;
+    push_elements(&mut bytes, Endian::Big, array)?;
     Ok(bytes)
 }
 
@@ -137,12 +137,12 @@ fn push_decimal(bytes: &mut Vec<u8>, number: usize) -> Result<(), AllocError>
 }
 
 // Each element in as many bytes as its type takes.
-fn push_elements<T: ByteOrder>(bytes: &mut Vec<u8>, array: &Array) -> Result<(), AllocError>
-    ensures { OnOk result (bytes.new.items ≡ bytes.old.items ++ flat_map (T.bytes_of (cell_width array.now.elem / 8)) array.now.bits) }
+fn push_elements(bytes: &mut Vec<u8>, endian: Endian, array: &Array) -> Result<(), AllocError>
+    ensures { OnOk result (bytes.new.items ≡ bytes.old.items ++ flat_map (bytes_in endian (cell_width array.now.elem / 8)) array.now.bits) }
 {
     let size = size(array.elem());
     for place in 0..array.len() {
-        push_number::<T>(bytes, size, array.at(place))?;
+        endian.push(bytes, array.at(place), size)?;
     }
     Ok(())
 }
@@ -150,9 +150,7 @@ fn push_elements<T: ByteOrder>(bytes: &mut Vec<u8>, array: &Array) -> Result<(),
 // The bytes of an element.
 fn size(elem: Elem) -> usize
     ensures size { result ≡ cell_width elem / 8 }
-    ensures some { 1 ≤ result }
     ensures few { result ≤ 8 }
-    ensures fits { 2 ^ width elem ≤ 256 ^ result }
 {
     match elem {
         Elem::Bool | Elem::I8 | Elem::U8 => 1,
@@ -160,20 +158,4 @@ fn size(elem: Elem) -> usize
         Elem::I32 | Elem::U32 => 4,
         Elem::I64 | Elem::U64 => 8,
     }
-}
-
-fn push_number<T: ByteOrder>(
-    bytes: &mut Vec<u8>,
-    size: usize,
-    number: u64,
-) -> Result<(), AllocError>
-    requires some { 1 ≤ size }
-    requires few { size ≤ 8 }
-    requires fits { number < 256 ^ size }
-    ensures { OnOk result (bytes.new.items ≡ bytes.old.items ++ T.bytes_of size number) }
-{
-    let mut word = [0u8; 8];
-    T::write_uint(&mut word, number, size);
-    bytes.extend_from_slice(&word[..size])?;
-    Ok(())
 }
