@@ -1,16 +1,21 @@
 -- Statements of judged parts: what a part was judged to be where names and variables are known to be others.
-use Rattle.std.proofs.Common.{◌≡◌, ℕ}
+use Rattle.std.proofs.Common.{◌≡◌, ℕ, sym, ap, ◌∙◌}
+use Rattle.std.proofs.lemmas.List.{length-map}
 use Rattle.std.specs.Prelude.{Result, Option, List, length, take}
 use Rattle.isp_base.specs.declared.types.Gang.{Gang}
+use Rattle.isp_base.specs.declared.types.Span.{Span}
 use Rattle.isp_base.specs.declared.types.Ty.{Ty}
 use Rattle.isp_lex.specs.declared.fault.Fault.{Fault}
+use Rattle.isp_tree.specs.declared.expr.Expr as rust
+use Rattle.isp_tree.specs.Views.{expr_of, exprs_of}
 use Rattle.isp_tree.specs.Tree.{Expr, Simple, Stmt}
 use Rattle.isp_typed.specs.declared.variable.Variable.{Variable}
 use Rattle.isp_typed.specs.Typed.{TExpr, TSimple, TStmt}
-use Rattle.isp_typed.specs.Verdicts.{both, made, perhaps}
+use Rattle.isp_typed.specs.Verdicts.{beside, both, made, perhaps}
 use Rattle.isp_exprs.specs.declared.scope.Binding.{Binding}
 use Rattle.isp_exprs.specs.Callees.{Heading}
-use Rattle.isp_types.specs.reader.JudgeStmts.{judge_test, judge_simple, judge_stmt}
+use Rattle.isp_types.specs.Nodes.{print_stmt}
+use Rattle.isp_types.specs.reader.JudgeStmts.{judge_test, judge_simple, judge_stmt, judge_values, print_fault}
 
 -- what is made of two parts, after so many variables
 pub joined_parts : {A B T : Type 0} (make : ℕ → A × B → T) (r : Result T Fault) (n k : ℕ) (f g : Result A Fault) (d e : Result B Fault)
@@ -32,13 +37,21 @@ module _ (gang : Gang) (hs : List Heading) where
   pub test_judged : (f : Result TExpr Fault) (ns ms : List Binding) (x : Expr) → f ≡ judge_test gang hs ns x → ns ≡ ms → f ≡ judge_test gang hs ms x
   test_judged f ns ms x a b = cc
 
-  module _ (answer : Result (Option Ty) Fault) where
-    pub body_judged : (d : Result TStmt Fault) (ns ms : List Binding) (vars more : List Variable) (a b : Stmt)
-        → d ≡ judge_stmt gang hs answer ns (length ns) vars a → ns ≡ ms → vars ≡ more → a ≡ b → d ≡ judge_stmt gang hs answer ms (length ms) more b
-    body_judged d ns ms vars more a b e f g h = cc
+  -- the values of a `print`, as many as are read
+  pub printed_judged : (k p s : Span) (t : List ℕ) (ns : List Binding) (values : Result (List TExpr) Fault) (found read : List rust.Expr)
+      → values ≡ beside (print_fault t p (length found)) (judge_values gang hs ns (exprs_of found)) → found ≡ read
+      → made (print_stmt k t s) values ≡ made (print_stmt k t s) (beside (print_fault t p (length (exprs_of read))) (judge_values gang hs ns (exprs_of read)))
+  printed_judged k p s t ns values found read e is = ap (made (print_stmt k t s))
+      (e ∙ (ap (λ n. beside (print_fault t p n) (judge_values gang hs ns (exprs_of found))) (sym (length-map found expr_of))
+      ∙ ap (λ z. beside (print_fault t p (length (exprs_of z))) (judge_values gang hs ns (exprs_of z))) is))
 
-    pub rest_judged : (d : Result (Option TExpr × (Option TSimple × TStmt)) Fault) (body : Result TStmt Fault) (after ns ms : List Binding) (vars more : List Variable) (x : Option Expr) (p : Option Simple) (a b : Stmt)
+  module _ (answer : Result (Option Ty) Fault) where
+    pub body_judged : (d : Result TStmt Fault) (ns ms : List Binding) (vars more : List Variable) (a : Stmt)
+        → d ≡ judge_stmt gang hs answer ns (length ns) vars a → ns ≡ ms → vars ≡ more → d ≡ judge_stmt gang hs answer ms (length ms) more a
+    body_judged d ns ms vars more a e f g = cc
+
+    pub rest_judged : (d : Result (Option TExpr × (Option TSimple × TStmt)) Fault) (body : Result TStmt Fault) (after ns ms : List Binding) (vars more : List Variable) (x : Option Expr) (p : Option Simple) (a : Stmt)
         → d ≡ both (perhaps (judge_test gang hs after) x) (both (perhaps (judge_simple gang hs after) p) body)
-        → body ≡ judge_stmt gang hs answer ns (length ns) vars a → after ≡ ns → ns ≡ ms → vars ≡ more → a ≡ b
-        → d ≡ both (perhaps (judge_test gang hs ms) x) (both (perhaps (judge_simple gang hs ms) p) (judge_stmt gang hs answer ms (length ms) more b))
-    rest_judged d body after ns ms vars more x p a b e j s f g h = cc
+        → body ≡ judge_stmt gang hs answer ns (length ns) vars a → after ≡ ns → ns ≡ ms → vars ≡ more
+        → d ≡ both (perhaps (judge_test gang hs ms) x) (both (perhaps (judge_simple gang hs ms) p) (judge_stmt gang hs answer ms (length ms) more a))
+    rest_judged d body after ns ms vars more x p a e j s f g = cc

@@ -1,5 +1,5 @@
 -- Steps of the loop over statements: what is found so far, joined with what the rest gives.
-use Rattle.std.proofs.Common.{◌≡◌, ℕ, ◌+◌, ◌<◌, refl, sym, ap, subst, ◌∙◌, drop, drop-cons, add-one, get_or, ◌++◌}
+use Rattle.std.proofs.Common.{◌≡◌, ℕ, zero, suc, ◌+◌, ◌<◌, ◌≤◌, arith, refl, sym, ap, subst, ◌∙◌, drop, drop-cons, add-one, get_or, ◌++◌}
 use Rattle.std.specs.Prelude.{Result, Ok, Err, Option, List, [], ◌∷◌, length}
 use Rattle.std.specs.Result.{IfOk}
 use Rattle.std.proofs.lemmas.Result.{IfOk-weaker}
@@ -7,6 +7,7 @@ use Rattle.isp_base.specs.declared.types.Gang.{Gang}
 use Rattle.isp_base.specs.declared.types.Ty.{Ty}
 use Rattle.isp_lex.specs.declared.fault.Fault.{Fault}
 use Rattle.isp_tree.specs.declared.stmt.Stmt as rust
+use Rattle.isp_tree.specs.Nodes.{nodes_of_stmt, nodes_of_stmts}
 use Rattle.isp_tree.specs.Tree.{all}
 use Rattle.isp_tree.specs.Views.{stmt_of, stmts_of}
 use Rattle.isp_typed.specs.declared.variable.Variable.{Variable}
@@ -20,6 +21,12 @@ use Rattle.isp_types.specs.Numbering.{names_after, variables_after, stmts_variab
 use Rattle.isp_types.specs.Nodes.{stmts_made}
 use Rattle.isp_types.specs.reader.JudgeStmts.{judge_stmt, judge_stmts}
 use Rattle.isp_exprs.specs.reader.Lists.{and_one}
+
+-- a statement has at most the nodes of all
+pub nodes_low : (xs : List rust.Stmt) (i : ℕ) (x : rust.Stmt) → i < length xs → x ≡ get_or xs i x → nodes_of_stmt (stmt_of x) ≤ nodes_of_stmts (all (stmts_of xs))
+nodes_low [] i x low is = absurd (omega (arith, low))
+nodes_low (y ∷ ys) zero x low is = subst (λ z. nodes_of_stmt (stmt_of z) ≤ nodes_of_stmt (stmt_of y) + nodes_of_stmts (all (stmts_of ys))) (sym is) (omega arith)
+nodes_low (y ∷ ys) (suc i) x low is = let n = nodes_low ys i x (omega (arith, low)) is in omega (arith, n)
 
 -- statements before others
 abbrev pub before : List TStmt → TStmts → TStmts

@@ -1,6 +1,6 @@
 -- Statements and blocks, as they are read and as they are typed, seen as trees.
 use Rattle.std.proofs.Common.{◌≡◌, sym, ap, ◌∙◌, Vec, Global, Box, Option}
-use Rattle.std.specs.Prelude.{ℕ, map, option_map}
+use Rattle.std.specs.Prelude.{ℕ, List, map, option_map}
 use Rattle.isp_base.specs.declared.types.Span.{Span}
 use Rattle.isp_tree.specs.declared.types.Word.{Word}
 use Rattle.isp_tree.specs.declared.expr.Expr as rust_expr
@@ -13,7 +13,7 @@ use Rattle.isp_tree.specs.declared.stmt.Stmt as rust
 use Rattle.isp_tree.specs.declared.stmt.Stmt.TheVariants as variant
 use Rattle.isp_tree.specs.declared.stmt.Stmt.TheFolds.{fold-roll-Stmt, fold_out-Block}
 use Rattle.isp_tree.specs.declared.stmt.Block as rust_block
-use Rattle.isp_tree.specs.Tree.{Stmt, block, if_then, if_else, loop_while, loop_do, loop_for, foreach, foreach_active, foreach_unique, unmasked, Block, braces, all}
+use Rattle.isp_tree.specs.Tree.{Stmt, block, if_then, if_else, loop_while, loop_do, loop_for, foreach, foreach_active, foreach_unique, unmasked, print, Block, braces, all}
 use Rattle.isp_base.specs.declared.types.Elem.{Elem}
 use Rattle.isp_typed.specs.declared.expr.TypedExpr as typed_expr
 use Rattle.isp_typed.specs.declared.stmt.TypedBlock as typed_block
@@ -22,7 +22,7 @@ use Rattle.isp_typed.specs.declared.stmt.TypedStmt.TheVariants as typed
 use Rattle.isp_typed.specs.declared.stmt.TypedStmt.TheFolds.{fold-roll-TypedStmt, fold_out-TypedBlock}
 use Rattle.isp_typed.specs.Typed.{TStmt, TBlock, t_block, t_foreach_unique, t_braces, t_stmts}
 use Rattle.isp_typed.specs.Views.{expr_of as typed_expr_of, stmt_step as typed_stmt_step, block_step as typed_block_step, stmt_of as typed_stmt_of, block_of as typed_block_of, stmts_of as typed_stmts_of}
-use Rattle.isp_tree.specs.Views.{expr_of, simple_of, first_of, range_of, stmt_step, block_step, stmt_of, block_of, stmts_of}
+use Rattle.isp_tree.specs.Views.{expr_of, exprs_of, simple_of, first_of, range_of, stmt_step, block_step, stmt_of, block_of, stmts_of}
 
 pub block_view : (b : rust_block.Block) → block_of b ≡ braces (all (stmts_of b.statements.items)) b.span
 block_view b = fold_out-Block Stmt Block stmt_step block_step b
@@ -58,6 +58,9 @@ unique_view k w x a s = ap stmt_of (sym (variant.rolls-ForeachUnique k w x a s))
 
 pub unmasked_view : (k : Span) (b : rust_block.Block) (s : Span) → stmt_of (variant.Unmasked k b s) ≡ unmasked k (block_of b) s
 unmasked_view k b s = ap stmt_of (sym (variant.rolls-Unmasked k b s)) ∙ fold-roll-Stmt Stmt Block stmt_step block_step _
+
+pub print_view : (k : Span) (t : List ℕ) (p : Span) (xs : Vec rust_expr.Expr Global) (s : Span) → stmt_of (variant.Print k t p xs s) ≡ print k t p (exprs_of xs.items) s
+print_view k t p xs s = ap stmt_of (sym (variant.rolls-Print k t p xs s)) ∙ fold-roll-Stmt Stmt Block stmt_step block_step _
 
 -- ---- as they are typed
 

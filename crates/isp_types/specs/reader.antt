@@ -2,6 +2,6 @@
 pub mod JudgeStmts
 pub mod JudgeFunctions
 pub mod Lists
-pub mod Kinds
 pub mod Boxes
 pub mod Settings
+pub mod Walks

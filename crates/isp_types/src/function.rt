@@ -17,6 +17,7 @@ ghost use Rattle.isp_types.specs.reader.Lists.{IsParamsFault, function_of_parts,
 use crate::declaration::{declared, or_nothing, twice, value_variable};
 use crate::gathered;
 use crate::stmt::block;
+use crate::walk::{Context, Walk};
 use isp_base::{Elem, Name, Parameter, Rate, Signature, Span, Ty};
 use isp_exprs::{
     Header, Scope, Setting, ValueWords, Want, answer_said, library_named, mismatch,
@@ -227,9 +228,14 @@ fn function(
     let mut scope = Scope::new(alloc);
     let mut variables = Vec::new(alloc);
     let seen = declare_all(alloc, &mut scope, &mut variables, &f.params)?;
-    let body = block(setting, answer, &mut scope, 0, &mut variables, &f.body)?;
+    let context = Context {
+        setting: *setting,
+        answer,
+    };
+    let mut walk = Walk { scope, variables };
+    let body = block(&mut walk, &context, 0, &f.body)?;
     match beside(taken, both(answer, beside(seen, body))) {
-        Ok((answer, body)) => Ok(Ok(make_function(alloc, f, answer, variables, body)?)),
+        Ok((answer, body)) => Ok(Ok(make_function(alloc, f, answer, walk.variables, body)?)),
         Err(fault) => Ok(Err(fault)),
     }
 }

@@ -9,6 +9,7 @@ mod parts;
 mod program;
 mod simple;
 mod stmt;
+mod walk;
 
 pub use declaration::{array_sized, declare_item, or_nothing, twice};
 pub use function::{declare_parameter, name_fault, param_fits, take};
