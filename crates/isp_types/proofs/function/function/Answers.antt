@@ -14,7 +14,7 @@ returns-in-Ok c =
     let s = c.in_ok-body.ensures in
     let inside = rw (c.new-scope.ensures, c.new-variables.ensures.items, c.deref.ensures.value) at (p.fault gang hs ans (read_block c.args.f.now.body)) in
     let variables = rw (p.names, p.variables, c.new-scope.ensures, c.new-variables.ensures.items, c.deref.ensures.value) at s.variables in
-    function_found gang hs f c.args.taken block_of ans (beside c.in_ok-seen.seen c.in_ok-body.body) (function_of c.in_ok-make_function-in-Ok.field-0) c.block.new.variables.items c.in-Ok.answer c.in-Ok.body
+    function_found gang hs f c.args.taken block_of ans (beside c.in_ok-seen.seen c.in_ok-body.body) (function_of c.in_ok-make_function-in-Ok.field-0) c.block.new.walk.variables.items c.in-Ok.answer c.in-Ok.body
     c.in_ok-make_function-in-Ok.ensures variables c.answer_said-answer.ensures (body_seen block_of c.in_ok-seen.seen c.in_ok-body.body _ _ s.value inside)
     (cc)
 
