@@ -27,7 +27,7 @@ use std::io::Read;
 /// `run [--gang G] [--budget B] [--out NAME=FILE].. [--json] SOURCE ENTRY [NAME=VALUE]..` runs ENTRY with the arguments that words and
 /// files give, and says on `err` what went wrong. `test [--gang G] [--budget B] SOURCE` runs the cases of SOURCE.tests at each gang, and
 /// writes a line for each that differs. `check [--gang G] [--json] SOURCE` writes what is wrong with SOURCE, all of it, and what to write
-/// instead. `explain [--gang G] [--budget B] SOURCE [ENTRY ARGUMENTS]` does what `isp check` or
+/// instead; where nothing is, whether each exported function is independent, and where SOURCE is slow. `explain [--gang G] [--budget B] SOURCE [ENTRY ARGUMENTS]` does what `isp check` or
 /// `isp run` does, with the same output and the same status, and says on `err` what went wrong, where, and what to write instead.
 /// `count [--gang G] [--budget B] SOURCE ENTRY ARGUMENTS` does what `isp run` does, and writes after the answer a line of JSON with
 /// what the instructions come to. `trace`, with the same words and `[--from N] [--count M] [--lanes]`, writes the line of each step in

@@ -13,7 +13,8 @@ pub struct Call<'a> {
     pub arguments: &'a str,
 }
 
-/// A source is checked for a gang, and all that is wrong with it shown, as JSON where that is wanted.
+/// A source is checked for a gang: all that is wrong with it is shown, or where nothing is what is said of its exports and what is
+/// slow, as JSON where that is wanted.
 #[derive(Clone, Copy, Debug)]
 pub struct CheckRequest<'a> {
     pub gang: Gang,
@@ -270,9 +271,11 @@ fn test<'a>(alloc: Global) -> Result<Command<'a>, AllocError> {
 
 fn check<'a>(alloc: Global) -> Result<Command<'a>, AllocError> {
     Command::new(alloc, "check")
-        .about("Shows all that is wrong with SOURCE, and how to mend it")
+        .about(
+            "Shows all that is wrong with SOURCE, or else which exports are independent and what is slow",
+        )
         .arg(gang(alloc).default_value("4"))?
-        .arg(json(alloc))?
+        .arg(json(alloc).help("Writes each message as a line of JSON, for tools"))?
         .arg(
             named(alloc, "SOURCE")
                 .required(true)
