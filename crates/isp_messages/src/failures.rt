@@ -1,4 +1,8 @@
 //! Messages of failures, with the sentence and the remedy of docs/FAULTS.md.
+ghost use Rattle.std.specs.Prelude.{◌≡◌, string_bytes, IfOk};
+ghost use Rattle.isp_lex.specs.Faults.{rule_text};
+ghost use Rattle.isp_messages.specs.Sayings.{Says};
+
 use crate::close::closest;
 use crate::message::Message;
 use crate::page::Source;
@@ -8,12 +12,14 @@ use isp_remedies::{Spot, advice_on};
 use std::alloc::{AllocError, Global};
 use std::fmt::Write;
 
-/// Where a source is refused, why, and what to write instead.
+/// Where a source is refused, why, and what to write instead: the number and the name of the rule, at the span that breaks it.
 pub fn source_message<'n, 't>(
     alloc: Global,
     source: Source<'n, 't>,
     fault: Fault,
-) -> Result<Message<'n, 't>, AllocError> {
+) -> Result<Message<'n, 't>, AllocError>
+    ensures { IfOk result (λ m. Says source.entry.name.now source.entry.text.now fault.span (rule_text fault.rule) m) }
+{
     let spot = Spot::new(alloc, source.text, fault.span)?;
     let mut message = Message::new(alloc, format!(in alloc; "{}", fault.rule)?);
     message.source = Some(source);
@@ -124,7 +130,11 @@ pub fn advise(
     message: &mut Message<'_, '_>,
     fault: &str,
     spot: Option<&Spot<'_>>,
-) -> Result<(), AllocError> {
+) -> Result<(), AllocError>
+    ensures source { message.new.source ≡ message.old.source }
+    ensures span { message.new.span ≡ message.old.span }
+    ensures what { message.new.what ≡ message.old.what }
+{
     let Some(advice) = advice_on(fault) else {
         return Ok(());
     };

@@ -1,4 +1,7 @@
 //! Messages of hints: where a program is slow.
+ghost use Rattle.std.specs.Prelude.{◌≡◌, IfOk};
+ghost use Rattle.isp_messages.specs.Sayings.{Says, slow_words};
+
 use crate::message::Message;
 use crate::page::Source;
 use isp_hints::{Hint, Slow};
@@ -9,7 +12,9 @@ pub fn hint_message<'n, 't>(
     alloc: Global,
     source: Source<'n, 't>,
     hint: Hint,
-) -> Result<Message<'n, 't>, AllocError> {
+) -> Result<Message<'n, 't>, AllocError>
+    ensures { IfOk result (λ m. Says source.entry.name.now source.entry.text.now hint.place (slow_words hint.slow) m) }
+{
     let mut message = Message::new(alloc, String::from_str(alloc, what(hint.slow))?);
     message.source = Some(source);
     message.span = Some(hint.place);
@@ -18,7 +23,9 @@ pub fn hint_message<'n, 't>(
     Ok(message)
 }
 
-fn what(slow: Slow) -> &'static str {
+fn what(slow: Slow) -> &'static str
+    ensures { result.now ≡ slow_words slow }
+{
     match slow {
         Slow::Gathered => "note: gathered",
         Slow::Scattered => "note: scattered",
