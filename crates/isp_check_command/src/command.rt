@@ -1,22 +1,24 @@
-//! `ispx check`: all that is wrong with a source, or slow.
-ghost use Rattle.std.specs.Prelude.{◌≡◌, false};
+//! `ispx check`: all that is wrong with a source; or its exported functions, and what is slow.
+ghost use Rattle.std.specs.Prelude.{◌≡◌, [], false};
 ghost use Rattle.isp_engine.specs.Commands.{exit_status};
 ghost use Rattle.isp_engine.specs.Failures.{status_of};
-ghost use Rattle.isp_check_command.specs.Checking.{CheckAnswered, ChecksText, Tells, TellsFaults, TellsHints, TellsNotes, TellsPage};
+ghost use Rattle.isp_check_command.specs.Checking.{CheckAnswered, ChecksText, Tells, TellsFaults, TellsNotes, TellsPage, TellsSome};
+ghost use Rattle.isp_front.specs.Front.{IsSource};
+ghost use Rattle.isp_typed.specs.Typed.{Program};
 
-use crate::hints::text_hints;
-use crate::page::{notes_of, page_of};
+use crate::notes::notes;
+use crate::page::fault_page;
 use isp_engine::{Failure, Sink, SourceFiles, read_file, tell_line, write_text};
 use isp_faults::faults;
-use isp_hints::Hint;
 use isp_lex::Fault;
-use isp_messages::Source;
 use ispx_command_line::CheckRequest;
 use std::alloc::Global;
 
-/// Writes a message for each fault of a source, in the order of their places; where there is none, one for each hint on where it is slow. Answers
-/// the exit status: 0 where there is no fault, and 1 where there are. What keeps it from that is said on `err`: 6, a file that cannot be read or an
-/// output that cannot be written; 7, memory.
+/// Writes a message for each fault of a source, in the order of their places: `FILE:LINE:COLUMN: NUMBER NAME` with the line and what helps, or
+/// a line of JSON. Where there is none it writes a line for each exported function, in the order of the text, which says whether the function
+/// is an independent entry, or the first rule that it breaks and where (docs/INDEPENDENCE.md); and then a message for each place where the
+/// source is slow. Answers the exit status: 0 where there is no fault, and 1 where there are. What keeps it from that is said on `err`: 6, a
+/// file that cannot be read or an output that cannot be written; 7, memory.
 pub fn check<F: SourceFiles, O: Sink, E: Sink>(
     alloc: Global,
     request: &CheckRequest<'_>,
@@ -36,7 +38,7 @@ pub fn check<F: SourceFiles, O: Sink, E: Sink>(
     }
 }
 
-// Writes the messages of all faults of a text, and fails with the first; where there is none, those of all hints.
+// Writes the messages of all faults of a text, and fails with the first; where there is none, its notes.
 fn tell_all<O: Sink>(
     alloc: Global,
     request: &CheckRequest<'_>,
@@ -44,13 +46,13 @@ fn tell_all<O: Sink>(
     out: &mut O,
 ) -> Result<(), Failure<'static>>
     requires { O.has_failed out.old ≡ false }
-    ensures { ChecksText request.now.gang text.now (O.written out.old) (O.written out.new) (O.has_failed out.new) result }
+    ensures { ChecksText request.now text.now (O.written out.old) (O.written out.new) (O.has_failed out.new) result }
 {
     let found = faults(alloc, text, request.gang)?;
     tell_found(alloc, request, text, found.as_slice(), out)
 }
 
-// The same, of the faults that were found.
+// The same, of the faults that were found. A text without any is the source of a program.
 fn tell_found<O: Sink>(
     alloc: Global,
     request: &CheckRequest<'_>,
@@ -58,11 +60,12 @@ fn tell_found<O: Sink>(
     found: &[Fault],
     out: &mut O,
 ) -> Result<(), Failure<'static>>
-    requires { O.has_failed out.old ≡ false }
-    ensures { Tells request.now.gang text.now found.now (O.written out.old) (O.written out.new) (O.has_failed out.new) result }
+    requires sound { found.now ≡ [] → (program : Program) × IsSource request.now.gang text.now program }
+    requires live { O.has_failed out.old ≡ false }
+    ensures { Tells request.now text.now found.now (O.written out.old) (O.written out.new) (O.has_failed out.new) result }
 {
     if found.is_empty() {
-        return tell_hints(alloc, request, text, out);
+        return tell_notes(alloc, request, text, out);
     }
     tell_faults(alloc, request, text, found, out)
 }
@@ -76,7 +79,7 @@ fn tell_faults<O: Sink>(
     out: &mut O,
 ) -> Result<(), Failure<'static>>
     requires { O.has_failed out.old ≡ false }
-    ensures { TellsFaults found.now (O.written out.old) (O.written out.new) (O.has_failed out.new) result }
+    ensures { TellsFaults request.now text.now found.now (O.written out.old) (O.written out.new) (O.has_failed out.new) result }
 {
     let Some(first) = found.first() else {
         return Ok(());
@@ -94,64 +97,36 @@ fn tell_page<O: Sink>(
     out: &mut O,
 ) -> Result<(), Failure<'static>>
     requires { O.has_failed out.old ≡ false }
-    ensures { TellsPage (O.written out.old) (O.written out.new) (O.has_failed out.new) result }
+    ensures { TellsPage request.now text.now found.now (O.written out.old) (O.written out.new) (O.has_failed out.new) result }
 {
-    let source = Source {
-        name: request.source,
-        text,
-    };
-    let page = page_of(alloc, source, found, request.is_json)?;
+    let page = fault_page(alloc, request, text, found)?;
     write_text(page.as_str(), out)
 }
 
-// Writes the messages of all hints of a text without a fault.
-fn tell_hints<O: Sink>(
-    alloc: Global,
-    request: &CheckRequest<'_>,
-    text: &str,
-    out: &mut O,
-) -> Result<(), Failure<'static>>
-    requires { O.has_failed out.old ≡ false }
-    ensures { TellsHints request.now.gang text.now (O.written out.old) (O.written out.new) (O.has_failed out.new) result }
-{
-    let found = text_hints(alloc, text, request.gang)?;
-    tell_notes(alloc, request, text, found.as_slice(), out)
-}
-
-// Writes the messages of hints, and of none nothing.
+// Writes the notes of a text without a fault.
 fn tell_notes<O: Sink>(
     alloc: Global,
     request: &CheckRequest<'_>,
     text: &str,
-    found: &[Hint],
     out: &mut O,
 ) -> Result<(), Failure<'static>>
-    requires { O.has_failed out.old ≡ false }
-    ensures { TellsNotes found.now (O.written out.old) (O.written out.new) (O.has_failed out.new) result }
+    requires source { (program : Program) × IsSource request.now.gang text.now program }
+    requires live { O.has_failed out.old ≡ false }
+    ensures { TellsNotes request.now text.now (O.written out.old) (O.written out.new) (O.has_failed out.new) result }
 {
-    if found.is_empty() {
-        return Ok(());
-    }
-    tell_notes_page(alloc, request, text, found, out)
+    let page = notes(alloc, request, text)?;
+    tell_some(page.as_str(), out)
 }
 
-// The same, of some.
-fn tell_notes_page<O: Sink>(
-    alloc: Global,
-    request: &CheckRequest<'_>,
-    text: &str,
-    found: &[Hint],
-    out: &mut O,
-) -> Result<(), Failure<'static>>
+// Writes a page, and of an empty one nothing.
+fn tell_some<O: Sink>(page: &str, out: &mut O) -> Result<(), Failure<'static>>
     requires { O.has_failed out.old ≡ false }
-    ensures { TellsPage (O.written out.old) (O.written out.new) (O.has_failed out.new) result }
+    ensures { TellsSome page.now (O.written out.old) (O.written out.new) (O.has_failed out.new) result }
 {
-    let source = Source {
-        name: request.source,
-        text,
-    };
-    let notes = notes_of(alloc, source, found, request.is_json)?;
-    write_text(notes.as_str(), out)
+    if page.is_empty() {
+        return Ok(());
+    }
+    write_text(page, out)
 }
 
 // Says that a source is not read, and answers the exit status.

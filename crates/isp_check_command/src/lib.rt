@@ -1,8 +1,9 @@
-//! `ispx check`: every fault of a source, or where it is slow.
+//! `ispx check`: every fault of a source, or which exported functions are independent, and where it is slow.
 #![tactic(auto)]
 
 mod command;
-mod hints;
+mod exports;
+mod notes;
 mod page;
 
 pub use command::check;

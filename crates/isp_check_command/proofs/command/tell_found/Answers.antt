@@ -6,4 +6,4 @@ pub returns : goal.returns
 returns g c = inr (not_empty c.args.found.now c.is_empty.result c.is_empty.ensures c.if-is_empty.false, c.tell_faults.ensures)
 
 pub returns-then-is_empty : goal.returns-then-is_empty
-returns-then-is_empty g c = inl (is_empty c.args.found.now c.is_empty.result c.is_empty.ensures c.if-is_empty.true, c.tell_hints.ensures)
+returns-then-is_empty g c = inl (is_empty c.args.found.now c.is_empty.result c.is_empty.ensures c.if-is_empty.true, c.tell_notes.ensures)

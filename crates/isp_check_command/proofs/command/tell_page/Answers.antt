@@ -9,4 +9,4 @@ returns-in_err-page g c =
     rw (p.1, p.2) (inr (refl, (sym (adds_nil _), c.requires)))
 
 pub returns : goal.returns
-returns g c = inl (_, c.write_text.ensures)
+returns g c = inl (_, rw c.as_str.ensures.value c.in_ok-page.ensures, c.write_text.ensures)
