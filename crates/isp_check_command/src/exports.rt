@@ -23,8 +23,9 @@ pub(crate) fn export_lines(
 ) -> Result<String, AllocError>
     ensures { IfOk result (λ s. PageOf (ExportMessage request.now text.now (program_of checked.now)) (exported (program_of checked.now)) (string_bytes s)) }
 {
+    let program = checked.program();
     let mut page = String::new(alloc);
-    for function in &checked.program().functions {
+    for function in &program.functions {
         let piece = export_piece(alloc, request, text, checked, function)?;
         page.push_str(piece.as_str())?;
     }

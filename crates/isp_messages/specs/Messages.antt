@@ -4,7 +4,7 @@
 --     IsText         the message for people, by its first line
 --     IsLine         the same in one line
 --     json_line      the line for tools: an object with the status, the file, its place, and the texts
-use Rattle.std.specs.Prelude.{◌≡◌, ℕ, List, [], ◌∷◌, ◌++◌, Option, Some, None, codes, length, min, string_bytes}
+use Rattle.std.specs.Prelude.{◌≡◌, ℕ, List, [], ◌++◌, Option, Some, None, codes, length, min, string_bytes}
 use Rattle.std.specs.Fmt.{decimal}
 use Rattle.serde_json.specs.Data.{string as text_data}
 use Rattle.serde_json.specs.Written.{compact_text}
