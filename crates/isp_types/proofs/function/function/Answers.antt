@@ -4,8 +4,8 @@ use Rattle.isp_typed.specs.Views.{block_of, function_of}
 use Rattle.isp_types.proofs.FunctionSteps.{function_found, function_fails, body_seen}
 use Rattle.isp_types.proofs.function.function.Goals as goal
 
-pub returns-in-Ok : goal.returns-in-Ok
-returns-in-Ok c =
+pub returns-in_ok-make_function-in-Ok : goal.returns-in_ok-make_function-in-Ok
+returns-in_ok-make_function-in-Ok c =
     let gang = c.args.setting.now.gang in
     let hs = c.args.setting.now.headers.now in
     let f = read_function c.args.f.now in
@@ -18,8 +18,8 @@ returns-in-Ok c =
     c.in_ok-make_function-in-Ok.ensures variables c.answer_said-answer.ensures (body_seen block_of c.in_ok-seen.seen c.in_ok-body.body _ _ s.value inside)
     (cc)
 
-pub returns : goal.returns
-returns c =
+pub returns-in-Err : goal.returns-in-Err
+returns-in-Err c =
     let gang = c.args.setting.now.gang in
     let hs = c.args.setting.now.headers.now in
     let f = read_function c.args.f.now in
