@@ -3,12 +3,16 @@ use Rattle.std.proofs.Common.{◌≡◌, ℕ, zero, suc, ◌+◌, ◌<◌, ◌�
 use Rattle.std.proofs.lemmas.List.{take_more, take_all}
 use Rattle.std.proofs.lemmas.Slice.Eq.{bytes_eq-Decides}
 use Rattle.std.specs.Option.{IsSome}
-use Rattle.std.specs.Prelude.{◌&&◌, bytes_eq, filter, find}
+use Rattle.std.specs.Prelude.{◌&&◌, bytes_eq, filter, find, Result, Ok, Err, IfOk}
 use Rattle.isp_rates.specs.Exports.{is_entry}
 use Rattle.isp_typed.specs.Typed.{TFunction}
 use Rattle.isp_typed.specs.Views.{function_of, functions_of}
 use Rattle.isp_typed.specs.declared.function.TypedFunction.{TypedFunction}
 use Rattle.isp_check_command.specs.Pages.{PageOf}
+
+pub if_ok : {A E : Type 0} {P Q : A → Type 0} (r : Result A E) → IfOk r P → ((a : A) → P a → Q a) → IfOk r Q
+if_ok (Ok a) h f = f a h
+if_ok (Err e) h f = tt
 
 module _ {A : Type 0} (B : A → List ℕ → Type 0) where
   -- one page after the other
@@ -26,6 +30,10 @@ module _ {A : Type 0} (B : A → List ℕ → Type 0) where
       let grown = subst (λ (z : List ℕ). PageOf B (take k xs ++ get_or xs k d ∷ []) z) (sym e) more in
       subst (λ (z : List A). PageOf B z new) (sym (take_more xs k d lt)) grown
 
+  -- of a list whose items own memory
+  pub next_item : (xs : List A) (k : ℕ) (x : A) (page piece new : List ℕ) → k < length xs → x ≡ get_or xs k x → PageOf B (take k xs) page → B x piece → new ≡ page ++ piece → PageOf B (take (k + 1) xs) new
+  next_item xs k x page piece new lt is h b e = next xs k x page piece new lt h (subst (λ (z : A). B z piece) is b) e
+
   pub whole : (xs : List A) (k : ℕ) (page : List ℕ) → length xs ≤ k → PageOf B (take k xs) page → PageOf B xs page
   whole xs k page le h = subst (λ (z : List A). PageOf B z page) (take_all k xs le) h
 
@@ -38,6 +46,12 @@ module _ (B : TFunction → List ℕ → Type 0) where
   -- of all functions, where one that is not exported has none
   abbrev pub OfFunction : TypedFunction → List ℕ → Type 0
   OfFunction f piece = PageOf B (exports_of (function_of f ∷ [])) piece
+
+  pub is_exported : (f : TypedFunction) (piece : List ℕ) → f.exported ≡ true → B (function_of f) piece → OfFunction f piece
+  is_exported f piece e b = subst (λ (t : Bool). PageOf B (cond t (function_of f ∷ []) []) piece) (sym e) (alone B (function_of f) piece b)
+
+  pub not_exported : (f : TypedFunction) (piece : List ℕ) → f.exported ≡ false → piece ≡ [] → OfFunction f piece
+  not_exported f piece e h = subst (λ (t : Bool). PageOf B (cond t (function_of f ∷ []) []) piece) (sym e) h
 
   pub of_exported : (fs : List TypedFunction) (page : List ℕ) → PageOf OfFunction fs page → PageOf B (exports_of (functions_of fs)) page
   of_exported [] page h = h
