@@ -5,4 +5,4 @@ use Rattle.isp_check_command.proofs.Pages.{OfFunction}
 use Rattle.isp_check_command.proofs.exports.export_lines.Given as goal
 
 abbrev pub invariant-loop-function : goal.invariant-loop-function
-invariant-loop-function l = PageOf (OfFunction (ExportMessage l.request l.text (program_of l.checked))) (take l.function-index l.program.functions.items) (string_bytes l.page)
+invariant-loop-function l = PageOf (OfFunction (ExportMessage l.request l.text (program_of l.checked))) (take l.function-index l.function-items) (string_bytes l.page)
