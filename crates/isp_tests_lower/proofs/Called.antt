@@ -1,14 +1,12 @@
 -- From the clauses of the calls to what the code does: a function is begun, a tree is written, a register is taken, a return is added, and
 -- the code is finished.
-use Rattle.std.proofs.Common.{◌≡◌, ◌≤◌, ◌<◌, ◌+◌, ℕ, List, [], ◌∷◌, ◌++◌, length, Some, None, true, refl, ap, sym, subst, ◌∙◌, arith, append-nil, is_some}
+use Rattle.std.proofs.Common.{◌≡◌, ◌≤◌, ◌<◌, List, [], ◌∷◌, ◌++◌, length, Some, None, true, refl, ap, sym, subst, ◌∙◌, arith, append-nil, is_some}
 use Rattle.std.specs.List.{list_all}
 use Rattle.std.proofs.lemmas.Bool.{and_from}
 use Rattle.std.proofs.lemmas.List.Folds.{list_all-append}
 use Rattle.isp_base.specs.declared.types.Elem.TheVariants.{I32}
-use Rattle.isp_base.specs.declared.types.Rate.TheVariants.{Uniform, Varying}
-use Rattle.isp_base.specs.declared.types.Span.{Span}
-use Rattle.isp_code.specs.Listing.{Listing}
-use Rattle.isp_code.specs.Writable.{constant_in, parts_fit}
+use Rattle.isp_base.specs.declared.types.Rate.TheVariants.{Uniform}
+use Rattle.isp_code.specs.Writable.{constant_in}
 use Rattle.isp_code.specs.declared.instr.Instr.{Instr}
 use Rattle.isp_code.specs.declared.instr.Instr.TheVariants as instr
 use Rattle.isp_code.specs.declared.register.Class.TheVariants as class
@@ -26,9 +24,8 @@ use Rattle.isp_lower_code.specs.Asks.{Ask, expr_asks, simple_asks}
 use Rattle.isp_lower_code.specs.Code.{expr_code}
 use Rattle.isp_lower_code.specs.FirstRows.{Begins, first_rows}
 use Rattle.isp_lower_code.specs.Found.{found}
-use Rattle.isp_lower_code.specs.Header.{heading_of, routine_with}
-use Rattle.isp_lower_code.specs.Layout.{Layout}
-use Rattle.isp_lower_code.specs.Lines.{has_small_number, has_small_numbers}
+use Rattle.isp_lower_code.specs.Header.{heading_of}
+use Rattle.isp_lower_code.specs.Lines.{has_small_number}
 use Rattle.isp_lower_code.specs.Named.{behind_named}
 use Rattle.isp_lower_code.specs.Own.{HasOwn}
 use Rattle.isp_lower_code.specs.Room.{HasNumbers, HasRoom, registers_asked}
@@ -202,7 +199,7 @@ module _ (p : Program) (f : TFunction) (is : IsFunction variables f) (e1 e2 : Em
   assignment_written law adds has =
       let fs = (draft_of e2).callees in
       let none = none_kept adds.rows in
-      let short = assignment_short (layout_in e2) (length (draft_of e1).code) (length (draft_of e1).places) none.0 none.1 none.2 none.3 in
+      let short = assignment_short (layout_in e2) (length (draft_of e1).code) (length (draft_of e1).places) (λ i n. refl) none.0 none.1 none.2 none.3 in
       law.simples fs variables (draft_of e2).rows (draft_of e2).masks assignment (length (draft_of e1).code) (length (draft_of e1).places) 0 3 (assignment_is_fine fs) (assignment_rated fs assignment refl) has
       (omega (arith, three, adds.masks)) (omega (arith, no_code, short)) (omega (arith, no_place))
 

@@ -11,7 +11,7 @@ use Rattle.isp_code.specs.Writable.{constant_in, has_byte, local_fits, parts_fit
 use Rattle.isp_code.specs.declared.instr.Instr.{Instr}
 use Rattle.isp_code.specs.declared.instr.Instr.TheVariants as instr
 use Rattle.isp_typed.specs.Fine.{AreOperands, FineExpr, FinePlace, FineSimple}
-use Rattle.isp_typed.specs.Typed.{TExpr, TFunction, TSimple, t_place, t_variable}
+use Rattle.isp_typed.specs.Typed.{TExpr, TFunction, TSimple, t_place, t_program_index, t_variable}
 use Rattle.isp_typed.specs.declared.variable.Variable.{Variable}
 use Rattle.isp_lex.specs.Lexing.{limit}
 use Rattle.isp_lower_code.specs.Asks.{Ask, expr_asks, simple_asks, target_asks}
@@ -22,7 +22,7 @@ use Rattle.isp_lower.specs.Drafts.{CanBeWritten, Draft, IsBegun, draft_of, next_
 use Rattle.isp_lower_code.specs.FirstRows.{Begins, array_rows, first_rows}
 use Rattle.isp_registers.specs.Growth.{Grows}
 use Rattle.isp_lower_code.specs.Header.{AreSmall, HeadingFits, heading_of, locals_of, routine_with}
-use Rattle.isp_lower_code.specs.Layout.{Layout}
+use Rattle.isp_lower_code.specs.Layout.{HasNoRows, Layout}
 use Rattle.isp_lower_code.specs.Lines.{has_small_number}
 use Rattle.isp_lower_code.specs.Patched.{IsJump, instr_at, patched}
 use Rattle.isp_lower_code.specs.Rated.{IsFineExpr, IsFineSimple, IsRated, SimpleRated}
@@ -259,16 +259,16 @@ module _ (l : Layout) (pc p : ℕ) where
     few_places = omega arith;
   }
 
-  module _ (u1 : l.kept Uniform I32 1 ≡ false) (u2 : l.kept Uniform I32 2 ≡ false) (v1 : l.kept Varying I32 1 ≡ false) (v2 : l.kept Varying I32 2 ≡ false) where
+  module _ (rows : HasNoRows l) (u1 : l.kept Uniform I32 1 ≡ false) (u2 : l.kept Uniform I32 2 ≡ false) (v1 : l.kept Varying I32 1 ≡ false) (v2 : l.kept Varying I32 2 ≡ false) where
     assignment_constants : list_all constant_in (simple_code l assignment pc p 0 3) ≡ true
     unfolding number_to
-    assignment_constants = rw (v1, v2, u1, u2) refl
+    assignment_constants = rw (rows (t_program_index written) 3, rows (t_program_index read) 4, v1, v2, u1, u2) refl
 
     assignment_names : list_all has_small_number (simple_code l assignment pc p 0 3) ≡ (nat_lt (p + 0 + 0) (2 ^ 32) && (nat_lt (p + 0 + 1) (2 ^ 32) && true))
-    assignment_names = rw (v1, v2, u1, u2) refl
+    assignment_names = rw (rows (t_program_index written) 3, rows (t_program_index read) 4, v1, v2, u1, u2) refl
 
     pub assignment_short : length (simple_code l assignment pc p 0 3) ≤ 20
-    assignment_short = rw (v1, v2, u1, u2) (omega arith)
+    assignment_short = rw (rows (t_program_index written) 3, rows (t_program_index read) 4, v1, v2, u1, u2) (omega arith)
 
     assignment_can_be : p ≤ 20 → CanBeAdded 20 (simple_code l assignment pc p 0 3) (simple_places l assignment)
     assignment_can_be less = record {
@@ -293,7 +293,7 @@ module _ (f g : TFunction) (n : ℕ) (old new : Emitter) (c : HasCode f g n (dra
   assignment_added less s e a more =
       let added : Adds old new (simple_in new assignment site) = subst (λ z. Adds old new (simple_in new z site)) e a in
       let none = still_none a.rows in
-      let can = assignment_can_be (layout_in new) (length (draft_of old).code) (length (draft_of old).places) none.0 none.1 none.2 none.3 (omega (arith, c.few.places, less)) in
+      let can = assignment_can_be (layout_in new) (length (draft_of old).code) (length (draft_of old).places) (λ i n. refl) none.0 none.1 none.2 none.3 (omega (arith, c.few.places, less)) in
       code_added f g n 20 (simple_asks s 3) old new _ _ c added more (rw e (omega arith)) none can
 
 -- ---- what is finished can be a text
