@@ -12,9 +12,10 @@ use Rattle.isp_meaning.specs.Outcomes.{Val, Gives, Fails, Stops, Done}
 use Rattle.isp_meaning.specs.State.{State}
 use Rattle.isp_typed.specs.Typed.{TFunction}
 use Rattle.isp_typed.specs.declared.variable.ArrayVariable.{ArrayVariable}
-use Rattle.isp_lower_code.specs.Layout.{HasNoRows, IsApart}
+use Rattle.isp_lower_code.specs.Layout.{HasNoRows, IsApart, KnowsNothing}
 use Rattle.isp_lower_code.specs.Runs.{DoneRuns, Enters, Runs}
 use Rattle.isp_lower_code.specs.Setting.{Setting, ArrayFits, ArrayFitsAt, IsCalling, IsSettled, Spares, Stands}
+use Rattle.isp_lower_code.proofs.Lemmas.{none_known}
 
 abbrev pub with_loaded : Setting → (ℕ → Bool) → Setting
 with_loaded w k = record w { layout = record w.layout { loaded = k } }
@@ -33,8 +34,8 @@ module _ (w : Setting) (k : ℕ → Bool) where
   calling i g pc q sp a ps s c f =
       record { function = f.function; here = f.here; place = f.place; at = f.at; mask = f.mask; some = f.some; inside = f.inside; hands = f.hands; result = f.result; arrays_are = f.arrays_are; out_is = f.out_is; used = f.used }
 
-  pub settled_with : w.layout.run ≡ None → HasNoRows w.layout → IsApart (with_loaded w k).layout → IsSettled w → IsSettled (with_loaded w k)
-  settled_with none rows apart f =
+  pub settled_with : w.layout.run ≡ None → HasNoRows w.layout → KnowsNothing w.layout → IsApart (with_loaded w k).layout → IsSettled w → IsSettled (with_loaded w k)
+  settled_with none rows nothing apart f =
       record {
         gang = f.gang;
         found = f.found;
@@ -47,6 +48,7 @@ module _ (w : Setting) (k : ℕ → Bool) where
         arrays = λ b held. array_fits b (f.arrays b held);
         calls = λ i g pc q sp a ps s c calls. f.calls i g pc q sp a ps s c (calling i g pc q sp a ps s c calls);
         counter = λ i is. let no : None ≡ Some i = sym none ∙ is in absurd (cc);
+        known = λ v e. absurd (none_known w.layout nothing v e);
         constants = f.constants;
         rows = λ i n fine is. let no : true ≡ false = sym is ∙ rows i n in absurd (cc);
       }
@@ -55,11 +57,11 @@ module _ (w : Setting) (k : ℕ → Bool) where
 
   stands_with : (s : State) (c : Conf) → Stands w s c → Stands (with_loaded w k) s c
   stands_with s c f =
-      record { uniforms = f.uniforms; varying = f.varying; result = f.result; results = f.results; own_arrays = f.own_arrays; arrays_are = f.arrays_are; out_is = f.out_is; run = f.run; constants = f.constants }
+      record { uniforms = f.uniforms; varying = f.varying; result = f.result; results = f.results; own_arrays = f.own_arrays; arrays_are = f.arrays_are; out_is = f.out_is; run = f.run; known = f.known; constants = f.constants }
 
   stands_back : (s : State) (c : Conf) → Stands (with_loaded w k) s c → Stands w s c
   stands_back s c f =
-      record { uniforms = f.uniforms; varying = f.varying; result = f.result; results = f.results; own_arrays = f.own_arrays; arrays_are = f.arrays_are; out_is = f.out_is; run = f.run; constants = f.constants }
+      record { uniforms = f.uniforms; varying = f.varying; result = f.result; results = f.results; own_arrays = f.own_arrays; arrays_are = f.arrays_are; out_is = f.out_is; run = f.run; known = f.known; constants = f.constants }
 
   spares_back : (n : ℕ) (c d : Conf) → Spares (with_loaded w k) n c d → Spares w n c d
   spares_back n c d f = record { scalars_stay = f.scalars_stay; vectors_stay = f.vectors_stay; fresh_scalars = f.fresh_scalars; fresh_vectors = f.fresh_vectors; singles_stay = f.singles_stay }

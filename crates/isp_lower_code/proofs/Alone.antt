@@ -29,6 +29,7 @@ use Rattle.isp_lower_code.proofs.GivenBack.{GivesBackBy, call_gives}
 use Rattle.isp_lower_code.proofs.Nodes.{enters_part}
 use Rattle.isp_lower_code.proofs.Parts.{CallParts}
 use Rattle.isp_lower_code.proofs.Consecutive.{run_each}
+use Rattle.isp_lower_code.proofs.Fixed.{known_on}
 use Rattle.isp_base.specs.declared.types.Rate.TheVariants.{Uniform}
 
 module _ (w : Setting) (ready : IsSettled w) where
@@ -51,6 +52,7 @@ module _ (w : Setting) (ready : IsSettled w) where
           arrays_are = refl;
           out_is = refl;
           run = run_each w.layout.run w.start w.members (c.scalars (w.layout.place Uniform)) s.varying s1.varying (λ i ei. ap (λ z. z.varying i) (sym gives.state)) st.run;
+          known = known_on w.function.variables w.layout w.members c.scalars c.scalars s.varying s1.varying (λ v k. refl) (λ v k. ap (λ z. z.varying v) gives.state) st.known;
           constants = st.constants;
         };
         spares = record { scalars_stay = λ e j lt. refl; vectors_stay = λ e j lt. refl; fresh_scalars = λ j. refl; fresh_vectors = λ j. refl; singles_stay = λ x is. refl };

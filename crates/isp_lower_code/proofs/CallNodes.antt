@@ -42,6 +42,7 @@ use Rattle.isp_lower_code.proofs.Nodes.{enters_part}
 use Rattle.isp_lower_code.proofs.Kept.{Keeps, kept_of, held_kept}
 use Rattle.isp_lower_code.proofs.Parts.{CallParts, ArgumentsParts, ArgumentParts}
 use Rattle.isp_lower_code.proofs.Consecutive.{run_each}
+use Rattle.isp_lower_code.proofs.Fixed.{known_on}
 use Rattle.isp_lower_code.proofs.PlainNodes.{NodeRuns}
 
 module _ (w : Setting) (ready : IsSettled w) where
@@ -130,6 +131,7 @@ module _ (w : Setting) (ready : IsSettled w) where
         arrays_are = refl;
         out_is = refl;
         run = run_each w.layout.run w.start w.members (c.scalars (w.layout.place Uniform)) s.varying s1.varying (λ i ei. ap (λ z. z.varying i) (sym gives.state)) st.run;
+        known = known_on w.function.variables w.layout w.members c.scalars c.scalars s.varying s1.varying (λ v k. refl) (λ v k. ap (λ z. z.varying v) gives.state) st.known;
         constants = st.constants;
       })
       (record { scalars_stay = λ e j lt. refl; vectors_stay = λ e j lt. refl; fresh_scalars = λ j. refl; fresh_vectors = λ j. refl; singles_stay = λ x is. refl }) (λ r lt. refl) run.bound

@@ -25,7 +25,8 @@ use Rattle.isp_lower_code.specs.Library.{library_code, library_rates}
 use Rattle.isp_lower_code.specs.Simple.{beyond, one_of, assign_code, update_to, change_code, change_by_code, one_in, one_code, step_code, simple_code}
 use Rattle.isp_lower_code.specs.Spans.{expr_places, index_places, base_places, arguments_places, argument_places}
 use Rattle.isp_lower_code.specs.Stays.{is_short, writes_part, writes_last}
-use Rattle.isp_lower_code.proofs.PieceLengths.{behind_long, both_long, three_long, unless_less, library_few, pair_long, logic_long, choose_long, lift_to_few, operand_of_long, convert_long, index_of_long, RowsShort, reached_long, read_few, read_from_few, write_from_few}
+use Rattle.isp_lower_code.proofs.PieceLengths.{behind_long, both_long, three_long, unless_less, library_few, pair_long, logic_long, choose_long, lift_to_few, operand_of_long, convert_long, index_of_long, reached_long, read_few, read_from_few, write_from_few}
+use Rattle.isp_lower_code.specs.RowLayout.{RowsShort}
 
 module _ (l : Layout) (short : RowsShort l) where
   -- ---- the code of a tree

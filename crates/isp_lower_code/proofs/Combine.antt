@@ -30,6 +30,7 @@ use Rattle.isp_lower_code.proofs.Rates.{Filled, filled_on}
 use Rattle.isp_lower_code.proofs.Lines.{set_at}
 use Rattle.isp_lower_code.specs.Rated.{Reaches}
 use Rattle.isp_lower_code.proofs.Consecutive.{run_place}
+use Rattle.isp_lower_code.proofs.Fixed.{known_put}
 
 module _ (w : Setting) (ready : IsSettled w) where
   -- ---- a stretch before
@@ -140,6 +141,7 @@ module _ (w : Setting) (ready : IsSettled w) where
     run = run_place w.layout.run w.start w.members (c.scalars (w.layout.place Uniform))
         (put c.scalars (w.layout.spare Uniform t j) (sole x) (w.layout.place Uniform)) s.varying
         (sym (put_other c.scalars (w.layout.spare Uniform t j) (sole x) (w.layout.place Uniform) (ready.apart.place_spare Uniform t j))) st.run;
+    known = known_put w.function.variables w.layout w.members c.scalars (w.layout.spare Uniform t j) (sole x) s.varying (λ v k. ready.apart.variable_spare Uniform t v j) st.known;
     constants = scalar_put w.layout (gang_of w) c.scalars c.vectors (w.layout.spare Uniform t j) (sole x) (λ u b k. ready.apart.kept_spare Uniform u b t j k) st.constants;
   }
   set_stands Varying c t j x s st =
@@ -153,6 +155,7 @@ module _ (w : Setting) (ready : IsSettled w) where
         arrays_are = st.arrays_are;
         out_is = st.out_is;
         run = st.run;
+        known = st.known;
         constants = vector_put w.layout (gang_of w) c.scalars c.vectors (w.layout.spare Varying t j) y (λ u b k. ready.apart.kept_spare Varying u b t j k) st.constants;
       }
 

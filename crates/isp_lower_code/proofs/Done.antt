@@ -1,5 +1,5 @@
 -- What is done after code that writes variables: one thing after another, and a variable that gets a value.
-use Rattle.std.proofs.Common.{◌≡◌, ℕ, ◌+◌, ◌*◌, ◌<◌, ◌≤◌, Option, Some, None, refl, sym, ap, ◌∙◌, subst, arith}
+use Rattle.std.proofs.Common.{◌≡◌, ℕ, ◌+◌, ◌*◌, ◌<◌, ◌≤◌, Option, Some, None, refl, sym, ap, ◌∙◌, arith}
 use Rattle.std.specs.Prelude.{slice_get}
 use Rattle.isp_base.specs.Maps.{on, over}
 use Rattle.isp_base.specs.Sets.{Mask, nobody}
@@ -14,10 +14,11 @@ use Rattle.isp_meaning.specs.State.{State}
 use Rattle.isp_meaning.specs.Payloads.{Payload, Each, sole, spread}
 use Rattle.isp_meaning.specs.Outcomes.{Val, Gives, Fails, Stops, Done, bind, checked}
 use Rattle.isp_meaning.specs.Places.{written}
-use Rattle.isp_lower_code.specs.Setting.{Setting, IsSettled, At, Stands, Spares, held_at, Holds, IsOther, IsVarying}
+use Rattle.isp_lower_code.specs.Setting.{Setting, IsSettled, At, Stands, Spares, held_at, Holds, IsOther}
 use Rattle.isp_lower_code.specs.Runs.{Comes, Ok, Runs, DoneOk, DoneRuns}
 use Rattle.isp_lower_code.specs.Instructions.{copy, splat}
-use Rattle.isp_lower_code.proofs.Base.{IsRead, MayWrite, not_both, put_other, comes_on, spares_on}
+use Rattle.isp_lower_code.proofs.Base.{IsRead, MayWrite, put_other, comes_on, spares_on}
+use Rattle.isp_lower_code.proofs.Fixed.{uniform_known}
 use Rattle.isp_lower_code.proofs.Lines.{set_at}
 use Rattle.isp_lower_code.proofs.Combine.{failed_after, stopped_after, failed_less, stopped_less, set_goes}
 use Rattle.isp_lower_code.proofs.Writes.{written_stands, step_done}
@@ -55,7 +56,7 @@ module _ (w : Setting) (ready : IsSettled w) where
     fresh_vectors = λ j. refl;
     singles_stay = λ u is. put_other c.scalars (w.layout.variable Uniform v)
         (sole y) (w.layout.variable Uniform u)
-        (ready.apart.variables Uniform u v (λ e. not_both w.function.variables v (subst (IsVarying w.function.variables) e is) one));
+        (ready.apart.variables Uniform u v (uniform_known w ready v u one is));
   }
   variable_spares Varying v n c y one = record {
     scalars_stay = λ t j lt. refl;
@@ -78,7 +79,7 @@ module _ (w : Setting) (ready : IsSettled w) where
       let c3 = set_at Uniform c2 (w.layout.variable Uniform v) y in
       step_done w ready c c2 c3 st pc pc' n q (copy Uniform (w.layout.variable Uniform v) x k) None Index no_place m s (written Uniform v a) h at to
       has refl refl (set_goes w ready Uniform c2 (w.layout.variable Uniform v) y pc at) stands
-      (λ none. written_stands w ready Uniform v c2 a m s y stands hx other.0) (spares_on w n c c2 c3 spares (variable_spares Uniform v n c2 y other.1))
+      (λ none. written_stands w ready Uniform v c2 a m s y stands hx other) (spares_on w n c c2 c3 spares (variable_spares Uniform v n c2 y other.1))
       masks le le
   variable_done Varying v m a s c c2 st pc pc' k x n q h at to has stands spares masks em le hx other =
       let y = held_at Varying c2.scalars c2.vectors a x in
@@ -86,7 +87,7 @@ module _ (w : Setting) (ready : IsSettled w) where
       step_done w ready c c2 c3 st pc pc' n q (copy Varying (w.layout.variable Varying v) x k) None Index no_place m s (written Varying v a) h at to
       has (ap (λ g. Go (set_at Varying c2 (w.layout.variable Varying v) (held_at Varying c2.scalars c2.vectors g x))) em) refl
       (set_goes w ready Varying c2 (w.layout.variable Varying v) y pc at) stands
-      (λ none. written_stands w ready Varying v c2 a m s y stands hx other.0) (spares_on w n c c2 c3 spares (variable_spares Varying v n c2 y tt))
+      (λ none. written_stands w ready Varying v c2 a m s y stands hx other) (spares_on w n c c2 c3 spares (variable_spares Varying v n c2 y tt))
       masks le le
 
   -- a varying one gets one value
@@ -100,7 +101,7 @@ module _ (w : Setting) (ready : IsSettled w) where
       let c3 = set_at Varying c2 d y in
       step_done w ready c c2 c3 st pc pc' n q (splat d x k) None Index no_place m s (written Varying v a) h at to has
       (ap (λ g. Go (set_at Varying c2 d (Each (on g (λ p. c2.scalars x))))) em) refl (set_goes w ready Varying c2 d y pc at) stands
-      (λ none. written_stands w ready Varying v c2 a m s y stands (ap (λ z. Each (spread a z)) hx) other)
+      (λ none. written_stands w ready Varying v c2 a m s y stands (ap (λ z. Each (spread a z)) hx) (other, tt))
       (spares_on w n c c2 c3 spares (variable_spares Varying v n c2 y tt)) masks le le
 
   -- what follows what was done

@@ -25,13 +25,14 @@ use Rattle.isp_lower_code.specs.Library.{library_rates}
 use Rattle.isp_lower_code.specs.Asks.{Ask, Nothing, Both, Register, ArrayOf, LocalOf, MaskOf, Number, Loads, lift_asks, operand_asks, values_asks, read_asks, copy_asks, value_asks, base_asks, work_asks, zero_asks, beyond, first_slot, second_slot, expr_asks}
 use Rattle.isp_lower_code.specs.Asks.{target_asks, call_asks, arguments_asks, argument_asks, simple_asks, item_asks, items_asks, run_asks, is_lane, start_asks}
 use Rattle.isp_lower_code.proofs.Parts.{ExprParts, ValuesParts, CallParts, ArgumentsParts, ArgumentParts, ItemParts, ItemsParts, LiftFits, OperandFits, PlaceParts, BaseParts}
+use Rattle.isp_lower_code.specs.Layout.{is_fixed}
 use Rattle.isp_lower_code.proofs.Base.{IsRead, is_read}
+use Rattle.isp_lower_code.proofs.Fixed.{FixedConstant, fixed_constant}
 use Rattle.isp_lower_code.proofs.Own.{expr_own, items_own, simple_own}
 use Rattle.isp_lower_code.proofs.Parts.{Owned, PlaceTyped, CopyHas, IsNamed, ReadFits, SimpleParts, WorkFits, ZeroFits, RunParts, LaneParts, TargetOther}
 use Rattle.isp_lower_code.proofs.Trees.{ExprTree, ValuesTree, CallTree, ArgumentsTree, ArgumentTree, ItemTree, ItemsTree, OperandTree, PlaceTree, BaseTree, SimpleTree}
 use Rattle.isp_lower_code.specs.Fits.{InTable, ExprFits, SimpleFits, ItemsFit, ItemOther, ItemsOther}
 use Rattle.isp_lower_code.proofs.Rated.{expr_tree, simple_tree, items_tree}
-use Rattle.std.specs.Prelude.{slice_get}
 
 module _ (w : Setting) where
   -- ---- single registers
@@ -232,24 +233,23 @@ module _ (w : Setting) where
   pub expr_parts : (x : TExpr) (n : ℕ) → ExprFits w x n → ExprParts w x n
   expr_parts x n fit = expr_fits x n fit.fine (expr_tree w.program.functions w.function.variables x fit.fine fit.rated) (owned None (expr_asks x n) (expr_own w.function.variables None w.program.functions x n fit.fine) fit.named)
 
-  -- what is assigned to is no constant, and a variable that counts lanes is one
-  abbrev pub RunConstant : Type 0
-  RunConstant = (i : ℕ) → w.layout.run ≡ Some i → is_constant (slice_get w.function.variables i) ≡ true
-
-  open_other : RunConstant → (v : ℕ) (t : Ty) → HoldsOpen w.function.variables v t → IsOther w v
-  open_other constant v t h i e same =
-      let no : true ≡ false = sym (constant i e) ∙ ap (λ j. is_constant (slice_get w.function.variables j)) same ∙ ap is_constant h in
-      absurd (cc)
+  -- what is assigned to is no constant, and a variable that counts lanes or is known is one
+  open_other : FixedConstant w → (v : ℕ) (t : Ty) → HoldsOpen w.function.variables v t → IsOther w v
+  open_other constant v t h = go (is_fixed w.layout v) refl
+    where
+      go : (b : Bool) → is_fixed w.layout v ≡ b → IsOther w v
+      go false e = e
+      go true e = let no : true ≡ false = sym (constant v e) ∙ ap is_constant h in absurd (cc)
 
   other_at : (r : Rate) (v : ℕ) → IsOther w v → OtherAt w r v
   other_at Uniform v o = tt
   other_at Varying v o = o
 
-  target_other : RunConstant → (z : TPlace) → FineTarget w.program.functions w.function.variables z → TargetOther w z
+  target_other : FixedConstant w → (z : TPlace) → FineTarget w.program.functions w.function.variables z → TargetOther w z
   target_other constant (t_variable v t sp) f = (other_at t.rate v (open_other constant v t f), is_read w t.rate t.elem v (record { constant = false; is = f }))
   target_other constant (t_element b i t sp) f = tt
 
-  pub simple_other : RunConstant → (x : TSimple) → FineSimple w.program.functions w.function.variables x → SimpleOther x
+  pub simple_other : FixedConstant w → (x : TSimple) → FineSimple w.program.functions w.function.variables x → SimpleOther x
   simple_other constant (t_value x) f = tt
   simple_other constant (t_run c) f = tt
   simple_other constant (t_assign z x sp) f = target_other constant z f.0
@@ -260,7 +260,7 @@ module _ (w : Setting) where
   simple_parts ready x n fit =
       simple_fits x n fit.fine (simple_tree w.program.functions w.function.variables x fit.fine fit.rated)
       (owned None (simple_asks x n) (simple_own w.function.variables None w.program.functions x n fit.fine) fit.named)
-      (simple_other (λ i e. (ready.counter i e).constant) x fit.fine)
+      (simple_other (fixed_constant w ready) x fit.fine)
 
   pub items_parts : (xs : List TItem) (n : ℕ) → ItemsFit w n xs → ItemsParts w n xs
   items_parts xs n fit =

@@ -172,7 +172,7 @@ module _ (w : Setting) (ready : IsSettled w) where
   converted_placed None r e n = inr (inl (e, refl))
   converted_placed (Some v) r e n = kept_placed r e (converted v.elem e v.bits) n
 
-  found_placed : (x : TExpr) (n : ℕ) → ExprParts w x n → Placed w (type_of x).rate n (found w.layout x n)
+  pub found_placed : (x : TExpr) (n : ℕ) → ExprParts w x n → Placed w (type_of x).rate n (found w.layout x n)
   found_placed (t_constant v sp) n f = kept_placed Uniform v.elem v.bits n
   found_placed (t_program_index sp) n f = inr (inl (I32, refl))
   found_placed (t_place (t_variable v t sp)) n f = variable_placed t v n (is_read w t.rate t.elem v f.0.1)

@@ -75,7 +75,7 @@ module _ (w : Setting) (ready : IsSettled w) where
       let c3 = set_at Uniform c d (One 0) in
       step_done w ready c c c3 0 pc (pc + 1) n q (constant d t 0) None Divide no_place (One 0) (tick s) (written Uniform v a) (comes_none w c) b.at refl has.0
       (ap (λ u. Go (set_at Uniform c d (One (wrap u (number t 0))))) fit ∙ ap (λ z. Go (set_at Uniform c d (One z))) (zero_is t)) refl (set_goes w ready Uniform c d (One 0) pc b.at) b.stands
-      (λ none. written_stands w ready Uniform v c a (One 0) (tick s) (One 0) b.stands refl other.0) (variable_spares w ready Uniform v n c (One 0) other.1) (λ g l. refl) (omega (arith, b.used)) (omega (arith, b.used))
+      (λ none. written_stands w ready Uniform v c a (One 0) (tick s) (One 0) b.stands refl other) (variable_spares w ready Uniform v n c (One 0) other.1) (λ g l. refl) (omega (arith, b.used)) (omega (arith, b.used))
   zero_runs Varying t v pc k n q a s c fit other has b = go (w.layout.kept Varying t 0) refl has
     where
       none : 0 % 2 ^ width t ≡ 0
@@ -110,6 +110,7 @@ module _ (w : Setting) (ready : IsSettled w) where
             ∙ ap (λ z. put s.arrays z (λ e. 0)) en;
         out_is = b.stands.out_is;
         run = b.stands.run;
+        known = b.stands.known;
         constants = b.stands.constants;
       })
       (spares_all w n c) (λ g l. refl) (omega (arith, b.used)) (omega (arith, b.used))
@@ -132,6 +133,7 @@ module _ (w : Setting) (ready : IsSettled w) where
         out_is =
             b.stands.out_is;
         run = b.stands.run;
+        known = b.stands.known;
         constants = b.stands.constants;
       })
       (spares_all w n c) (λ g l. refl) (omega (arith, b.used)) (omega (arith, b.used))

@@ -25,11 +25,12 @@ use Rattle.isp_typed.specs.Fine.{params_of}
 use Rattle.isp_typed.specs.declared.variable.Holds.{Holds}
 use Rattle.isp_typed.specs.declared.variable.Holds.TheVariants as holds
 use Rattle.isp_typed.specs.declared.variable.Variable.{Variable as Declared}
+use Rattle.isp_steady.specs.Known.{is_known}
 use Rattle.isp_lower_code.specs.Callees.{later}
 use Rattle.isp_lower_code.specs.Found.{is_copied}
 use Rattle.isp_lower_code.specs.Layout.{Layout}
 use Rattle.isp_lower_code.specs.Library.{library_rates}
-use Rattle.isp_lower_code.specs.Setting.{Setting, IsSettled, IsVarying, gang_of, calls_of, Stands, Spares, held_at}
+use Rattle.isp_lower_code.specs.Setting.{Setting, IsSettled, gang_of, calls_of, Stands, Spares, held_at}
 use Rattle.isp_lower_code.specs.Runs.{Runs}
 pub use Rattle.isp_lower_code.proofs.Base.{IsRead, is_read}
 use Rattle.isp_lower_code.proofs.Parts.{ExprParts, BaseParts, ValuesParts, CallParts, ArgumentsParts, ArgumentParts}
@@ -69,7 +70,7 @@ pub record KeepsLow (w : Setting) (n : ℕ) (scalars : ℕ → ℕ) (vectors : �
   pub scalars_stay : (x : ℕ) → Low w Uniform n x → scalars' x ≡ scalars x
   pub vectors_stay : (x : ℕ) → Low w Varying n x → vectors' x ≡ vectors x
   pub place_stays : (i : ℕ) → w.layout.run ≡ Some i → scalars' (w.layout.place Uniform) ≡ scalars (w.layout.place Uniform)
-  pub singles_stay : (v : ℕ) → IsVarying w.function.variables v → scalars' (w.layout.variable Uniform v) ≡ scalars (w.layout.variable Uniform v)
+  pub singles_stay : (v : ℕ) → is_known (w.layout.known v) ≡ true → scalars' (w.layout.variable Uniform v) ≡ scalars (w.layout.variable Uniform v)
 
 abbrev pub Keeps : Setting → ℕ → Conf → Conf → Type 0
 Keeps w n c c' = KeepsLow w n c.scalars c.vectors c'.scalars c'.vectors

@@ -26,10 +26,12 @@ pub use Rattle.isp_lower_code.proofs.Found.{constant_is_one, few, found_typed, o
 pub use Rattle.isp_lower_code.proofs.Scalar.{scalar_runs}
 pub use Rattle.isp_lower_code.proofs.ScalarPlaces.{scalar_places}
 pub use Rattle.isp_lower_code.proofs.RowAccess.{row_reads, row_writes}
+pub use Rattle.isp_lower_code.proofs.KnownRows.{known_rows}
 pub use Rattle.isp_lower_code.proofs.RowSound.{rows_sound}
 pub use Rattle.isp_lower_code.proofs.Stayed.{stays_same}
 pub use Rattle.isp_lower_code.proofs.Parts.{IsHeldIn, OperandFits, Owned, OwnTable, ExprParts, ValuesParts, SimpleParts, ItemsParts}
-pub use Rattle.isp_lower_code.proofs.Fitting.{AreFine, RunConstant, expr_fits, operand_fits, owned, values_fit, simple_fits, simple_other, items_fit}
+pub use Rattle.isp_lower_code.proofs.Fixed.{FixedConstant, fixed_by, fixed_constant, known_on, known_put, knows_nothing, no_run, none_fixed, none_known, uniform_known, unknown_holds, within_fixed}
+pub use Rattle.isp_lower_code.proofs.Fitting.{AreFine, expr_fits, operand_fits, owned, values_fit, simple_fits, simple_other, items_fit}
 -- ---- its instructions have their operands
 
 pub use Rattle.isp_lower_code.proofs.Trees.{OperandTree, ExprTree, ValuesTree, SimpleTree, ItemsTree}
@@ -55,7 +57,7 @@ pub use Rattle.isp_lower_code.proofs.Spans.{Placed, placed_both, placed_one, exp
 -- ---- how long code is, and how many places it names
 
 pub use Rattle.isp_lower_code.proofs.CodeLengths.{expr_long, operand_long, index_long, values_long, simple_long, items_long}
-pub use Rattle.isp_lower_code.proofs.PieceLengths.{RowsShort}
+pub use Rattle.isp_lower_code.specs.RowLayout.{RowsShort}
 pub use Rattle.isp_lower_code.proofs.PlaceCounts.{expr_places_few, values_places_few, simple_places_few, items_places_few}
 -- ---- no number that is asked for is too great, and there are few registers
 

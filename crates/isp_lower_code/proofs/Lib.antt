@@ -47,12 +47,15 @@ mod Fitting
 mod ScalarRates
 mod ScalarPlaces
 mod Scalar
+mod Linears
+mod KnownRows
 mod RowAccess
 mod RowSound
 mod Rows
 mod Begins
 mod Own
 mod FirstRows
+mod Fixed
 mod Numbers
 mod SoundLines
 mod SoundLibrary

@@ -36,7 +36,9 @@ use Rattle.isp_lower_code.proofs.Nodes.{enters_part, enters_later, operand_runs}
 use Rattle.isp_lower_code.proofs.Kept.{Low, Keeps, low_spare, runs_kept, value_still}
 use Rattle.isp_lower_code.proofs.PackedRuns.{first_is, load_leaves, store_leaves}
 use Rattle.isp_lower_code.proofs.Parts.{BaseParts, SpareFits}
+use Rattle.isp_lower_code.specs.Layout.{is_fixed}
 use Rattle.isp_lower_code.specs.Tables.{IsLoadedIn}
+use Rattle.isp_lower_code.proofs.Fixed.{fixed_unloaded}
 use Rattle.isp_lower_code.proofs.PlainNodes.{means, constant_runs, RunsHere, NodeRuns}
 use Rattle.isp_lower_code.proofs.ElementRuns.{whole_runs}
 
@@ -137,9 +139,13 @@ module _ (w : Setting) (ready : IsSettled w) where
       (spares_less w n m c1 c2 (omega arith) ok2.spares) (λ r h. ok2.masks r (omega arith)) (ok2.masks k (omega arith) ∙ ok.masks k lk ∙ b.mask)
       (omega (arith, ok2.bound)) kept ok2.holds.0))))
 
-  -- no packed load writes a variable that counts lanes
+  -- no packed load writes a variable that counts lanes or is known
   loaded_other : (v : ℕ) → IsLoadedIn w.layout v → IsOther w v
-  loaded_other v h i e same = let no : true ≡ false = sym h ∙ ap w.layout.loaded (sym same) ∙ (ready.counter i e).unloaded in absurd (cc)
+  loaded_other v h = go (is_fixed w.layout v) refl
+    where
+      go : (b : Bool) → is_fixed w.layout v ≡ b → IsOther w v
+      go false e = e
+      go true e = let no : true ≡ false = sym h ∙ fixed_unloaded w ready v e in absurd (cc)
 
   pub packed_load_node : (u : Target) (d : TBase) (v : ℕ) (sp : Span) → BaseRuns d → NodeRuns w ready u (t_packed_load d v sp)
   packed_load_node u d v sp base pc p k n q rest a s c fit ty has places le b =

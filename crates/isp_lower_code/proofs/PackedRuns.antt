@@ -201,6 +201,7 @@ module _ (w : Setting) (ready : IsSettled w) where
             arrays_put w ready c1 s N (w.frame.named y.number) F _ st.arrays_are en ef;
         out_is = st.out_is;
         run = st.run;
+        known = st.known;
         constants = st.constants;
       })
       (record { scalars_stay = ke.scalars_stay; vectors_stay = ke.vectors_stay; fresh_scalars = ke.fresh_scalars; fresh_vectors = ke.fresh_vectors; singles_stay = ke.singles_stay }) ma le le
@@ -232,6 +233,6 @@ module _ (w : Setting) (ready : IsSettled w) where
       let ex : Each (on a (λ p. s.arrays (w.frame.named y.number) (unsigned_abs (packed_index z a p))))
       ≡ Each x = sym (ap (λ g. Each (on a (λ p. c1.arrays (c1.home.named A) (unsigned_abs (packed_index g a p))))) ez
       ∙ ap (λ g. Each (on a (λ p. g (unsigned_abs (packed_index z a p))))) ea) in
-      let g = written_stands w ready Varying v c1 a m s (Each x) st ex other in
-      record { uniforms = g.uniforms; varying = g.varying; result = g.result; results = g.results; own_arrays = g.own_arrays; arrays_are = g.arrays_are; out_is = g.out_is; run = g.run; constants = g.constants })
+      let g = written_stands w ready Varying v c1 a m s (Each x) st ex (other, tt) in
+      record { uniforms = g.uniforms; varying = g.varying; result = g.result; results = g.results; own_arrays = g.own_arrays; arrays_are = g.arrays_are; out_is = g.out_is; run = g.run; known = g.known; constants = g.constants })
       (let k2 = spares_on w n c c1 (set_at Varying c1 V (Each x)) ke (variable_spares w ready Varying v n c1 (Each x) tt) in record { scalars_stay = k2.scalars_stay; vectors_stay = k2.vectors_stay; fresh_scalars = k2.fresh_scalars; fresh_vectors = k2.fresh_vectors; singles_stay = k2.singles_stay }) ma le le

@@ -25,6 +25,7 @@ use Rattle.isp_lower_code.specs.Known.{constant_of, known, unless_kept}
 use Rattle.isp_lower_code.specs.Layout.{Layout}
 use Rattle.isp_lower_code.specs.Library.{library_code}
 use Rattle.isp_lower_code.specs.RowCode.{row_read, row_write}
+use Rattle.isp_lower_code.specs.RowLayout.{RowsShort}
 use Rattle.isp_lower_code.proofs.RowScalars.{takes}
 use Rattle.isp_lower_code.specs.Pieces.{guard, choice, move, move_code, pair_code, needing, decided, logic_code, choose_rest}
 
@@ -226,11 +227,7 @@ module _ (l : Layout) where
       let z = access l b.ty.rate t.rate i n in
       read_from_few z (type_of i).elem t.rate d (l.array b.number) (reached l z t.rate i n) p pc k (n + 1)
 
-  -- the code of an index that is taken as a row is as short as that of the index
-  abbrev pub RowsShort : Type 0
-  RowsShort = (i : TExpr) (pc p k n : ℕ) → l.is_row i n ≡ true → length (l.row i pc p k n) + 8 ≤ 32 * typed_nodes i
-
-  pub reached_long : RowsShort → (g r : Rate) (i : TExpr) (pc p k n : ℕ) (code : List Instr) → length code + 8 ≤ 32 * typed_nodes i
+  pub reached_long : RowsShort l → (g r : Rate) (i : TExpr) (pc p k n : ℕ) (code : List Instr) → length code + 8 ≤ 32 * typed_nodes i
       → length (reached_of l (access l g r i n) r i pc p k n code) + 31 ≤ 32 * suc (typed_nodes i)
   reached_long short g r i pc p k n code h = go (takes_row (l.is_row i n) g r) refl
     where

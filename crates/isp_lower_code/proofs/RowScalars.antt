@@ -8,7 +8,7 @@ use Rattle.isp_code.specs.Conf.{Conf}
 use Rattle.isp_typed.specs.Typed.{TExpr}
 use Rattle.isp_lower_code.specs.Elements.{takes_row}
 use Rattle.isp_lower_code.specs.Layout.{Layout, IsApart}
-use Rattle.isp_lower_code.specs.Setting.{Setting, IsScalar, OfVariable, OfConstant, OfSlot}
+use Rattle.isp_lower_code.specs.Setting.{Setting, IsScalar, OfUniform, OfKnown, OfConstant, OfSlot}
 use Rattle.isp_lower_code.proofs.Kept.{Keeps, Low}
 
 -- an element of an array of rate g, at rate r, that is reached as a row
@@ -28,13 +28,14 @@ takes l g r i n e = go (l.is_row i n) g r refl e
 
 module _ (w : Setting) where
   pub scalar_stays : (n x : ℕ) (c c' : Conf) → Keeps w (n + 1) c c' → IsScalar w n x → c'.scalars x ≡ c.scalars x
-  scalar_stays n x c c' k (OfVariable v Uniform t has e) = k.scalars_stay x (inl (v, refl, e, (t, has)))
-  scalar_stays n x c c' k (OfVariable v Varying t has e) = ap c'.scalars e ∙ k.singles_stay v (t, has) ∙ ap c.scalars (sym e)
+  scalar_stays n x c c' k (OfUniform v one e) = k.scalars_stay x (inl (v, refl, e, one))
+  scalar_stays n x c c' k (OfKnown v is e) = ap c'.scalars e ∙ k.singles_stay v is ∙ ap c.scalars (sym e)
   scalar_stays n x c c' k (OfConstant t b kept e) = k.scalars_stay x (inr (inr (t, b, kept, e)))
   scalar_stays n x c c' k (OfSlot t e) = k.scalars_stay x (inr (inl (t, n, omega arith, e)))
 
   pub scalar_away : IsApart w.layout → (n x : ℕ) → IsScalar w n x → (e : Elem) (j : ℕ) → n < j → x ≢ w.layout.spare Uniform e j
-  scalar_away apart n x (OfVariable v r t has q) e j lt = λ s. apart.variable_spare Uniform e v j (sym q ∙ s)
+  scalar_away apart n x (OfUniform v one q) e j lt = λ s. apart.variable_spare Uniform e v j (sym q ∙ s)
+  scalar_away apart n x (OfKnown v is q) e j lt = λ s. apart.variable_spare Uniform e v j (sym q ∙ s)
   scalar_away apart n x (OfConstant t b kept q) e j lt = λ s. apart.kept_spare Uniform t b e j kept (sym q ∙ s)
   scalar_away apart n x (OfSlot t q) e j lt = let ne : n ≢ j = omega (arith, lt) in λ s. apart.spares Uniform t e n j ne (sym q ∙ s)
 

@@ -32,17 +32,18 @@ use Rattle.isp_steady.proofs.Lemmas.{array_fine, linear_counts_on, scalars_are_f
 use Rattle.isp_lower_code.specs.Asks.{Ask, expr_asks}
 use Rattle.isp_lower_code.specs.Code.{expr_code}
 use Rattle.isp_lower_code.specs.Fits.{ExprFits, InTable}
-use Rattle.isp_lower_code.specs.Layout.{HasNoRows}
+use Rattle.isp_lower_code.specs.Layout.{HasNoRows, KnowsNothing}
 use Rattle.isp_lower_code.specs.Found.{found}
 use Rattle.isp_lower_code.specs.Runs.{Enters, Failed, Runs}
 use Rattle.isp_lower_code.specs.Scalar.{AreVarying, IsBy, ScalarsHold}
-use Rattle.isp_lower_code.specs.Setting.{ArrayFits, ArrayFitsAt, AreAt, Holds, IsCalling, IsSettled, IsUniform, IsVarying, Setting, Spares, Stands, calls_of, gang_of, is_constant}
+use Rattle.isp_lower_code.specs.Setting.{ArrayFits, ArrayFitsAt, AreAt, Holds, IsCalling, IsSettled, IsUniform, IsVarying, Setting, Stands, calls_of, gang_of, is_constant}
 use Rattle.isp_lower_code.specs.Spans.{expr_places}
 use Rattle.isp_lower_code.specs.Tables.{AnyMask, IsLoadedIn, IsNamedIn}
 use Rattle.isp_lower_code.proofs.Base.{not_both}
 use Rattle.isp_lower_code.proofs.Begins.{all_grow}
 use Rattle.isp_lower_code.proofs.Exprs.{expr_runs}
 use Rattle.isp_lower_code.proofs.Fitting.{expr_parts}
+use Rattle.isp_lower_code.proofs.Fixed.{unknown_holds}
 use Rattle.isp_lower_code.proofs.Found.{few}
 use Rattle.isp_lower_code.proofs.ScalarRates.{alone_rated}
 
@@ -89,7 +90,7 @@ module _ (known : ℕ → Known) (vars : List Variable) where
   varying_stays : (v : ℕ) → known v ≡ Unknown → IsVarying vars v → IsVarying (singled known vars) v
   varying_stays v e h = (h.0, record { constant = h.1.constant; is = singled_at known vars v _ h.1.is ∙ ap (λ k. Some (as_known k (record { holds = holds.Value (ty_of Varying h.0); constant = h.1.constant }))) e })
 
-  one_was : (v : ℕ) → known v ≡ Unknown → IsUniform (singled known vars) v → IsUniform vars v
+  pub one_was : (v : ℕ) → known v ≡ Unknown → IsUniform (singled known vars) v → IsUniform vars v
   one_was v e h =
       let from = singled_from known vars v _ h.1.is in
       (h.0, record { constant = h.1.constant; is = from.1 ∙ ap Some (ap (λ k. as_known k from.0) (sym e) ∙ from.2) })
@@ -128,8 +129,8 @@ module _ (w : Setting) (known : ℕ → Known) where
   calling i g pc q sp a ps s c f =
       record { function = f.function; here = f.here; place = f.place; at = f.at; mask = f.mask; some = f.some; inside = f.inside; hands = f.hands; result = f.result; arrays_are = f.arrays_are; out_is = f.out_is; used = f.used }
 
-  settled : IsSettled w → HasNoRows w.layout → IsSettled (singled_in w known)
-  settled f none =
+  pub settled : IsSettled w → HasNoRows w.layout → KnowsNothing w.layout → IsSettled (singled_in w known)
+  settled f none nothing =
       record {
         gang = f.gang;
         found = f.found;
@@ -144,11 +145,12 @@ module _ (w : Setting) (known : ℕ → Known) where
         counter = λ i is.
             let k = f.counter i is in
             record { typed = k.typed; constant = constant_stays known w.function.variables i k.constant; unloaded = k.unloaded };
+        known = λ v is. let no : true ≡ false = sym is ∙ ap is_known (nothing v) in absurd (cc);
         constants = f.constants;
         rows = λ i n fine is. let no : true ≡ false = sym is ∙ none i n in absurd (cc);
       }
 
-  table : (a : Ask) → InTable w a → InTable (singled_in w known) a
+  pub table : (a : Ask) → InTable w a → InTable (singled_in w known) a
   table a f =
       let held = λ (b : ArrayVariable) (h : HoldsArray w.function.variables b). array_fine w.program.functions w.function.variables known b h in
       all_grow (IsNamedIn w.routine w.layout) (IsNamedIn w.routine w.layout) (HoldsArray w.function.variables)
@@ -157,13 +159,13 @@ module _ (w : Setting) (known : ℕ → Known) where
 
   -- ---- the machine stands for a state there, and here
 
-  module _ (scalars : ℕ → ℕ) (s : State) (c : Conf) where
+  module _ (nothing : KnowsNothing w.layout) (scalars : ℕ → ℕ) (s : State) (c : Conf) where
     abbrev either : (v : ℕ) → Known → ℕ
     either v k = if is_known k then scalars v else s.uniforms v
 
     stands_there : Stands w s c → ScalarsHold w.layout known scalars c → Stands (singled_in w known) (lent known scalars s) c
     stands_there f hold =
-        record { uniforms = λ v is. one v is (known v) refl; varying = f.varying; result = f.result; results = f.results; own_arrays = f.own_arrays; arrays_are = f.arrays_are; out_is = f.out_is; run = f.run; constants = f.constants }
+        record { uniforms = λ v is. one v is (known v) refl; varying = f.varying; result = f.result; results = f.results; own_arrays = f.own_arrays; arrays_are = f.arrays_are; out_is = f.out_is; run = f.run; known = unknown_holds (singled known w.function.variables) w.layout w.members c.scalars s.varying nothing; constants = f.constants }
       where
         one : (v : ℕ) → IsUniform (singled known w.function.variables) v → (k : Known) → known v ≡ k → c.scalars (w.layout.variable Uniform v) ≡ either v (known v)
         one v is Unknown e = f.uniforms v (one_was known w.function.variables v e is) ∙ sym (ap (either v) e)
@@ -172,7 +174,7 @@ module _ (w : Setting) (known : ℕ → Known) where
 
     stands_here : AreVarying w.function.variables known → Stands (singled_in w known) (lent known scalars s) c → Stands w s c
     stands_here vary f =
-        record { uniforms = λ v is. f.uniforms v (one_stays known w.function.variables v is) ∙ other v is (known v) refl; varying = f.varying; result = f.result; results = f.results; own_arrays = f.own_arrays; arrays_are = f.arrays_are; out_is = f.out_is; run = f.run; constants = f.constants }
+        record { uniforms = λ v is. f.uniforms v (one_stays known w.function.variables v is) ∙ other v is (known v) refl; varying = f.varying; result = f.result; results = f.results; own_arrays = f.own_arrays; arrays_are = f.arrays_are; out_is = f.out_is; run = f.run; known = unknown_holds w.function.variables w.layout w.members c.scalars s.varying nothing; constants = f.constants }
       where
         other : (v : ℕ) → IsUniform w.function.variables v → (k : Known) → known v ≡ k → either v (known v) ≡ s.uniforms v
         other v is Unknown e = ap (either v) e
@@ -183,20 +185,9 @@ module _ (w : Setting) (known : ℕ → Known) where
     scalars_here vary f v e =
         f.uniforms v (known_one known w.function.variables v e (vary v e)) ∙ ap (λ b. if b then scalars v else s.uniforms v) e
 
-  -- scalar registers of varying variables stay: known ones have their scalars before and after
-  spares_here : (scalars : ℕ → ℕ) (s : State) (c c0 : Conf) (n : ℕ) → AreVarying w.function.variables known → ScalarsHold w.layout known scalars c0
-      → Stands (singled_in w known) (lent known scalars s) c → Spares (singled_in w known) n c0 c → Spares w n c0 c
-  spares_here scalars s c c0 n vary hold st f =
-      record { scalars_stay = f.scalars_stay; vectors_stay = f.vectors_stay; fresh_scalars = f.fresh_scalars; fresh_vectors = f.fresh_vectors; singles_stay = λ v is. one v is (known v) refl }
-    where
-      one : (v : ℕ) → IsVarying w.function.variables v → (k : Known) → known v ≡ k → c.scalars (w.layout.variable Uniform v) ≡ c0.scalars (w.layout.variable Uniform v)
-      one v is Unknown e = f.singles_stay v (varying_stays known w.function.variables v e is)
-      one v is Steady e = scalars_here scalars s c vary st v (ap is_known e) ∙ sym (hold v (ap is_known e))
-      one v is Linear e = scalars_here scalars s c vary st v (ap is_known e) ∙ sym (hold v (ap is_known e))
-
   -- ---- the code runs
 
-  module _ (ready : IsSettled w) (none : HasNoRows w.layout) (scalars : ℕ → ℕ) (x : TExpr) where
+  module _ (ready : IsSettled w) (none : HasNoRows w.layout) (nothing : KnowsNothing w.layout) (scalars : ℕ → ℕ) (x : TExpr) where
     abbrev there : Setting
     there = singled_in w known
 
@@ -223,10 +214,10 @@ module _ (w : Setting) (known : ℕ → Known) where
             steps = r.steps;
             comes = r.comes;
             at = r.at;
-            stands = stands_here scalars s r.conf vary r.stands;
-            spares = spares_here scalars s r.conf c n vary hold r.stands r.spares;
+            stands = stands_here nothing scalars s r.conf vary r.stands;
+            spares = r.spares;
             masks = r.masks;
-            holds = (subst (λ z. IsBy (steady known x) (elem_of x) a z m) is (to u m h.0), scalars_here scalars s r.conf vary r.stands);
+            holds = (subst (λ z. IsBy (steady known x) (elem_of x) a z m) is (to u m h.0), scalars_here nothing scalars s r.conf vary r.stands);
             bound = r.bound;
           })
       came (Comes u s) (Fails t s1) h r = absurd h
@@ -247,12 +238,12 @@ module _ (w : Setting) (known : ℕ → Known) where
         fits = record { fine = (scalars_are_fine w.program.functions w.function.variables known x fine is).0; rated = alone_rated w.program.functions known x is; named = table (expr_asks (alone x) n) named }
 
         enters : Enters there pc k n a (lent known scalars s) c q
-        enters = record { at = b.at; mask = b.mask; some = b.some; inside = b.inside; stands = stands_there scalars s c b.stands hold; used = b.used; low = b.low }
+        enters = record { at = b.at; mask = b.mask; some = b.some; inside = b.inside; stands = stands_there nothing scalars s c b.stands hold; used = b.used; low = b.low }
 
         runs : Runs there c end n (4 + q) (Holds (type_of (alone x)).rate a (found w.layout (alone x) n)) (value (gang_of w) w.frame (calls_of w) (alone x) a (lent known scalars s))
         runs =
             let parts = expr_parts there (alone x) n fits in
-            expr_runs there (settled ready none) (alone x) pc p k n q (4 + q) a (lent known scalars s) c parts has places (omega (arith, few there (alone x) n parts)) enters
+            expr_runs there (settled ready none nothing) (alone x) pc p k n q (4 + q) a (lent known scalars s) c parts has places (omega (arith, few there (alone x) n parts)) enters
 
         by : (Is : Mask → ℕ → Payload → Type 0) → ((u : ℕ) (m : Payload) → Is a u m → IsBy (steady known x) (elem_of x) a u m) → (type_of (alone x)).rate ≡ Uniform
             → SameForAll (gang_of w) w.frame (calls_of w) known scalars x Is a s

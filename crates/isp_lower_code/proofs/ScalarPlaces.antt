@@ -14,9 +14,9 @@ use Rattle.isp_lower_code.specs.Layout.{Layout}
 use Rattle.isp_lower_code.specs.Scalar.{ScalarPlaces}
 use Rattle.isp_lower_code.specs.Spans.{expr_places, values_places}
 
-module _ (l : Layout) (known : ℕ → Known) where
+module _ (l k : Layout) (known : ℕ → Known) where
   mutual
-    steady_places : (x : TExpr) → steady known x ≡ true → expr_places l (alone x) ≡ expr_places l x
+    steady_places : (x : TExpr) → steady known x ≡ true → expr_places l (alone x) ≡ expr_places k x
     steady_places (t_constant v sp) e = refl
     steady_places (t_program_index sp) e = absurd (cc)
     steady_places (t_place (t_variable v t sp)) e = refl
@@ -25,24 +25,24 @@ module _ (l : Layout) (known : ℕ → Known) where
     steady_places (t_cast x t sp) e = steady_places x e
     steady_places (t_unary o x t sp) e = steady_places x e
     steady_places (t_binary o x y t sp) e =
-        let k = both _ _ e in
-        ap₂ (λ (ps qs : List Span). ps ++ (qs ++ operate_places o sp)) (steady_places x k.0) (steady_places y k.1)
-    steady_places (t_compare c x y r sp) e = let k = both _ _ e in ap₂ (λ (ps qs : List Span). ps ++ qs) (steady_places x k.0) (steady_places y k.1)
-    steady_places (t_logic g x y r sp) e = let k = both _ _ e in ap₂ (λ (ps qs : List Span). ps ++ qs) (steady_places x k.0) (steady_places y k.1)
+        let h = both _ _ e in
+        ap₂ (λ (ps qs : List Span). ps ++ (qs ++ operate_places o sp)) (steady_places x h.0) (steady_places y h.1)
+    steady_places (t_compare c x y r sp) e = let h = both _ _ e in ap₂ (λ (ps qs : List Span). ps ++ qs) (steady_places x h.0) (steady_places y h.1)
+    steady_places (t_logic g x y r sp) e = let h = both _ _ e in ap₂ (λ (ps qs : List Span). ps ++ qs) (steady_places x h.0) (steady_places y h.1)
     steady_places (t_choose c x y t sp) e =
-        let k = both _ _ e in
-        let j = both _ _ k.1 in
-        ap₂ (λ (ps qs : List Span). ps ++ qs) (steady_places c k.0) (ap₂ (λ (ps qs : List Span). ps ++ qs) (steady_places x j.0) (steady_places y j.1))
+        let h = both _ _ e in
+        let j = both _ _ h.1 in
+        ap₂ (λ (ps qs : List Span). ps ++ qs) (steady_places c h.0) (ap₂ (λ (ps qs : List Span). ps ++ qs) (steady_places x j.0) (steady_places y j.1))
     steady_places (t_call c t) e = absurd (cc)
     steady_places (t_library f t xs ty sp) e = all_places xs (both _ _ e).1
     steady_places (t_packed_store b x sp) e = absurd (cc)
     steady_places (t_packed_load b v sp) e = absurd (cc)
 
-    all_places : (xs : TExprs) → all_steady known xs ≡ true → values_places l (all_alone xs) ≡ values_places l xs
+    all_places : (xs : TExprs) → all_steady known xs ≡ true → values_places l (all_alone xs) ≡ values_places k xs
     all_places t_no_exprs e = refl
-    all_places (t_expr_then x xs) e = let k = both _ _ e in ap₂ (λ (ps qs : List Span). ps ++ qs) (steady_places x k.0) (all_places xs k.1)
+    all_places (t_expr_then x xs) e = let h = both _ _ e in ap₂ (λ (ps qs : List Span). ps ++ qs) (steady_places x h.0) (all_places xs h.1)
 
-  linear_places : (x : TExpr) → linear known x ≡ true → expr_places l (alone x) ≡ expr_places l x
+  linear_places : (x : TExpr) → linear known x ≡ true → expr_places l (alone x) ≡ expr_places k x
   linear_places (t_program_index sp) e = refl
   linear_places (t_place (t_variable v t sp)) e = refl
   linear_places (t_place (t_element b i t sp)) e = absurd (cc)
@@ -50,7 +50,7 @@ module _ (l : Layout) (known : ℕ → Known) where
   linear_places (t_cast x t sp) e = linear_places x e
   linear_places (t_binary o x y t sp) e =
       let join = λ (ps qs : List Span). ps ++ (qs ++ operate_places o sp) in
-      ⊎_elim (λ k. ap₂ join (linear_places x k.0) (steady_places y k.1)) (λ k. ap₂ join (steady_places x k.0) (linear_places y k.1))
+      ⊎_elim (λ h. ap₂ join (linear_places x h.0) (steady_places y h.1)) (λ h. ap₂ join (steady_places x h.0) (linear_places y h.1))
       (one_of o (linear known x) (steady known x) (linear known y) (steady known y) e)
   linear_places (t_constant v sp) e = absurd (cc)
   linear_places (t_unary o x t sp) e = absurd (cc)
@@ -62,9 +62,13 @@ module _ (l : Layout) (known : ℕ → Known) where
   linear_places (t_packed_store b x sp) e = absurd (cc)
   linear_places (t_packed_load b v sp) e = absurd (cc)
 
+  -- by whatever layout: places are those of the source
+  pub places_by : (x : TExpr) → (steady known x || linear known x) ≡ true → expr_places l (alone x) ≡ expr_places k x
+  places_by x e = by (steady known x) refl e
+    where
+      by : (b : Bool) → steady known x ≡ b → (b || linear known x) ≡ true → expr_places l (alone x) ≡ expr_places k x
+      by true h o = steady_places x h
+      by false h o = linear_places x o
+
 pub scalar_places : ScalarPlaces
-scalar_places l known x e = by (steady known x) refl e
-  where
-    by : (b : Bool) → steady known x ≡ b → (b || linear known x) ≡ true → expr_places l (alone x) ≡ expr_places l x
-    by true h k = steady_places l known x h
-    by false h k = linear_places l known x k
+scalar_places l known x e = places_by l l known x e

@@ -67,12 +67,12 @@ module _ (w : Setting) (ready : IsSettled w) where
   write_leaves (InVariable v) c c2 t pc pc' n q a s i Uniform e o kind sp x y h at to has st ke ma le ex fill is = λ other.
       step_done w ready c c2 (set_at Uniform c2 (w.layout.variable Uniform v) y) t pc pc' n q i o kind sp x s (written Uniform v a) h at to has is
       refl (set_goes w ready Uniform c2 (w.layout.variable Uniform v) y pc at) st
-      (λ none. written_stands w ready Uniform v c2 a x s y st (ex none) other.0)
+      (λ none. written_stands w ready Uniform v c2 a x s y st (ex none) other)
       (spares_on w n c c2 (set_at Uniform c2 (w.layout.variable Uniform v) y) ke (variable_spares w ready Uniform v n c2 y other.1)) ma le le
   write_leaves (InVariable v) c c2 t pc pc' n q a s i Varying e o kind sp x y h at to has st ke ma le ex fill is = λ other.
       step_done w ready c c2 (set_at Varying c2 (w.layout.variable Varying v) y) t pc pc' n q i o kind sp x s (written Varying v a) h at to has is
       refl (set_goes w ready Varying c2 (w.layout.variable Varying v) y pc at) st
-      (λ none. written_stands w ready Varying v c2 a x s y st (ex none) other.0)
+      (λ none. written_stands w ready Varying v c2 a x s y st (ex none) other)
       (spares_on w n c c2 (set_at Varying c2 (w.layout.variable Varying v) y) ke (variable_spares w ready Varying v n c2 y other.1)) ma le le
 
   pub write_sure : (g : Target) (c c2 : Conf) (t pc pc' n q : ℕ) (a : Mask) (s : State) (i : Instr) (r : Rate) (e : Elem) (o : Option ℕ)
@@ -107,7 +107,7 @@ module _ (w : Setting) (ready : IsSettled w) where
         steps = t;
         comes = h;
         at = at_to w c3 (pc + 1) pc' (set_goes w ready r c2 (w.layout.variable r v) y pc at) to;
-        stands = written_stands w ready r v c2 a x s y st ex other.0;
+        stands = written_stands w ready r v c2 a x s y st ex other;
         spares = spares_on w n c c2 c3 ke (variable_spares w ready r v n c2 y other.1);
         masks = λ k lt. set_masks w ready r c2 (w.layout.variable r v) y k ∙ ma k lt;
         bound = written_bound r v a x s t q le;

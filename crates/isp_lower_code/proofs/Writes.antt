@@ -25,10 +25,11 @@ use Rattle.isp_meaning.specs.Payloads.{Payload, One, Each, sole, spread, mapped,
 use Rattle.isp_meaning.specs.Places as meant
 use Rattle.isp_meaning.specs.Places.{written, own_stored, with_elements}
 use Rattle.isp_lower_code.specs.Layout.{register, mask_register, array_register}
-use Rattle.isp_lower_code.specs.Setting.{ArrayFitsAt, Setting, IsSettled, gang_of, At, Stands, Spares, at_rate, held_at, Holds, Allowed, OtherAt}
+use Rattle.isp_lower_code.specs.Setting.{ArrayFitsAt, Setting, IsSettled, gang_of, At, Stands, Spares, at_rate, held_at, Holds, Allowed}
 use Rattle.isp_lower_code.specs.Instructions.{write, write_by}
-use Rattle.isp_lower_code.proofs.Base.{put_same, put_other, moved_by, comes_on, fails_on, step_go, step_fail, next_at, at_to}
+use Rattle.isp_lower_code.proofs.Base.{MayWrite, put_same, put_other, moved_by, comes_on, fails_on, step_go, step_fail, next_at, at_to}
 use Rattle.isp_lower_code.proofs.Constants.{scalar_put, vector_put}
+use Rattle.isp_lower_code.proofs.Fixed.{known_on, known_put, other_known, other_run, uniform_known}
 use Rattle.isp_lower_code.proofs.Rates.{at_mapped}
 use Rattle.isp_base.specs.Traps.{trap}
 use Rattle.isp_base.specs.declared.trap.TrapKind.{TrapKind}
@@ -129,7 +130,7 @@ write_by_line true br code h c Varying b i x k q some f =
 -- ---- a variable is written
 
 module _ (w : Setting) (ready : IsSettled w) where
-  pub written_stands : (r : Rate) (v : ℕ) (c : Conf) (a : Mask) (m : Payload) (s : State) (y : Payload) → Stands w s c → at_rate r a m ≡ y → OtherAt w r v → Stands w (written r v a m s) (set_at r c (w.layout.variable r v) y)
+  pub written_stands : (r : Rate) (v : ℕ) (c : Conf) (a : Mask) (m : Payload) (s : State) (y : Payload) → Stands w s c → at_rate r a m ≡ y → MayWrite w r v → Stands w (written r v a m s) (set_at r c (w.layout.variable r v) y)
   written_stands Uniform v c a m s y st e other = record {
     uniforms = λ u is. put_through c.scalars s.uniforms (w.layout.variable Uniform) v (sole y) (sole m) (ready.apart.variables Uniform) (ap sole (sym e)) u (st.uniforms u is);
     varying = st.varying;
@@ -141,6 +142,7 @@ module _ (w : Setting) (ready : IsSettled w) where
     run = run_place w.layout.run w.start w.members (c.scalars (w.layout.place Uniform))
         (put c.scalars (w.layout.variable Uniform v) (sole y) (w.layout.place Uniform)) s.varying
         (sym (put_other c.scalars (w.layout.variable Uniform v) (sole y) (w.layout.place Uniform) (ready.apart.place_variable Uniform v))) st.run;
+    known = known_put w.function.variables w.layout w.members c.scalars (w.layout.variable Uniform v) (sole y) s.varying (λ u k. ready.apart.variables Uniform u v (uniform_known w ready v u other.1 k)) st.known;
     constants = scalar_put w.layout (gang_of w) c.scalars c.vectors (w.layout.variable Uniform v) (sole y) (λ t b k. ready.apart.kept_variable Uniform t b v k) st.constants;
   }
   written_stands Varying v c a m s y st e other =
@@ -155,7 +157,8 @@ module _ (w : Setting) (ready : IsSettled w) where
         own_arrays = st.own_arrays;
         arrays_are = st.arrays_are;
         out_is = st.out_is;
-        run = run_each w.layout.run w.start w.members (c.scalars (w.layout.place Uniform)) s.varying (put s.varying v (over (spread a m) (s.varying v))) (λ i ei. sym (put_other s.varying v (over (spread a m) (s.varying v)) i (other i ei))) st.run;
+        run = run_each w.layout.run w.start w.members (c.scalars (w.layout.place Uniform)) s.varying (put s.varying v (over (spread a m) (s.varying v))) (λ i ei. sym (put_other s.varying v (over (spread a m) (s.varying v)) i (other_run w v i other.0 ei))) st.run;
+        known = known_on w.function.variables w.layout w.members c.scalars c.scalars s.varying (put s.varying v (over (spread a m) (s.varying v))) (λ u k. refl) (λ u k. put_other s.varying v (over (spread a m) (s.varying v)) u (other_known w v u other.0 k)) st.known;
         constants = vector_put w.layout (gang_of w) c.scalars c.vectors (w.layout.variable Varying v) x (λ t b k. ready.apart.kept_variable Varying t b v k) st.constants;
       }
 
@@ -263,6 +266,7 @@ module _ (w : Setting) (ready : IsSettled w) where
         result = stands.result;
         results = stands.results;
         own_arrays = stands.own_arrays;
+        known = stands.known;
         arrays_are = arrays_put c2 s N (w.frame.named y.number) F _ stands.arrays_are en ef;
         out_is = stands.out_is;
         run = stands.run;
@@ -295,6 +299,7 @@ module _ (w : Setting) (ready : IsSettled w) where
         result = stands.result;
         results = stands.results;
         own_arrays = stands.own_arrays;
+        known = stands.known;
         arrays_are = arrays_put c2 s N (w.frame.named y.number) F _ stands.arrays_are en ef;
         out_is = stands.out_is;
         run = stands.run;
@@ -324,6 +329,7 @@ module _ (w : Setting) (ready : IsSettled w) where
         varying = stands.varying;
         result = stands.result;
         results = stands.results;
+        known = stands.known;
         own_arrays = λ v. put_through c2.own s.own w.layout.array y.number F _ ready.apart.arrays ef v (stands.own_arrays v);
         arrays_are = stands.arrays_are;
         out_is = stands.out_is;

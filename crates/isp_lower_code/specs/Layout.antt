@@ -6,7 +6,9 @@
 -- lanes of a run, from the number in the place's register on; and code may be for lanes of such a run alone. Constants of a type and
 -- with some bits may be kept at a rate: each has a register, which holds it while the function runs. Indices may be taken as rows: at which
 -- slots which, the code of the scalar from which such an index counts on, given its instruction, place, mask and slot, and the scalar's register.
-use Rattle.std.specs.Prelude.{◌≡◌, ◌≢◌, ℕ, List, Option, Some, None, Bool, true, false}
+-- Of varying variables it may be known, in members of a run, that one is the same in each, or counts on from one to the next (isp_steady): the
+-- scalar register of its number has the scalar by which it is so.
+use Rattle.std.specs.Prelude.{◌≡◌, ◌≢◌, ℕ, List, Option, Some, None, Bool, true, false, ◌||◌, nat_eq}
 use Rattle.isp_base.specs.declared.types.Elem.{Elem}
 use Rattle.isp_base.specs.declared.types.Rate.{Rate}
 use Rattle.isp_base.specs.declared.types.Rate.TheVariants.{Uniform, Varying}
@@ -15,6 +17,7 @@ use Rattle.isp_code.specs.declared.register.Class.{Class}
 use Rattle.isp_code.specs.declared.register.Class.TheVariants as class
 use Rattle.isp_code.specs.declared.register.Register.{Register}
 use Rattle.isp_typed.specs.Typed.{TExpr}
+use Rattle.isp_steady.specs.Known.{Known, Unknown, is_known}
 
 pub record Layout : Type 0 where
   pub variable : Rate → ℕ → ℕ
@@ -23,6 +26,7 @@ pub record Layout : Type 0 where
   pub place : Rate → ℕ
   pub run : Option ℕ
   pub in_run : Bool
+  pub known : ℕ → Known
   pub fresh : Rate → ℕ → ℕ
   pub array : ℕ → ℕ
   pub rates : ℕ → List Rate
@@ -61,6 +65,24 @@ no_rows i n = false
 
 abbrev pub HasNoRows : Layout → Type 0
 HasNoRows l = (i : TExpr) (n : ℕ) → l.is_row i n ≡ false
+
+-- nothing is known of any variable
+abbrev pub nothing_known : ℕ → Known
+nothing_known v = Unknown
+
+abbrev pub KnowsNothing : Layout → Type 0
+KnowsNothing l = (v : ℕ) → l.known v ≡ Unknown
+
+-- A variable is fixed where it counts the lanes of a run, or is known: in code of such a layout nothing writes it.
+abbrev pub is_counter_of : Option ℕ → ℕ → Bool
+is_counter_of None v = false
+is_counter_of (Some i) v = nat_eq v i
+
+abbrev pub is_fixed : Layout → ℕ → Bool
+is_fixed l v = is_counter_of l.run v || is_known (l.known v)
+
+abbrev pub NoneFixed : Layout → Type 0
+NoneFixed l = (v : ℕ) → is_fixed l v ≡ false
 
 -- For lanes that need be no members of a run: a variable still counts those that are. For members of a run of which a variable counts the
 -- lanes: if there is no other, and no packed load writes the variable. Rows are of the lanes for which they were set.

@@ -21,6 +21,7 @@ pub mod Rated
 pub mod Fits
 pub mod Scalar
 pub mod RowAccess
+pub mod RowLayout
 pub mod Simple
 pub mod Items
 pub mod Asks

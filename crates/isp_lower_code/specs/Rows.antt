@@ -6,7 +6,7 @@ use Rattle.isp_base.specs.Ranks.{rank, same_elem}
 use Rattle.isp_base.specs.declared.types.Elem.{Elem}
 use Rattle.isp_base.specs.declared.types.Rate.{Rate}
 use Rattle.isp_base.specs.declared.types.Rate.TheVariants.{Uniform, Varying}
-use Rattle.isp_lower_code.specs.Layout.{Layout, no_rows}
+use Rattle.isp_lower_code.specs.Layout.{Layout, no_rows, nothing_known}
 
 pub data Name : Type 0 where
   Variable : ℕ → Name
@@ -72,6 +72,7 @@ layout_of rates rows =
       place = λ r. number_in (rows_at rows r) Place;
       run = None;
       in_run = false;
+      known = nothing_known;
       fresh = fresh_at rows;
       array = λ v. number_in rows.arrays (Variable v);
       loaded = λ v. is_some (elem_in rows.loaded (Variable v));

@@ -20,7 +20,7 @@ use Rattle.isp_lower_code.specs.Asks.{expr_asks}
 use Rattle.isp_lower_code.specs.Code.{expr_code}
 use Rattle.isp_lower_code.specs.Fits.{InTable}
 use Rattle.isp_lower_code.specs.Found.{found}
-use Rattle.isp_lower_code.specs.Layout.{HasNoRows, Layout}
+use Rattle.isp_lower_code.specs.Layout.{HasNoRows, KnowsNothing, Layout}
 use Rattle.isp_lower_code.specs.Runs.{Enters, Runs}
 use Rattle.isp_lower_code.specs.Setting.{Setting, IsSettled, IsVarying, AreAt, calls_of, gang_of}
 use Rattle.isp_lower_code.specs.Spans.{expr_places}
@@ -38,11 +38,11 @@ abbrev pub IsBy : (is_steady : Bool) → Elem → Mask → ℕ → Payload → T
 IsBy true t a u m = IsOne a u m
 IsBy false t a u m = IsCounted t a u m
 
--- In a layout without rows, where registers have the scalars by which variables are known, the code of the scalar expression traps as the expression traps for the
+-- In a layout without rows, that knows nothing itself, where registers have the scalars by which variables are known, the code of the scalar expression traps as the expression traps for the
 -- members of the mask, and else leaves the scalar of its value in a register.
 abbrev pub ScalarRuns : Type 0
 ScalarRuns =
-    (w : Setting) → IsSettled w → HasNoRows w.layout → (known : ℕ → Known) (scalars : ℕ → ℕ) (x : TExpr) (pc p k n q : ℕ) (a : Mask) (s : State) (c : Conf)
+    (w : Setting) → IsSettled w → HasNoRows w.layout → KnowsNothing w.layout → (known : ℕ → Known) (scalars : ℕ → ℕ) (x : TExpr) (pc p k n q : ℕ) (a : Mask) (s : State) (c : Conf)
     → FineExpr w.program.functions w.function.variables x → (steady known x || linear known x) ≡ true → AreVarying w.function.variables known
     → InTable w (expr_asks (alone x) n)
     → AreAt w.routine.code pc (expr_code w.layout (alone x) pc p k n) → AreAt w.code.places p (expr_places w.layout (alone x))

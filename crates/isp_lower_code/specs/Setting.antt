@@ -6,12 +6,13 @@ use Rattle.isp_base.specs.declared.types.Rate.{Rate}
 use Rattle.isp_base.specs.declared.types.Rate.TheVariants.{Uniform}
 use Rattle.isp_code.specs.Conf.{Conf}
 use Rattle.isp_code.specs.Registers.{elem_of}
-use Rattle.isp_typed.specs.Fine.{FineExpr, HoldsArray, HoldsValue}
-use Rattle.isp_typed.specs.Typed.{TExpr, ty_of, type_of}
+use Rattle.isp_typed.specs.Fine.{FineExpr, HoldsArray}
+use Rattle.isp_typed.specs.Typed.{TExpr, type_of}
 use Rattle.isp_typed.specs.declared.variable.ArrayVariable.{ArrayVariable}
 use Rattle.isp_meaning.specs.Calls.{most_calls}
 use Rattle.isp_meaning.specs.Expressions.{value}
 use Rattle.isp_meaning.specs.State.{State}
+use Rattle.isp_steady.specs.Known.{is_known}
 use Rattle.isp_steady.specs.Values.{IsCounted}
 use Rattle.isp_lower_code.specs.Callees.{rates_in}
 use Rattle.isp_lower_code.specs.Fits.{InTable}
@@ -21,11 +22,13 @@ use Rattle.isp_lower_code.specs.Runs.{Enters, Runs}
 use Rattle.isp_lower_code.specs.Spans.{expr_places}
 use Rattle.isp_lower_code.specs.Tables.{IsTyped}
 pub use Rattle.isp_lower_code.specs.Held.{at_rate, held_at, Holds, ConstantsHold}
-pub use Rattle.isp_lower_code.specs.Standing.{Setting, with_turns, gang_of, Allowed, calls_of, ArrayFitsAt, ArrayFits, AreAt, IsAt, At, IsCalling, CallsRun, is_constant, IsCounter, IsUniform, IsVarying, StandsFor, IsOther, OtherAt, Stands, SparesStay, Spares}
+pub use Rattle.isp_lower_code.specs.Standing.{Setting, with_turns, gang_of, Allowed, calls_of, ArrayFitsAt, ArrayFits, AreAt, IsAt, At, IsCalling, CallsRun, is_constant, IsCounter, IsKnownIn, IsUniform, IsVarying, KnownHold, StandsFor, IsOther, OtherAt, Stands, SparesStay, Spares}
 
--- A scalar register that stays as it is while slots after n are used: that of a variable, of a constant that is kept, or a spare one of slot n.
+-- A scalar register that stays as it is while slots after n are used: that of a uniform variable, of a known one, of a constant that is kept, or a
+-- spare one of slot n.
 pub data IsScalar (w : Setting) (n x : ℕ) : Type 0 where
-  OfVariable : (v : ℕ) (r : Rate) (t : Elem) → HoldsValue w.function.variables v (ty_of r t) → x ≡ w.layout.variable Uniform v → IsScalar w n x
+  OfUniform : (v : ℕ) → IsUniform w.function.variables v → x ≡ w.layout.variable Uniform v → IsScalar w n x
+  OfKnown : (v : ℕ) → is_known (w.layout.known v) ≡ true → x ≡ w.layout.variable Uniform v → IsScalar w n x
   OfConstant : (t : Elem) (b : ℕ) → w.layout.kept Uniform t b ≡ true → x ≡ w.layout.constant Uniform t b → IsScalar w n x
   OfSlot : (t : Elem) → x ≡ w.layout.spare Uniform t n → IsScalar w n x
 
@@ -45,7 +48,7 @@ pub record RowRuns (w : Setting) (i : TExpr) (n : ℕ) : Type 0 where
 -- The routine is that of the call, its registers are apart, it hands over as the functions' parameters ask, and its arrays
 -- are those of the function's variables, with the same stores open on both sides; those that run and those that may still
 -- run are as many calls as there may be; a call from here does what it means; the registers of constants that are kept have
--- their types; and the code of indices that are taken as rows does what they mean.
+-- their types; what is known is of constants; and the code of indices that are taken as rows does what they mean.
 pub record IsSettled (w : Setting) : Type 0 where
   pub gang : w.code.gang ≡ w.program.gang
   pub found : slice_get w.code.routines w.home.fn ≡ Some w.routine
@@ -58,5 +61,6 @@ pub record IsSettled (w : Setting) : Type 0 where
   pub arrays : (b : ArrayVariable) → HoldsArray w.function.variables b → ArrayFits w b
   pub calls : CallsRun w
   pub counter : (i : ℕ) → w.layout.run ≡ Some i → IsCounter w i
+  pub known : (v : ℕ) → is_known (w.layout.known v) ≡ true → IsKnownIn w v
   pub constants : (r : Rate) (t : Elem) (b : ℕ) → w.layout.kept r t b ≡ true → elem_of w.routine (register r (w.layout.constant r t b)) ≡ t
   pub rows : (i : TExpr) (n : ℕ) → FineExpr w.program.functions w.function.variables i → w.layout.is_row i n ≡ true → RowRuns w i n

@@ -1,5 +1,5 @@
 -- A call of a compiled function, and when the machine in it stands for a state of the meaning.
-use Rattle.std.specs.Prelude.{◌≡◌, ◌≢◌, ◌≤◌, ◌<◌, ℕ, ◌+◌, ◌*◌, ◌-◌, ◌^◌, List, [], ◌∷◌, Option, None, Some, Bool, true, false, slice_get}
+use Rattle.std.specs.Prelude.{◌≡◌, ◌≤◌, ◌<◌, ℕ, ◌+◌, ◌*◌, ◌-◌, ◌^◌, List, [], ◌∷◌, Option, None, Some, Bool, true, false, slice_get}
 use Rattle.isp_base.specs.Maps.{Lanes}
 use Rattle.isp_base.specs.Sets.{Mask, any}
 use Rattle.isp_base.specs.Types.{gang_width}
@@ -22,7 +22,8 @@ use Rattle.isp_meaning.specs.State.{State, Frame, extent}
 use Rattle.isp_meaning.specs.Expressions.{Passed, Calls}
 use Rattle.isp_meaning.specs.Calls.{calls_at}
 use Rattle.isp_lower_code.specs.Calls.{AreHanded, Takes, CallRuns}
-use Rattle.isp_lower_code.specs.Layout.{Layout, array_register, register}
+use Rattle.isp_steady.specs.Known.{IsAsKnown, elem_at, is_known}
+use Rattle.isp_lower_code.specs.Layout.{Layout, array_register, is_fixed, register}
 pub use Rattle.isp_lower_code.specs.Held.{at_rate, held_at, Holds, ConstantsHold}
 use Rattle.isp_lower_code.specs.Consecutive.{RunHolds}
 use Rattle.isp_base.specs.declared.types.Elem.TheVariants.{I32}
@@ -125,9 +126,20 @@ IsUniform vars v = (t : Elem) × HoldsValue vars v (ty_of Uniform t)
 abbrev pub IsVarying : List Variable → ℕ → Type 0
 IsVarying vars v = (t : Elem) × HoldsValue vars v (ty_of Varying t)
 
+-- what is known of a variable is of one that varies, a constant that no packed load writes
+pub record IsKnownIn (w : Setting) (v : ℕ) : Type 0 where
+  pub varying : IsVarying w.function.variables v
+  pub constant : is_constant (slice_get w.function.variables v) ≡ true
+  pub unloaded : w.layout.loaded v ≡ false
+
+-- the members have each variable as it is known, by what the scalar register of its number holds
+abbrev pub KnownHold : List Variable → Layout → Mask → (ℕ → ℕ) → (ℕ → Lanes) → Type 0
+KnownHold vars l members scalars each =
+    (v : ℕ) → IsAsKnown (l.known v) (elem_at vars v) (scalars (l.variable Uniform v)) (each v) members
+
 -- Registers, own arrays, arrays and output stand for a state, and registers of constants hold these. A scalar register with the number of
--- a variable that is not uniform may hold anything. It is stated of these parts alone, so that a step that changes other parts of the
--- machine leaves the fact as it is.
+-- a variable that is not uniform may hold anything, unless that variable is known. It is stated of these parts alone, so that a step that
+-- changes other parts of the machine leaves the fact as it is.
 pub record StandsFor (vars : List Variable) (l : Layout) (gang : ℕ) (start : ℕ) (members : Mask) (ones : ℕ → ℕ) (each : ℕ → Lanes) (owns : ℕ → ℕ → Lanes) (one : ℕ)
     (in_each : Lanes) (stores : ℕ → Lanes) (text : List ℕ) (scalars : ℕ → ℕ) (vectors : ℕ → Lanes) (own : ℕ → ℕ → Lanes) (arrays : ℕ → Lanes)
     (out : List ℕ) : Type 0 where
@@ -139,13 +151,14 @@ pub record StandsFor (vars : List Variable) (l : Layout) (gang : ℕ) (start : �
   pub arrays_are : arrays ≡ stores
   pub out_is : out ≡ text
   pub run : RunHolds l.run start members (scalars (l.place Uniform)) each
+  pub known : KnownHold vars l members scalars each
   pub constants : ConstantsHold l gang scalars vectors
 
--- a variable that is not the one that counts the lanes of a run
+-- a variable that counts no lanes of a run, and of which nothing is known
 abbrev pub IsOther : Setting → ℕ → Type 0
-IsOther w v = (i : ℕ) → w.layout.run ≡ Some i → i ≢ v
+IsOther w v = is_fixed w.layout v ≡ false
 
--- where it is written at a rate: one that is uniform counts none
+-- where it is written at a rate: one that is uniform is such a one
 abbrev pub OtherAt : Setting → Rate → ℕ → Type 0
 OtherAt w Uniform v = Unit {0}
 OtherAt w Varying v = IsOther w v
@@ -153,14 +166,14 @@ OtherAt w Varying v = IsOther w v
 abbrev pub Stands : Setting → State → Conf → Type 0
 Stands w s c = StandsFor w.function.variables w.layout (gang_of w) w.start w.members s.uniforms s.varying s.own s.result s.results s.arrays s.out c.scalars c.vectors c.own c.arrays c.out
 
--- the spare registers of lower slots, all fresh registers, and the scalar registers with the numbers of varying variables are as they were,
--- whatever variables are written
-pub record SparesStay (vars : List Variable) (l : Layout) (n : ℕ) (scalars : ℕ → ℕ) (vectors : ℕ → Lanes) (scalars' : ℕ → ℕ) (vectors' : ℕ → Lanes) : Type 0 where
+-- the spare registers of lower slots, all fresh registers, and the scalar registers of known variables are as they were, whatever variables
+-- are written
+pub record SparesStay (l : Layout) (n : ℕ) (scalars : ℕ → ℕ) (vectors : ℕ → Lanes) (scalars' : ℕ → ℕ) (vectors' : ℕ → Lanes) : Type 0 where
   pub scalars_stay : (t : Elem) (j : ℕ) → j < n → scalars' (l.spare Uniform t j) ≡ scalars (l.spare Uniform t j)
   pub vectors_stay : (t : Elem) (j : ℕ) → j < n → vectors' (l.spare Varying t j) ≡ vectors (l.spare Varying t j)
   pub fresh_scalars : (j : ℕ) → scalars' (l.fresh Uniform j) ≡ scalars (l.fresh Uniform j)
   pub fresh_vectors : (j : ℕ) → vectors' (l.fresh Varying j) ≡ vectors (l.fresh Varying j)
-  pub singles_stay : (v : ℕ) → IsVarying vars v → scalars' (l.variable Uniform v) ≡ scalars (l.variable Uniform v)
+  pub singles_stay : (v : ℕ) → is_known (l.known v) ≡ true → scalars' (l.variable Uniform v) ≡ scalars (l.variable Uniform v)
 
 abbrev pub Spares : Setting → ℕ → Conf → Conf → Type 0
-Spares w n c c' = SparesStay w.function.variables w.layout n c.scalars c.vectors c'.scalars c'.vectors
+Spares w n c c' = SparesStay w.layout n c.scalars c.vectors c'.scalars c'.vectors

@@ -1,6 +1,7 @@
 //! What holds of all code. No code is run here: each function carries a law in its contract.
 ghost use Rattle.isp_lower_code.specs.Asked.{AsksAreFew, CodeIsWritten, OwnIsThere};
 ghost use Rattle.isp_lower_code.specs.RowAccess.{RowReads, RowsSound, RowWrites};
+ghost use Rattle.isp_lower_code.specs.RowLayout.{KnownRows};
 ghost use Rattle.isp_lower_code.specs.Scalar.{ScalarPlaces, ScalarRuns};
 ghost use Rattle.isp_lower_code.specs.Laws.{ExprGoesOn, ExprRuns, ExprSound, ItemsRun, ItemsSound, LayoutsAreApart, SimpleGoesOn, SimpleRuns, SimpleSound};
 
@@ -51,6 +52,13 @@ pub fn rows_written()
 /// Each instruction of such an access has its operands, where the registers that it asks for are there.
 pub fn rows_sound()
     ensures { RowsSound }
+{}
+
+/// A layout in which varying variables are known, and that takes an index as a row where it counts on from a scalar by them
+/// and its registers are there: with it a call is as the laws ask, its code has its operands, and it is short. The machine
+/// stands for a state where scalar registers have the scalars by which the members of the run are as known.
+pub fn rows_by_scalars()
+    ensures { KnownRows }
 {}
 
 /// Where the value of an expression is cut for each number of turns that a loop may make, its code goes on

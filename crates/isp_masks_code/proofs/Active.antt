@@ -145,7 +145,7 @@ module _ (w : Setting) (ready : IsSettled w) (spot : Spot) (three : AreThree spo
       s3 = written Uniform i one (One p) (tick s)
 
       stands3 : Stands w s3 c3
-      stands3 = written_stands w ready Uniform i c2 one (One p) (tick s) (One x) b.stands (ap One (sym number)) tt
+      stands3 = written_stands w ready Uniform i c2 one (One p) (tick s) (One x) b.stands (ap One (sym number)) (tt, single)
 
       at1 : At w c1 (top + 1)
       at1 = masked_at w ready c top (n + 1) (lone (lowest gang (c.masks n))) b.at

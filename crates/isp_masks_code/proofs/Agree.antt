@@ -36,7 +36,8 @@ use Rattle.isp_meaning.proofs.Grown.{prefix_self}
 use Rattle.isp_lower_code.specs.Layout.{Layout, register}
 use Rattle.isp_lower_code.specs.Pieces.{two}
 use Rattle.isp_lower_code.specs.Setting.{Setting, IsSettled}
-use Rattle.isp_lower_code.proofs.Lemmas.{are_front, are_back, put_same, step_is}
+use Rattle.isp_lower_code.proofs.Lemmas.{are_front, are_back, fixed_constant, none_fixed, none_known, put_same, step_is}
+use Rattle.std.proofs.Math.Path.{fun_ext}
 use Rattle.isp_code.proofs.Steps.{after-sum}
 use Rattle.isp_masks_code.specs.Agreement.{RunsAgree}
 use Rattle.isp_masks_code.specs.Compiled.{entry_state, entry_setting, ResultFits, IsCompiled, IsEntry, AreCompiled}
@@ -86,6 +87,7 @@ module _ (program : Program) (code : Listing) (all : AreCompiled program code) (
     sizes = sizes_there n;
     arrays = arrays_fit program code f h g l n xs is.arrays sig short;
     counter = λ i e. let no : Some i ≡ None = sym e ∙ is.run in absurd (cc);
+    known = λ v e. absurd (none_known l is.known v e);
     constants = is.kept_typed;
     rows = λ i n fine e. let no : true ≡ false = sym e ∙ is.rows i n in absurd (cc);
     calls = calls_run program code all 255 f h g l (λ a. a) [] (handed 0 xs) (first_frame xs) n is.found (opened_there n) (sizes_there n) refl;
@@ -151,10 +153,10 @@ module _ (program : Program) (code : Listing) (all : AreCompiled program code) (
       let begin = λ (u : Gang). begun h (handed 0 xs) (first_frame xs) (everyone (gang_width u)) (first_state xs) in
       subst (λ u. StmtRuns (world n) n c (0 + length body) first_spot (1 + 0) (block (gang_width u) (frame_of h (handed 0 xs) (first_frame xs)) (calls_at program n 255) n h.body (everyone (gang_width u)) (begin u))) is.gang
       (kept_body_runs (world n) (settled n) h.body is.constants 0 z 0 (everyone (gang_width code.gang)) (begin code.gang) c
-      (block_parts (world n) h.body 3 (λ i e. ((settled n).counter i e).constant) (record { fine = is.fine.body; rated = is.rated; named = is.named; free = subst (λ o. BlockFree o h.body) (sym is.run) is.free }))
+      (block_parts (world n) h.body 3 (fixed_constant (world n) (settled n)) (record { fine = is.fine.body; rated = is.rated; named = is.named; free = subst (λ o. BlockFree o h.body) (sym (fun_ext (none_fixed l is.run is.known))) is.free }))
       is.keeps is.spares_typed (are_front g.code 0 body (last ∷ []) is.code_is) is.names (record { home_is = refl; waiting_is = refl; pc_is = refl }) (put_same (λ k. nobody) 0 (everyone (gang_width code.gang))) (someone code.gang)
       (λ p e. (all_inside (gang_width code.gang) p e, λ i. let no : true ≡ false = sym i ∙ is.outside in absurd (cc)))
-      (subst (λ z. Bare (world n) (begin z) c) (sym is.gang) (begins program code f h g l n xs is.run is.passed is.fine.params entry.one sig)) (λ t b p kept out. refl) (omega arith))
+      (subst (λ z. Bare (world n) (begin z) c) (sym is.gang) (begins program code f h g l n xs is.run is.known is.passed is.fine.params entry.one sig)) (λ t b p kept out. refl) (omega arith))
 
   follows : (n : ℕ) → Follows n (meaning program f n xs)
   follows n =

@@ -20,13 +20,13 @@ use Rattle.isp_typed.specs.declared.variable.Holds.TheVariants as holds
 use Rattle.isp_typed.specs.declared.variable.Variable.{Variable}
 use Rattle.isp_meaning.specs.Calls.{is_value, same_rate, one_passed}
 use Rattle.isp_meaning.specs.Runs.{handed}
-use Rattle.isp_lower_code.specs.Layout.{Layout}
+use Rattle.isp_lower_code.specs.Layout.{KnowsNothing, Layout}
 use Rattle.isp_masks_code.specs.Compiled.{entry_state, entry_setting, AreOne, IsOne}
 use Rattle.isp_masks_code.specs.Passing.{count_if, count_value, value_count, HasRate, PassedFirst, Passes}
 use Rattle.isp_masks_code.proofs.ConstantsRun.{Bare}
 use Rattle.isp_masks_code.proofs.Passing.{same_true, ones_begin, each_begin}
 use Rattle.isp_masks_code.proofs.Unions.{both_so}
-use Rattle.isp_lower_code.proofs.Lemmas.{none_holds}
+use Rattle.isp_lower_code.proofs.Lemmas.{none_holds, unknown_holds}
 
 pub not_so : (a : Bool) → not a ≡ true → a ≡ false
 not_so true e = absurd (cc)
@@ -124,7 +124,7 @@ value_handed (p ∷ ps) (w ∷ vs) (AnArray y ∷ xs) b (suc v) x are one e at h
     ap (slice_index (values xs)) (array_counts p w.holds (value_count Uniform (take v vs)) are.0 h.0) ∙ value_handed ps vs xs (suc b) v x are.1 one.1 h.1 at has
 
 module _ (program : Program) (code : Listing) (f : ℕ) (h : TFunction) (g : Routine) (l : Layout) (turns : ℕ) (xs : List Argument)
-    (none : l.run ≡ None) (first : PassedFirst h l) (are : AreParams h.parameters (params_of h)) (one : AreOne (params_of h))
+    (none : l.run ≡ None) (nothing : KnowsNothing l) (first : PassedFirst h l) (are : AreParams h.parameters (params_of h)) (one : AreOne (params_of h))
     (sig : has_signature h.parameters xs ≡ true) where
   passes : Passes (params_of h) (λ r. slice_index (values xs) r) (λ r p. 0) (handed 0 xs) (everyone (gang_width program.gang))
   passes = record {
@@ -146,5 +146,6 @@ module _ (program : Program) (code : Listing) (f : ℕ) (h : TFunction) (g : Rou
     arrays_are = refl;
     out_is = refl;
     run = none_holds l.run 0 nobody ((first_conf code f g xs).scalars (l.place Uniform)) (entry_state program h xs).varying none;
+    known = unknown_holds h.variables l nobody (first_conf code f g xs).scalars (entry_state program h xs).varying nothing;
     constants = λ r t b e. absurd (cc);
   }

@@ -14,10 +14,10 @@ use Rattle.isp_meaning.specs.Outcomes.{Res, Went, Trapped, Cut}
 use Rattle.isp_meaning.specs.State.{State}
 use Rattle.isp_meaning.specs.Statements.{run}
 use Rattle.isp_lower_code.specs.Consecutive.{RunHolds}
-use Rattle.isp_lower_code.specs.Layout.{Layout, IsApart, no_rows, outside, run_in, within}
-use Rattle.isp_lower_code.specs.Setting.{ArrayFitsAt, AreAt, At, IsCounter, IsSettled, Setting, Spares, Stands, calls_of, gang_of, is_constant}
+use Rattle.isp_lower_code.specs.Layout.{Layout, IsApart, NoneFixed, no_rows, outside, run_in, within}
+use Rattle.isp_lower_code.specs.Setting.{ArrayFitsAt, AreAt, At, IsCounter, IsSettled, KnownHold, Setting, Spares, Stands, calls_of, gang_of, is_constant}
 use Rattle.isp_lower_code.specs.Tables.{IsTyped}
-use Rattle.isp_lower_code.proofs.Lemmas.{none_holds}
+use Rattle.isp_lower_code.proofs.Lemmas.{knows_nothing, no_run, none_holds, unknown_holds}
 use Rattle.isp_masks_code.specs.Free.{last_index_of}
 use Rattle.isp_masks_code.specs.Named.{AreNamed}
 use Rattle.isp_masks_code.specs.Ranges.{RunBodies}
@@ -93,18 +93,23 @@ module _ (w : Setting) (o : Option ℕ) (d : Bool) (m : Mask) (b : ℕ) where
           used = is.used;
         });
     counter = counter;
+    known = λ v e. let k = ready.known v e in record { varying = k.varying; constant = k.constant; unloaded = k.unloaded };
     constants = ready.constants;
     rows = λ i n fine is. absurd (cc);
   }
 
-  pub stands_there : (s : State) (c : Conf) → Stands w s c → RunHolds o b m (c.scalars (w.layout.place Uniform)) s.varying → Stands there s c
-  stands_there s c st h = record { uniforms = st.uniforms; varying = st.varying; result = st.result; results = st.results; own_arrays = st.own_arrays; arrays_are = st.arrays_are; out_is = st.out_is; run = h; constants = st.constants }
+  pub stands_there : (s : State) (c : Conf) → Stands w s c → RunHolds o b m (c.scalars (w.layout.place Uniform)) s.varying → KnownHold w.function.variables w.layout m c.scalars s.varying → Stands there s c
+  stands_there s c st h known = record { uniforms = st.uniforms; varying = st.varying; result = st.result; results = st.results; own_arrays = st.own_arrays; arrays_are = st.arrays_are; out_is = st.out_is; run = h; known = known; constants = st.constants }
 
-  stands_back : (s : State) (c : Conf) → Stands there s c → RunHolds w.layout.run w.start w.members (c.scalars (w.layout.place Uniform)) s.varying → Stands w s c
-  stands_back s c st h = record { uniforms = st.uniforms; varying = st.varying; result = st.result; results = st.results; own_arrays = st.own_arrays; arrays_are = st.arrays_are; out_is = st.out_is; run = h; constants = st.constants }
+  -- what is so of the members here
+  abbrev pub HeldHere : State → Conf → Type 0
+  HeldHere s c = RunHolds w.layout.run w.start w.members (c.scalars (w.layout.place Uniform)) s.varying × KnownHold w.function.variables w.layout w.members c.scalars s.varying
+
+  stands_back : (s : State) (c : Conf) → Stands there s c → HeldHere s c → Stands w s c
+  stands_back s c st h = record { uniforms = st.uniforms; varying = st.varying; result = st.result; results = st.results; own_arrays = st.own_arrays; arrays_are = st.arrays_are; out_is = st.out_is; run = h.0; known = h.1; constants = st.constants }
 
   pub runs_back : (turns : ℕ) (c : Conf) (pc : ℕ) (spot : Spot) (q : ℕ) (v : Res)
-      → ((s : State) (c1 : Conf) → Stands there s c1 → RunHolds w.layout.run w.start w.members (c1.scalars (w.layout.place Uniform)) s.varying)
+      → ((s : State) (c1 : Conf) → Stands there s c1 → HeldHere s c1)
       → StmtRuns there turns c pc spot q v → StmtRuns w turns c pc spot q v
   runs_back turns c pc spot q (Went s g u ct rt) keep r = record {
     conf = r.conf;
@@ -173,17 +178,6 @@ body_as Q l [] q f = q
 body_as Q l (r ∷ []) q f = within_as Q l r.index f
 body_as Q l (r ∷ q ∷ rs) p f = body_as Q l (q ∷ rs) p f
 
--- its run is none, or by the last index
-pub body_run : (P : Option ℕ → Type 0) (l : Layout) (rs : List TRange) → l.run ≡ None → P None → P (last_index_of rs) → P (body_layout l rs).run
-body_run P l [] e p q = subst P (sym e) p
-body_run P l (r ∷ []) e p q = go (l.loaded r.index) l.run e
-  where
-    go : (d : Bool) (o : Option ℕ) → o ≡ None → P (run_in d o l r.index).run
-    go false None eo = q
-    go false (Some j) eo = absurd (cc)
-    go true o eo = subst P (sym e) p
-body_run P l (r ∷ s ∷ rs) e p q = body_run P l (s ∷ rs) e p q
-
 -- what is shown of a statement, in any setting
 abbrev pub InBodySpot : TStmt → Setting → ℕ → Numbers → Type 0
 InBodySpot x w h z =
@@ -192,9 +186,16 @@ InBodySpot x w h z =
     → StmtRuns w w.turns c (pc + length (stmt_code w.layout w.frame.answer x pc z (body_spot h))) (body_spot h) q
     (run (gang_of w) w.frame (calls_of w) w.turns x a s)
 
-module _ (w : Setting) (ready : IsSettled w) (none : w.layout.run ≡ None) where
-  forgets : (o : Option ℕ) (d : Bool) (m : Mask) (b : ℕ) (s : State) (c : Conf) → Stands (with_layout w (run_as w.layout o d) m b) s c → RunHolds w.layout.run w.start w.members (c.scalars (w.layout.place Uniform)) s.varying
-  forgets o d m b s c st = none_holds w.layout.run w.start w.members (c.scalars (w.layout.place Uniform)) s.varying none
+module _ (w : Setting) (ready : IsSettled w) (free : NoneFixed w.layout) where
+  none : w.layout.run ≡ None
+  none = no_run w.layout free
+
+  -- of nobody is anything known
+  pub known_by : (m : Mask) (s : State) (c : Conf) → KnownHold w.function.variables w.layout m c.scalars s.varying
+  known_by m s c = unknown_holds w.function.variables w.layout m c.scalars s.varying (knows_nothing w.layout free)
+
+  forgets : (o : Option ℕ) (d : Bool) (m : Mask) (b : ℕ) (s : State) (c : Conf) → Stands (with_layout w (run_as w.layout o d) m b) s c → HeldHere w o d m b s c
+  forgets o d m b s c st = (none_holds w.layout.run w.start w.members (c.scalars (w.layout.place Uniform)) s.varying none, known_by w.members s c)
 
   -- what the layout of a body is, by whether a packed load writes its index
   pub within_is : (i : ℕ) (d : Bool) → w.layout.loaded i ≡ d → within w.layout i ≡ run_in d None w.layout i
@@ -238,12 +239,12 @@ module _ (w : Setting) (ready : IsSettled w) (none : w.layout.run ≡ None) wher
           let w1 = with_layout w (run_as w.layout (Some i) true) a b in
           let counter = λ (j : ℕ) (ej : Some i ≡ Some j). let same : i ≡ j = cc in subst (IsCounter w1) same (record { typed = typed; constant = ap is_constant constant; unloaded = unloaded }) in
           f a b (settled_same w (Some i) true a b ready counter) a s c pc q at names
-          (record { at = e.at; mask = e.mask; some = e.some; inside = λ p k. (e.inside p k, λ _. k); stands = stands_there w (Some i) true a b s c e.stands holds; used = e.used; low = omega arith })
+          (record { at = e.at; mask = e.mask; some = e.some; inside = λ p k. (e.inside p k, λ _. k); stands = stands_there w (Some i) true a b s c e.stands holds (known_by a s c); used = e.used; low = omega arith })
 
       plain : Body (run_as w.layout None false)
       plain at names f holds =
           f a b (settled_same w None false a b ready (λ j ej. absurd (cc))) a s c pc q at names
-          (record { at = e.at; mask = e.mask; some = e.some; inside = λ p k. (e.inside p k, λ no. absurd (cc)); stands = stands_there w None false a b s c e.stands tt; used = e.used; low = omega arith })
+          (record { at = e.at; mask = e.mask; some = e.some; inside = λ p k. (e.inside p k, λ no. absurd (cc)); stands = stands_there w None false a b s c e.stands tt (known_by a s c); used = e.used; low = omega arith })
 
       kept : run_as w.layout None false ≡ outside w.layout
       kept = ap (λ o. run_as w.layout o false) (sym none)
@@ -265,7 +266,7 @@ module _ (w : Setting) (ready : IsSettled w) where
       settled_same w w.layout.run false w.members w.start ready (λ i e. let k = ready.counter i e in record { typed = k.typed; constant = k.constant; unloaded = k.unloaded })
 
   pub outside_back : (turns : ℕ) (c : Conf) (pc : ℕ) (spot : Spot) (q : ℕ) (v : Res) → StmtRuns (with_layout w (outside w.layout) w.members w.start) turns c pc spot q v → StmtRuns w turns c pc spot q v
-  outside_back turns c pc spot q v r = runs_back w w.layout.run false w.members w.start turns c pc spot q v (λ s c1 st. st.run) r
+  outside_back turns c pc spot q v r = runs_back w w.layout.run false w.members w.start turns c pc spot q v (λ s c1 st. (st.run, st.known)) r
 
   pub outside_stands : (s : State) (c : Conf) → Stands w s c → Stands (with_layout w (outside w.layout) w.members w.start) s c
-  outside_stands s c st = stands_there w w.layout.run false w.members w.start s c st st.run
+  outside_stands s c st = stands_there w w.layout.run false w.members w.start s c st st.run st.known

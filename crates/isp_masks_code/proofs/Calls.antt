@@ -43,7 +43,8 @@ use Rattle.isp_lower_code.specs.Layout.{Layout, class_at, register}
 use Rattle.isp_lower_code.specs.Pieces.{two}
 use Rattle.isp_lower_code.specs.Setting.{Setting, IsSettled, IsCalling, CallsRun}
 use Rattle.isp_lower_code.specs.Steps.{ComesIn, FailedIn, StoppedIn}
-use Rattle.isp_lower_code.proofs.Lemmas.{are_front, are_back, put_same, comes_on, step_by, step_is, failed_after, stopped_after, place_named, none_holds}
+use Rattle.isp_lower_code.proofs.Lemmas.{are_front, are_back, put_same, comes_on, step_by, step_is, failed_after, stopped_after, place_named, fixed_constant, none_fixed, none_known, none_holds, unknown_holds}
+use Rattle.std.proofs.Math.Path.{fun_ext}
 use Rattle.isp_masks_code.specs.Compiled.{call_setting, IsFunctionCode, AreCompiled}
 use Rattle.isp_masks_code.specs.Spots.{first_spot}
 use Rattle.isp_masks_code.specs.Statements.{block_code, returned}
@@ -168,6 +169,7 @@ module _ (program : Program) (code : Listing) (all : AreCompiled program code) w
         arrays = fit_there program code k.function h1 g1 l1 (names_of a c k.arguments) waiting1 ps frame turns n compiled.compiled.arrays open_there;
         calls = runs;
         counter = λ i e. let no : Some i ≡ None = sym e ∙ compiled.compiled.run in absurd (cc);
+        known = λ v e. absurd (none_known l1 compiled.compiled.known v e);
         constants = compiled.compiled.kept_typed;
         rows = λ i m fine e. let no : true ≡ false = sym e ∙ compiled.compiled.rows i m in absurd (cc);
       }
@@ -196,6 +198,7 @@ module _ (program : Program) (code : Listing) (all : AreCompiled program code) w
             arrays_are = ap (λ z. below z c.arrays) home_opened ∙ ap (below frame.opened) is.arrays_are;
             out_is = is.out_is;
             run = none_holds l1.run (inner n).start (inner n).members (begun_conf.scalars (l1.place Uniform)) start.varying compiled.compiled.run;
+            known = unknown_holds h1.variables l1 (inner n).members begun_conf.scalars start.varying compiled.compiled.known;
             constants = λ r t b e. absurd (cc);
           }
 
@@ -205,13 +208,13 @@ module _ (program : Program) (code : Listing) (all : AreCompiled program code) w
           let own = passes a c (params_of h1) ps k.arguments (c.masks k.mask.number) is.mask is.hands in
           subst (λ z. StmtRuns (inner n) turns begun_conf (0 + length body) first_spot (1 + (1 + q)) (block (gang_width z) (frame_of h1 ps frame) (calls_at program turns n) turns h1.body a start)) compiled.compiled.gang
           (kept_body_runs (inner n) settled h1.body compiled.compiled.constants 0 compiled.numbers (1 + q) a start begun_conf
-          (block_parts (inner n) h1.body 3 (λ i e. (settled.counter i e).constant)
+          (block_parts (inner n) h1.body 3 (fixed_constant (inner n) settled)
           (record {
             fine = compiled.compiled.fine.body;
             rated = compiled.compiled.rated;
             named = compiled.compiled.named;
             free = subst
-                (λ o. BlockFree o h1.body) (sym compiled.compiled.run) compiled.compiled.free;
+                (λ o. BlockFree o h1.body) (sym (fun_ext (none_fixed l1 compiled.compiled.run compiled.compiled.known))) compiled.compiled.free;
           }))
           compiled.compiled.keeps compiled.compiled.spares_typed (are_front g1.code 0 body (last ∷ []) compiled.compiled.code_is) compiled.compiled.names
           (record { home_is = ap (λ z. new_home g1 k.function (names_of a c k.arguments) z c.home.opened) home_sizes ∙ ap (λ z. new_home g1 k.function (names_of a c k.arguments) frame.sizes z) home_opened; waiting_is = refl; pc_is = refl })

@@ -36,6 +36,7 @@ use Rattle.isp_lower_code.specs.Library.{rate_taken, rates_taken}
 use Rattle.isp_lower_code.specs.Rated.{Reaches, IsRated, PlaceRated, BaseRated, CallRated, ArgumentsRated, ArgumentRated, ValuesRated, RatedAt, SimpleRated, ItemsRated}
 use Rattle.isp_masks_code.specs.Compiled.{AreOne, IsOne}
 use Rattle.isp_masks_code.specs.Rated.{AllRated, AnswerRated, FirstRated, TestRated, StepRated, StmtRated, BlockRated, StmtsRated, RangesRated}
+use Rattle.isp_meaning.specs.Loads.{no_variable}
 use Rattle.isp_masks_code.specs.Free.{BlockFree}
 use Rattle.isp_masks_code.proofs.Free.{block_free, none_before}
 
@@ -284,7 +285,7 @@ fine_of P xs k a all e = subst P (get_or_from_slice_get xs k a a e) (all k a (sl
 -- where it takes a value, and gives one where it gives a value.
 pub record FunctionFits (fs : List TFunction) (h : TFunction) : Type 0 where
   pub rated : BlockRated fs h.answer h.body
-  pub free : BlockFree None h.body
+  pub free : BlockFree no_variable h.body
   pub passed : h.exported ≡ true → AreOne (params_of h)
   pub result : h.exported ≡ true → (t : Ty) → h.answer ≡ Some t → t.rate ≡ Uniform
 
@@ -294,7 +295,7 @@ function_fits p accepted f h e =
     let scoped : ScopedFunction h = fine_of ScopedFunction p.functions f h accepted.scoped.each e in
     let own : NoneOf (FunctionBreach p.functions h) = λ g b. accepted.sound g (breach_of (FunctionBreach p.functions) p.functions f h e g b) in record {
       rated = block_rated p.functions h.answer (λ x. nat_lt x (length h.params)) (length h.params) at_start h.body scoped.body (λ g b. own g (inr b));
-      free = block_free p.functions h.answer None (λ x. nat_lt x (length h.params)) (length h.params) at_start h.body (none_before (length h.params)) tt scoped.body (λ g b. own g (inr b));
+      free = block_free p.functions h.answer no_variable (λ x. nat_lt x (length h.params)) (length h.params) at_start h.body (none_before (length h.params)) (λ i is. absurd (cc)) scoped.body (λ g b. own g (inr b));
       passed = λ out. passed_one h.params h.variables (λ g b. own g (inl (out, inl b)));
       result = λ out. result_one h.span h.answer (λ g b. own g (inl (out, inr b)));
     }

@@ -16,7 +16,7 @@ use Rattle.isp_lower_code.specs.Instructions.{constant, splat}
 use Rattle.isp_lower_code.specs.Runs.{Comes}
 use Rattle.isp_lower_code.specs.Setting.{Setting, IsSettled, StandsFor, Stands, gang_of, AreAt, At, Spares}
 use Rattle.isp_lower_code.specs.Tables.{IsTyped}
-use Rattle.isp_lower_code.proofs.Lemmas.{are_front, are_back, at_to, comes_none, comes_on, masked, masked_at, put_other, put_same, run_place, set_at, set_comes, spares_all, spares_on, set_goes, step_go, wrap_bits}
+use Rattle.isp_lower_code.proofs.Lemmas.{are_front, are_back, at_to, comes_none, comes_on, known_put, masked, masked_at, put_other, put_same, run_place, set_at, set_comes, spares_all, spares_on, set_goes, step_go, wrap_bits}
 use Rattle.isp_lower_code.specs.declared.constant.Constant.{Constant}
 use Rattle.isp_masks_code.specs.Keeping.{IsIn, constants_code, keep_at, keep_code}
 use Rattle.isp_masks_code.specs.Rounds.{fill_mask}
@@ -102,6 +102,7 @@ module _ (w : Setting) (ready : IsSettled w) (n : ℕ) where
           arrays_are = st.arrays_are;
           out_is = st.out_is;
           run = run_place w.layout.run w.start w.members (c.scalars (w.layout.place Uniform)) (put c.scalars d z (w.layout.place Uniform)) s.varying (sym (put_other c.scalars d z (w.layout.place Uniform) place)) st.run;
+          known = known_put w.function.variables w.layout w.members c.scalars d z s.varying (λ u k. variables u) st.known;
           constants = λ r u b e. absurd (cc);
         };
         spares =
@@ -142,6 +143,7 @@ module _ (w : Setting) (ready : IsSettled w) (n : ℕ) where
         arrays_are = st.arrays_are;
         out_is = st.out_is;
         run = st.run;
+        known = st.known;
         constants = λ r u v e. absurd (cc);
       };
       spares =
@@ -253,7 +255,7 @@ module _ (w : Setting) (ready : IsSettled w) (n : ℕ) where
     pub masks : (i : ℕ) → i ≢ n → conf.masks i ≡ c.masks i
 
   stands_with : (s : State) (c : Conf) → Bare w s c → ((r : Rate) (t : Elem) (b : ℕ) → w.layout.kept r t b ≡ true → HasBits r (gang_of w) c.scalars c.vectors (w.layout.constant r t b) (b % 2 ^ width t)) → Stands w s c
-  stands_with s c st all = record { uniforms = st.uniforms; varying = st.varying; result = st.result; results = st.results; own_arrays = st.own_arrays; arrays_are = st.arrays_are; out_is = st.out_is; run = st.run; constants = all }
+  stands_with s c st all = record { uniforms = st.uniforms; varying = st.varying; result = st.result; results = st.results; own_arrays = st.own_arrays; arrays_are = st.arrays_are; out_is = st.out_is; run = st.run; known = st.known; constants = all }
 
   pub constants_run : (xs : List Constant) (pc : ℕ) (s : State) (c : Conf) → KeepAll xs
       → ((r : Rate) (t : Elem) (b : ℕ) → w.layout.kept r t b ≡ true → IsIn xs (record { rate = r; elem = t; bits = b })) → At w c pc

@@ -252,7 +252,7 @@ module _ (w : Setting) (ready : IsSettled w) (spot : Spot) (i : ℕ) (t : Elem) 
       -- the state that the registers stand for
       let begun = (turn_of left p).begins s in
       let stands2 = set_stands w ready Uniform c1 u (n + 1) (One y2) s stands0 in
-      let stands3 = written_stands w ready Uniform i c2 (like left p) (One (converted u t y)) (tick s) (One y3) stands2 (ap One (sym index3)) tt in
+      let stands3 = written_stands w ready Uniform i c2 (like left p) (One (converted u t y)) (tick s) (One y3) stands2 (ap One (sym index3)) (tt, fit.single) in
       let spares3 = spares_on w n c c2 c3 (set_spares w ready Uniform c1 u n (n + 1) (One y2) (omega arith)) (variable_spares w ready Uniform i n c2 (One y3) fit.single) in
       record {
         conf = c7;

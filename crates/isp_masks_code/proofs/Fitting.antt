@@ -1,5 +1,5 @@
 -- What the laws use of a statement, from what is asked of it.
-use Rattle.std.proofs.Common.{◌≡◌, ◌≤◌, ℕ, ◌+◌, List, [], ◌∷◌, length, Option, Some, None, refl, ap, Bool, true, false, subst, arith}
+use Rattle.std.proofs.Common.{◌≡◌, ◌≤◌, ℕ, ◌+◌, List, [], ◌∷◌, length, Option, Some, None, refl, sym, ap, ◌∙◌, Bool, true, false, subst, eqb-true, eq-eqb, arith}
 use Rattle.isp_base.specs.Ranks.{operand}
 use Rattle.isp_base.specs.declared.types.Elem.TheVariants.{Bool as Truth, I32, I64}
 use Rattle.isp_base.specs.declared.types.Rate.{Rate}
@@ -13,7 +13,7 @@ use Rattle.isp_lower_code.specs.Asks.{Ask}
 use Rattle.isp_lower_code.specs.Fits.{ItemsOther}
 use Rattle.isp_lower_code.specs.Rated.{Reaches}
 use Rattle.isp_lower_code.specs.Setting.{Setting, OtherAt, is_constant}
-use Rattle.isp_lower_code.proofs.Lemmas.{AreFine, ExprTree, IsHeldIn, OperandTree, Owned, OwnTable, owned, expr_fits, operand_fits, values_fit, simple_fits, items_fit, RunConstant, all_grow, simple_other}
+use Rattle.isp_lower_code.proofs.Lemmas.{AreFine, ExprTree, IsHeldIn, OperandTree, Owned, OwnTable, owned, expr_fits, operand_fits, values_fit, simple_fits, items_fit, FixedConstant, all_grow, simple_other, within_fixed}
 use Rattle.isp_masks_code.specs.Prints.{own_rates}
 use Rattle.isp_masks_code.specs.Asks.{answer_asks, unique_asks, bound_asks, bounds_asks, places_asks, ranges_asks, part_slot, parts_slot, first_asks, test_part_asks, step_asks, stmt_asks, block_asks, stmts_asks}
 use Rattle.isp_masks_code.specs.Ranges.{places_slot, runs_slot}
@@ -22,10 +22,10 @@ use Rattle.isp_masks_code.proofs.Own.{block_own, stmt_own}
 use Rattle.isp_masks_code.proofs.Parts.{AnswerFits, BoundParts, BoundsParts, RangesTyped, ForeachFits, UniqueFits, FirstFits, TestFits, StepFits, StmtParts, BlockParts, StmtsParts, RangesConstant}
 use Rattle.isp_masks_code.proofs.Rated.{stmt_tree, block_tree}
 use Rattle.isp_masks_code.proofs.Trees.{AnswerTree, RangesTree, FirstTree, TestTree, StepTree, StmtTree, BlockTree, StmtsTree}
-use Rattle.isp_masks_code.proofs.Bodies.{body_as, body_run, run_as, with_layout}
-use Rattle.isp_masks_code.specs.Free.{BlockFree, FirstFree, IsApartFrom, ItemsFree, NoneYet, StmtFree, StmtsFree, last_index_of}
+use Rattle.isp_masks_code.proofs.Bodies.{body_as, run_as, with_layout}
+use Rattle.isp_masks_code.specs.Free.{AreIndices, BlockFree, FirstFree, ItemsFree, StmtFree, StmtsFree, is_index, last_index_of}
 use Rattle.isp_masks_code.specs.Statements.{body_layout}
-use Rattle.isp_lower_code.specs.Layout.{Layout, outside}
+use Rattle.isp_lower_code.specs.Layout.{Layout, NoneFixed, is_fixed, outside}
 use Rattle.isp_lower_code.specs.Rows.{Name, Variable, Result, Spare, Place, Fresh, Kept}
 use Rattle.isp_lower_code.specs.Tables.{AnyMask, IsLoadedIn, IsNamedIn}
 use Rattle.isp_typed.specs.Fine.{FineBlock, FineExpr, FineFirst, FineReturned, FineValue, FineRange, FineSimple, FineStmt, FineStmts, HoldsArray}
@@ -35,10 +35,10 @@ use Rattle.isp_code.specs.Listing.{Routine}
 use Rattle.isp_base.specs.Sets.{Mask}
 use Rattle.isp_base.specs.declared.types.Elem.{Elem}
 use Rattle.std.specs.List.{All}
-use Rattle.std.specs.Prelude.{slice_get, suc}
+use Rattle.std.specs.Prelude.{slice_get, suc, nat_eq, ◌||◌}
 
 module _ (w : Setting) where
-  other_of : (r : Rate) (v : ℕ) → IsApartFrom w.layout.run v → OtherAt w r v
+  other_of : (r : Rate) (v : ℕ) → is_fixed w.layout v ≡ false → OtherAt w r v
   other_of Uniform v f = tt
   other_of Varying v f = f
 
@@ -71,7 +71,7 @@ module _ (w : Setting) where
   ranges_constant [] f = tt
   ranges_constant (r ∷ rs) f = ((f 0 r (omega arith)).index, ranges_constant rs (λ k d lt. f (suc k) d (omega (arith, lt))))
 
-  items_other : (xs : List TItem) → ItemsFree w.layout.run xs → ItemsOther w xs
+  items_other : (xs : List TItem) → ItemsFree (is_fixed w.layout) xs → ItemsOther w xs
   items_other [] f = tt
   items_other (t_plain v t sp ∷ xs) f = (other_of t.rate v f.0, items_other xs f.1)
   items_other (t_with_value v t x sp ∷ xs) f = (other_of t.rate v f.0, items_other xs f.1)
@@ -100,7 +100,7 @@ module _ (w : Setting) where
   }
 
   -- the parts of a `for` that may be left out
-  first_fits : (o : Option TFirst) (n : ℕ) → RunConstant w → IfAny (FineFirst w.program.functions w.function.variables) o → FirstFree w.layout.run o → FirstTree w.program.functions o → Named (first_asks o n) → FirstFits w o n
+  first_fits : (o : Option TFirst) (n : ℕ) → FixedConstant w → IfAny (FineFirst w.program.functions w.function.variables) o → FirstFree (is_fixed w.layout) o → FirstTree w.program.functions o → Named (first_asks o n) → FirstFits w o n
   first_fits None n k f free t i = tt
   first_fits (Some (t_first_declare xs sp)) n k f free t i = items_fit w xs n f t i (items_other xs free)
   first_fits (Some (t_first_simple x)) n k f free t i = simple_fits w x n f t i (simple_other w k x f)
@@ -109,7 +109,7 @@ module _ (w : Setting) where
   test_fits None n ok t i = tt
   test_fits (Some e) n ok t i = expr_fits w e n ok.0 t.0 i
 
-  step_fits : (o : Option TSimple) (n : ℕ) → RunConstant w → IfAny (FineSimple w.program.functions w.function.variables) o → StepTree w.program.functions o → Named (step_asks o n) → StepFits w o n
+  step_fits : (o : Option TSimple) (n : ℕ) → FixedConstant w → IfAny (FineSimple w.program.functions w.function.variables) o → StepTree w.program.functions o → Named (step_asks o n) → StepFits w o n
   step_fits None n k f t i = tt
   step_fits (Some x) n k f t i = simple_fits w x n f t i (simple_other w k x f)
 
@@ -131,23 +131,38 @@ values_fine : (w : Setting) (xs : List TExpr) → All (FineExpr w.program.functi
 values_fine w [] f = tt
 values_fine w (x ∷ xs) f = (f 0 x (omega arith), values_fine w xs (λ k d lt. f (suc k) d (omega (arith, lt))))
 
-none_of : (o : Option ℕ) → NoneYet o → o ≡ None
-none_of None f = refl
-none_of (Some i) f = absurd f
-
 -- the last of some ranges is a constant
 pub last_constant : (w : Setting) (rs : List TRange) (i : ℕ) → last_index_of rs ≡ Some i → RangesConstant w rs → slice_get w.function.variables i ≡ Some foreach_index
 last_constant w [] i e f = absurd (cc)
 last_constant w (r ∷ []) i e f = let same : r.index ≡ i = cc in subst (λ j. slice_get w.function.variables j ≡ Some foreach_index) same f.0
 last_constant w (r ∷ q ∷ rs) i e f = last_constant w (q ∷ rs) i e f.1
 
-body_constant : (w : Setting) (rs : List TRange) (m : Mask) (b : ℕ) → w.layout.run ≡ None → RangesConstant w rs → RunConstant (with_layout w (body_layout w.layout rs) m b)
-body_constant w rs m b none f =
-    body_run (λ o. (i : ℕ) → o ≡ Some i → is_constant (slice_get w.function.variables i) ≡ true) w.layout rs none (λ i e. absurd (cc)) (λ i e. ap is_constant (last_constant w rs i e f))
+-- and so is each index
+index_constant : (w : Setting) (rs : List TRange) (v : ℕ) → RangesConstant w rs → is_index rs v ≡ true → slice_get w.function.variables v ≡ Some foreach_index
+index_constant w [] v f e = absurd (cc)
+index_constant w (r ∷ rs) v f e = by (nat_eq v r.index) refl e (index_constant w rs v f.1)
+  where
+    by : (d : Bool) → nat_eq v r.index ≡ d → (d || is_index rs v) ≡ true
+        → (is_index rs v ≡ true → slice_get w.function.variables v ≡ Some foreach_index) → slice_get w.function.variables v ≡ Some foreach_index
+    by true same h later = ap (slice_get w.function.variables) (eqb-true v r.index same) ∙ f.0
+    by false other h later = later h
+
+-- in the body no other variable is fixed
+or_true : (b : Bool) → (b || true) ≡ true
+or_true true = refl
+or_true false = refl
+
+body_fixed : (l : Layout) (rs : List TRange) → NoneFixed l → AreIndices rs (is_fixed (body_layout l rs))
+body_fixed l [] none v h = absurd (let no : true ≡ false = sym h ∙ none v in cc)
+body_fixed l (r ∷ []) none v h = ap (λ b. b || false) (eq-eqb v r.index (within_fixed l r.index v none h))
+body_fixed l (r ∷ q ∷ rs) none v h = ap (λ b. nat_eq v r.index || b) (body_fixed l (q ∷ rs) none v h) ∙ or_true (nat_eq v r.index)
+
+body_constant : (w : Setting) (rs : List TRange) (m : Mask) (b : ℕ) → NoneFixed w.layout → RangesConstant w rs → FixedConstant (with_layout w (body_layout w.layout rs) m b)
+body_constant w rs m b none f v e = ap is_constant (index_constant w rs v f (body_fixed w.layout rs none v e))
 
 mutual
-  pub stmt_fits : (x : TStmt) (w : Setting) (n : ℕ) → RunConstant w → FineStmt w.program.functions w.function.variables w.frame.answer x
-      → StmtFree w.layout.run x → StmtTree w.program.functions w.frame.answer x → Owned w (stmt_asks w.frame.answer x n) → StmtParts w x n
+  pub stmt_fits : (x : TStmt) (w : Setting) (n : ℕ) → FixedConstant w → FineStmt w.program.functions w.function.variables w.frame.answer x
+      → StmtFree (is_fixed w.layout) x → StmtTree w.program.functions w.frame.answer x → Owned w (stmt_asks w.frame.answer x n) → StmtParts w x n
   stmt_fits (t_block b) w n k f free t i = block_fits b w n k f free t i
   stmt_fits (t_declare xs sp) w n k f free t i = items_fit w xs n f t i (items_other w xs free)
   stmt_fits (t_simple x sp) w n k f free t i = simple_fits w x n f t i (simple_other w k x f)
@@ -159,12 +174,11 @@ mutual
   stmt_fits (t_for g j first e step z x sp) w n k f free t i =
       (first_fits w first n k f.2 free.0 t.0 i.0, test_fits w e (n + 3) f.3 t.1 i.1.1.0, step_fits w step (n + 3) k f.4 t.2 i.1.1.1.0, stmt_fits x w (n + 3) k f.5 free.1 t.3 i.1.1.1.1)
   stmt_fits (t_foreach g j rs x sp) w n k f free t i =
-      let none = none_of w.layout.run free.0 in
       let fits = foreach_fits w rs n f.1 t.3 t.0 t.1 i.0 in (
         fits,
-        none,
-        λ m b. stmt_fits x (with_layout w (body_layout w.layout rs) m b) (runs_slot n rs + 3) (body_constant w rs m b none fits.constants) f.2
-            (body_run (λ o. StmtFree o x) w.layout rs none (subst (λ o. StmtFree o x) none free.1) free.2) t.2
+        free.0,
+        λ m b. stmt_fits x (with_layout w (body_layout w.layout rs) m b) (runs_slot n rs + 3) (body_constant w rs m b free.0 fits.constants) f.2
+            (free.1 (is_fixed (body_layout w.layout rs)) (body_fixed w.layout rs free.0)) t.2
             (body_as (λ l. OwnTable w.routine l w.function.variables (stmt_asks w.frame.answer x (runs_slot n rs + 3))) w.layout rs i.1
             (λ o d. table_same w.routine w.layout w.function.variables o d (stmt_asks w.frame.answer x (runs_slot n rs + 3)) i.1)),
       )
@@ -178,22 +192,22 @@ mutual
   stmt_fits (t_print g text xs sp) w n k f free t i = (t.0, values_fit w (own_rates xs) (t_exprs xs) n (values_fine w xs f.1) t.1 i)
   stmt_fits (t_assert x c sp) w n k f free t i = expr_fits w x n f.0.0 t.0 i.0
 
-  pub block_fits : (b : TBlock) (w : Setting) (n : ℕ) → RunConstant w → FineBlock w.program.functions w.function.variables w.frame.answer b
-      → BlockFree w.layout.run b → BlockTree w.program.functions w.frame.answer b → Owned w (block_asks w.frame.answer b n) → BlockParts w b n
+  pub block_fits : (b : TBlock) (w : Setting) (n : ℕ) → FixedConstant w → FineBlock w.program.functions w.function.variables w.frame.answer b
+      → BlockFree (is_fixed w.layout) b → BlockTree w.program.functions w.frame.answer b → Owned w (block_asks w.frame.answer b n) → BlockParts w b n
   block_fits (t_braces xs sp) w n k f free t i = stmts_fit xs w n k f free t i
 
-  pub stmts_fit : (xs : TStmts) (w : Setting) (n : ℕ) → RunConstant w → FineStmts w.program.functions w.function.variables w.frame.answer xs
-      → StmtsFree w.layout.run xs → StmtsTree w.program.functions w.frame.answer xs → Owned w (stmts_asks w.frame.answer xs n) → StmtsParts w xs n
+  pub stmts_fit : (xs : TStmts) (w : Setting) (n : ℕ) → FixedConstant w → FineStmts w.program.functions w.function.variables w.frame.answer xs
+      → StmtsFree (is_fixed w.layout) xs → StmtsTree w.program.functions w.frame.answer xs → Owned w (stmts_asks w.frame.answer xs n) → StmtsParts w xs n
   stmts_fit t_no_stmts w n k f free t i = tt
   stmts_fit (t_stmt_then x xs) w n k f free t i = (stmt_fits x w n k f.0 free.0 t.0 i.0, stmts_fit xs w n k f.1 free.1 t.1 i.1)
 
 module _ (w : Setting) where
-  pub stmt_parts : (x : TStmt) (n : ℕ) → RunConstant w → StmtFits w x n → StmtParts w x n
+  pub stmt_parts : (x : TStmt) (n : ℕ) → FixedConstant w → StmtFits w x n → StmtParts w x n
   stmt_parts x n k fit =
       stmt_fits x w n k fit.fine fit.free (stmt_tree w.program.functions w.function.variables w.frame.answer x fit.fine fit.rated)
       (owned w w.frame.answer (stmt_asks w.frame.answer x n) (stmt_own w.program.functions w.function.variables w.frame.answer x n fit.fine) fit.named)
 
-  pub block_parts : (b : TBlock) (n : ℕ) → RunConstant w → BlockFits w b n → BlockParts w b n
+  pub block_parts : (b : TBlock) (n : ℕ) → FixedConstant w → BlockFits w b n → BlockParts w b n
   block_parts b n k fit =
       block_fits b w n k fit.fine fit.free (block_tree w.program.functions w.function.variables w.frame.answer b fit.fine fit.rated)
       (owned w w.frame.answer (block_asks w.frame.answer b n) (block_own w.program.functions w.function.variables w.frame.answer b n fit.fine) fit.named)

@@ -1,5 +1,5 @@
 -- `foreach` does what it means, where the code of its body does: its bounds are taken, then the ranges make their runs.
-use Rattle.std.proofs.Common.{◌≡◌, ℕ, ◌+◌, List, [], ◌++◌, length, ap, ◌∙◌, subst, arith, length-append, append-nil, Some, None}
+use Rattle.std.proofs.Common.{◌≡◌, ℕ, ◌+◌, List, [], ◌++◌, length, ap, ◌∙◌, subst, arith, length-append, append-nil, Some}
 use Rattle.isp_base.specs.Sets.{Mask}
 use Rattle.isp_code.specs.Conf.{Conf}
 use Rattle.isp_code.specs.declared.instr.Instr.{Instr}
@@ -9,6 +9,7 @@ use Rattle.isp_meaning.specs.Rounds.{Range, Round, rounds, foreach_rounds, count
 use Rattle.isp_meaning.specs.State.{State, tick}
 use Rattle.isp_meaning.specs.Statements.{ranges}
 use Rattle.isp_lower_code.specs.Runs.{Ok}
+use Rattle.isp_lower_code.specs.Layout.{NoneFixed}
 use Rattle.isp_lower_code.specs.Setting.{Setting, IsSettled, gang_of, calls_of, AreAt}
 use Rattle.isp_lower_code.proofs.Lemmas.{are_front, are_back, spares_less}
 use Rattle.isp_masks_code.specs.Ranges.{RunBodies, places_slot, runs_slot, measures_code, bounds_code, ranges_code, ranges_places, foreach_code}
@@ -26,7 +27,7 @@ use Rattle.isp_masks_code.specs.Free.{last_index_of}
 
 module _ (w : Setting) (ready : IsSettled w) where
   pub foreach_runs : (rs : List TRange) (pc p : ℕ) (spot : Spot) (q : ℕ) (a : Mask) (s : State) (c : Conf) (counter : ℕ) (code : RunBodies)
-      (body : Mask → State → Res) → w.layout.run ≡ None → last_index_of rs ≡ Some counter → ForeachFits w rs spot.slot
+      (body : Mask → State → Res) → NoneFixed w.layout → last_index_of rs ≡ Some counter → ForeachFits w rs spot.slot
       → BodiesRun w counter (runs_slot spot.slot rs) code body → AreAt w.routine.code pc (foreach_code w.layout rs pc p spot.on spot.slot code)
       → AreAt w.code.places p (ranges_places w.layout rs) → AreThree spot → EntersAt w pc spot a s c q
       → StmtRuns w w.turns c (pc + length (foreach_code w.layout rs pc p spot.on spot.slot code)) spot q

@@ -1,6 +1,6 @@
 -- In a program that is scoped each declaration has the next number, so none names a variable that was declared before.
-use Rattle.std.proofs.Common.{◌≡◌, ℕ, suc, ◌+◌, ◌<◌, ◌≤◌, List, [], ◌∷◌, length, Option, Some, None, true, refl, sym, ap, ◌∙◌, inl, inr, arith}
-use Rattle.std.specs.Prelude.{not}
+use Rattle.std.proofs.Common.{◌≡◌, ℕ, suc, ◌+◌, ◌<◌, ◌≤◌, List, [], ◌∷◌, length, Option, Some, None, Bool, true, false, refl, sym, ap, ◌∙◌, inl, inr, eqb-true, arith}
+use Rattle.std.specs.Prelude.{not, nat_eq, ◌||◌}
 use Rattle.isp_base.specs.declared.types.Span.{Span}
 use Rattle.isp_base.specs.declared.types.Ty.{Ty}
 use Rattle.isp_typed.specs.Scoped.{Scope, ItemsAt, RangesAt, StmtAt, BlockAt, StmtsAt, declared, scope_after, number_after, number_after_first, scope_after_stmt, number_after_stmt, number_after_block, number_after_stmts}
@@ -13,23 +13,28 @@ use Rattle.isp_rates.specs.Breaches.{Unmet}
 use Rattle.isp_rates.specs.Exits.{in_loop, in_foreach, in_turns, in_unmasked, StmtBreach, BlockBreach, StmtsBreach}
 use Rattle.isp_rates.specs.declared.exits.Within.{Within}
 use Rattle.isp_typed.specs.Typed.{TFunction}
-use Rattle.isp_masks_code.specs.Free.{IsApartFrom, ItemsFree, NoneYet, last_index_of, StmtFree, BlockFree, StmtsFree}
+use Rattle.isp_meaning.specs.Loads.{no_variable}
+use Rattle.isp_masks_code.specs.Free.{ItemsFree, NoneYet, is_index, StmtFree, BlockFree, StmtsFree}
 
 abbrev NoneOf : (Fault → Type 0) → Type 0
 NoneOf B = (f : Fault) → B f → ⊥
 
--- the variable was declared before
-abbrev pub IsBefore : Option ℕ → ℕ → Type 0
-IsBefore o n = (i : ℕ) → o ≡ Some i → i < n
+-- the variables were declared before
+abbrev pub AreBefore : (ℕ → Bool) → ℕ → Type 0
+AreBefore o n = (i : ℕ) → o i ≡ true → i < n
 
-pub none_before : (n : ℕ) → IsBefore None n
+pub none_before : (n : ℕ) → AreBefore no_variable n
 none_before n i e = absurd (cc)
 
-before_more : (o : Option ℕ) (n m : ℕ) → n ≤ m → IsBefore o n → IsBefore o m
+before_more : (o : ℕ → Bool) (n m : ℕ) → n ≤ m → AreBefore o n → AreBefore o m
 before_more o n m le b i e = let lt = b i e in omega (arith, le, lt)
 
-apart_at : (o : Option ℕ) (n k : ℕ) → k ≡ n → IsBefore o n → IsApartFrom o k
-apart_at o n k e b i h same = let lt = b i h in omega (arith, lt, e, same)
+apart_at : (o : ℕ → Bool) (n k : ℕ) → k ≡ n → AreBefore o n → o k ≡ false
+apart_at o n k e b = go (o k) refl
+  where
+    go : (d : Bool) → o k ≡ d → o k ≡ false
+    go false h = h
+    go true h = absurd (let lt = b k h in omega (arith, lt, e))
 
 -- ---- numbers only grow
 
@@ -82,41 +87,41 @@ mutual
 
 -- ---- so nothing that is declared is one of those before
 
-items_free : (o : Option ℕ) (v : Scope) (n : ℕ) (xs : List TItem) → IsBefore o n → ItemsAt v n xs → ItemsFree o xs
+items_free : (o : ℕ → Bool) (v : Scope) (n : ℕ) (xs : List TItem) → AreBefore o n → ItemsAt v n xs → ItemsFree o xs
 items_free o v n [] b at = tt
 items_free o v n (t_plain k t sp ∷ xs) b at = (apart_at o n k at.0 b, items_free o (declared n v) (suc n) xs (before_more o n (suc n) (omega arith) b) at.1)
 items_free o v n (t_with_value k t x sp ∷ xs) b at = (apart_at o n k at.0.0 b, items_free o (declared n v) (suc n) xs (before_more o n (suc n) (omega arith) b) at.1)
 items_free o v n (t_with_size y sp ∷ xs) b at = (tt, items_free o (declared n v) (suc n) xs (before_more o n (suc n) (omega arith) b) at.1)
 
--- while there is such a variable, code is in the body of a `foreach`
-abbrev pub InBody : Option ℕ → Within → Type 0
-InBody None w = Unit {0}
-InBody (Some i) w = w.in_foreach ≡ true
+-- while there are such variables, code is in the body of a `foreach`
+abbrev pub InBody : (ℕ → Bool) → Within → Type 0
+InBody o w = (i : ℕ) → o i ≡ true → w.in_foreach ≡ true
 
-body_in : (o : Option ℕ) (w u : Within) → w.in_foreach ≡ u.in_foreach → InBody o w → InBody o u
-body_in None w u e h = tt
-body_in (Some i) w u e h = sym e ∙ h
+body_in : (o : ℕ → Bool) (w u : Within) → w.in_foreach ≡ u.in_foreach → InBody o w → InBody o u
+body_in o w u e h i is = sym e ∙ h i is
 
-body_of : (o : Option ℕ) (w : Within) → InBody o (in_foreach w)
-body_of None w = tt
-body_of (Some i) w = refl
+body_of : (o : ℕ → Bool) (w : Within) → InBody o (in_foreach w)
+body_of o w i is = refl
 
--- the last index has a number below those after the ranges
-last_before : (v : Scope) (n : ℕ) (rs : List TRange) → RangesAt v n rs → IsBefore (last_index_of rs) (number_after n rs)
-last_before v n [] at i e = absurd (cc)
-last_before v n (r ∷ []) at i e =
-    let same : Some r.index ≡ Some i = e in
-    let is : r.index ≡ i = cc in
-    omega (arith, at.0, is)
-last_before v n (r ∷ q ∷ rs) at i e = last_before v (suc n) (q ∷ rs) at.3 i e
+-- the indices have numbers below those after the ranges
+indices_before : (v : Scope) (n : ℕ) (rs : List TRange) → RangesAt v n rs → AreBefore (is_index rs) (number_after n rs)
+indices_before v n [] at i e = absurd (cc)
+indices_before v n (r ∷ rs) at i e = by (nat_eq i r.index) refl e (indices_before v (suc n) rs at.3 i)
+  where
+    by : (d : Bool) → nat_eq i r.index ≡ d → (d || is_index rs i) ≡ true → (is_index rs i ≡ true → i < number_after (suc n) rs) → i < number_after n (r ∷ rs)
+    by true same h later = let is : i ≡ r.index = eqb-true i r.index same in omega (arith, at.0, is, count_more (suc n) rs)
+    by false other h later = later h
 
-none_yet : (o : Option ℕ) (w : Within) (k : Span) → InBody o w → NoneOf (Unmet (not w.in_foreach) (fault NestedForeach k)) → NoneYet o
-none_yet None w k h clean = tt
-none_yet (Some i) w k h clean = clean (fault NestedForeach k) (ap not h, refl)
+none_yet : (o : ℕ → Bool) (w : Within) (k : Span) → InBody o w → NoneOf (Unmet (not w.in_foreach) (fault NestedForeach k)) → NoneYet o
+none_yet o w k h clean v = go (o v) refl
+  where
+    go : (d : Bool) → o v ≡ d → o v ≡ false
+    go false e = e
+    go true e = absurd (clean (fault NestedForeach k) (ap not (h v e), refl))
 
 module _ (fs : List TFunction) (answer : Option Ty) where
   mutual
-    pub stmt_free : (o : Option ℕ) (v : Scope) (n : ℕ) (u : Within) (x : TStmt) → IsBefore o n → InBody o u → StmtAt v n x → NoneOf (StmtBreach fs answer u x) → StmtFree o x
+    pub stmt_free : (o : ℕ → Bool) (v : Scope) (n : ℕ) (u : Within) (x : TStmt) → AreBefore o n → InBody o u → StmtAt v n x → NoneOf (StmtBreach fs answer u x) → StmtFree o x
     stmt_free o v n u (t_block y) b h at clean = block_free o v n u y b h at clean
     stmt_free o v n u (t_declare xs sp) b h at clean = items_free o v n xs b at
     stmt_free o v n u (t_simple x sp) b h at clean = tt
@@ -135,16 +140,11 @@ module _ (fs : List TFunction) (answer : Option Ty) where
           (let em = at.2 in let more = count_more n xs in before_more o n m (omega (arith, em, more)) b) (body_in o u (in_loop u) refl h) at.5
           (λ g b. clean g (inr (inr (inr b)))),
     )
-    stmt_free o v n u (t_foreach k g rs x sp) b h at clean =
-        let more = count_more n rs in
-        let after = scope_after v n rs in (
-          none_yet o u k h (λ g b. clean g (inl b)),
-          stmt_free o after (number_after n rs) (in_foreach u) x
-              (before_more o n (number_after n rs) (omega (arith, more)) b) (body_of o u) at.4 (λ g b. clean g (inr (inr b))),
-          stmt_free
-              (last_index_of rs) after (number_after n rs) (in_foreach u) x (last_before v n rs at.3) (body_of (last_index_of rs) u) at.4
-              (λ g b. clean g (inr (inr b))),
-        )
+    stmt_free o v n u (t_foreach k g rs x sp) b h at clean = (
+      none_yet o u k h (λ g b. clean g (inl b)),
+      λ d are. stmt_free d (scope_after v n rs) (number_after n rs) (in_foreach u) x
+          (λ i e. indices_before v n rs at.3 i (are i e)) (body_of d u) at.4 (λ g b. clean g (inr (inr b))),
+    )
     stmt_free o v n u (t_foreach_active k g i x sp) b h at clean = stmt_free o (declared n v) (suc n) (in_turns u) x (before_more o n (suc n) (omega arith) b) (body_in o u (in_turns u) refl h) at.2 clean
     stmt_free o v n u (t_foreach_unique k g i t e x sp) b h at clean =
         stmt_free o (declared n v) (suc n) (in_turns u) x (before_more o n (suc n) (omega arith) b) (body_in o u (in_turns u) refl h) at.3 (λ g b. clean g (inr b))
@@ -154,10 +154,10 @@ module _ (fs : List TFunction) (answer : Option Ty) where
     stmt_free o v n u (t_print k text xs sp) b h at clean = tt
     stmt_free o v n u (t_assert x c sp) b h at clean = tt
 
-    pub block_free : (o : Option ℕ) (v : Scope) (n : ℕ) (u : Within) (y : TBlock) → IsBefore o n → InBody o u → BlockAt v n y → NoneOf (BlockBreach fs answer u y) → BlockFree o y
+    pub block_free : (o : ℕ → Bool) (v : Scope) (n : ℕ) (u : Within) (y : TBlock) → AreBefore o n → InBody o u → BlockAt v n y → NoneOf (BlockBreach fs answer u y) → BlockFree o y
     block_free o v n u (t_braces xs sp) b h at clean = stmts_free o v n u xs b h at clean
 
-    stmts_free : (o : Option ℕ) (v : Scope) (n : ℕ) (u : Within) (xs : TStmts) → IsBefore o n → InBody o u → StmtsAt v n xs → NoneOf (StmtsBreach fs answer u xs) → StmtsFree o xs
+    stmts_free : (o : ℕ → Bool) (v : Scope) (n : ℕ) (u : Within) (xs : TStmts) → AreBefore o n → InBody o u → StmtsAt v n xs → NoneOf (StmtsBreach fs answer u xs) → StmtsFree o xs
     stmts_free o v n u t_no_stmts b h at clean = tt
     stmts_free o v n u (t_stmt_then x xs) b h at clean =
         (stmt_free o v n u x b h at.0 (λ g b. clean g (inl b)), stmts_free o (scope_after_stmt v n x) (number_after_stmt n x) u xs (before_more o n (number_after_stmt n x) (stmt_more n x) b) h at.1 (λ g b. clean g (inr b)))

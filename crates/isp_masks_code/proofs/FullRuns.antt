@@ -1,6 +1,6 @@
 -- The last range of a `foreach` is taken in runs: by induction on the runs that are left, those that have all lanes one after the other,
 -- then one that has fewer.
-use Rattle.std.proofs.Common.{◌≡◌, ◌≢◌, ℕ, zero, suc, ◌+◌, ◌*◌, ◌<◌, ◌≤◌, List, [], ◌∷◌, ◌++◌, length, map, Bool, true, false, refl, sym, ap, ap₂, ◌∙◌, subst, arith, length-append, None}
+use Rattle.std.proofs.Common.{◌≡◌, ◌≢◌, ℕ, zero, suc, ◌+◌, ◌*◌, ◌<◌, ◌≤◌, List, [], ◌∷◌, ◌++◌, length, map, Bool, true, false, refl, sym, ap, ap₂, ◌∙◌, subst, arith, length-append}
 use Rattle.std.specs.Prelude.{ℤ, pos, ◌+ℤ◌, ◌-ℤ◌, ◌≤ℤ◌, ◌^◌, ◌&&◌, nat_lt, int_lt, not, if◌then◌else◌}
 use Rattle.std.proofs.Math.Path.{fun_ext}
 use Rattle.std.proofs.lemmas.Bool.{ltb-true, not-true}
@@ -27,7 +27,7 @@ use Rattle.isp_meaning.specs.Rounds.{Range, Round, rounds, from_on, last_run}
 use Rattle.isp_meaning.specs.State.{State}
 use Rattle.isp_lower_code.specs.Instructions.{compute, copy, jump_on}
 use Rattle.isp_lower_code.specs.Pieces.{guard, two}
-use Rattle.isp_lower_code.specs.Layout.{mask_register, register}
+use Rattle.isp_lower_code.specs.Layout.{NoneFixed, mask_register, register}
 use Rattle.isp_lower_code.specs.Runs.{Comes}
 use Rattle.isp_lower_code.specs.Setting.{Setting, IsSettled, gang_of, AreAt, At, Stands}
 use Rattle.isp_lower_code.proofs.Lemmas.{are_front, are_back, put_same, put_other, comes_on, comes_none, step_go, at_to, spares_all, jumped, jump_comes, jump_at, masked, masked_at, set_at, set_comes, set_goes, set_spares, set_stands}
@@ -77,7 +77,7 @@ alone_is false [] e = (refl, refl)
 alone_is false (y ∷ set) e = absurd (cc)
 alone_is true set e = absurd (cc)
 
-module _ (w : Setting) (ready : IsSettled w) (none : w.layout.run ≡ None) (n h i : ℕ) (x : Range) (e m : ℕ) (d : Bool) (set : List Instr) (before : Mask → State → State) (c0 : Conf) (it : IsRuns w n h i x e m d set before c0) where
+module _ (w : Setting) (ready : IsSettled w) (none : NoneFixed w.layout) (n h i : ℕ) (x : Range) (e m : ℕ) (d : Bool) (set : List Instr) (before : Mask → State → State) (c0 : Conf) (it : IsRuns w n h i x e m d set before c0) where
   abbrev g : ℕ
   g = gang w
 

@@ -23,12 +23,12 @@ use Rattle.isp_meaning.specs.Rounds.{Range, last_run}
 use Rattle.isp_meaning.specs.State.{State}
 use Rattle.isp_lower_code.specs.Instructions.{compute, convert, splat}
 use Rattle.isp_lower_code.specs.Consecutive.{CountsFrom, RunHolds}
-use Rattle.isp_lower_code.specs.Layout.{Layout, register, within}
+use Rattle.isp_lower_code.specs.Layout.{Layout, NoneFixed, register, within}
 use Rattle.isp_lower_code.specs.Runs.{Comes, DoneOk}
-use Rattle.isp_lower_code.specs.Setting.{Setting, IsSettled, gang_of, AreAt, At, Stands, Spares, IsOther}
+use Rattle.isp_lower_code.specs.Setting.{Setting, IsSettled, gang_of, AreAt, At, Stands, Spares}
 use Rattle.isp_lower_code.specs.Tables.{IsTyped}
 use Rattle.isp_lower_code.proofs.Lemmas.{scalar_put, are_front, are_back, put_same, put_other, comes_on, at_to, spares_less, spares_on, failed_less, stopped_less}
-use Rattle.isp_lower_code.proofs.Lemmas.{set_at, set_comes, set_goes, set_spares, set_stands, variable_spares, written_stands, none_holds}
+use Rattle.isp_lower_code.proofs.Lemmas.{set_at, set_comes, set_goes, set_spares, set_stands, variable_spares, written_stands, known_put, no_run, none_holds}
 use Rattle.isp_masks_code.specs.Ranges.{wide, narrow, test, lane, last_index, next_index, run_place}
 use Rattle.isp_masks_code.specs.Spots.{body_spot}
 use Rattle.isp_masks_code.specs.StmtRuns.{StmtRuns}
@@ -55,7 +55,7 @@ pub record IsRunPlace (w : Setting) (i h m : ℕ) (d : Bool) (x : ℕ) : Type 0 
   pub begins : (a : Mask) (s : State) (c : Conf) → CountsFrom (number I64 (c.scalars x)) a (s.varying i) → RunHolds (within w.layout i).run (c.scalars (w.layout.place Uniform)) a (c.scalars (w.layout.place Uniform)) s.varying
   pub stays : (a : Mask) (s : State) (c c1 : Conf) → Spares w h c c1 → Stands (in_run w i a (c.scalars (w.layout.place Uniform))) s c1 → (c1.scalars x ≡ c.scalars x) × Counted d (number I64 (c.scalars x)) a (s.varying i)
 
-module _ (w : Setting) (ready : IsSettled w) (none : w.layout.run ≡ None) where
+module _ (w : Setting) (ready : IsSettled w) (none : NoneFixed w.layout) where
   place_spares : (j : ℕ) (c : Conf) (y : Payload) → Spares w j c (set_at Uniform c (w.layout.place Uniform) y)
   place_spares j c y = record {
     scalars_stay = λ t k lt. put_other c.scalars (w.layout.place Uniform) (sole y) (w.layout.spare Uniform t k) (λ e. ready.apart.place_spare Uniform t k (sym e));
@@ -74,7 +74,8 @@ module _ (w : Setting) (ready : IsSettled w) (none : w.layout.run ≡ None) wher
     own_arrays = st.own_arrays;
     arrays_are = st.arrays_are;
     out_is = st.out_is;
-    run = none_holds w.layout.run w.start w.members (put c.scalars (w.layout.place Uniform) (sole y) (w.layout.place Uniform)) s.varying none;
+    run = none_holds w.layout.run w.start w.members (put c.scalars (w.layout.place Uniform) (sole y) (w.layout.place Uniform)) s.varying (no_run w.layout none);
+    known = known_put w.function.variables w.layout w.members c.scalars (w.layout.place Uniform) (sole y) s.varying (λ v k e. ready.apart.place_variable Uniform v (sym e)) st.known;
     constants = scalar_put w.layout (gang_of w) c.scalars c.vectors (w.layout.place Uniform) (sole y) (λ t b k. ready.apart.kept_place Uniform t b k) st.constants;
   }
 
@@ -101,7 +102,7 @@ module _ (w : Setting) (ready : IsSettled w) (none : w.layout.run ≡ None) wher
         apart = ready.apart.spares Uniform I64 I32 m (m + 1) ne;
         tested = ready.apart.spares Uniform I64 Truth m (m + 1) ne;
         limit = ready.apart.spares Uniform I64 I64 m (m + 1) ne;
-        begins = λ a s c k. let p = c.scalars (w.layout.place Uniform) in subst (λ (o : Option ℕ). RunHolds o p a p s.varying) (sym (ap (λ (l : Layout). l.run) (within_is w ready none i true e) ∙ none)) tt;
+        begins = λ a s c k. let p = c.scalars (w.layout.place Uniform) in subst (λ (o : Option ℕ). RunHolds o p a p s.varying) (sym (ap (λ (l : Layout). l.run) (within_is w ready none i true e) ∙ no_run w.layout none)) tt;
         stays = λ a s c c1 sp st. (sp.scalars_stay I64 m lt, tt);
       }
 
@@ -124,11 +125,7 @@ pub record IsRuns (w : Setting) (n h i : ℕ) (x : Range) (e m : ℕ) (d : Bool)
   pub sets : Sets w h m c0 set before
   pub few : length set ≤ 2
 
-module _ (w : Setting) (ready : IsSettled w) (none : w.layout.run ≡ None) (n h i : ℕ) (x : Range) (e m : ℕ) (d : Bool) (set : List Instr) (before : Mask → State → State) (c0 : Conf) (it : IsRuns w n h i x e m d set before c0) where
-  -- no variable counts lanes yet
-  no_other : (v : ℕ) → IsOther w v
-  no_other v j ej = let no : None ≡ Some j = sym none ∙ ej in absurd (cc)
-
+module _ (w : Setting) (ready : IsSettled w) (none : NoneFixed w.layout) (n h i : ℕ) (x : Range) (e m : ℕ) (d : Bool) (set : List Instr) (before : Mask → State → State) (c0 : Conf) (it : IsRuns w n h i x e m d set before c0) where
   second_so : (b k : Bool) → (b && k) ≡ true → k ≡ true
   second_so true k e1 = e1
   second_so false k e1 = absurd (cc)
@@ -299,7 +296,7 @@ module _ (w : Setting) (ready : IsSettled w) (none : w.layout.run ≡ None) (n h
       stands4 : Stands w (begins z s) c4
       stands4 =
           subst (λ j. Stands w (written Varying j a (Each (on a (λ p. wrap I32 (z +ℤ pos p)))) (before a s)) c4) (sym it.index)
-          (written_stands w ready Varying i c3 a (Each (on a (λ p. wrap I32 (z +ℤ pos p)))) (before a s) v4 stands3 (sym value) (no_other i))
+          (written_stands w ready Varying i c3 a (Each (on a (λ p. wrap I32 (z +ℤ pos p)))) (before a s) v4 stands3 (sym value) (none i, tt))
 
   -- ---- the index goes on, where no others are set
 
@@ -363,7 +360,7 @@ module _ (w : Setting) (ready : IsSettled w) (none : w.layout.run ≡ None) (n h
       stands1 : Stands w (begins z1 s) c1
       stands1 =
           subst (λ j. Stands w (written Varying j a (Each (on a (λ p. wrap I32 (z1 +ℤ pos p)))) (before a s)) c1) (sym it.index)
-          (subst (λ s1. Stands w (written Varying i a (Each (on a (λ p. wrap I32 (z1 +ℤ pos p)))) s1) c1) (sym same) (written_stands w ready Varying i c a (Each (on a (λ p. wrap I32 (z1 +ℤ pos p)))) s y t.stands (sym value) (no_other i)))
+          (subst (λ s1. Stands w (written Varying i a (Each (on a (λ p. wrap I32 (z1 +ℤ pos p)))) s1) c1) (sym same) (written_stands w ready Varying i c a (Each (on a (λ p. wrap I32 (z1 +ℤ pos p)))) s y t.stands (sym value) (none i, tt)))
 
   -- ---- a body
 

@@ -22,7 +22,7 @@ use Rattle.isp_lower_code.specs.Spans.{expr_places}
 use Rattle.isp_lower_code.specs.Runs.{Comes}
 use Rattle.isp_lower_code.specs.Setting.{Setting, IsSettled, gang_of, calls_of, AreAt, At, Stands, Spares, at_rate, held_at, Holds}
 use Rattle.isp_lower_code.proofs.Lemmas.{are_front, are_back, put_same, put_other, comes_on, step_go, at_to, spares_all, spares_on, set_comes, set_goes, set_masks, few, masked}
-use Rattle.isp_lower_code.proofs.Lemmas.{masked_at, set_at, copy_line, enters_part, operand_runs, expr_runs, run_place, scalar_put, vector_put}
+use Rattle.isp_lower_code.proofs.Lemmas.{masked_at, set_at, copy_line, enters_part, operand_runs, expr_runs, known_put, run_place, scalar_put, vector_put}
 use Rattle.isp_masks_code.specs.Sets.{unite, clear_mask, leave_code, jump_code}
 use Rattle.isp_masks_code.specs.Statements.{answer_code}
 use Rattle.isp_masks_code.specs.Spots.{Spot}
@@ -125,6 +125,7 @@ module _ (w : Setting) (ready : IsSettled w) where
     run = run_place w.layout.run w.start w.members (c.scalars (w.layout.place Uniform))
         (put c.scalars (w.layout.result Uniform) (sole y) (w.layout.place Uniform)) s.varying
         (sym (put_other c.scalars (w.layout.result Uniform) (sole y) (w.layout.place Uniform) (ready.apart.place_result Uniform))) st.run;
+    known = known_put w.function.variables w.layout w.members c.scalars (w.layout.result Uniform) (sole y) s.varying (λ v k e. ready.apart.result_variable Uniform v (sym e)) st.known;
     constants = scalar_put w.layout (gang_of w) c.scalars c.vectors (w.layout.result Uniform) (sole y) (λ t b k. ready.apart.kept_result Uniform t b k) st.constants;
   }
   result_stands Varying c a m s y st e =
@@ -138,6 +139,7 @@ module _ (w : Setting) (ready : IsSettled w) where
         arrays_are = st.arrays_are;
         out_is = st.out_is;
         run = st.run;
+        known = st.known;
         constants = vector_put w.layout (gang_of w) c.scalars c.vectors (w.layout.result Varying) x (λ t b k. ready.apart.kept_result Varying t b k) st.constants;
       }
 

@@ -33,6 +33,7 @@ use Rattle.isp_masks_code.specs.Keeping.{Each, constants_asks}
 use Rattle.isp_masks_code.proofs.Passing.{passed_first}
 use Rattle.isp_masks_code.specs.Asks.{block_asks}
 use Rattle.isp_masks_code.specs.Rated.{BlockRated}
+use Rattle.isp_meaning.specs.Loads.{no_variable}
 use Rattle.isp_masks_code.specs.Free.{BlockFree}
 
 -- ---- lists
@@ -118,7 +119,7 @@ module _ (fs : List TFunction) (code : Listing) (h : TFunction) (g : Routine) (r
 
 pub made_compiled : (program : Program) (code : Listing) (f : ℕ) (h : TFunction) (g : Routine) (rows : Rows) (z : Numbers) → code.gang ≡ program.gang
     → slice_get program.functions f ≡ Some h → slice_get code.routines f ≡ Some g → FineFunction program.functions h
-    → BlockRated program.functions h.answer h.body → BlockFree None h.body → IsMade program.functions code h g rows z
+    → BlockRated program.functions h.answer h.body → BlockFree no_variable h.body → IsMade program.functions code h g rows z
     → Begins (first_rows h.variables h.answer).scalars rows.scalars → Begins (first_rows h.variables h.answer).vectors rows.vectors
     → IsCompiled program code f h g (layout_of (rates_in program.functions) rows) z
 made_compiled program code f h g rows z gang source found fine plain free made scalars vectors = record {
@@ -136,6 +137,7 @@ made_compiled program code f h g rows z gang source found fine plain free made s
   free = free;
   run = refl;
   outside = refl;
+  known = λ v. refl;
   rows = λ i n. refl;
   constants = made.constants;
   keeps = made.keeps;

@@ -17,7 +17,7 @@ use Rattle.isp_masks_code.specs.Prints.{own_rates}
 use Rattle.isp_masks_code.specs.Ranges.{wide, narrow, test, lane, places_slot, runs_slot}
 use Rattle.isp_masks_code.proofs.Bodies.{with_layout}
 use Rattle.isp_masks_code.specs.Statements.{body_layout}
-use Rattle.isp_lower_code.specs.Layout.{outside}
+use Rattle.isp_lower_code.specs.Layout.{NoneFixed, outside}
 use Rattle.isp_base.specs.Sets.{Mask}
 use Rattle.isp_typed.specs.Indices.{foreach_index}
 
@@ -104,7 +104,7 @@ abbrev mutual
   StmtParts w (t_while f g e x sp) n = ExprParts w e (n + 3) × StmtParts w x (n + 3)
   StmtParts w (t_do f g x e sp) n = ExprParts w e (n + 3) × StmtParts w x (n + 3)
   StmtParts w (t_for f g first e step i x sp) n = FirstFits w first n × TestFits w e (n + 3) × StepFits w step (n + 3) × StmtParts w x (n + 3)
-  StmtParts w (t_foreach k g rs x sp) n = ForeachFits w rs n × (w.layout.run ≡ None) × ((m : Mask) (b : ℕ) → StmtParts (with_layout w (body_layout w.layout rs) m b) x (runs_slot n rs + 3))
+  StmtParts w (t_foreach k g rs x sp) n = ForeachFits w rs n × NoneFixed w.layout × ((m : Mask) (b : ℕ) → StmtParts (with_layout w (body_layout w.layout rs) m b) x (runs_slot n rs + 3))
   StmtParts w (t_foreach_active k g i x sp) n = IsUniform w.function.variables i × StmtParts w x (n + 1 + 3)
   StmtParts w (t_foreach_unique k g i t e x sp) n = UniqueFits w i t e n × StmtParts w x (n + 1 + 3)
   StmtParts w (t_unmasked k b sp) n = BlockParts (with_layout w (outside w.layout) w.members w.start) b (n + 3)

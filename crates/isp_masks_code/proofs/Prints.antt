@@ -239,6 +239,7 @@ module _ (w : Setting) (ready : IsSettled w) where
             out_is = ap (λ o. o ++ parts_text (parts text) vs) ok.stands.out_is
                 ∙ ap (λ u. s1.out ++ u) (text_is text vs);
             run = ok.stands.run;
+            known = ok.stands.known;
             constants = ok.stands.constants;
           })
           ok.spares ok.masks three b.mask (omega (arith, ok.bound, short))

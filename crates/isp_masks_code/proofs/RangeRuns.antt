@@ -1,5 +1,5 @@
 -- The ranges of a `foreach` make its runs: by recursion on the ranges, the last of which is taken in runs.
-use Rattle.std.proofs.Common.{◌≡◌, ℕ, ◌+◌, ◌*◌, ◌<◌, ◌≤◌, List, [], ◌∷◌, ◌++◌, length, map, Some, Bool, true, false, refl, sym, ap, ap₂, ◌∙◌, subst, arith, length-append, None}
+use Rattle.std.proofs.Common.{◌≡◌, ℕ, ◌+◌, ◌*◌, ◌<◌, ◌≤◌, List, [], ◌∷◌, ◌++◌, length, map, Some, Bool, true, false, refl, sym, ap, ap₂, ◌∙◌, subst, arith, length-append}
 use Rattle.std.specs.Prelude.{slice_get, ◌≢◌, ℤ, int_lt, not, if◌then◌else◌}
 use Rattle.std.proofs.Math.Nat.{one-mul}
 use Rattle.std.proofs.Math.Path.{fun_ext}
@@ -20,9 +20,9 @@ use Rattle.isp_meaning.specs.Payloads.{One, is_true}
 use Rattle.isp_meaning.specs.Rounds.{Range, Run, Round, rounds, length_of, runs_for, from_on, last_run, with_outer, joined_lists, runs_of, counted}
 use Rattle.isp_meaning.specs.State.{State}
 use Rattle.isp_lower_code.specs.Instructions.{compare, compute, convert, copy}
-use Rattle.isp_lower_code.specs.Layout.{register}
+use Rattle.isp_lower_code.specs.Layout.{NoneFixed, register}
 use Rattle.isp_lower_code.specs.Runs.{Comes}
-use Rattle.isp_lower_code.specs.Setting.{Setting, IsSettled, AreAt, At, Stands, IsOther}
+use Rattle.isp_lower_code.specs.Setting.{Setting, IsSettled, AreAt, At, Stands}
 use Rattle.isp_lower_code.proofs.Lemmas.{are_front, put_same, put_other, comes_on, jumped, jump_comes, jump_at, set_at, set_comes, set_goes, set_spares, set_stands}
 use Rattle.isp_masks_code.specs.Free.{last_index_of}
 use Rattle.isp_masks_code.specs.Ranges.{RunBodies, wide, narrow, test, outer_index, ranges_code}
@@ -34,11 +34,7 @@ use Rattle.isp_masks_code.proofs.Parts.{RangesTyped}
 use Rattle.isp_masks_code.proofs.RangesHeld.{AreHeld, HasMeasures, Sets, gang, held_on, measures_on, round_after, sets_more, with_index}
 use Rattle.isp_masks_code.proofs.Sweeps.{Low, low_all, low_on, Passes, passes_after, passes_to, IsSweep, sweep_runs}
 
-module _ (w : Setting) (ready : IsSettled w) (body : Mask → State → Res) (all : Mask) (n h counter : ℕ) (code : RunBodies) (none : w.layout.run ≡ None) (runs : BodiesRun w counter h code body) where
-  -- no variable counts lanes yet
-  no_other : (v : ℕ) → IsOther w v
-  no_other v j e = let no : None ≡ Some j = sym none ∙ e in absurd (cc)
-
+module _ (w : Setting) (ready : IsSettled w) (body : Mask → State → Res) (all : Mask) (n h counter : ℕ) (code : RunBodies) (none : NoneFixed w.layout) (runs : BodiesRun w counter h code body) where
   one_some : (i j : ℕ) → Some i ≡ Some j → i ≡ j
   one_some i j e = cc
 
@@ -227,7 +223,7 @@ module _ (w : Setting) (ready : IsSettled w) (body : Mask → State → Res) (al
           (omega (arith, few, length-append set (outer_index w.layout r.index (m + 1) h ∷ []))) (omega (arith, ne)) (omega (arith, em))
           (omega (arith, mh)) typed.1 (held_on w (q ∷ rs) (y ∷ ys) (e + 1 + 1) m c0 c2 (omega (arith, em)) lo02 held.1)
           (measures_on w n m c0 c2 (omega (arith, ne, below)) lo02 measures)
-          (subst (λ j. Sets w h (m + 1 + 1) c2 more (with_index j z before)) (sym held.0.index) (sets_more w ready h m r.index z c0 c2 set before (no_other r.index) lo02 bits sets))
+          (subst (λ j. Sets w h (m + 1 + 1) c2 more (with_index j z before)) (sym held.0.index) (sets_more w ready h m r.index z c0 c2 set before (none r.index) lo02 bits sets))
           body_code.1 (set_goes w ready Uniform c g (One b) (top + 1 + 1) at1) (set_stands w ready Uniform c I32 (m + 1) (One b) s1 st1) (omega (arith, le1))))
         where
           b : ℕ

@@ -123,6 +123,6 @@ module _ (w : Setting) where
           masks = o.masks;
           scalars = o.scalars;
           none = λ e. absurd (omega (arith, e, size));
-          stands = written_stands w ready Varying i c2 a (Each (on a (λ p. wrap I32 z))) (before a s) v o.stands (sym (ap₂ (λ g b. Each (on g (λ p. b))) em2 bits)) other;
+          stands = written_stands w ready Varying i c2 a (Each (on a (λ p. wrap I32 z))) (before a s) v o.stands (sym (ap₂ (λ g b. Each (on g (λ p. b))) em2 bits)) (other, tt);
           work = o.work;
         }

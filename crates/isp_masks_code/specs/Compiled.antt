@@ -22,7 +22,7 @@ use Rattle.isp_meaning.specs.Runs.{handed, first_frame, first_state}
 use Rattle.isp_meaning.specs.Expressions.{Passed}
 use Rattle.isp_meaning.specs.State.{State, Frame}
 use Rattle.isp_lower_code.specs.Callees.{rates_in}
-use Rattle.isp_lower_code.specs.Layout.{HasNoRows, Layout, IsApart, register}
+use Rattle.isp_lower_code.specs.Layout.{HasNoRows, KnowsNothing, Layout, IsApart, register}
 use Rattle.isp_lower_code.specs.Setting.{Setting, AreAt}
 use Rattle.isp_lower_code.specs.Tables.{Table}
 use Rattle.isp_lower_code.specs.declared.constant.Constant.{Constant}
@@ -34,6 +34,7 @@ use Rattle.isp_masks_code.specs.Passing.{PassedFirst}
 use Rattle.isp_masks_code.specs.Named.{AreNamed}
 use Rattle.isp_masks_code.specs.Spots.{Numbers}
 use Rattle.isp_masks_code.specs.Statements.{block_places, block_texts, function_code}
+use Rattle.isp_meaning.specs.Loads.{no_variable}
 use Rattle.isp_masks_code.specs.Free.{BlockFree}
 
 -- the state in which the entry's body begins, and the setting: nothing waits, and 255 more calls may run
@@ -91,9 +92,10 @@ pub record IsCompiled (program : Program) (code : Listing) (f : ℕ) (h : TFunct
   pub code_is : AreAt g.code 0 (function_code l h.answer constants h.body 0 z)
   pub names : AreNamed code z (block_places l h.body) (block_texts h.body)
   pub rated : BlockRated program.functions h.answer h.body
-  pub free : BlockFree None h.body
+  pub free : BlockFree no_variable h.body
   pub run : l.run ≡ None
   pub outside : l.in_run ≡ false
+  pub known : KnowsNothing l
   pub rows : HasNoRows l
   -- the constants are those that the layout keeps, in registers of their types, as are the spare ones through which vectors get them
   pub keeps : KeepsThem l constants

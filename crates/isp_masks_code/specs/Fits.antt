@@ -4,6 +4,7 @@ use Rattle.std.specs.Prelude.{ℕ}
 use Rattle.isp_typed.specs.Fine.{FineStmt, FineBlock}
 use Rattle.isp_typed.specs.Typed.{TStmt, TBlock}
 use Rattle.isp_lower_code.specs.Fits.{InTable}
+use Rattle.isp_lower_code.specs.Layout.{is_fixed}
 use Rattle.isp_lower_code.specs.Setting.{Setting}
 use Rattle.isp_masks_code.specs.Asks.{stmt_asks, block_asks}
 use Rattle.isp_masks_code.specs.Free.{StmtFree, BlockFree}
@@ -14,10 +15,10 @@ module _ (w : Setting) where
     pub fine : FineStmt w.program.functions w.function.variables w.frame.answer x
     pub rated : StmtRated w.program.functions w.frame.answer x
     pub named : InTable w (stmt_asks w.frame.answer x n)
-    pub free : StmtFree w.layout.run x
+    pub free : StmtFree (is_fixed w.layout) x
 
   pub record BlockFits (b : TBlock) (n : ℕ) : Type 0 where
     pub fine : FineBlock w.program.functions w.function.variables w.frame.answer b
     pub rated : BlockRated w.program.functions w.frame.answer b
     pub named : InTable w (block_asks w.frame.answer b n)
-    pub free : BlockFree w.layout.run b
+    pub free : BlockFree (is_fixed w.layout) b

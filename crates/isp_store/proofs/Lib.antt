@@ -1,10 +1,6 @@
-mod Inside
-mod Indices
 mod RowLists
-mod Lanes
 mod Own
 mod Picked
-mod Gathered
 mod Apart
 mod PlacesInOrder
 mod Runs

@@ -11,12 +11,12 @@ use Rattle.isp_base.specs.Maps.{Lanes, on, map1, each1, holds, lane_of}
 use Rattle.isp_base.specs.Rows.{Row}
 use Rattle.isp_base.specs.Sets.{Mask}
 use Rattle.isp_base.specs.Values.{width}
-use Rattle.isp_store.specs.Cells.{found, left, stored, cleared, row_word, row_with}
+use Rattle.isp_cells.specs.Cells.{found, left, stored, cleared, row_word, row_with}
 use Rattle.isp_store.specs.Held.{bits_of}
 use Rattle.isp_store.specs.LaneRows.{rows_as, AreRows}
 use Rattle.isp_base.specs.Stores.{own_put}
 use Rattle.isp_store.specs.Own.{Own}
-use Rattle.isp_store.proofs.Gathered.{found_at, length_stored, left_off, zero_found, length_zeros, below_set}
+use Rattle.isp_cells.proofs.Found.{found_at, length_stored, left_off, zero_found, length_zeros, below_set}
 use Rattle.isp_store.proofs.RowLists.{lanes_put}
 
 -- in the first i lanes new, in the others old

@@ -8,8 +8,8 @@ use Rattle.isp_base.specs.Rows.{Fit}
 use Rattle.isp_base.specs.Sets.{Mask}
 use Rattle.isp_base.specs.Values.{width}
 use Rattle.isp_base.specs.declared.types.Elem.{Elem}
-use Rattle.isp_store.specs.Cells.{found, left, stored, word_with}
-use Rattle.isp_store.proofs.Gathered.{length_stored, left_off, left_set}
+use Rattle.isp_cells.specs.Cells.{found, left, stored, word_with}
+use Rattle.isp_cells.proofs.Found.{length_stored, left_off, left_set}
 use Rattle.isp_store.proofs.RowLists.{lanes_put}
 
 -- the word of all lanes

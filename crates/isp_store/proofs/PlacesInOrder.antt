@@ -14,7 +14,7 @@ use Rattle.isp_base.specs.Sets.{Mask, lowest, or_this, flag_of}
 use Rattle.isp_base.specs.Values.{number, number_to}
 use Rattle.isp_base.specs.declared.types.Elem.TheVariants.{I64}
 use Rattle.isp_base.proofs.Elems.{number_above}
-use Rattle.isp_store.proofs.Indices.{on_there, number_low}
+use Rattle.isp_cells.proofs.Indices.{on_there, number_low}
 
 -- the lowest of a set, one number more
 next : (m : Mask) (k : ℕ) → lowest k m ≡ None → m k ≡ false → lowest (k + 1) m ≡ None

@@ -14,7 +14,7 @@ use Rattle.isp_base.specs.Rows.{Fit}
 use Rattle.isp_base.specs.Values.{number, width}
 use Rattle.isp_base.specs.declared.types.Elem.{Elem}
 use Rattle.isp_base.specs.declared.types.Elem.TheVariants.{I64}
-use Rattle.isp_store.proofs.Indices.{number_low}
+use Rattle.isp_cells.proofs.Indices.{number_low}
 
 module _ (count n index : ℕ) (there : index + n ≤ count) (low : index < 2 ^ 63) where
   -- a lane's element

@@ -1,30 +1,18 @@
--- What lanes find at their indices and what they leave there; the lowest lane whose index is outside.
+-- What lanes find in an array that they share, and what they leave there.
 use Rattle.std.specs.Prelude.{ℕ, List, Bool, Option, unsigned_abs}
-use Rattle.isp_base.specs.Access.{element, is_outside, scatter}
+use Rattle.isp_base.specs.Access.{element, scatter}
 use Rattle.isp_base.specs.Cross.{packed_index, packed_outside, packed_places, run_index, run_outside, run_places}
-use Rattle.isp_base.specs.Maps.{Lanes, Map, each1, lane_of, lowest_failing, map1, on, over}
+use Rattle.isp_base.specs.Maps.{Lanes, lane_of, map1, on, over}
 use Rattle.isp_base.specs.Sets.{flag_of, lowest}
 use Rattle.isp_base.specs.Values.{number}
 use Rattle.isp_base.specs.declared.types.Elem.TheVariants.{I64}
-
--- the words of the lanes that are on
-abbrev pub lanes_on : List Bool → List ℕ → Map
-lanes_on mask words = on (flag_of mask) (lane_of words)
+use Rattle.isp_cells.specs.Access.{lanes_on}
 
 -- ---- each lane at an index of its own, an int64
-
--- the lowest lane whose index is none of so many elements
-abbrev pub lowest_out : ℕ → ℕ → List Bool → List ℕ → Option ℕ
-lowest_out n count mask indices = lowest_failing n (is_outside I64 count) (lanes_on mask indices)
 
 -- the elements there; a lane that is off keeps its word
 abbrev pub gathered : Lanes → List Bool → List ℕ → List ℕ → Lanes
 gathered elements mask indices old = over (map1 (λ x. elements (element I64 x)) (lanes_on mask indices)) (lane_of old)
-
--- the same where a lane finds its own words
-abbrev pub own_gathered : (ℕ → ℕ → ℕ) → List Bool → List ℕ → List ℕ → Lanes
-own_gathered find mask indices old =
-    over (λ p. each1 (λ x. find (element I64 x) p) (lanes_on mask indices p)) (lane_of old)
 
 -- the elements after the lanes have left their values there, the highest last
 abbrev pub scattered : ℕ → List Bool → List ℕ → List ℕ → Lanes → Lanes

@@ -4,7 +4,7 @@ use Rattle.isp_base.specs.Cells.{cell_width}
 use Rattle.isp_base.specs.Rows.{Row}
 use Rattle.isp_base.specs.Values.{width}
 use Rattle.isp_base.specs.declared.types.Elem.{Elem}
-use Rattle.isp_store.specs.Cells.{found, row_word}
+use Rattle.isp_cells.specs.Cells.{found, row_word}
 use Rattle.isp_store.specs.declared.lane_rows.LaneRows.{LaneRows}
 use Rattle.isp_store.specs.declared.lane_rows.LaneRows.TheVariants.{Bits8, Bits16, Bits32, Bits64}
 

@@ -1,5 +1,4 @@
 pub mod Held
 pub mod Own
-pub mod Cells
 pub mod LaneRows
 pub mod Access

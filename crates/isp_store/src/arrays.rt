@@ -8,12 +8,14 @@ ghost use Rattle.isp_base.specs.Sets.{flag_of, lowest};
 ghost use Rattle.isp_base.specs.Values.{number, width};
 ghost use Rattle.isp_lanes.specs.Lanes.{vector};
 ghost use Rattle.isp_store.specs.Held.{changed, elements, size, elem, shapes, named, with_array};
-ghost use Rattle.isp_store.specs.Access.{gathered, lowest_out, packed_loaded, packed_out, packed_stored, run_loaded, run_out, run_stored, scattered};
+ghost use Rattle.isp_cells.specs.Access.{lowest_out};
+ghost use Rattle.isp_store.specs.Access.{gathered, packed_loaded, packed_out, packed_stored, run_loaded, run_out, run_stored, scattered};
 
 use crate::consecutive::{is_whole, packed_places, run_places};
-use crate::index::{IndexTrap, limit, trap_under};
+use crate::index::trap_under;
 use crate::rows;
 use isp_base::{Array, Elem};
+use isp_cells::{IndexTrap, limit};
 use isp_lanes::{LaneMask, Lanes};
 use std::alloc::{AllocError, Global};
 use std::marker::Model;

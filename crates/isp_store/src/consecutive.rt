@@ -8,8 +8,8 @@ ghost use Rattle.isp_base.specs.Values.{number};
 ghost use Rattle.isp_base.specs.declared.types.Elem.TheVariants.{I64};
 ghost use Rattle.isp_store.specs.Access.{packed_out, run_out};
 
-use crate::index::IndexTrap;
 use isp_base::{Elem, number};
+use isp_cells::IndexTrap;
 use isp_lanes::LaneMask;
 
 // The place so many elements after an index, or none where it is not among the first `count`.

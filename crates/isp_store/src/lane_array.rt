@@ -7,11 +7,11 @@ ghost use Rattle.isp_base.specs.Sets.{flag_of};
 ghost use Rattle.isp_lanes.specs.Lanes.{vector};
 ghost use Rattle.isp_base.specs.Stores.{own_put};
 ghost use Rattle.isp_store.specs.Own.{own, size};
-ghost use Rattle.isp_store.specs.Access.{lanes_on, lowest_out, own_gathered};
+ghost use Rattle.isp_cells.specs.Access.{lanes_on, lowest_out, own_gathered};
 
-use crate::index::IndexTrap;
 use crate::lane_rows::LaneRows;
 use isp_base::Elem;
+use isp_cells::IndexTrap;
 use isp_lanes::{LaneMask, Lanes};
 use std::alloc::{AllocError, Global};
 use std::marker::Model;

@@ -6,13 +6,12 @@ ghost use Rattle.isp_base.specs.Cells.{cell_width};
 ghost use Rattle.isp_base.specs.Maps.{lane_of};
 ghost use Rattle.isp_base.specs.Sets.{flag_of};
 ghost use Rattle.isp_base.specs.Values.{width};
-ghost use Rattle.isp_store.specs.Cells.{found, stored, cleared, row_word, row_with};
+ghost use Rattle.isp_cells.specs.Cells.{found, stored, cleared, row_word, row_with};
 ghost use Rattle.isp_store.specs.LaneRows.{lists, rows_width};
-ghost use Rattle.isp_store.specs.Access.{lowest_out, own_gathered};
+ghost use Rattle.isp_cells.specs.Access.{lowest_out, own_gathered};
 
-use crate::gather::{clear, gathered, scattered};
-use crate::index::IndexTrap;
 use isp_base::Elem;
+use isp_cells::{IndexTrap, clear, gathered, scattered};
 use isp_lanes::{LaneMask, Lanes, Row};
 use std::alloc::{AllocError, Global};
 

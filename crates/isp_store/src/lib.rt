@@ -2,17 +2,13 @@
 #![tactic(auto)]
 
 mod arrays;
-mod cell;
 mod consecutive;
-mod elements;
-mod gather;
 mod index;
 mod lane_array;
 mod lane_rows;
 mod moves;
-mod places;
 mod rows;
 
 pub use arrays::Arrays;
-pub use index::IndexTrap;
+pub use isp_cells::IndexTrap;
 pub use lane_array::LaneArray;

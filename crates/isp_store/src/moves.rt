@@ -7,12 +7,12 @@ ghost use Rattle.isp_base.specs.Cells.{cell_width};
 ghost use Rattle.isp_base.specs.Held.{held, held_width};
 ghost use Rattle.isp_base.specs.Maps.{lane_of, map1, on, over};
 ghost use Rattle.isp_base.specs.Sets.{flag_of};
-ghost use Rattle.isp_store.specs.Cells.{stored, word_with};
-ghost use Rattle.isp_store.specs.Access.{gathered, lanes_on, lowest_out, scattered};
+ghost use Rattle.isp_cells.specs.Cells.{stored, word_with};
+ghost use Rattle.isp_cells.specs.Access.{lanes_on, lowest_out};
+ghost use Rattle.isp_store.specs.Access.{gathered, scattered};
 
-use crate::gather::{gathered, leave, loaded, scattered};
-use crate::index::IndexTrap;
 use isp_base::{Array, Cells};
+use isp_cells::{IndexTrap, gathered, leave, loaded, scattered};
 use isp_lanes::{LaneMask, Lanes, Row};
 use std::alloc::Global;
 use std::simd::prelude::*;

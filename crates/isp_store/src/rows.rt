@@ -10,11 +10,12 @@ ghost use Rattle.isp_base.specs.Maps.{lane_of, map1, on, over, put};
 ghost use Rattle.isp_base.specs.Sets.{flag_of};
 ghost use Rattle.isp_base.specs.Values.{width};
 ghost use Rattle.isp_store.specs.Held.{bits_of, shapes_of, type_of};
-ghost use Rattle.isp_store.specs.Access.{gathered, lanes_on, lowest_out, scattered};
+ghost use Rattle.isp_cells.specs.Access.{lanes_on, lowest_out};
+ghost use Rattle.isp_store.specs.Access.{gathered, scattered};
 
-use crate::index::IndexTrap;
 use crate::moves::{self, write};
 use isp_base::{Array, Cells, Elem};
+use isp_cells::IndexTrap;
 use isp_lanes::{LaneMask, Lanes};
 use std::alloc::{AllocError, Global};
 

@@ -2,7 +2,7 @@ use Rattle.std.proofs.Common.{◌≡◌, ℕ, Option, Some, None, refl, ap, ◌�
 use Rattle.std.specs.List.{position}
 use Rattle.isp_base.specs.Sets.{lowest, flag_of}
 use Rattle.isp_base.specs.Cross.{or_zero}
-use Rattle.isp_store.proofs.Indices.{lowest_is}
+use Rattle.isp_cells.proofs.Indices.{lowest_is}
 use Rattle.isp_store.proofs.index.trap_under.Goals as goal
 
 or_zero_is : (x : Option ℕ) → unwrap_or x 0 ≡ or_zero x

@@ -6,8 +6,8 @@ use Rattle.isp_base.specs.Rows.{Row, Fit}
 use Rattle.isp_base.specs.Sets.{flag_of}
 use Rattle.isp_base.specs.Values.{width}
 use Rattle.isp_base.specs.declared.types.Elem.{Elem}
-use Rattle.isp_store.specs.Cells.{word_with}
-use Rattle.isp_store.proofs.Gathered.{length_stored}
+use Rattle.isp_cells.specs.Cells.{word_with}
+use Rattle.isp_cells.proofs.Found.{length_stored}
 use Rattle.isp_store.proofs.Picked.{stored_fits, stored_words}
 use Rattle.isp_store.proofs.PlacesInOrder.{map1_id}
 use Rattle.isp_store.proofs.moves.put.Goals as goal

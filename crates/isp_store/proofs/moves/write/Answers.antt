@@ -7,9 +7,9 @@ use Rattle.isp_base.specs.Sets.{flag_of}
 use Rattle.isp_base.specs.Values.{width}
 use Rattle.isp_base.specs.declared.types.Elem.{Elem}
 use Rattle.isp_base.specs.declared.types.Elem.TheVariants.{I64}
-use Rattle.isp_store.specs.Cells.{word_with}
+use Rattle.isp_cells.specs.Cells.{word_with}
 use Rattle.isp_lanes.proofs.Gathered.{either}
-use Rattle.isp_store.proofs.Gathered.{both_ok, length_stored, below_inside}
+use Rattle.isp_cells.proofs.Found.{both_ok, length_stored, below_inside}
 use Rattle.isp_store.proofs.Picked.{stored_fits, stored_words}
 use Rattle.isp_store.proofs.moves.write.Goals as goal
 

@@ -1,7 +1,7 @@
 use Rattle.std.proofs.Common.{ap, ◌∙◌, length}
 use Rattle.isp_base.specs.Maps.{Lanes, lane_of, put}
 use Rattle.isp_store.specs.Held.{bits_of}
-use Rattle.isp_store.proofs.Gathered.{zero_lanes, length_zeros}
+use Rattle.isp_cells.proofs.Found.{zero_lanes, length_zeros}
 use Rattle.isp_store.proofs.RowLists.{rows_put, row_shapes}
 use Rattle.isp_store.proofs.rows.clear.Goals as goal
 

@@ -5,7 +5,7 @@ use Rattle.isp_base.specs.Maps.{Lanes, lane_of, map1, on, put, lowest_failing}
 use Rattle.isp_base.specs.Sets.{flag_of}
 use Rattle.isp_base.specs.declared.types.Elem.TheVariants.{I64}
 use Rattle.isp_store.specs.Held.{bits_of}
-use Rattle.isp_store.proofs.Gathered.{both_ok}
+use Rattle.isp_cells.proofs.Found.{both_ok}
 use Rattle.isp_store.proofs.RowLists.{row_bits_at, type_of_at, rows_put, row_shapes}
 use Rattle.isp_store.proofs.rows.scatter.Goals as goal
 

@@ -2,7 +2,7 @@ use Rattle.std.proofs.Common.{◌<◌, List, length, sym, ap, ◌∙◌, subst}
 use Rattle.isp_base.specs.Arguments.{row_bits}
 use Rattle.isp_base.specs.Rows.{Row}
 use Rattle.isp_store.specs.Held.{Held, elements, bits_of}
-use Rattle.isp_store.proofs.Indices.{one_inside}
+use Rattle.isp_cells.proofs.Indices.{one_inside}
 use Rattle.isp_store.proofs.arrays.Arrays.load.Goals as goal
 
 pub load-requires : goal.load-requires

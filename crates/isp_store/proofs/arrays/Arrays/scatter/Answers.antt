@@ -5,7 +5,7 @@ use Rattle.isp_base.specs.Rows.{Row}
 use Rattle.isp_base.specs.Sets.{flag_of}
 use Rattle.isp_base.specs.declared.types.Elem.TheVariants.{I64}
 use Rattle.isp_store.specs.Held.{Held, elements, bits_of}
-use Rattle.isp_store.proofs.Gathered.{both_ok}
+use Rattle.isp_cells.proofs.Found.{both_ok}
 use Rattle.isp_store.proofs.RowLists.{handed_back}
 use Rattle.isp_store.proofs.arrays.Arrays.scatter.Goals as goal
 

@@ -3,7 +3,7 @@ use Rattle.isp_base.specs.Arguments.{row_bits}
 use Rattle.isp_base.specs.Maps.{put}
 use Rattle.isp_base.specs.Rows.{Row}
 use Rattle.isp_store.specs.Held.{Held, elements, bits_of}
-use Rattle.isp_store.proofs.Indices.{one_inside}
+use Rattle.isp_cells.proofs.Indices.{one_inside}
 use Rattle.isp_store.proofs.RowLists.{handed_back}
 use Rattle.isp_store.proofs.arrays.Arrays.store.Goals as goal
 

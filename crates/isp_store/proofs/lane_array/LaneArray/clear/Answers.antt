@@ -2,10 +2,10 @@ use Rattle.std.proofs.Common.{ℕ, length, sym, ap, ◌∙◌, subst, arith}
 use Rattle.std.specs.Prelude.{if◌then◌else◌}
 use Rattle.isp_base.specs.Maps.{Lanes}
 use Rattle.isp_base.specs.Sets.{flag_of}
-use Rattle.isp_store.specs.Cells.{found, row_word}
+use Rattle.isp_cells.specs.Cells.{found, row_word}
 use Rattle.isp_store.specs.LaneRows.{lists, rows_width, AreRows}
 use Rattle.isp_store.specs.Own.{own, size}
-use Rattle.isp_store.proofs.Indices.{on_there, past_end}
+use Rattle.isp_cells.proofs.Indices.{on_there, past_end}
 use Rattle.isp_store.proofs.Own.{own_rows, rows_long, are_cleared, all_cleared, cleared_count}
 use Rattle.isp_store.proofs.lane_array.LaneArray.clear.Goals as goal
 

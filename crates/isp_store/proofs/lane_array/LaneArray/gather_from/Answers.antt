@@ -6,7 +6,7 @@ use Rattle.isp_base.specs.Sets.{flag_of}
 use Rattle.isp_base.specs.declared.types.Elem.TheVariants.{I64}
 use Rattle.isp_store.specs.LaneRows.{lists}
 use Rattle.isp_store.specs.Own.{own}
-use Rattle.isp_store.proofs.Gathered.{along}
+use Rattle.isp_cells.proofs.Found.{along}
 use Rattle.isp_store.proofs.Own.{own_rows}
 use Rattle.isp_store.proofs.lane_array.LaneArray.gather_from.Goals as goal
 

@@ -1,5 +1,5 @@
 use Rattle.std.proofs.Common.{sym, ap, ◌∙◌, subst}
-use Rattle.isp_store.specs.Cells.{found, row_word}
+use Rattle.isp_cells.specs.Cells.{found, row_word}
 use Rattle.isp_store.specs.LaneRows.{lists, rows_width, AreRows}
 use Rattle.isp_store.proofs.Own.{own_rows, zero_rows, are_zero}
 use Rattle.isp_store.proofs.lane_array.LaneArray.new.Goals as goal

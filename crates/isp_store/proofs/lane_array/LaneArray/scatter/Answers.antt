@@ -6,13 +6,13 @@ use Rattle.isp_base.specs.Sets.{flag_of}
 use Rattle.isp_base.specs.Values.{width}
 use Rattle.isp_base.specs.declared.types.Elem.{Elem}
 use Rattle.isp_base.specs.declared.types.Elem.TheVariants.{I64}
-use Rattle.isp_store.specs.Cells.{found, row_word, row_with}
+use Rattle.isp_cells.specs.Cells.{found, row_word, row_with}
 use Rattle.isp_store.specs.LaneRows.{lists, rows_width, AreRows}
 use Rattle.isp_base.specs.Stores.{own_put}
 use Rattle.isp_store.specs.Own.{Own, own, size}
 use Rattle.isp_lanes.proofs.Gathered.{either}
-use Rattle.isp_store.proofs.Gathered.{both_ok, length_stored}
-use Rattle.isp_store.proofs.Indices.{all_inside, on_there, past_end}
+use Rattle.isp_cells.proofs.Found.{both_ok, length_stored}
+use Rattle.isp_cells.proofs.Indices.{all_inside, on_there, past_end}
 use Rattle.isp_store.proofs.Own.{own_rows, rows_long, are_stored, all_stored}
 use Rattle.isp_store.proofs.lane_array.LaneArray.scatter.Goals as goal
 

@@ -3,9 +3,9 @@ use Rattle.std.proofs.lemmas.List.{with_items_is}
 use Rattle.isp_base.specs.Maps.{lane_of}
 use Rattle.isp_base.specs.Sets.{flag_of}
 use Rattle.isp_lanes.specs.Held.{held}
-use Rattle.isp_store.specs.Cells.{stored, row_with}
+use Rattle.isp_cells.specs.Cells.{stored, row_with}
 use Rattle.isp_store.specs.LaneRows.{lists}
-use Rattle.isp_store.proofs.Gathered.{from_ok}
+use Rattle.isp_cells.proofs.Found.{from_ok}
 use Rattle.isp_store.proofs.lane_rows.LaneRows.store.Goals as goal
 use Rattle.isp_store.proofs.lane_rows.LaneRows.store.Goals.{in-Bits8-Bits8, in-Bits16-Bits16, in-Bits32-Bits32, in-Bits64-Bits64}
 

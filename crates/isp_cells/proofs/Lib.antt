@@ -1,0 +1,4 @@
+pub mod Inside
+pub mod Indices
+pub mod Lanes
+pub mod Found
