@@ -1,3 +1,2 @@
 mod Runs
 mod Traces
-mod FromSource

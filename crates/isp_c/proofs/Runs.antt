@@ -16,7 +16,7 @@ use Rattle.isp_runs.specs.Loading.{IsLoaded}
 use Rattle.isp_runs.specs.declared.report.BoundReport.{BoundReport}
 use Rattle.isp_packed.specs.Packing.{packed_answer, packed_array, packed_of, packed_value}
 use Rattle.isp_packed.specs.Unpacking.{unpacked_of}
-use Rattle.isp_c.specs.Running.{Binds, RunOf}
+use Rattle.isp_c_laws.specs.Running.{Binds, RunOf}
 use Rattle.isp_reports.specs.declared.refusal.Refusal.{Refusal}
 
 -- ---- room

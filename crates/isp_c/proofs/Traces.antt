@@ -6,7 +6,7 @@ use Rattle.isp_runs.specs.Loading.{IsLoaded}
 use Rattle.isp_traces.specs.Tracing.{TracedRun}
 use Rattle.isp_traces.specs.declared.runs.Traced.{Traced}
 use Rattle.isp_traces.specs.declared.tracing.Window.{Window}
-use Rattle.isp_c.specs.Running.{Binds}
+use Rattle.isp_c_laws.specs.Running.{Binds}
 use Rattle.isp_c.specs.Tracing.{TraceOf}
 use Rattle.isp_reports.specs.declared.refusal.Refusal.{Refusal}
 

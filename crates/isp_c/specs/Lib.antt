@@ -1,8 +1,2 @@
-pub mod Compiling
-pub mod Running
-pub mod Translating
-pub mod Modules
 pub mod Tracing
 pub mod Commanding
-pub mod FromSource
-pub mod FromSourceToWasm

@@ -5,7 +5,7 @@ use Rattle.isp_traces.specs.Tracing.{TracedRun}
 use Rattle.isp_traces.specs.declared.runs.Traced.{Traced}
 use Rattle.isp_traces.specs.declared.tracing.Window.{Window}
 use Rattle.isp_reports.specs.Rooms.{Answers}
-use Rattle.isp_c.specs.Running.{NoRun, Takes}
+use Rattle.isp_c_laws.specs.Running.{NoRun, Takes}
 use Rattle.isp_reports.specs.declared.refusal.Refusal.{Refusal}
 use Rattle.isp_reports.specs.declared.report.Report.{Report}
 use Rattle.isp_c.specs.declared.trace.Trace.{Trace}

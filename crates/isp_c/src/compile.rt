@@ -2,7 +2,7 @@
 ghost use Rattle.std.specs.Prelude.{◌≡◌, IfErr, IfOk, string_bytes};
 ghost use Rattle.isp_base.specs.Types.{gang_width};
 ghost use Rattle.isp_runs.specs.Compilation.{IsCompilation};
-ghost use Rattle.isp_c.specs.Compiling.{Compiles, IsCodeText, NoCodeText};
+ghost use Rattle.isp_c_laws.specs.Compiling.{Compiles, IsCodeText, NoCodeText};
 
 use isp_base::Gang;
 use isp_engine::{Failure, Image, compile};

@@ -7,7 +7,6 @@
 
 mod command;
 mod compile;
-mod laws;
 mod native;
 mod run;
 mod texts;
@@ -17,7 +16,6 @@ mod wasm;
 pub use command::{File, Used, isp_command};
 pub use compile::isp_compile;
 pub use isp_reports::{Report, Why};
-pub use laws::from_source;
 pub use native::isp_native;
 pub use run::{Job, isp_run};
 pub use texts::Text;

@@ -1,7 +1,7 @@
 //! Code text becomes a C file.
 ghost use Rattle.std.specs.Prelude.{◌≡◌, IfErr, IfOk, string_bytes};
-ghost use Rattle.isp_c.specs.Running.{NoCode};
-ghost use Rattle.isp_c.specs.Translating.{IsCFile, Translates};
+ghost use Rattle.isp_c_laws.specs.Running.{NoCode};
+ghost use Rattle.isp_c_laws.specs.Translating.{IsCFile, Translates};
 
 use crate::run::coded;
 use isp_engine::Failure;

@@ -10,7 +10,7 @@ ghost use Rattle.isp_engine.specs.declared.failure.Failure.TheVariants.{Memory};
 ghost use Rattle.isp_machine.specs.declared.stop.Stop.TheVariants.{Memory as StopMemory};
 ghost use Rattle.isp_packed.specs.Packing.{packed_answer};
 ghost use Rattle.isp_reports.specs.Refusals.{no_entry};
-ghost use Rattle.isp_c.specs.Running.{Binds, Delivers, NoBound, NoCode, NoLoad, NoRun, RunOf, Runs, Stops, answered, returned_bits};
+ghost use Rattle.isp_c_laws.specs.Running.{Binds, Delivers, NoBound, NoCode, NoLoad, NoRun, RunOf, Runs, Stops, answered, returned_bits};
 ghost use Rattle.isp_reports.specs.declared.refusal.Refusal.TheVariants.{Failed};
 
 use crate::texts::Text;

@@ -4,7 +4,7 @@ ghost use Rattle.isp_code.specs.Entries.{IsEntry};
 ghost use Rattle.isp_code.specs.Listing.{Routine};
 ghost use Rattle.isp_engine.specs.declared.failure.Failure.TheVariants.{Memory};
 ghost use Rattle.isp_traces.specs.Tracing.{TracedRun};
-ghost use Rattle.isp_c.specs.Running.{NoRun};
+ghost use Rattle.isp_c_laws.specs.Running.{NoRun};
 ghost use Rattle.isp_c.specs.Tracing.{TraceOf, Traces, window_of};
 ghost use Rattle.isp_reports.specs.declared.refusal.Refusal.TheVariants.{Failed};
 

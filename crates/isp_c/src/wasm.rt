@@ -1,7 +1,7 @@
 //! Code text becomes a module of WebAssembly.
 ghost use Rattle.std.specs.Prelude.{◌≡◌, IfErr, IfOk};
 ghost use Rattle.isp_wasm_module.specs.Refused.{explains, module_refusal};
-ghost use Rattle.isp_c.specs.Modules.{HasNoModule, IsModuleFile, MakesModule, NoModuleFile};
+ghost use Rattle.isp_c_laws.specs.Modules.{HasNoModule, IsModuleFile, MakesModule, NoModuleFile};
 
 use crate::run::coded;
 use isp_engine::Failure;

@@ -45,15 +45,16 @@ use Rattle.isp_runs.specs.declared.fault.RunFault.TheVariants as run_fault
 use Rattle.isp_runs.specs.declared.report.BoundReport.{BoundReport}
 use Rattle.isp_headline.specs.BoundHeadline.{BoundHeadline, DoesAsMeantBound}
 use Rattle.isp_headline.specs.Headline.{RunsAsMeant}
-use Rattle.isp_c.specs.Compiling.{Compiles, IsCodeText, IsText, NoCodeText}
-use Rattle.isp_c.specs.FromSource.{FromSource, FromSourceToC, Leaves, LeavesAll, LeavesArguments}
+use Rattle.isp_headline.specs.ModuleHeadline.{ModuleHeadline}
+use Rattle.isp_c_laws.specs.Compiling.{Compiles, IsCodeText, IsText, NoCodeText}
+use Rattle.isp_c_laws.specs.FromSource.{FromSource, FromSourceToC, Leaves, LeavesAll, LeavesArguments}
 use Rattle.isp_reports.specs.Refusals.{status_of}
 use Rattle.isp_reports.specs.Reports.{Done, Refuses}
 use Rattle.isp_reports.specs.Rooms.{Answers, Gives, fronted}
-use Rattle.isp_c.specs.FromSourceToWasm.{FromSourceToWasm}
-use Rattle.isp_c.specs.Modules.{IsModule, IsModuleFile, MakesModule, NoModuleFile}
-use Rattle.isp_c.specs.Running.{Delivers, NoCode, NoRun, Ran, RunOf, Runs, Stops, Takes, Tells, answered, returned_bits}
-use Rattle.isp_c.specs.Translating.{IsCFile, IsFile, Translates}
+use Rattle.isp_c_laws.specs.FromSourceToWasm.{FromSourceToWasm}
+use Rattle.isp_c_laws.specs.Modules.{IsModule, IsModuleFile, MakesModule, NoModuleFile}
+use Rattle.isp_c_laws.specs.Running.{Delivers, NoCode, NoRun, Ran, RunOf, Runs, Stops, Takes, Tells, answered, returned_bits}
+use Rattle.isp_c_laws.specs.Translating.{IsCFile, IsFile, Translates}
 use Rattle.isp_reports.specs.declared.refusal.Refusal.{Refusal}
 use Rattle.isp_reports.specs.declared.refusal.Refusal.TheVariants.{NoGang, Failed, Arguments, NoModule, Short}
 use Rattle.isp_reports.specs.declared.report.Report.{Report}
@@ -356,9 +357,10 @@ from_source_to_c one none gang source room text first wrote old new r x =
     let same : file.listing ≡ is.code = same_code one none (take first.used text) is.code is.loads file.listing file.loaded in
     (is.code, compiled gang source (take first.used text) is, subst (λ c. IsCText c (take r.used new)) same file.file_is)
 
-pub from_source_to_wasm : OneText → Faultless → FromSourceToWasm
-from_source_to_wasm one none gang source room text first wrote old new r x =
+pub from_source_to_wasm : OneText → Faultless → ModuleHeadline → FromSourceToWasm
+from_source_to_wasm one none law gang source room text first wrote old new r x =
     let is : IsCodeText (gang_width gang) source (take first.used text) = compiled_text (gang_width gang) source room text first wrote in
     let file : IsModuleFile (take first.used text) (take r.used new) = module_file (take first.used text) old new r x in
     let same : file.listing ≡ is.code = same_code one none (take first.used text) is.code is.loads file.listing file.loaded in
-    (is.code, compiled gang source (take first.used text) is, file.file_is ∙ ap file_of same)
+    let meant = compiled gang source (take first.used text) is in
+    (is.code, meant, file.file_is ∙ ap file_of same, law gang source is.code meant is.loads.fine is.loads.of.writable)

@@ -17,11 +17,11 @@ use Rattle.isp_runs.specs.Compilation.{IsCompilation}
 use Rattle.isp_front.specs.Front.{IsSource}
 use Rattle.isp_engine.specs.declared.failure.Failure.TheVariants.{BudgetUsed, Memory, Trapped}
 use Rattle.isp_headline.specs.Headline.{RunsAsMeant}
-use Rattle.isp_c.specs.Compiling.{Compiles}
+use Rattle.isp_c_laws.specs.Compiling.{Compiles}
 use Rattle.isp_reports.specs.Reports.{Done, Refuses}
 use Rattle.isp_reports.specs.Rooms.{fronted}
-use Rattle.isp_c.specs.Running.{Runs, returned_bits}
-use Rattle.isp_c.specs.Translating.{Translates}
+use Rattle.isp_c_laws.specs.Running.{Runs, returned_bits}
+use Rattle.isp_c_laws.specs.Translating.{Translates}
 use Rattle.isp_reports.specs.declared.refusal.Refusal.TheVariants.{Failed, Short}
 use Rattle.isp_reports.specs.declared.report.Report.{Report}
 

@@ -12,7 +12,7 @@ use Rattle.isp_wasm_file.specs.Lines.{refusal_line}
 use Rattle.isp_wasm_module.specs.Refused.{explains, module_refusal}
 use Rattle.isp_wasm_module.specs.declared.refusal.Refusal.{Refusal as Why}
 use Rattle.isp_wasm_module.specs.declared.refusal.Refusal.TheVariants as why
-use Rattle.isp_c.specs.Running.{NoCode}
+use Rattle.isp_c_laws.specs.Running.{NoCode}
 
 -- the file of the module of the code that a text is
 pub record IsModuleFile (code file : List ℕ) : Type 0 where

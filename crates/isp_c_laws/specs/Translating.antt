@@ -4,7 +4,7 @@ use Rattle.isp_code.specs.Listing.{Listing}
 use Rattle.isp_runs.specs.Loading.{IsLoaded}
 use Rattle.isp_native.specs.Text.{IsCText}
 use Rattle.isp_reports.specs.Rooms.{Answers}
-use Rattle.isp_c.specs.Running.{NoCode}
+use Rattle.isp_c_laws.specs.Running.{NoCode}
 use Rattle.isp_reports.specs.declared.refusal.Refusal.{Refusal}
 use Rattle.isp_reports.specs.declared.report.Report.{Report}
 
