@@ -1,5 +1,5 @@
 pub mod Exprs
-pub mod Verdicts
+mod ExprViews
 mod Bindings
 mod Shadows
 mod Headings

@@ -1,5 +1,4 @@
 -- What the functions of the code give. Nothing here is promised: proofs/ ties it to the rules.
-pub mod Judge
 pub mod Scopes
 pub mod Headings
 pub mod Parts

@@ -7,7 +7,7 @@ ghost use Rattle.isp_typed.specs.Verdicts.{both, found, made};
 ghost use Rattle.isp_typed.specs.Views.{place_of};
 ghost use Rattle.isp_exprs.specs.Passing.{h_value, handed_element, handed_reference};
 ghost use Rattle.isp_exprs.specs.Calls.{first_want, suits};
-ghost use Rattle.isp_exprs.specs.reader.Judge.{judge, judge_argument, judge_arguments, judge_call_of, judge_place};
+ghost use Rattle.isp_exprs.specs.Rules.{expr_typing, argument_typing, arguments_typing, call_of_typing, place_typing};
 ghost use Rattle.isp_exprs.specs.reader.Lists.{and_one, fault_of};
 ghost use Rattle.isp_exprs.specs.reader.Parts.{boxed_of, called_of, handed_of, list_passed, passed_of};
 
@@ -125,7 +125,7 @@ fn push(
 /// A variable or an element, with its type.
 #[cycle(expr)]
 pub fn place(setting: &Setting, scope: &Scope, p: &Place) -> Result<Verdict<TypedPlace>, AllocError>
-    ensures { IfOk result (λ v. made place_of v ≡ judge_place setting.now.gang setting.now.headers.now scope.now (read_place p.now)) }
+    ensures { IfOk result (λ v. made place_of v ≡ (place_typing setting.now.gang setting.now.headers.now scope.now (read_place p.now)).verdict) }
 {
     match p {
         Place::Variable(word) => Ok(variable_at(scope.named(word), word.span)),
@@ -139,13 +139,17 @@ pub fn place(setting: &Setting, scope: &Scope, p: &Place) -> Result<Verdict<Type
 /// What an argument is by itself.
 #[cycle(expr)]
 fn argument(setting: &Setting, scope: &Scope, x: &Argument) -> Result<Verdict<Handed>, AllocError>
-    ensures { IfOk result (λ v. made handed_of v ≡ judge_argument setting.now.gang setting.now.headers.now scope.now (read_argument x.now)) }
+    ensures { IfOk result (λ v. made handed_of v ≡ (argument_typing setting.now.gang setting.now.headers.now scope.now (read_argument x.now)).verdict) }
 {
     match x {
         Argument::Value(value) => match value {
-            Expr::Place(Place::Variable(word)) => {
-                handed_name(setting.alloc, scope.named(word), word.span)
-            }
+            Expr::Place(p) => match p {
+                Place::Variable(word) => handed_name(setting.alloc, scope.named(word), word.span),
+                Place::Element { .. } => {
+                    let value = expr(setting, scope, value)?;
+                    Ok(handed_value(value))
+                }
+            },
             Expr::Call {
                 function,
                 arguments,
@@ -158,7 +162,6 @@ fn argument(setting: &Setting, scope: &Scope, x: &Argument) -> Result<Verdict<Ha
             | Expr::Truth { .. }
             | Expr::ProgramIndex { .. }
             | Expr::ProgramCount { .. }
-            | Expr::Place(Place::Element { .. })
             | Expr::Brackets { .. }
             | Expr::Cast { .. }
             | Expr::Prefix { .. }
@@ -191,7 +194,7 @@ fn arguments(
     wants: &[Want],
     all: &[Argument],
 ) -> Result<Verdict<Vec<Passed>>, AllocError>
-    ensures { IfOk result (λ v. made (λ l. list_passed l.items) v ≡ judge_arguments setting.now.gang setting.now.headers.now scope.now past wants.now (listed (read_arguments all.now))) }
+    ensures { IfOk result (λ v. made (λ l. list_passed l.items) v ≡ (arguments_typing setting.now.gang setting.now.headers.now scope.now (listed (read_arguments all.now)) past wants.now).verdict) }
 {
     let mut done = Ok(Vec::new(setting.alloc));
     for (place, x) in all.iter().enumerate() {
@@ -211,7 +214,7 @@ pub fn call(
     all: &[Argument],
     span: Span,
 ) -> Result<Verdict<Called>, AllocError>
-    ensures { IfOk result (λ v. made called_of v ≡ judge_call_of setting.now.gang setting.now.headers.now scope.now function.now (listed (read_arguments all.now)) span) }
+    ensures { IfOk result (λ v. made called_of v ≡ (call_of_typing setting.now.gang setting.now.headers.now scope.now function.now (listed (read_arguments all.now)) span).verdict) }
 {
     let (callee, wants) = setting.headers.called(&function.name, all.len());
     let passed = arguments(setting, scope, asked_past(callee), wants, all)?;
@@ -230,7 +233,7 @@ pub fn expr(
     scope: &Scope,
     x: &Expr,
 ) -> Result<Verdict<Box<TypedExpr>>, AllocError>
-    ensures { IfOk result (λ v. made boxed_of v ≡ judge setting.now.gang setting.now.headers.now scope.now (read_expr x.now)) }
+    ensures { IfOk result (λ v. made boxed_of v ≡ (expr_typing setting.now.gang setting.now.headers.now scope.now (read_expr x.now)).verdict) }
 {
     let alloc = setting.alloc;
     match x {
@@ -298,7 +301,7 @@ pub fn argument_fault(
     want: Want,
     x: &Argument,
 ) -> Result<Option<Fault>, AllocError>
-    ensures { IfOk result (λ o. o ≡ fault_of (found (suits want (span_of_argument (read_argument x.now))) (judge_argument setting.now.gang setting.now.headers.now scope.now (read_argument x.now)))) }
+    ensures { IfOk result (λ o. o ≡ fault_of (found (suits want (span_of_argument (read_argument x.now))) (argument_typing setting.now.gang setting.now.headers.now scope.now (read_argument x.now)).verdict)) }
 {
     let handed = argument(setting, scope, x)?;
     match suits(setting.alloc, want, x.span(), handed)? {

@@ -13,8 +13,7 @@ use Rattle.isp_exprs.specs.declared.scope.Binding.{Binding}
 use Rattle.isp_exprs.specs.declared.callee.Callee.{Callee}
 use Rattle.isp_exprs.specs.declared.callee.Want.{Want}
 use Rattle.isp_exprs.specs.Callees.{Heading, callee, asked_past, unless_unknown}
-use Rattle.isp_exprs.specs.Rules.{count, callee_at, wants_at, past_at}
-use Rattle.isp_exprs.specs.reader.Judge.{judge_call_of}
+use Rattle.isp_exprs.specs.Rules.{count, callee_at, wants_at, past_at, call_of_typing}
 use Rattle.isp_exprs.specs.reader.Lists.{fault_of}
 use Rattle.isp_name_breaches.specs.reader.Exprs.{refusal, own, arguments_faults, call_of_faults}
 
@@ -35,7 +34,7 @@ module _ (gang : Gang) (hs : List Heading) (ns : List Binding) where
       → ◌≡◌ {A = Callee × List Want} (c, ws) (callee hs w.name (length xs))
       → past ≡ asked_past c
       → known ≡ unless_unknown w c
-      → o ≡ fault_of (judge_call_of gang hs ns w (listed (arguments_of xs)) s)
+      → o ≡ fault_of (call_of_typing gang hs ns w (listed (arguments_of xs)) s).verdict
       → o ≡ Some f
       → own (refusal known ++ arguments_faults gang hs ns past ws (listed (arguments_of xs))) (Some f) ≡ call_of_faults gang hs ns w (listed (arguments_of xs)) s
   call_told w xs s c past ws known o f k a u d e =

@@ -19,14 +19,13 @@ use Rattle.isp_exprs.specs.Passing.{value_called}
 use Rattle.isp_exprs.specs.Callees.{Heading, unless_unknown}
 use Rattle.isp_exprs.specs.Calls.{suits, first_want, rest_of, call_of}
 use Rattle.isp_exprs.specs.Rules.{callee_at, wants_at, past_at, pair_then, call_of_typing, expr_typing, place_typing, argument_typing, arguments_typing}
-use Rattle.isp_exprs.specs.reader.Judge.{judge, judge_argument, judge_arguments, judge_call_of}
 use Rattle.isp_exprs.specs.reader.Lists.{fault_of}
 use Rattle.isp_exprs.proofs.Exprs.{RightTyping, expr_right, argument_right, call_of_right}
 use Rattle.isp_name_breaches.specs.reader.Exprs.{expr_faults, call_faults, argument_faults, arguments_faults, passed_faults, call_of_faults}
 use Rattle.isp_name_breaches.proofs.Listed.{Lists, none_lists, refusal_lists, either_lists, own_lists, made_lists, sound_lists}
 
 module _ (gang : Gang) (hs : List Heading) (ns : List Binding) where
-  arguments_right : (xs : Arguments) (past : Want) (ws : List Want) → RightTyping (judge_arguments gang hs ns past ws xs) (arguments_typing gang hs ns xs past ws)
+  arguments_right : (xs : Arguments) (past : Want) (ws : List Want) → RightTyping (arguments_typing gang hs ns xs past ws)
   arguments_right no_arguments past ws = just_right []
   arguments_right (argument_then x xs) past ws = made_right pair_then _ _ _
       (both_right _ _ _ _ _ _ (found_right (suits (first_want past ws) (span_of_argument x)) _ _ _ (argument_right gang hs ns x)) (arguments_right xs past (rest_of ws)))
@@ -82,12 +81,12 @@ module _ (gang : Gang) (hs : List Heading) (ns : List Binding) where
 
   -- ---- where the checker finds something, there is no fault
 
-  pub expr_sound : (x : Expr) (o : Option Fault) → o ≡ fault_of (judge gang hs ns x) → o ≡ None → expr_faults gang hs ns x ≡ []
+  pub expr_sound : (x : Expr) (o : Option Fault) → o ≡ fault_of (expr_typing gang hs ns x).verdict → o ≡ None → expr_faults gang hs ns x ≡ []
   expr_sound x o e n = sound_lists _ _ _ _ (expr_lists x) (expr_right gang hs ns x) (sym e ∙ n)
 
-  pub call_sound : (w : Word) (xs : Arguments) (s : Span) (o : Option Fault) → o ≡ fault_of (judge_call_of gang hs ns w xs s) → o ≡ None → call_of_faults gang hs ns w xs s ≡ []
+  pub call_sound : (w : Word) (xs : Arguments) (s : Span) (o : Option Fault) → o ≡ fault_of (call_of_typing gang hs ns w xs s).verdict → o ≡ None → call_of_faults gang hs ns w xs s ≡ []
   call_sound w xs s o e n = sound_lists _ _ _ _ (call_of_lists w xs s) (call_of_right gang hs ns w xs s) (sym e ∙ n)
 
-  pub passed_sound : (want : Want) (x : Argument) (o : Option Fault) → o ≡ fault_of (found (suits want (span_of_argument x)) (judge_argument gang hs ns x)) → o ≡ None → passed_faults gang hs ns want x ≡ []
+  pub passed_sound : (want : Want) (x : Argument) (o : Option Fault) → o ≡ fault_of (found (suits want (span_of_argument x)) (argument_typing gang hs ns x).verdict) → o ≡ None → passed_faults gang hs ns want x ≡ []
   passed_sound want x o e n = sound_lists _ _ _ _
       (own_lists (suits want (span_of_argument x)) _ _ _ _ (argument_lists x) (argument_right gang hs ns x)) (found_right (suits want (span_of_argument x)) _ _ _ (argument_right gang hs ns x)) (sym e ∙ n)

@@ -1,5 +1,6 @@
 mod Listed
 mod Steps
+mod Nodes
 mod Exprs
 mod Calls
 mod Stmts

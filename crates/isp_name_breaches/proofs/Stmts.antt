@@ -23,7 +23,6 @@ use Rattle.isp_exprs.specs.Callees.{Heading}
 use Rattle.isp_exprs.specs.Rules.{expr_typing}
 use Rattle.isp_exprs.specs.reader.Lists.{fault_of}
 use Rattle.isp_exprs.proofs.Exprs.{expr_right}
-use Rattle.isp_types.specs.reader.JudgeStmts.{judge_target}
 use Rattle.isp_types.proofs.Stmts.{stmt_right}
 use Rattle.isp_types.specs.Numbering.{or_nothing, item_names, item_variables, first_names, first_variables, range_names, range_variables, unique_names, unique_variables, names_after, variables_after}
 use Rattle.isp_types.specs.Declarations.{array_sized, item_typing, items_typing, declaration_typing}
@@ -64,7 +63,7 @@ module _ (gang : Gang) (hs : List Heading) where
   target_lists ns (call w xs s) = own_lists (no_place s) _ _ _ _ (expr_lists gang hs ns (call w xs s)) (expr_right gang hs ns (call w xs s))
 
   -- A step by one has the breaches of its target, so the checker is right on targets as it is on statements.
-  pub target_sound : (ns : List Binding) (x : Expr) (o : Option Fault) → o ≡ fault_of (judge_target gang hs ns x) → o ≡ None → target_faults gang hs ns x ≡ []
+  pub target_sound : (ns : List Binding) (x : Expr) (o : Option Fault) → o ≡ fault_of (target_typing gang hs ns x).verdict → o ≡ None → target_faults gang hs ns x ≡ []
   target_sound ns x o e n =
       let step = simple (change Increment x (span_of x)) (span_of x) in
       sound_lists _ _ _ _ (target_lists ns x) (stmt_right gang hs (Ok None) ns 0 [] step) (made_fault _ _ ∙ (made_fault _ _ ∙ (sym e ∙ n)))

@@ -3,7 +3,7 @@
 ghost use Rattle.std.specs.Prelude.{◌≡◌, ◌++◌, IfOk, Some};
 ghost use Rattle.isp_tree.specs.Tree.{listed};
 ghost use Rattle.isp_tree.specs.Views.{argument_of as read_argument, arguments_of as read_arguments, expr_of as read_expr, place_of as read_place};
-ghost use Rattle.isp_exprs.specs.reader.Judge.{judge};
+ghost use Rattle.isp_exprs.specs.Rules.{expr_typing};
 ghost use Rattle.isp_exprs.specs.reader.Lists.{fault_of};
 ghost use Rattle.isp_types.specs.reader.Settings.{within};
 ghost use Rattle.isp_name_breaches.specs.reader.Exprs.{argument_faults, arguments_faults, call_of_faults, expr_faults, parts_faults, passed_faults};
@@ -43,7 +43,7 @@ fn faulty(
     fault: Fault,
     x: &Expr,
 ) -> Result<(), AllocError>
-    requires { fault_of (within setting.now judge scope.now (read_expr x.now)) ≡ Some fault }
+    requires { fault_of (within setting.now expr_typing scope.now (read_expr x.now)).verdict ≡ Some fault }
     ensures { IfOk result (λ u. found.new.items ≡ found.old.items ++ within setting.now expr_faults scope.now (read_expr x.now)) }
 {
     let before = found.len();

@@ -22,11 +22,9 @@ use Rattle.isp_exprs.specs.declared.scope.Binding.{Binding}
 use Rattle.isp_exprs.specs.Callees.{Heading}
 use Rattle.isp_exprs.specs.Words.{value_said, answer_said}
 use Rattle.isp_exprs.specs.Rules.{second}
-use Rattle.isp_types.specs.Functions.{param_variable, param_names, params_names, param_fits, heading, is_free, variables_of, function_made, program_made, IsProgram, Breach}
-use Rattle.isp_types.specs.reader.JudgeStmts.{twice}
-use Rattle.isp_types.specs.reader.JudgeFunctions.{judge_body, judge_function, judge_functions}
+use Rattle.isp_types.specs.Functions.{param_variable, param_names, params_names, param_fits, heading, is_free, variables_of, function_made, program_made, IsProgram, Breach, body_typing, functions_typing}
 use Rattle.isp_exprs.specs.reader.Lists.{and_one, fault_of}
-use Rattle.isp_types.specs.reader.Lists.{param_fault, function_of_parts}
+use Rattle.isp_types.specs.reader.Lists.{param_fault, function_of_parts, twice, function_verdict}
 use Rattle.isp_types.proofs.Functions.{program_right}
 use Rattle.isp_types.proofs.Joined.{joined, joined_step, beside_assoc}
 
@@ -48,22 +46,22 @@ module _ (gang : Gang) (hs : List Heading) where
   -- the rest of a body after one more parameter
   pub params_step : (answer : Result (Option Ty) Fault) (ns : List Binding) (vars : List Variable) (rest more : List rust_param.Param) (b : Block) (total : Result TBlock Fault) (seen : Option Fault) (p : rust_param.Param)
       → rest ≡ p ∷ more
-      → beside seen (judge_body gang hs answer ns vars (map read_param rest) b) ≡ total
+      → beside seen (body_typing gang hs answer ns vars (map read_param rest) b).verdict ≡ total
       → beside (first_of seen (param_fault ns (read_param p)))
-      (judge_body gang hs answer (param_names ns vars (read_param p)) (vars ++ param_variable (read_param p) ∷ []) (map read_param more) b) ≡ total
+      (body_typing gang hs answer (param_names ns vars (read_param p)) (vars ++ param_variable (read_param p) ∷ []) (map read_param more) b).verdict ≡ total
   params_step answer ns vars rest more b total seen p split h =
       three_beside seen (twice p.word 0 ns) (fault_unless (param_fits (read_param p)) (fault Mismatch p.word.span)) (value_said (read_param p).ty)
-      (judge_body gang hs answer (param_names ns vars (read_param p)) (vars ++ param_variable (read_param p) ∷ []) (map read_param more) b)
-      ∙ subst (λ (z : List rust_param.Param). beside seen (judge_body gang hs answer ns vars (map read_param z) b) ≡ total) split h
+      (body_typing gang hs answer (param_names ns vars (read_param p)) (vars ++ param_variable (read_param p) ∷ []) (map read_param more) b).verdict
+      ∙ subst (λ (z : List rust_param.Param). beside seen (body_typing gang hs answer ns vars (map read_param z) b).verdict ≡ total) split h
 
   pub functions_step : (taken : List (List ℕ)) (rest more : List rust_function.Function) (total : Result (List TFunction) Fault) (a : Result (List TFunction) Fault) (f : rust_function.Function)
       → rest ≡ f ∷ more
-      → joined a (judge_functions gang hs taken (map read_function rest)) ≡ total
-      → joined (made and_one (both a (judge_function gang hs (fault_unless (is_free taken f.word.name) (fault NameTwice f.word.span)) (read_function f))))
-      (judge_functions gang hs (taken ++ f.word.name ∷ []) (map read_function more)) ≡ total
+      → joined a (functions_typing gang hs taken (map read_function rest)).verdict ≡ total
+      → joined (made and_one (both a (function_verdict gang hs (fault_unless (is_free taken f.word.name) (fault NameTwice f.word.span)) (read_function f))))
+      (functions_typing gang hs (taken ++ f.word.name ∷ []) (map read_function more)).verdict ≡ total
   functions_step taken rest more total a f split h =
-      joined_step a (judge_function gang hs (fault_unless (is_free taken f.word.name) (fault NameTwice f.word.span)) (read_function f)) (judge_functions gang hs (taken ++ f.word.name ∷ []) (map read_function more))
-      ∙ subst (λ (z : List rust_function.Function). joined a (judge_functions gang hs taken (map read_function z)) ≡ total) split h
+      joined_step a (function_verdict gang hs (fault_unless (is_free taken f.word.name) (fault NameTwice f.word.span)) (read_function f)) (functions_typing gang hs (taken ++ f.word.name ∷ []) (map read_function more)).verdict
+      ∙ subst (λ (z : List rust_function.Function). joined a (functions_typing gang hs taken (map read_function z)).verdict ≡ total) split h
 
 -- the names after one more parameter
 pub params_names_step : (ns : List Binding) (vars : List Variable) (rest more : List rust_param.Param) (total : List Binding) (p : rust_param.Param) → rest ≡ p ∷ more
@@ -94,19 +92,19 @@ module _ {A B D E : Type 0} (view : B → D) (make : A × D → E) (o : Option F
 
 -- a function of its parts, or the fault of them
 module _ (gang : Gang) (hs : List Heading) (f : Function) (taken : Option Fault) where
-  judged : (ans : Result (Option Ty) Fault) → ans ≡ answer_said f.answer → made (function_made gang hs f) (beside taken (both ans (judge_body gang hs ans [] [] f.params f.body))) ≡ judge_function gang hs taken f
-  judged ans e = ap (λ z. made (function_made gang hs f) (beside taken (both z (judge_body gang hs z [] [] f.params f.body)))) e
+  judged : (ans : Result (Option Ty) Fault) → ans ≡ answer_said f.answer → made (function_made gang hs f) (beside taken (both ans (body_typing gang hs ans [] [] f.params f.body).verdict)) ≡ function_verdict gang hs taken f
+  judged ans e = ap (λ z. made (function_made gang hs f) (beside taken (both z (body_typing gang hs z [] [] f.params f.body).verdict))) e
 
   pub function_found : {B : Type 0} (view : B → TBlock) (ans : Result (Option Ty) Fault) (w : Result B Fault) (g : TFunction) (vars : List Variable) (a : Option Ty) (b : B)
       → g ≡ function_of_parts f a vars (view b) → vars ≡ variables_of gang hs f → ans ≡ answer_said f.answer
-      → made view w ≡ judge_body gang hs ans [] [] f.params f.body → beside taken (both ans w) ≡ Ok (a, b) → Ok g ≡ judge_function gang hs taken f
+      → made view w ≡ (body_typing gang hs ans [] [] f.params f.body).verdict → beside taken (both ans w) ≡ Ok (a, b) → Ok g ≡ function_verdict gang hs taken f
   function_found view ans w g vars a b p q e m h =
       ap (λ z. Ok z) (p ∙ ap (λ z. function_of_parts f a z (view b)) q)
-      ∙ (parts_found view (function_made gang hs f) taken ans w (judge_body gang hs ans [] [] f.params f.body) a b m h ∙ judged ans e)
+      ∙ (parts_found view (function_made gang hs f) taken ans w (body_typing gang hs ans [] [] f.params f.body).verdict a b m h ∙ judged ans e)
 
   pub function_fails : {B : Type 0} (view : B → TBlock) (ans : Result (Option Ty) Fault) (w : Result B Fault) (x : Fault) → ans ≡ answer_said f.answer
-      → made view w ≡ judge_body gang hs ans [] [] f.params f.body → beside taken (both ans w) ≡ Err x → Err x ≡ judge_function gang hs taken f
-  function_fails view ans w x e m h = parts_fail view (function_made gang hs f) taken ans w (judge_body gang hs ans [] [] f.params f.body) x m h ∙ judged ans e
+      → made view w ≡ (body_typing gang hs ans [] [] f.params f.body).verdict → beside taken (both ans w) ≡ Err x → Err x ≡ function_verdict gang hs taken f
+  function_fails view ans w x e m h = parts_fail view (function_made gang hs f) taken ans w (body_typing gang hs ans [] [] f.params f.body).verdict x m h ∙ judged ans e
 
 -- the body of a function, with the fault of its parameters
 pub body_seen : {B : Type 0} (view : B → TBlock) (seen : Option Fault) (w : Result B Fault) (inner whole : Result TBlock Fault) → made view w ≡ inner → beside seen inner ≡ whole → made view (beside seen w) ≡ whole
@@ -124,11 +122,11 @@ pub fault_is : (f g : Fault) → Refused f ≡ Refused g → f ≡ g
 fault_is f g e = cc
 
 module _ (gang : Gang) (fs : List Function) where
-  verdict : (v : Result (List TFunction) Fault) → v ≡ judge_functions gang (map heading fs) [] fs → Right (made (program_made gang) v) (IsProgram gang fs) (Breach gang fs)
+  verdict : (v : Result (List TFunction) Fault) → v ≡ (functions_typing gang (map heading fs) [] fs).verdict → Right (made (program_made gang) v) (IsProgram gang fs) (Breach gang fs)
   verdict v e = subst (λ (z : Result (List TFunction) Fault). Right (made (program_made gang) z) (IsProgram gang fs) (Breach gang fs)) (sym e) (program_right gang fs)
 
-  pub accepted : (gs : List TFunction) → Ok gs ≡ judge_functions gang (map heading fs) [] fs → Accepts (IsProgram gang fs) (Breach gang fs) (program_made gang gs)
+  pub accepted : (gs : List TFunction) → Ok gs ≡ (functions_typing gang (map heading fs) [] fs).verdict → Accepts (IsProgram gang fs) (Breach gang fs) (program_made gang gs)
   accepted gs e = (verdict (Ok gs) e).by
 
-  pub refused : (f : Fault) → Err f ≡ judge_functions gang (map heading fs) [] fs → Refuses (IsProgram gang fs) (Breach gang fs) f
+  pub refused : (f : Fault) → Err f ≡ (functions_typing gang (map heading fs) [] fs).verdict → Refuses (IsProgram gang fs) (Breach gang fs) f
   refused f e = (verdict (Err f) e).by

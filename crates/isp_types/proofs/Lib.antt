@@ -7,6 +7,7 @@ pub mod FunctionSteps
 pub mod ItemSteps
 pub mod NamesKept
 pub mod Unique
+mod ExprTrees
 pub mod StmtTrees
 pub mod StmtSteps
 pub mod StmtParts

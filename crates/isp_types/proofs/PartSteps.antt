@@ -33,37 +33,36 @@ use Rattle.isp_exprs.specs.declared.scope.Binding.{Binding}
 use Rattle.isp_exprs.specs.Scopes.{with_name}
 use Rattle.isp_exprs.specs.Callees.{Heading}
 use Rattle.isp_types.specs.Numbering.{range_names, range_variables}
-use Rattle.isp_types.specs.Statements.{range_made, agrees, as_answer}
+use Rattle.isp_types.specs.Statements.{range_made, agrees, as_answer, ranges_typing, returned_typing, values_typing}
 use Rattle.isp_typed.specs.Indices.{foreach_index as index}
-use Rattle.isp_exprs.specs.reader.Judge.{judge}
-use Rattle.isp_types.specs.reader.JudgeStmts.{twice, judge_ranges, judge_returned, judge_values}
+use Rattle.isp_exprs.specs.Rules.{expr_typing}
 use Rattle.isp_exprs.specs.reader.Lists.{and_one}
-use Rattle.isp_types.specs.reader.Lists.{agrees_with, judge_bounds}
+use Rattle.isp_types.specs.reader.Lists.{agrees_with, bounds_verdict, twice}
 use Rattle.isp_types.proofs.Joined.{joined, joined_step, joined_last, some_made}
 
 module _ (gang : Gang) (hs : List Heading) (ns : List Binding) where
   pub values_step : (rest more : List rust.Expr) (total : Result (List TExpr) Fault) (a : Result (List TExpr) Fault) (x : rust.Expr) → rest ≡ x ∷ more
-      → joined a (judge_values gang hs ns (map read_expr rest)) ≡ total
-      → joined (made and_one (both a (judge gang hs ns (read_expr x)))) (judge_values gang hs ns (map read_expr more)) ≡ total
+      → joined a (values_typing gang hs ns (map read_expr rest)).verdict ≡ total
+      → joined (made and_one (both a (expr_typing gang hs ns (read_expr x)).verdict)) (values_typing gang hs ns (map read_expr more)).verdict ≡ total
   values_step rest more total a x split e =
-      joined_step a (judge gang hs ns (read_expr x)) (judge_values gang hs ns (map read_expr more))
-      ∙ subst (λ (z : List rust.Expr). joined a (judge_values gang hs ns (map read_expr z)) ≡ total) split e
+      joined_step a (expr_typing gang hs ns (read_expr x)).verdict (values_typing gang hs ns (map read_expr more)).verdict
+      ∙ subst (λ (z : List rust.Expr). joined a (values_typing gang hs ns (map read_expr z)).verdict ≡ total) split e
 
   pub ranges_step : (start : ℕ) (is : List Binding) (vars : List Variable) (rest more : List rust_range.Range) (total : Result (List TRange) Fault) (a : Result (List TRange) Fault) (r : rust_range.Range)
       → rest ≡ r ∷ more
-      → joined a (judge_ranges gang hs ns start is vars (map read_range rest)) ≡ total
-      → joined (made and_one (both a (made (range_made (length vars) r.span) (beside (twice r.word start is) (judge_bounds gang hs ns (read_range r))))))
-      (judge_ranges gang hs ns start (with_name is vars r.word.name (Ok index)) (vars ++ index ∷ []) (map read_range more)) ≡ total
+      → joined a (ranges_typing gang hs ns start is vars (map read_range rest)).verdict ≡ total
+      → joined (made and_one (both a (made (range_made (length vars) r.span) (beside (twice r.word start is) (bounds_verdict gang hs ns (read_range r))))))
+      (ranges_typing gang hs ns start (with_name is vars r.word.name (Ok index)) (vars ++ index ∷ []) (map read_range more)).verdict ≡ total
   ranges_step start is vars rest more total a r split e =
-      joined_step a (made (range_made (length vars) r.span) (beside (twice r.word start is) (judge_bounds gang hs ns (read_range r))))
-      (judge_ranges gang hs ns start (with_name is vars r.word.name (Ok index)) (vars ++ index ∷ []) (map read_range more))
-      ∙ subst (λ (z : List rust_range.Range). joined a (judge_ranges gang hs ns start is vars (map read_range z)) ≡ total) split e
+      joined_step a (made (range_made (length vars) r.span) (beside (twice r.word start is) (bounds_verdict gang hs ns (read_range r))))
+      (ranges_typing gang hs ns start (with_name is vars r.word.name (Ok index)) (vars ++ index ∷ []) (map read_range more)).verdict
+      ∙ subst (λ (z : List rust_range.Range). joined a (ranges_typing gang hs ns start is vars (map read_range z)).verdict ≡ total) split e
 
   -- where no range is left
   pub ranges_end : (start : ℕ) (is : List Binding) (vars : List Variable) (rest : List rust_range.Range) (total : Result (List TRange) Fault) (a : Result (List TRange) Fault)
-      → rest ≡ [] → joined a (judge_ranges gang hs ns start is vars (map read_range rest)) ≡ total → a ≡ total
+      → rest ≡ [] → joined a (ranges_typing gang hs ns start is vars (map read_range rest)).verdict ≡ total → a ≡ total
   ranges_end start is vars rest total a none e =
-      sym (joined_last a) ∙ subst (λ (z : List rust_range.Range). joined a (judge_ranges gang hs ns start is vars (map read_range z)) ≡ total) none e
+      sym (joined_last a) ∙ subst (λ (z : List rust_range.Range). joined a (ranges_typing gang hs ns start is vars (map read_range z)).verdict ≡ total) none e
 
 pub range_names_step : (is : List Binding) (vars : List Variable) (rest more : List rust_range.Range) (total : List Binding) (r : rust_range.Range) → rest ≡ r ∷ more
     → range_names is vars (map read_range rest) ≡ total → range_names (with_name is vars r.word.name (Ok index)) (vars ++ index ∷ []) (map read_range more) ≡ total
@@ -121,9 +120,9 @@ agrees_same (Ok (Some t)) y = refl
 
 module _ (gang : Gang) (hs : List Heading) (ns : List Binding) where
   pub returned_is : (answer : Result (Option Ty) Fault) (k : Span) (y : Expr) (seen : Option Fault) (v w : Result (Box TypedExpr) Fault)
-      → seen ≡ fault_unless (agrees_with answer true) (fault Mismatch k) → made boxed_of w ≡ made (as_answer answer) (made boxed_of v) → made boxed_of v ≡ judge gang hs ns y
-      → made (option_map boxed_of) (beside seen (made (λ t. Some t) w)) ≡ judge_returned gang hs answer ns k (Some y)
+      → seen ≡ fault_unless (agrees_with answer true) (fault Mismatch k) → made boxed_of w ≡ made (as_answer answer) (made boxed_of v) → made boxed_of v ≡ (expr_typing gang hs ns y).verdict
+      → made (option_map boxed_of) (beside seen (made (λ t. Some t) w)) ≡ (returned_typing gang hs answer ns k (Some y)).verdict
   returned_is answer k y seen v w s p q =
       beside_made (option_map boxed_of) seen (made (λ t. Some t) w)
       ∙ (ap (beside seen) (some_made boxed_of w ∙ ap (made (λ b. Some b)) (p ∙ ap (made (as_answer answer)) q))
-      ∙ ap (λ o. beside o (made (λ b. Some b) (made (as_answer answer) (judge gang hs ns y)))) (s ∙ ap (λ b. fault_unless b (fault Mismatch k)) (agrees_same answer y)))
+      ∙ ap (λ o. beside o (made (λ b. Some b) (made (as_answer answer) (expr_typing gang hs ns y).verdict))) (s ∙ ap (λ b. fault_unless b (fault Mismatch k)) (agrees_same answer y)))

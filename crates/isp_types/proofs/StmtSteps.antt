@@ -19,7 +19,7 @@ use Rattle.isp_exprs.specs.declared.scope.Binding.{Binding}
 use Rattle.isp_exprs.specs.Callees.{Heading}
 use Rattle.isp_types.specs.Numbering.{names_after, variables_after, stmts_variables}
 use Rattle.isp_types.specs.Nodes.{stmts_made}
-use Rattle.isp_types.specs.reader.JudgeStmts.{judge_stmt, judge_stmts}
+use Rattle.isp_types.specs.Statements.{stmt_typing, stmts_typing}
 use Rattle.isp_exprs.specs.reader.Lists.{and_one}
 
 -- a statement has at most the nodes of all
@@ -71,12 +71,12 @@ split_at xs i x h e = drop-cons xs i x h ∙ cons_is _ _ _ _ (sym e) (ap (λ n. 
 module _ (gang : Gang) (hs : List Heading) (answer : Result (Option Ty) Fault) where
   pub stmts_step : (ns : List Binding) (start : ℕ) (vars : List Variable) (rest more : List rust.Stmt) (total : Result TStmts Fault) (a : Result (List TStmt) Fault) (x : rust.Stmt)
       → rest ≡ x ∷ more
-      → joined a (judge_stmts gang hs answer ns start vars (all (stmts_of rest))) ≡ total
-      → joined (made and_one (both a (judge_stmt gang hs answer ns start vars (stmt_of x))))
-      (judge_stmts gang hs answer (names_after gang ns vars (stmt_of x)) start (variables_after gang hs ns vars (stmt_of x)) (all (stmts_of more))) ≡ total
+      → joined a (stmts_typing gang hs answer ns start vars (all (stmts_of rest))).verdict ≡ total
+      → joined (made and_one (both a (stmt_typing gang hs answer ns start vars (stmt_of x)).verdict))
+      (stmts_typing gang hs answer (names_after gang ns vars (stmt_of x)) start (variables_after gang hs ns vars (stmt_of x)) (all (stmts_of more))).verdict ≡ total
   stmts_step ns start vars rest more total a x split e =
-      joined_step a (judge_stmt gang hs answer ns start vars (stmt_of x)) (judge_stmts gang hs answer (names_after gang ns vars (stmt_of x)) start (variables_after gang hs ns vars (stmt_of x)) (all (stmts_of more)))
-      ∙ subst (λ (z : List rust.Stmt). joined a (judge_stmts gang hs answer ns start vars (all (stmts_of z))) ≡ total) split e
+      joined_step a (stmt_typing gang hs answer ns start vars (stmt_of x)).verdict (stmts_typing gang hs answer (names_after gang ns vars (stmt_of x)) start (variables_after gang hs ns vars (stmt_of x)) (all (stmts_of more))).verdict
+      ∙ subst (λ (z : List rust.Stmt). joined a (stmts_typing gang hs answer ns start vars (all (stmts_of z))).verdict ≡ total) split e
 
 pub variables_step : (gang : Gang) (hs : List Heading) (ns : List Binding) (vars : List Variable) (rest more : List rust.Stmt) (total : List Variable) (x : rust.Stmt) → rest ≡ x ∷ more
     → stmts_variables gang hs ns vars (all (stmts_of rest)) ≡ total

@@ -1,4 +1,4 @@
--- The judge is right on statements.
+-- The verdict of each rule of statements is right.
 use Rattle.std.specs.Prelude.{ℕ, List, [], ◌∷◌, ◌++◌, length, ◌==◌, Option, Result, Ok}
 use Rattle.isp_base.specs.declared.types.Gang.{Gang}
 use Rattle.isp_base.specs.declared.types.Span.{Span}
@@ -21,22 +21,17 @@ use Rattle.isp_exprs.specs.Places.{variable_target, element_target}
 use Rattle.isp_exprs.specs.Callees.{Heading}
 use Rattle.isp_exprs.specs.Rules.{second, pair_then}
 use Rattle.isp_types.specs.Numbering.{or_nothing, item_names, item_variables, first_names, first_variables, range_names, range_variables, unique_names, unique_variables, names_after, variables_after}
-use Rattle.isp_types.specs.Declarations.{array_sized, with_initial, sized_item}
-use Rattle.isp_types.specs.Simple.{stated, assigned, stepped}
-use Rattle.isp_types.specs.Statements.{as_test, range_made, places, agrees, as_answer}
+use Rattle.isp_types.specs.Declarations.{array_sized, with_initial, sized_item, item_typing, items_typing, declaration_typing}
+use Rattle.isp_types.specs.Simple.{no_place, stated, assigned, stepped, target_typing, simple_typing}
+use Rattle.isp_types.specs.Statements.{as_test, range_made, places, agrees, as_answer, first_typing, test_typing, ranges_typing, values_typing, returned_typing, stmt_typing, block_typing, stmts_typing}
 use Rattle.isp_typed.specs.Indices.{foreach_index as index, active_index}
-use Rattle.isp_types.specs.Simple.{no_place}
 use Rattle.isp_types.specs.Nodes.{declared_first, declared_stmt, simple_stmt, if_stmt, if_else_stmt, while_stmt, do_stmt, for_stmt, foreach_stmt, active_stmt, unique_stmt, unmasked_stmt, return_stmt, print_stmt, assert_stmt, braces_made, stmts_made}
-use Rattle.isp_types.specs.Declarations.{item_typing, items_typing, declaration_typing}
-use Rattle.isp_types.specs.Simple.{target_typing, simple_typing}
-use Rattle.isp_types.specs.Statements.{first_typing, test_typing, ranges_typing, values_typing, returned_typing, stmt_typing, block_typing, stmts_typing}
-use Rattle.isp_types.specs.reader.JudgeStmts.{judge_item, judge_items, judge_declaration, judge_target, judge_simple, judge_first, judge_test, judge_ranges, judge_values, judge_returned, judge_stmt, judge_block, judge_stmts}
 use Rattle.isp_exprs.proofs.Exprs.{RightTyping, call_of_right, expr_right}
 
 module _ (gang : Gang) (hs : List Heading) where
   module _ (r : Result ValueWords Fault) (start : ℕ) where
     item_right : (ns : List Binding) (vars : List Variable) (i : Item)
-        → RightTyping (judge_item gang hs r start ns vars i) (item_typing gang hs r start ns vars i)
+        → RightTyping (item_typing gang hs r start ns vars i)
     item_right ns vars (plain w) = beside_right (is_new w.name start ns) (fault NameTwice w.span) _ _ _ (just_right _)
     item_right ns vars (with_value w x s) = made_right (with_initial (length vars) (type_declared (or_nothing r)) s) _ _ _
         (beside_right (is_new w.name start ns) (fault NameTwice w.span) _ _ _ (expr_right gang hs ns x))
@@ -44,16 +39,16 @@ module _ (gang : Gang) (hs : List Heading) where
         (beside_right (is_new w.name start ns) (fault NameTwice w.span) _ _ _ (given_right (array_sized gang (length vars) (or_nothing r) n)))
 
     items_right : (ns : List Binding) (vars : List Variable) (is : List Item)
-        → RightTyping (judge_items gang hs r start ns vars is) (items_typing gang hs r start ns vars is)
+        → RightTyping (items_typing gang hs r start ns vars is)
     items_right ns vars [] = just_right []
     items_right ns vars (i ∷ is) = made_right pair_then _ _ _
         (both_right _ _ _ _ _ _ (item_right ns vars i) (items_right (item_names gang r ns vars i) (item_variables gang r vars i) is))
 
   declaration_right : (ns : List Binding) (start : ℕ) (vars : List Variable) (d : Declaration)
-      → RightTyping (judge_declaration gang hs ns start vars d) (declaration_typing gang hs ns start vars d)
+      → RightTyping (declaration_typing gang hs ns start vars d)
   declaration_right ns start vars d = made_right second _ _ _ (both_right _ _ _ _ _ _ (given_right (value_said d.ty)) (items_right (value_said d.ty) start ns vars d.items))
 
-  target_right : (ns : List Binding) (x : Expr) → RightTyping (judge_target gang hs ns x) (target_typing gang hs ns x)
+  target_right : (ns : List Binding) (x : Expr) → RightTyping (target_typing gang hs ns x)
   target_right ns (place (variable w)) = found_right (variable_target w.span) _ _ _ (given_right (named ns w))
   target_right ns (place (element w x s)) = found_right (element_target s) _ _ _ (both_right _ _ _ _ _ _ (given_right (named ns w)) (expr_right gang hs ns x))
   target_right ns (number v s) = found_right (no_place s) _ _ _ (expr_right gang hs ns (number v s))
@@ -67,7 +62,7 @@ module _ (gang : Gang) (hs : List Heading) where
   target_right ns (choose c x y s) = found_right (no_place s) _ _ _ (expr_right gang hs ns (choose c x y s))
   target_right ns (call w xs s) = found_right (no_place s) _ _ _ (expr_right gang hs ns (call w xs s))
 
-  simple_right : (ns : List Binding) (p : Simple) → RightTyping (judge_simple gang hs ns p) (simple_typing gang hs ns p)
+  simple_right : (ns : List Binding) (p : Simple) → RightTyping (simple_typing gang hs ns p)
   simple_right ns (value (call w xs s)) = made_right stated _ _ _ (call_of_right gang hs ns w xs s)
   simple_right ns (value (number v s)) = made_right t_value _ _ _ (expr_right gang hs ns (number v s))
   simple_right ns (value (truth b s)) = made_right t_value _ _ _ (expr_right gang hs ns (truth b s))
@@ -83,34 +78,34 @@ module _ (gang : Gang) (hs : List Heading) where
   simple_right ns (change c t s) = made_right (stepped c s) _ _ _ (target_right ns t)
 
   first_right : (ns : List Binding) (start : ℕ) (vars : List Variable) (i : First)
-      → RightTyping (judge_first gang hs ns start vars i) (first_typing gang hs ns start vars i)
+      → RightTyping (first_typing gang hs ns start vars i)
   first_right ns start vars (first_declare d) = made_right (declared_first d.span) _ _ _ (declaration_right ns start vars d)
   first_right ns start vars (first_simple s) = made_right t_first_simple _ _ _ (simple_right ns s)
 
-  test_right : (ns : List Binding) (x : Expr) → RightTyping (judge_test gang hs ns x) (test_typing gang hs ns x)
+  test_right : (ns : List Binding) (x : Expr) → RightTyping (test_typing gang hs ns x)
   test_right ns x = made_right as_test _ _ _ (expr_right gang hs ns x)
 
   ranges_right : (ns : List Binding) (start : ℕ) (is : List Binding) (vars : List Variable) (rs : List Range)
-      → RightTyping (judge_ranges gang hs ns start is vars rs) (ranges_typing gang hs ns start is vars rs)
+      → RightTyping (ranges_typing gang hs ns start is vars rs)
   ranges_right ns start is vars [] = just_right []
   ranges_right ns start is vars (r ∷ rs) = made_right pair_then _ _ _ (both_right _ _ _ _ _ _
       (made_right (range_made (length vars) r.span) _ _ _ (beside_right (is_new r.word.name start is) (fault NameTwice r.word.span) _ _ _
       (both_right _ _ _ _ _ _ (expr_right gang hs ns r.start) (expr_right gang hs ns r.end))))
       (ranges_right ns start (with_name is vars r.word.name (Ok index)) (vars ++ index ∷ []) rs))
 
-  values_right : (ns : List Binding) (xs : List Expr) → RightTyping (judge_values gang hs ns xs) (values_typing gang hs ns xs)
+  values_right : (ns : List Binding) (xs : List Expr) → RightTyping (values_typing gang hs ns xs)
   values_right ns [] = just_right []
   values_right ns (x ∷ xs) = made_right pair_then _ _ _ (both_right _ _ _ _ _ _ (expr_right gang hs ns x) (values_right ns xs))
 
   module _ (answer : Result (Option Ty) Fault) where
     returned_right : (ns : List Binding) (k : Span) (x : Option Expr)
-        → RightTyping (judge_returned gang hs answer ns k x) (returned_typing gang hs answer ns k x)
+        → RightTyping (returned_typing gang hs answer ns k x)
     returned_right ns k x = beside_right (agrees answer x) (fault Mismatch k) _ _ _
         (perhaps_right _ _ _ (λ y. made_right (as_answer answer) _ _ _ (expr_right gang hs ns y)) x)
 
     mutual
       pub stmt_right : (ns : List Binding) (start : ℕ) (vars : List Variable) (x : Stmt)
-          → RightTyping (judge_stmt gang hs answer ns start vars x) (stmt_typing gang hs answer ns start vars x)
+          → RightTyping (stmt_typing gang hs answer ns start vars x)
       stmt_right ns start vars (block b) = made_right t_block _ _ _ (block_right ns (length ns) vars b)
       stmt_right ns start vars (empty s) = just_right _
       stmt_right ns start vars (declare d s) = made_right (declared_stmt s) _ _ _ (declaration_right ns start vars d)
@@ -144,11 +139,11 @@ module _ (gang : Gang) (hs : List Heading) where
       stmt_right ns start vars (assert x c s) = made_right (assert_stmt c s) _ _ _ (test_right ns x)
 
       pub block_right : (ns : List Binding) (start : ℕ) (vars : List Variable) (b : Block)
-          → RightTyping (judge_block gang hs answer ns start vars b) (block_typing gang hs answer ns start vars b)
+          → RightTyping (block_typing gang hs answer ns start vars b)
       block_right ns start vars (braces ss s) = made_right (braces_made s) _ _ _ (stmts_right ns start vars ss)
 
       pub stmts_right : (ns : List Binding) (start : ℕ) (vars : List Variable) (ss : Stmts)
-          → RightTyping (judge_stmts gang hs answer ns start vars ss) (stmts_typing gang hs answer ns start vars ss)
+          → RightTyping (stmts_typing gang hs answer ns start vars ss)
       stmts_right ns start vars no_stmts = just_right t_no_stmts
       stmts_right ns start vars (stmt_then s ss) = made_right stmts_made _ _ _
           (both_right _ _ _ _ _ _ (stmt_right ns start vars s) (stmts_right (names_after gang ns vars s) start (variables_after gang hs ns vars s) ss))

@@ -23,8 +23,7 @@ use Rattle.isp_exprs.specs.Values.{converted}
 use Rattle.isp_exprs.specs.reader.Parts.{boxed_of}
 use Rattle.isp_exprs.specs.Callees.{Heading}
 use Rattle.isp_exprs.specs.Rules.{expr_typing}
-use Rattle.isp_exprs.specs.reader.Judge.{judge}
-use Rattle.isp_exprs.proofs.Verdicts.{expr_verdict, expr_found}
+use Rattle.isp_exprs.proofs.Exprs.{expr_found}
 use Rattle.isp_types.specs.Numbering.{index_of, or_active, unique_names, unique_variables}
 use Rattle.isp_types.specs.Nodes.{unique_stmt}
 use Rattle.isp_types.specs.reader.Lists.{known_next}
@@ -43,14 +42,14 @@ module _ (gang : Gang) (hs : List Heading) (ns : List Binding) (vars : List Vari
   unique_declared x t i = ap (λ r. vars ++ or_active (index_of r) ∷ []) (expr_found gang hs ns x t i)
 
   -- what its value was judged to be
-  index_is : (x : Expr) (v : Result TExpr Fault) (index : Result Variable Fault) → v ≡ judge gang hs ns x → index ≡ index_of v → index ≡ index_of (expr_typing gang hs ns x).verdict
-  index_is x v index p q = q ∙ ap index_of (p ∙ expr_verdict gang hs ns x)
+  index_is : (x : Expr) (v : Result TExpr Fault) (index : Result Variable Fault) → v ≡ (expr_typing gang hs ns x).verdict → index ≡ index_of v → index ≡ index_of (expr_typing gang hs ns x).verdict
+  index_is x v index p q = q ∙ ap index_of p
 
-  pub names_judged : (w : Word) (x : Expr) (v : Result TExpr Fault) (index : Result Variable Fault) (k : ℕ) (m : Meaning) → v ≡ judge gang hs ns x → index ≡ index_of v → k ≡ length vars → m ≡ known_next k index
+  pub names_judged : (w : Word) (x : Expr) (v : Result TExpr Fault) (index : Result Variable Fault) (k : ℕ) (m : Meaning) → v ≡ (expr_typing gang hs ns x).verdict → index ≡ index_of v → k ≡ length vars → m ≡ known_next k index
       → ns ++ record { name = w.name; meaning = m } ∷ [] ≡ unique_names gang hs ns vars w x
   names_judged w x v index k m p q e h = ap (λ (z : Meaning). ns ++ record { name = w.name; meaning = z } ∷ []) (h ∙ (next_is vars k index e ∙ ap (next_known vars) (index_is x v index p q)))
 
-  pub variables_judged : (x : Expr) (v : Result TExpr Fault) (index : Result Variable Fault) (u : Variable) → v ≡ judge gang hs ns x → index ≡ index_of v → u ≡ or_active index
+  pub variables_judged : (x : Expr) (v : Result TExpr Fault) (index : Result Variable Fault) (u : Variable) → v ≡ (expr_typing gang hs ns x).verdict → index ≡ index_of v → u ≡ or_active index
       → vars ++ u ∷ [] ≡ unique_variables gang hs ns vars x
   variables_judged x v index u p q h = ap (λ (z : Variable). vars ++ z ∷ []) (h ∙ ap or_active (index_is x v index p q))
 

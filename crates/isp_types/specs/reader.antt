@@ -1,6 +1,4 @@
 -- What the functions of the code give. Nothing here is promised: proofs/ ties it to the rules.
-pub mod JudgeStmts
-pub mod JudgeFunctions
 pub mod Lists
 pub mod Boxes
 pub mod Settings

@@ -9,10 +9,9 @@ ghost use Rattle.isp_exprs.specs.Rules.{second};
 ghost use Rattle.isp_types.specs.Numbering.{declaration_names, declaration_variables, declared, or_nothing, size_number};
 ghost use Rattle.isp_types.specs.Numbering.{item_names, item_variable, item_variables, item_word, items_names, items_variables};
 ghost use Rattle.isp_types.specs.Numbering.{value_variable};
-ghost use Rattle.isp_types.specs.Declarations.{array_sized, sized_item, with_initial};
-ghost use Rattle.isp_types.specs.reader.JudgeStmts.{judge_declaration, judge_item, judge_items, twice};
+ghost use Rattle.isp_types.specs.Declarations.{array_sized, sized_item, with_initial, declaration_typing, item_typing, items_typing};
 ghost use Rattle.isp_exprs.specs.reader.Lists.{and_one};
-ghost use Rattle.isp_types.specs.reader.Lists.{judge_item_with, known_next};
+ghost use Rattle.isp_types.specs.reader.Lists.{item_verdict, known_next, twice};
 
 use crate::gathered;
 use isp_base::{Elem, Gang, Span, Ty};
@@ -169,7 +168,7 @@ fn item(
     words: ValueWords,
     item: &Item,
 ) -> Result<Verdict<Box<TypedItem>>, AllocError>
-    ensures { IfOk result (λ v. made boxed_item v ≡ within setting.now judge_item_with scope.now seen number words (read_item item.now)) }
+    ensures { IfOk result (λ v. made boxed_item v ≡ within setting.now item_verdict scope.now seen number words (read_item item.now)) }
 {
     match item {
         Item::Plain(word) => {
@@ -208,7 +207,7 @@ pub fn declare_item(
     declared_item: &Item,
 ) -> Result<Verdict<Box<TypedItem>>, AllocError>
     ensures value { IfOk result (λ v. made boxed_item v
-        ≡ within setting.now judge_item words start scope.old variables.old.items (read_item declared_item.now)) }
+        ≡ (within setting.now item_typing words start scope.old variables.old.items (read_item declared_item.now)).verdict) }
     ensures names { IfOk result (λ v. scope.new
         ≡ item_names setting.now.gang words scope.old variables.old.items (read_item declared_item.now)) }
     ensures variables { IfOk result (λ v. variables.new.items
@@ -250,7 +249,7 @@ fn items(
     all: &[Item],
 ) -> Result<Verdict<Vec<TypedItem>>, AllocError>
     ensures value { IfOk result (λ v. made listed_items v
-        ≡ within setting.now judge_items words start scope.old variables.old.items (map read_item all.now)) }
+        ≡ (within setting.now items_typing words start scope.old variables.old.items (map read_item all.now)).verdict) }
     ensures names { IfOk result (λ v. scope.new
         ≡ items_names setting.now.gang words scope.old variables.old.items (map read_item all.now)) }
     ensures variables { IfOk result (λ v. variables.new.items
@@ -283,7 +282,7 @@ pub fn declaration(
     d: &Declaration,
 ) -> Result<Verdict<Vec<TypedItem>>, AllocError>
     ensures value { IfOk result (λ v. made listed_items v
-        ≡ within setting.now judge_declaration scope.old start variables.old.items (read_declaration d.now)) }
+        ≡ (within setting.now declaration_typing scope.old start variables.old.items (read_declaration d.now)).verdict) }
     ensures names { IfOk result (λ v. scope.new
         ≡ declaration_names setting.now.gang scope.old variables.old.items (read_declaration d.now)) }
     ensures variables { IfOk result (λ v. variables.new.items

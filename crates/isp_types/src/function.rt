@@ -5,14 +5,13 @@ ghost use Rattle.std.specs.BTreeSet.{contains_text};
 ghost use Rattle.isp_tree.specs.Views.{function_of as read_function, param_of as read_param};
 ghost use Rattle.isp_typed.specs.Verdicts.{both, made};
 ghost use Rattle.isp_typed.specs.Views.{block_of, function_of};
-ghost use Rattle.isp_types.specs.Functions.{heading, is_export, param_fits, param_names, param_span, param_variable, param_want};
+ghost use Rattle.isp_types.specs.Functions.{heading, is_export, param_fits, param_names, param_span, param_variable, param_want, functions_typing};
 ghost use Rattle.isp_types.specs.Functions.{parameter_of, params_names, variable_for};
 ghost use Rattle.isp_exprs.specs.reader.Headings.{heading_of};
 ghost use Rattle.isp_types.specs.reader.Boxes.{listed_functions};
-ghost use Rattle.isp_types.specs.reader.JudgeFunctions.{judge_function, judge_functions};
 ghost use Rattle.isp_types.specs.reader.Settings.{within};
 ghost use Rattle.isp_exprs.specs.reader.Lists.{and_one, fault_of};
-ghost use Rattle.isp_types.specs.reader.Lists.{IsParamsFault, function_of_parts, name_fault, param_fault};
+ghost use Rattle.isp_types.specs.reader.Lists.{IsParamsFault, function_of_parts, name_fault, param_fault, function_verdict};
 
 use crate::declaration::{declared, or_nothing, twice, value_variable};
 use crate::gathered;
@@ -221,7 +220,7 @@ fn function(
     taken: Option<Fault>,
     f: &Function,
 ) -> Result<Verdict<TypedFunction>, AllocError>
-    ensures { IfOk result (λ v. made function_of v ≡ within setting.now judge_function taken (read_function f.now)) }
+    ensures { IfOk result (λ v. made function_of v ≡ within setting.now function_verdict taken (read_function f.now)) }
 {
     let alloc = setting.alloc;
     let answer = answer_said(&f.result);
@@ -279,7 +278,7 @@ pub fn functions(
     setting: &Setting,
     all: &[Function],
 ) -> Result<Verdict<Vec<TypedFunction>>, AllocError>
-    ensures { IfOk result (λ v. made listed_functions v ≡ within setting.now judge_functions [] (map read_function all.now)) }
+    ensures { IfOk result (λ v. made listed_functions v ≡ (within setting.now functions_typing [] (map read_function all.now)).verdict) }
 {
     let mut taken = BTreeSet::new(setting.alloc);
     let mut done = Ok(Vec::new(setting.alloc));

@@ -2,21 +2,21 @@
 ghost use Rattle.std.specs.Prelude.{◌≡◌, IfOk, length, map, option_map};
 ghost use Rattle.isp_tree.specs.Views.{expr_of as read_expr, exprs_of as read_exprs, first_of as read_first};
 ghost use Rattle.isp_tree.specs.Views.{range_of as read_range, simple_of as read_simple};
-ghost use Rattle.isp_typed.specs.Verdicts.{beside, both, made, perhaps};
+ghost use Rattle.isp_typed.specs.Verdicts.{beside, both, made};
 ghost use Rattle.isp_exprs.specs.reader.Parts.{boxed_of};
 ghost use Rattle.isp_types.specs.reader.Boxes.{boxed_behind_first, boxed_first, boxed_pair, boxed_range, boxed_simple};
 ghost use Rattle.isp_types.specs.reader.Boxes.{boxed_step_and_body, boxed_stmt, listed_exprs, listed_ranges};
 ghost use Rattle.isp_types.specs.reader.Settings.{within};
 ghost use Rattle.isp_types.specs.Numbering.{first_names, first_variables, index_of, or_active};
 ghost use Rattle.isp_types.specs.Numbering.{range_names, range_variables, unique_names, unique_variables};
-ghost use Rattle.isp_types.specs.Statements.{as_answer, places, range_made};
+ghost use Rattle.isp_types.specs.Statements.{as_answer, places, range_made, first_typing, ranges_typing, returned_typing, test_typing, values_typing};
 ghost use Rattle.isp_typed.specs.Indices.{active_index, foreach_index as index, unique_index};
 ghost use Rattle.isp_exprs.specs.Values.{converted};
-ghost use Rattle.isp_exprs.specs.reader.Judge.{judge};
-ghost use Rattle.isp_types.specs.reader.JudgeStmts.{judge_first, judge_ranges, judge_returned, judge_simple, judge_test};
-ghost use Rattle.isp_types.specs.reader.JudgeStmts.{judge_values, print_fault};
+ghost use Rattle.isp_exprs.specs.Typing.{perhaps};
+ghost use Rattle.isp_exprs.specs.Rules.{expr_typing};
+ghost use Rattle.isp_types.specs.Simple.{simple_typing};
 ghost use Rattle.isp_exprs.specs.reader.Lists.{and_one};
-ghost use Rattle.isp_types.specs.reader.Lists.{agrees_with, judge_behind_first, judge_bounds, judge_step_and_body, known_next};
+ghost use Rattle.isp_types.specs.reader.Lists.{agrees_with, after_first_verdict, bounds_verdict, step_and_body_verdict, known_next, print_fault};
 
 use crate::declaration::twice;
 use crate::gathered;
@@ -50,7 +50,7 @@ pub fn test(
     scope: &Scope,
     x: &Expr,
 ) -> Result<Verdict<Box<TypedExpr>>, AllocError>
-    ensures { IfOk result (λ v. made boxed_of v ≡ within setting.now judge_test scope.now (read_expr x.now)) }
+    ensures { IfOk result (λ v. made boxed_of v ≡ (within setting.now test_typing scope.now (read_expr x.now)).verdict) }
 {
     let value = expr(setting, scope, x)?;
     converted_to(setting.alloc, Elem::Bool, value)
@@ -69,7 +69,7 @@ fn test_if(
     x: &Option<Expr>,
 ) -> Result<Verdict<Option<Box<TypedExpr>>>, AllocError>
     ensures { IfOk result (λ v. made (option_map boxed_of) v
-        ≡ perhaps (within setting.now judge_test scope.now) (option_map read_expr x.now)) }
+        ≡ (perhaps (within setting.now test_typing scope.now) (option_map read_expr x.now)).verdict) }
 {
     match x {
         None => Ok(Ok(None)),
@@ -87,7 +87,7 @@ fn simple_if(
     x: &Option<Simple>,
 ) -> Result<Verdict<Option<Box<TypedSimple>>>, AllocError>
     ensures { IfOk result (λ v. made (option_map boxed_simple) v
-        ≡ perhaps (within setting.now judge_simple scope.now) (option_map read_simple x.now)) }
+        ≡ (perhaps (within setting.now simple_typing scope.now) (option_map read_simple x.now)).verdict) }
 {
     match x {
         None => Ok(Ok(None)),
@@ -107,7 +107,7 @@ pub fn first_if(
     x: &Option<First>,
 ) -> Result<Verdict<Option<Box<TypedFirst>>>, AllocError>
     ensures value { IfOk result (λ v. made (option_map boxed_first) v
-        ≡ perhaps (within setting.now judge_first scope.old start variables.old.items) (option_map read_first x.now)) }
+        ≡ (perhaps (within setting.now first_typing scope.old start variables.old.items) (option_map read_first x.now)).verdict) }
     ensures names { IfOk result (λ v. scope.new
         ≡ first_names setting.now.gang scope.old variables.old.items (option_map read_first x.now)) }
     ensures variables { IfOk result (λ v. variables.new.items
@@ -130,7 +130,7 @@ fn step_and_body(
     body: Verdict<Box<TypedStmt>>,
 ) -> Result<Verdict<(Option<Box<TypedSimple>>, Box<TypedStmt>)>, AllocError>
     ensures { IfOk result (λ v. made boxed_step_and_body v
-        ≡ within setting.now judge_step_and_body scope.now (option_map read_simple step.now) (made boxed_stmt body)) }
+        ≡ within setting.now step_and_body_verdict scope.now (option_map read_simple step.now) (made boxed_stmt body)) }
 {
     let next = simple_if(setting, scope, step)?;
     Ok(both(next, body))
@@ -153,7 +153,7 @@ pub fn behind_first(
     AllocError,
 >
     ensures { IfOk result (λ v. made boxed_behind_first v
-        ≡ within setting.now judge_behind_first scope.now
+        ≡ within setting.now after_first_verdict scope.now
         (option_map read_expr x.now) (option_map read_simple step.now) (made boxed_stmt body)) }
 {
     let rest = step_and_body(setting, scope, step, body)?;
@@ -230,7 +230,7 @@ pub fn unique_value(
     word: &Word,
     value: &Expr,
 ) -> Result<Verdict<Box<TypedExpr>>, AllocError>
-    ensures value { IfOk result (λ v. made boxed_of v ≡ within setting.now judge scope.old (read_expr value.now)) }
+    ensures value { IfOk result (λ v. made boxed_of v ≡ (within setting.now expr_typing scope.old (read_expr value.now)).verdict) }
     ensures names { IfOk result (λ v. scope.new
         ≡ within setting.now unique_names scope.old variables.old.items word.now (read_expr value.now)) }
     ensures variables { IfOk result (λ v. variables.new.items
@@ -285,7 +285,7 @@ fn bounds(
     scope: &Scope,
     r: &Range,
 ) -> Result<Verdict<(Box<TypedExpr>, Box<TypedExpr>)>, AllocError>
-    ensures { IfOk result (λ v. made boxed_pair v ≡ within setting.now judge_bounds scope.now (read_range r.now)) }
+    ensures { IfOk result (λ v. made boxed_pair v ≡ within setting.now bounds_verdict scope.now (read_range r.now)) }
 {
     let start = expr(setting, scope, &r.start)?;
     let end = expr(setting, scope, &r.end)?;
@@ -298,7 +298,7 @@ fn all_bounds(
     scope: &Scope,
     all: &[Range],
 ) -> Result<Vec<Verdict<(Box<TypedExpr>, Box<TypedExpr>)>>, AllocError>
-    ensures { IfOk result (λ l. map (made boxed_pair) l.items ≡ map (within setting.now judge_bounds scope.now) (map read_range all.now)) }
+    ensures { IfOk result (λ l. map (made boxed_pair) l.items ≡ map (within setting.now bounds_verdict scope.now) (map read_range all.now)) }
 {
     let mut done = Vec::new(setting.alloc);
     for r in all {
@@ -325,7 +325,7 @@ pub fn ranges(
     all: &[Range],
 ) -> Result<Verdict<Vec<TypedRange>>, AllocError>
     ensures value { IfOk result (λ v. made listed_ranges v
-        ≡ within setting.now judge_ranges scope.old (length scope.old) scope.old variables.old.items (map read_range all.now)) }
+        ≡ (within setting.now ranges_typing scope.old (length scope.old) scope.old variables.old.items (map read_range all.now)).verdict) }
     ensures names { IfOk result (λ v. scope.new ≡ range_names scope.old variables.old.items (map read_range all.now)) }
     ensures variables { IfOk result (λ v. variables.new.items ≡ range_variables variables.old.items (map read_range all.now)) }
 {
@@ -359,7 +359,7 @@ fn values(
     scope: &Scope,
     all: &[Expr],
 ) -> Result<Verdict<Vec<TypedExpr>>, AllocError>
-    ensures { IfOk result (λ v. made listed_exprs v ≡ within setting.now judge_values scope.now (read_exprs all.now)) }
+    ensures { IfOk result (λ v. made listed_exprs v ≡ (within setting.now values_typing scope.now (read_exprs all.now)).verdict) }
 {
     let mut done = Ok(Vec::new(setting.alloc));
     for x in all {
@@ -385,7 +385,7 @@ pub fn printed(
     all: &[Expr],
 ) -> Result<Verdict<Vec<TypedExpr>>, AllocError>
     ensures { IfOk result (λ v. made listed_exprs v
-        ≡ beside (print_fault text.now text_span (length all.now)) (within setting.now judge_values scope.now (read_exprs all.now))) }
+        ≡ beside (print_fault text.now text_span (length all.now)) (within setting.now values_typing scope.now (read_exprs all.now)).verdict) }
 {
     let seen = unless(
         places(text) == all.len(),
@@ -432,7 +432,7 @@ pub fn returned(
     x: &Option<Expr>,
 ) -> Result<Verdict<Option<Box<TypedExpr>>>, AllocError>
     ensures { IfOk result (λ v. made (option_map boxed_of) v
-        ≡ within setting.now judge_returned answer scope.now keyword (option_map read_expr x.now)) }
+        ≡ (within setting.now returned_typing answer scope.now keyword (option_map read_expr x.now)).verdict) }
 {
     let seen = unless(agrees(answer, x.is_some()), mismatch(keyword));
     match x {

@@ -6,9 +6,9 @@ ghost use Rattle.isp_typed.specs.Typed.{t_first_simple, t_value};
 ghost use Rattle.isp_typed.specs.Verdicts.{both, found, made};
 ghost use Rattle.isp_typed.specs.Views.{place_of};
 ghost use Rattle.isp_types.specs.Numbering.{first_names, first_variables};
-ghost use Rattle.isp_types.specs.Simple.{assigned, assigned_by, assignment_operator, change_operator, no_place, stated, stepped};
+ghost use Rattle.isp_types.specs.Simple.{assigned, assigned_by, assignment_operator, change_operator, no_place, stated, stepped, simple_typing, target_typing};
 ghost use Rattle.isp_types.specs.Nodes.{declared_first};
-ghost use Rattle.isp_types.specs.reader.JudgeStmts.{judge_first, judge_simple, judge_target};
+ghost use Rattle.isp_types.specs.Statements.{first_typing};
 ghost use Rattle.isp_exprs.specs.reader.Parts.{boxed_of, called_of};
 ghost use Rattle.isp_types.specs.reader.Boxes.{boxed_first, boxed_simple, listed_items};
 ghost use Rattle.isp_types.specs.reader.Settings.{within};
@@ -33,14 +33,16 @@ fn no_place(value: Verdict<Box<TypedExpr>>, span: Span) -> Verdict<TypedPlace>
 
 /// What is assigned.
 pub fn target(setting: &Setting, scope: &Scope, x: &Expr) -> Result<Verdict<TypedPlace>, AllocError>
-    ensures { IfOk result (λ v. made place_of v ≡ within setting.now judge_target scope.now (read_expr x.now)) }
+    ensures { IfOk result (λ v. made place_of v ≡ (within setting.now target_typing scope.now (read_expr x.now)).verdict) }
 {
     match x {
-        Expr::Place(Place::Variable(word)) => Ok(variable_target(scope.named(word), word.span)),
-        Expr::Place(Place::Element { array, index, span }) => {
-            let index = expr(setting, scope, index)?;
-            Ok(element_target(scope.named(array), index, *span))
-        }
+        Expr::Place(p) => match p {
+            Place::Variable(word) => Ok(variable_target(scope.named(word), word.span)),
+            Place::Element { array, index, span } => {
+                let index = expr(setting, scope, index)?;
+                Ok(element_target(scope.named(array), index, *span))
+            }
+        },
         Expr::Number { .. }
         | Expr::Truth { .. }
         | Expr::ProgramIndex { .. }
@@ -196,7 +198,7 @@ fn expression(
     scope: &Scope,
     x: &Expr,
 ) -> Result<Verdict<Box<TypedSimple>>, AllocError>
-    ensures { IfOk result (λ v. made boxed_simple v ≡ within setting.now judge_simple scope.now (read_value (read_expr x.now))) }
+    ensures { IfOk result (λ v. made boxed_simple v ≡ (within setting.now simple_typing scope.now (read_value (read_expr x.now))).verdict) }
 {
     match x {
         Expr::Call {
@@ -229,7 +231,7 @@ pub fn simple(
     scope: &Scope,
     x: &Simple,
 ) -> Result<Verdict<Box<TypedSimple>>, AllocError>
-    ensures { IfOk result (λ v. made boxed_simple v ≡ within setting.now judge_simple scope.now (read_simple x.now)) }
+    ensures { IfOk result (λ v. made boxed_simple v ≡ (within setting.now simple_typing scope.now (read_simple x.now)).verdict) }
 {
     match x {
         Simple::Value(value) => expression(setting, scope, value),
@@ -291,7 +293,7 @@ pub fn first_part(
     x: &First,
 ) -> Result<Verdict<Box<TypedFirst>>, AllocError>
     ensures value { IfOk result (λ v. made boxed_first v
-        ≡ within setting.now judge_first scope.old start variables.old.items (read_first x.now)) }
+        ≡ (within setting.now first_typing scope.old start variables.old.items (read_first x.now)).verdict) }
     ensures names { IfOk result (λ v. scope.new ≡ first_names setting.now.gang scope.old variables.old.items (Some (read_first x.now))) }
     ensures variables { IfOk result (λ v. variables.new.items
         ≡ first_variables setting.now.gang variables.old.items (Some (read_first x.now))) }

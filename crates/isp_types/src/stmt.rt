@@ -8,7 +8,7 @@ ghost use Rattle.isp_typed.specs.Verdicts.{made};
 ghost use Rattle.isp_typed.specs.Views.{block_of, stmt_of};
 ghost use Rattle.isp_types.specs.Numbering.{block_variables, names_after};
 ghost use Rattle.isp_types.specs.reader.Boxes.{boxed_stmt};
-ghost use Rattle.isp_types.specs.reader.JudgeStmts.{judge_block, judge_stmt};
+ghost use Rattle.isp_types.specs.Statements.{block_typing, stmt_typing};
 ghost use Rattle.isp_types.specs.reader.Settings.{within};
 ghost use Rattle.isp_types.specs.reader.Walks.{variables_at, verdict_at};
 
@@ -33,7 +33,7 @@ use std::alloc::AllocError;
 #[cycle(stmt)]
 fn body(walk: &mut Walk, context: &Context, s: &Stmt) -> Result<Verdict<Box<TypedStmt>>, AllocError>
     ensures value { IfOk result (λ v. made boxed_stmt v
-        ≡ within context.now.setting judge_stmt context.now.answer walk.old.scope (length walk.old.scope) walk.old.variables.items (read_stmt s.now)) }
+        ≡ (within context.now.setting stmt_typing context.now.answer walk.old.scope (length walk.old.scope) walk.old.variables.items (read_stmt s.now)).verdict) }
     ensures names { IfOk result (λ v. walk.new.scope ≡ walk.old.scope) }
     ensures variables { IfOk result (λ v. walk.new.variables.items ≡ variables_at context.now walk.old (read_stmt s.now)) }
 {
@@ -52,7 +52,7 @@ pub fn block(
     b: &Block,
 ) -> Result<Verdict<TypedBlock>, AllocError>
     ensures value { IfOk result (λ v. made block_of v
-        ≡ within context.now.setting judge_block context.now.answer walk.old.scope start walk.old.variables.items (read_block b.now)) }
+        ≡ (within context.now.setting block_typing context.now.answer walk.old.scope start walk.old.variables.items (read_block b.now)).verdict) }
     ensures names { IfOk result (λ v. take (length walk.old.scope) walk.new.scope ≡ walk.old.scope) }
     ensures variables { IfOk result (λ v. walk.new.variables.items
         ≡ within context.now.setting block_variables walk.old.scope walk.old.variables.items (read_block b.now)) }
@@ -73,7 +73,7 @@ fn inner_block(
     b: &Block,
 ) -> Result<Verdict<TypedBlock>, AllocError>
     ensures value { IfOk result (λ v. made block_of v
-        ≡ within context.now.setting judge_block context.now.answer walk.old.scope (length walk.old.scope) walk.old.variables.items (read_block b.now)) }
+        ≡ (within context.now.setting block_typing context.now.answer walk.old.scope (length walk.old.scope) walk.old.variables.items (read_block b.now)).verdict) }
     ensures names { IfOk result (λ v. walk.new.scope ≡ walk.old.scope) }
     ensures variables { IfOk result (λ v. walk.new.variables.items
         ≡ within context.now.setting block_variables walk.old.scope walk.old.variables.items (read_block b.now)) }
@@ -303,7 +303,7 @@ fn stmt(
     s: &Stmt,
 ) -> Result<Verdict<TypedStmt>, AllocError>
     ensures value { IfOk result (λ v. made stmt_of v
-        ≡ within context.now.setting judge_stmt context.now.answer walk.old.scope start walk.old.variables.items (read_stmt s.now)) }
+        ≡ (within context.now.setting stmt_typing context.now.answer walk.old.scope start walk.old.variables.items (read_stmt s.now)).verdict) }
     ensures names { IfOk result (λ v. walk.new.scope ≡ names_after context.now.setting.gang walk.old.scope walk.old.variables.items (read_stmt s.now)) }
     ensures variables { IfOk result (λ v. walk.new.variables.items ≡ variables_at context.now walk.old (read_stmt s.now)) }
 {

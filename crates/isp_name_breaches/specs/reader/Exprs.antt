@@ -13,8 +13,7 @@ use Rattle.isp_exprs.specs.Words.{value_said}
 use Rattle.isp_exprs.specs.Scopes.{named}
 use Rattle.isp_exprs.specs.Callees.{Heading, unless_unknown}
 use Rattle.isp_exprs.specs.Calls.{suits, first_want, rest_of}
-use Rattle.isp_exprs.specs.Rules.{callee_at, wants_at, past_at}
-use Rattle.isp_exprs.specs.reader.Judge.{judge, judge_argument, judge_call_of}
+use Rattle.isp_exprs.specs.Rules.{callee_at, wants_at, past_at, expr_typing, argument_typing, call_of_typing}
 use Rattle.isp_exprs.specs.reader.Lists.{fault_of}
 
 -- of a fault that may be there, and of a verdict
@@ -45,7 +44,7 @@ of_any g (Some a) = g a
 module _ (gang : Gang) (hs : List Heading) (ns : List Binding) where
   -- of a call, of which the faults of the arguments are given
   abbrev pub call_faults : Word → Arguments → Span → List Fault → List Fault
-  call_faults w xs s fs = or_own (refusal (unless_unknown w (callee_at hs w xs).0) ++ fs) (judge_call_of gang hs ns w xs s)
+  call_faults w xs s fs = or_own (refusal (unless_unknown w (callee_at hs w xs).0) ++ fs) (call_of_typing gang hs ns w xs s).verdict
 
   abbrev mutual
     pub expr_faults : Expr → List Fault
@@ -53,8 +52,8 @@ module _ (gang : Gang) (hs : List Heading) (ns : List Binding) where
     expr_faults (truth b s) = []
     expr_faults (program_index s) = []
     expr_faults (program_count s) = []
-    expr_faults (place p) = or_own (parts_faults p) (judge gang hs ns (place p))
-    expr_faults (call w xs s) = or_own (call_faults w xs s (arguments_faults (past_at hs w xs) (wants_at hs w xs) xs)) (judge gang hs ns (call w xs s))
+    expr_faults (place p) = or_own (parts_faults p) (expr_typing gang hs ns (place p)).verdict
+    expr_faults (call w xs s) = or_own (call_faults w xs s (arguments_faults (past_at hs w xs) (wants_at hs w xs) xs)) (expr_typing gang hs ns (call w xs s)).verdict
     expr_faults (brackets x s) = expr_faults x
     expr_faults (cast t x s) = refusal (value_said t) ++ expr_faults x
     expr_faults (prefix op x s) = expr_faults x
@@ -76,11 +75,11 @@ module _ (gang : Gang) (hs : List Heading) (ns : List Binding) where
     pub arguments_faults : Want → List Want → Arguments → List Fault
     arguments_faults past ws no_arguments = []
     arguments_faults past ws (argument_then x xs) =
-        or_own (argument_faults x) (found (suits (first_want past ws) (span_of_argument x)) (judge_argument gang hs ns x)) ++ arguments_faults past (rest_of ws) xs
+        or_own (argument_faults x) (found (suits (first_want past ws) (span_of_argument x)) (argument_typing gang hs ns x).verdict) ++ arguments_faults past (rest_of ws) xs
 
   -- of an argument where something is asked
   abbrev pub passed_faults : Want → Argument → List Fault
-  passed_faults want x = or_own (argument_faults x) (found (suits want (span_of_argument x)) (judge_argument gang hs ns x))
+  passed_faults want x = or_own (argument_faults x) (found (suits want (span_of_argument x)) (argument_typing gang hs ns x).verdict)
 
   -- of a call of this name with these arguments
   abbrev pub call_of_faults : Word → Arguments → Span → List Fault

@@ -19,7 +19,7 @@ use Rattle.isp_exprs.specs.Callees.{Heading}
 use Rattle.isp_types.specs.Numbering.{or_nothing, item_word, item_names, item_variables, first_names, first_variables, range_names, range_variables, unique_names, unique_variables, names_after, variables_after}
 use Rattle.isp_types.specs.Declarations.{array_sized}
 use Rattle.isp_types.specs.Statements.{places, agrees}
-use Rattle.isp_types.specs.reader.JudgeStmts.{judge_target}
+use Rattle.isp_types.specs.Simple.{target_typing}
 use Rattle.isp_name_breaches.specs.reader.Exprs.{refusal, or_own, unmet, of_any, expr_faults, parts_faults, call_of_faults}
 
 -- a name that stands in its scope already
@@ -59,7 +59,7 @@ module _ (gang : Gang) (hs : List Heading) where
   assigned_faults ns x = expr_faults gang hs ns x
 
   abbrev pub target_faults : List Binding → Expr → List Fault
-  target_faults ns x = or_own (assigned_faults ns x) (judge_target gang hs ns x)
+  target_faults ns x = or_own (assigned_faults ns x) (target_typing gang hs ns x).verdict
 
   abbrev pub simple_faults : List Binding → Simple → List Fault
   simple_faults ns (value (call w xs s)) = call_of_faults gang hs ns w xs s

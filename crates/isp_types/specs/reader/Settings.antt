@@ -5,5 +5,5 @@ use Rattle.isp_exprs.specs.declared.expressions.Setting.{Setting}
 use Rattle.isp_exprs.specs.Callees.{Heading}
 
 -- a definition at the gang's size of the setting, and with its functions as callers see them
-abbrev pub within : {A : Type 0} → Setting → (Gang → List Heading → A) → A
+abbrev pub within {ℓ} : {A : Type ℓ} → Setting → (Gang → List Heading → A) → A
 within s definition = definition s.gang s.headers.now
