@@ -28,7 +28,7 @@ use Rattle.isp_meaning.specs.Entries.{IsEntry, IsExport}
 use Rattle.isp_machine.specs.declared.stop.Stop.{Stop}
 use Rattle.isp_machine.specs.declared.stop.Stop.TheVariants as stop
 use Rattle.isp_native.specs.Text.{IsCText}
-use Rattle.isp_wasm_file.specs.File.{file_of}
+use Rattle.isp_wasm_file.specs.File.{IsFile as IsWasmFile}
 use Rattle.isp_packed.proofs.Fits.{ok_same, unpacked_fits}
 use Rattle.isp_packed.specs.Packing.{IsPackable, longest, packed_answer}
 use Rattle.isp_packed.specs.Unpacking.{unpacked_of}
@@ -363,4 +363,4 @@ from_source_to_wasm one none law gang source room text first wrote old new r x =
     let file : IsModuleFile (take first.used text) (take r.used new) = module_file (take first.used text) old new r x in
     let same : file.listing ≡ is.code = same_code one none (take first.used text) is.code is.loads file.listing file.loaded in
     let meant = compiled gang source (take first.used text) is in
-    (is.code, meant, file.file_is ∙ ap file_of same, law gang source is.code meant is.loads.fine is.loads.of.writable)
+    (is.code, meant, subst (λ l. IsWasmFile l (take r.used new)) same file.is_file, law gang source is.code meant is.loads.fine is.loads.of.writable)

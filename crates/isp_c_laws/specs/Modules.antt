@@ -7,7 +7,7 @@ use Rattle.isp_reports.specs.declared.refusal.Refusal.{Refusal}
 use Rattle.isp_reports.specs.declared.refusal.Refusal.TheVariants.{Failed, NoModule}
 use Rattle.isp_reports.specs.declared.report.Report.{Report}
 use Rattle.isp_runs.specs.Loading.{IsLoaded}
-use Rattle.isp_wasm_file.specs.File.{file_of}
+use Rattle.isp_wasm_file.specs.File.{IsFile}
 use Rattle.isp_wasm_file.specs.Lines.{refusal_line}
 use Rattle.isp_wasm_module.specs.Refused.{explains, module_refusal}
 use Rattle.isp_wasm_module.specs.declared.refusal.Refusal.{Refusal as Why}
@@ -19,7 +19,7 @@ pub record IsModuleFile (code file : List ℕ) : Type 0 where
   pub listing : Listing
   pub loaded : IsLoaded code listing
   pub covered : module_refusal listing ≡ None
-  pub file_is : file ≡ file_of listing
+  pub is_file : IsFile listing file
 
 -- why code that was loaded has no module: the line says what its functions are refused for; or memory was refused
 abbrev pub HasNoModule : Listing → Refusal → Type 0

@@ -16,7 +16,7 @@ use Rattle.isp_output.specs.Sinks.{TookAll}
 use Rattle.isp_engine.specs.Stories.{Holds, Stops, Unread, Writes}
 use Rattle.ispx_command_line.specs.declared.words.CRequest.{CRequest}
 use Rattle.ispx_command_line.specs.declared.words.WasmRequest.{WasmRequest}
-use Rattle.isp_wasm_file.specs.File.{file_of}
+use Rattle.isp_wasm_file.specs.File.{IsFile}
 use Rattle.isp_wasm_file.specs.Lines.{refusal_line}
 use Rattle.isp_wasm_module.specs.Refused.{explains, module_refusal}
 use Rattle.isp_wasm_module.specs.declared.refusal.Refusal.{Refusal}
@@ -76,7 +76,7 @@ ToldWhy code r tells status =
 -- the file of the code's module goes out; or there is none, so that nothing does, and why is told
 abbrev pub WroteModule : Listing → Option (List ℕ) → Option (List ℕ) → Bool → (List ℕ → Type 0) → ℕ → Type 0
 WroteModule code old new failed tells status =
-    ((module_refusal code ≡ None) × AnsweredBy (λ end. Writes (file_of code) old new failed end × tells (line_of end)) status)
+    ((module_refusal code ≡ None) × ((file : List ℕ) × IsFile code file × AnsweredBy (λ end. Writes file old new failed end × tells (line_of end)) status))
     ⊎ ((r : Refusal) × explains r (module_refusal code) × TookAll [] old new failed × ToldWhy code r tells status)
 
 abbrev pub WroteWasm : Holds → WasmRequest → Option (List ℕ) → Option (List ℕ) → Bool → (List ℕ → Type 0) → ℕ → Type 0

@@ -20,13 +20,14 @@ use Rattle.isp_meaning.specs.Entries.{IsEntry}
 use Rattle.isp_meaning.specs.Runs.{run_of}
 use Rattle.isp_verify.specs.Faults.{code_fault}
 use Rattle.isp_typed.specs.Typed.{Program, TFunction}
+use Rattle.isp_forms.specs.Runs.{Forms}
 use Rattle.isp_wasm_meaning.specs.Syntax.{Code}
 use Rattle.isp_wasm_meaning.specs.Meaning.{State, Report, Result, Fell, Branched, Returned, Trapped, OutOfFuel, called, left}
 use Rattle.isp_wasm_meaning.specs.Module.{code_in}
 use Rattle.isp_wasm.specs.Agreement as wasm
 use Rattle.isp_wasm.specs.Entry.{SameOutcomes, Shows, ReturnsSo, TrapsSo}
 use Rattle.isp_wasm.specs.Kernel.{KernelsAgree, in_call, passed}
-use Rattle.isp_wasm.specs.Module.{joined, is_plain, all_plain, is_covered, module_of}
+use Rattle.isp_wasm.specs.Module.{joined, is_plain, all_plain, is_covered, module_with}
 use Rattle.isp_wasm.specs.Places.{Setting}
 use Rattle.isp_wasm.specs.Stack.{has_call, bytes_in}
 use Rattle.isp_wasm.specs.Standing.{report_of}
@@ -195,12 +196,12 @@ follows w xs module_code f arguments s silent it =
       so_far = it.so_far;
     }
 
-call_does_the_same : (image : Listing) (xs : List Argument) (at : List ℕ) (f : ℕ) (g : Routine) (s : State) → s.out ≡ [] → (gang : ℕ → Outcome) → DoesTheSame gang (outcome_after image f g xs)
-    → SameOutcomes (in_call image xs at f g s) xs (λ n. called (code_in (module_of image)) n f (passed xs at) s)
-    → CallDoesTheSame (in_call image xs at f g s) gang (λ n. called (code_in (module_of image)) n f (passed xs at) s)
-call_does_the_same image xs at f g s silent gang same it =
-    does_the_same (in_call image xs at f g s) (outcome_after image f g xs) (λ n. called (code_in (module_of image)) n f (passed xs at) s)
-    (follows (in_call image xs at f g s) xs (code_in (module_of image)) f (passed xs at) s silent it) gang same
+call_does_the_same : (image : Listing) (forms : Forms) (xs : List Argument) (at : List ℕ) (f : ℕ) (g : Routine) (s : State) → s.out ≡ [] → (gang : ℕ → Outcome) → DoesTheSame gang (outcome_after image f g xs)
+    → SameOutcomes (in_call image forms xs at f g s) xs (λ n. called (code_in (module_with image forms)) n f (passed xs at) s)
+    → CallDoesTheSame (in_call image forms xs at f g s) gang (λ n. called (code_in (module_with image forms)) n f (passed xs at) s)
+call_does_the_same image forms xs at f g s silent gang same it =
+    does_the_same (in_call image forms xs at f g s) (outcome_after image f g xs) (λ n. called (code_in (module_with image forms)) n f (passed xs at) s)
+    (follows (in_call image forms xs at f g s) xs (code_in (module_with image forms)) f (passed xs at) s silent it) gang same
 
 -- ---- the whole
 
@@ -219,26 +220,26 @@ low : (a b : ℕ) → nat_lt a b ≡ true → a < b
 low a b e = grind (arith, nat_tests)
 
 -- texts of code that has a covered function have few bytes
-few_texts : (image : Listing) (g : Routine) → is_covered image g ≡ true → length (module_of image).memory < 2 ^ 32
-few_texts image g covered =
+few_texts : (image : Listing) (forms : Forms) (g : Routine) → is_covered image g ≡ true → length (module_with image forms).memory < 2 ^ 32
+few_texts image forms g covered =
     low (length (joined image.texts)) (2 ^ 32)
     (second (nat_lt (length g.code) (2 ^ 32)) (nat_lt (length (joined image.texts)) (2 ^ 32))
     (second (nat_lt (suc (bytes_in (gang_width image.gang) g.locals)) (2 ^ 32)) (nat_lt (length g.code) (2 ^ 32) && nat_lt (length (joined image.texts)) (2 ^ 32))
     (first (is_plain image g) (not (has_call g) || all_plain image) covered)))
 
 module_does_as_meant : KernelsAgree → ModulesValid → (program : Program) (image : Listing) → code_fault image ≡ None → IsWritable image → (entry : List ℕ) (f : ℕ) (h : TFunction) (xs : List Argument) → IsEntry program entry xs f h
-    → DoesAsMeantBound program image entry f h xs → ModuleDoesAsMeant program image entry f xs
-module_does_as_meant law valid program image accepted writable entry f h xs starts it =
+    → DoesAsMeantBound program image entry f h xs → (forms : Forms) → ModuleDoesAsMeant program image forms entry f xs
+module_does_as_meant law valid program image accepted writable entry f h xs starts it forms =
     let goes = starts_in image entry f it.routine xs it.export (subst (λ ps. has_signature ps xs ≡ true) (sym it.parameters) starts.fits) in
     record {
       routine = it.routine;
       export = it.export;
-      valid = λ covered. valid image accepted writable (few_texts image it.routine covered);
-      only = one_exported image entry f it.routine it.export it.only;
-      same = λ covered at s laid room.
-          call_does_the_same image xs at f it.routine s laid.silent (λ n. run_of program f n xs) it.runs.same (law image accepted entry xs f it.routine goes covered at s laid room);
+      valid = λ covered. valid image forms accepted writable (few_texts image forms it.routine covered);
+      only = one_exported image forms entry f it.routine it.export it.only;
+      same = λ covered harmless at s laid room.
+          call_does_the_same image forms xs at f it.routine s laid.silent (λ n. run_of program f n xs) it.runs.same (law image forms accepted entry xs f it.routine goes covered harmless at s laid room);
     }
 
 pub module_headline : KernelsAgree → ModulesValid → ModuleHeadline
-module_headline law valid gang text image compiled accepted writable program source entry f h xs starts few =
-    module_does_as_meant law valid program image accepted writable entry f h xs starts (bound_headline gang text image compiled program source entry f h xs starts few)
+module_headline law valid gang text image compiled accepted writable program source entry f h xs starts few forms =
+    module_does_as_meant law valid program image accepted writable entry f h xs starts (bound_headline gang text image compiled program source entry f h xs starts few) forms

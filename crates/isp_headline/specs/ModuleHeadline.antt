@@ -21,6 +21,8 @@ use Rattle.isp_code.specs.Writable.{IsWritable}
 use Rattle.isp_verify.specs.Faults.{code_fault}
 use Rattle.isp_runs.specs.Compilation.{IsCompilation}
 use Rattle.isp_front.specs.Front.{IsSource}
+use Rattle.isp_code.specs.Machine.{first_conf}
+use Rattle.isp_forms.specs.Runs.{Forms, AreHarmless}
 use Rattle.isp_wasm_meaning.specs.Meaning.{State, Report, Result, Returned, Trapped, OutOfFuel, called}
 use Rattle.isp_wasm_meaning.specs.Module.{Function, Module, code_in}
 use Rattle.isp_wasm.specs.Places.{Setting}
@@ -29,7 +31,7 @@ use Rattle.isp_wasm.specs.Stack.{uses_stack}
 use Rattle.isp_wasm.specs.Agreement.{out_of, value_bits}
 use Rattle.isp_wasm.specs.Entry.{Shows, ReturnsSo, TrapsSo}
 use Rattle.isp_wasm.specs.Kernel.{HasRoom, IsLaidOut, in_call, passed}
-use Rattle.isp_wasm.specs.Module.{is_covered, module_of}
+use Rattle.isp_wasm.specs.Module.{is_covered, module_with}
 use Rattle.isp_wasm_binary.specs.Binary.{sections_of}
 use Rattle.isp_wasm_valid.specs.Modules.{IsValidModule}
 use Rattle.isp_headline.specs.Headline.{ComesTo, NeverOver, HasWritten}
@@ -61,20 +63,22 @@ pub record CallDoesTheSame (w : Setting) (gang : ℕ → Outcome) (call : ℕ �
 abbrev pub IsExported : Module → List ℕ → ℕ → Type 0
 IsExported m name k = (g : Function) × (slice_get m.functions k ≡ Some g) × (g.export ≡ Some name)
 
--- function f of a program, which has this name, and its code in an image and in the module of that, from the arguments xs
-pub record ModuleDoesAsMeant (program : Program) (image : Listing) (entry : List ℕ) (f : ℕ) (xs : List Argument) : Type 0 where
+-- function f of a program, which has this name, and its code in an image and in the module of that, with its instructions in these
+-- forms, from the arguments xs
+pub record ModuleDoesAsMeant (program : Program) (image : Listing) (forms : Forms) (entry : List ℕ) (f : ℕ) (xs : List Argument) : Type 0 where
   pub routine : Routine
   pub export : code.IsExport image entry f routine
   -- Where it is covered, the module is valid, it exports this function under the name, and no other.
-  pub valid : is_covered image routine ≡ true → IsValidModule (sections_of (module_of image))
-  pub only : is_covered image routine ≡ true → (k : ℕ) → IsExported (module_of image) entry k ↔ (k ≡ f)
-  -- A host calls it, with the arguments in memory, and room for the arrays that are opened: that does what the gang's meaning does.
-  pub same : is_covered image routine ≡ true → (at : List ℕ) (s : State) → IsLaidOut image xs at s → (uses_stack routine ≡ true → HasRoom image xs at f routine s)
-      → CallDoesTheSame (in_call image xs at f routine s) (λ n. run_of program f n xs) (λ n. called (code_in (module_of image)) n f (passed xs at) s)
+  pub valid : is_covered image routine ≡ true → IsValidModule (sections_of (module_with image forms))
+  pub only : is_covered image routine ≡ true → (k : ℕ) → IsExported (module_with image forms) entry k ↔ (k ≡ f)
+  -- Where no run can tell the forms, and a host calls it, with the arguments in memory, and room for the arrays that are opened: that does what
+  -- the gang's meaning does.
+  pub same : is_covered image routine ≡ true → AreHarmless image forms (first_conf image f routine xs) → (at : List ℕ) (s : State) → IsLaidOut image forms xs at s → (uses_stack routine ≡ true → HasRoom image forms xs at f routine s)
+      → CallDoesTheSame (in_call image forms xs at f routine s) (λ n. run_of program f n xs) (λ n. called (code_in (module_with image forms)) n f (passed xs at) s)
 
 -- ---- the whole
 
--- of the program that the text is, the module of this image, an exported function, and arguments that it takes
+-- of the program that the text is, the module of this image, an exported function, arguments that it takes, and any forms of instructions
 abbrev pub IsModuleFaithful : Gang → List ℕ → Listing → Type 0
 IsModuleFaithful gang text image =
     (program : Program)
@@ -82,7 +86,7 @@ IsModuleFaithful gang text image =
     → (entry : List ℕ) (f : ℕ) (h : TFunction) (xs : List Argument)
     → IsEntry program entry xs f h
     → AreShort xs
-    → ModuleDoesAsMeant program image entry f xs
+    → (forms : Forms) → ModuleDoesAsMeant program image forms entry f xs
 
 -- of every text and code of it in which the verifier finds no fault, and which has a text, as the image that `compile` gives
 abbrev pub ModuleHeadline : Type 0

@@ -1,6 +1,8 @@
 //! Modules of WebAssembly of code texts: the words name files, and each becomes a line, the bytes of its module in hexadecimal digits, or why there is none.
+//! Each instruction keeps its lanes.
 #![tactic(auto)]
 
+use isp_forms::FormTable;
 use isp_wasm_module::module;
 use std::alloc::{AllocError, Global};
 use std::{env, fs, io};
@@ -24,7 +26,10 @@ fn told(alloc: Global, text: &str) -> Result<String, AllocError> {
     let Ok(code) = isp_verify::verify(alloc, code) else {
         return format!(in alloc; "refused code");
     };
-    match module(alloc, &code) {
+    let kept = FormTable {
+        functions: Vec::new(alloc),
+    };
+    match module(alloc, &code, &kept) {
         Ok(bytes) => digits(alloc, bytes.as_slice()),
         Err(refusal) => format!(in alloc; "{refusal:?}"),
     }

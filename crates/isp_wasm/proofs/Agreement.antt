@@ -1,11 +1,11 @@
 -- From the loop's result to the machine's runs and back: a machine that has stopped stays, so it stopped where the result says.
-use Rattle.std.proofs.Common.{◌≡◌, ℕ, zero, suc, ◌+◌, ◌-◌, ◌≤◌, ◌<◌, ◌⊎◌, inl, inr, List, [], ◌∷◌, ◌++◌, Option, Some, None, false, refl, sym, ap, ◌∙◌, subst, arith, append_assoc, append-nil}
+use Rattle.std.proofs.Common.{◌≡◌, ℕ, zero, suc, ◌+◌, ◌-◌, ◌≤◌, ◌<◌, ◌⊎◌, inl, inr, List, [], ◌∷◌, ◌++◌, map, Option, Some, None, false, refl, sym, ap, ap₂, ◌∙◌, subst, arith, append_assoc, append-nil}
 use Rattle.std.proofs.lemmas.Bool.{cases_lt}
 use Rattle.isp_base.specs.Prefixes.{IsPrefix}
 use Rattle.isp_base.specs.declared.trap.Trap.{Trap}
 use Rattle.isp_base.specs.declared.types.Value.{Value}
 use Rattle.isp_code.specs.Conf as machine
-use Rattle.isp_code.specs.Conf.{Conf, Frame, Move, Go, Say, Fail, Over}
+use Rattle.isp_code.specs.Conf.{Conf, Frame, Home, Move, Go, Say, Fail, Over}
 use Rattle.isp_code.specs.Calls as calls
 use Rattle.isp_code.specs.Listing.{Listing}
 use Rattle.isp_code.specs.Fine.{IsGiven}
@@ -15,9 +15,12 @@ use Rattle.isp_code.specs.declared.register.Register.{Register}
 use Rattle.isp_verify.specs.Faults.{gives_vector}
 use Rattle.isp_code.specs.Machine.{after, advance, arrive, step}
 use Rattle.isp_code.proofs.Steps.{after-sum}
+use Rattle.isp_forms.specs.Runs.{all_kept, IsRun, LooksLike, StatesLook, AreHarmless}
+use Rattle.isp_forms.proofs.Runs.{own_run, kept_run}
 use Rattle.isp_wasm_meaning.specs.Meaning.{Report, State, Result, Fell, Branched, Returned, Trapped, OutOfFuel, run, left}
 use Rattle.isp_wasm_meaning.specs.Ladder.{Whole, Told}
 use Rattle.isp_wasm.specs.Places.{Setting, Counter}
+use Rattle.isp_wasm.specs.Stack.{function_bytes, waiting_bytes, open_bytes}
 use Rattle.isp_wasm.specs.Templates.{function_code}
 use Rattle.isp_wasm.specs.Standing.{shared_of, bits_by, bits_of, Keeps, Ends, Fails, Cut, IsFull, the_machine, report_of}
 use Rattle.isp_wasm.specs.Agreement.{Returns, Reports, Agrees, FunctionsAgree, CallsAgree, ComesBack, CallsComeBack, out_of, value_bits}
@@ -83,12 +86,70 @@ module _ (code : Listing) where
       let split : b ≡ b - a + a = omega arith in
       subst (λ y. IsPrefix d.out (out_in y)) (sym (ap (after code (b - a)) e) ∙ sym (after-sum code (b - a) a s) ∙ sym (ap (λ n. after code n s) split) ∙ f) (grows (b - a) (machine.Runs d))
 
+-- ---- a run by forms, where nobody can tell it from the machine's
+
+pub record SeenTrap (z : machine.State) (t : Trap) (d : Conf) : Type 0 where
+  pub conf : Conf
+  pub is : z ≡ machine.Trapped t conf
+  pub looks : LooksLike conf d
+
+pub record SeenEnd (z : machine.State) (x : Option Value) (d : Conf) : Type 0 where
+  pub conf : Conf
+  pub is : z ≡ machine.Ended x conf
+  pub looks : LooksLike conf d
+
+pub record SeenRun (z : machine.State) (d : Conf) : Type 0 where
+  pub conf : Conf
+  pub is : z ≡ machine.Runs conf
+  pub looks : LooksLike conf d
+
+seen_trap : (z : machine.State) (t : Trap) (d : Conf) → StatesLook z (machine.Trapped t d) → SeenTrap z t d
+seen_trap (machine.Runs e) t d h = absurd h
+seen_trap (machine.Trapped u e) t d h = record { conf = e; is = ap (λ v. machine.Trapped v e) h.0; looks = h.1 }
+seen_trap (machine.Ended x e) t d h = absurd h
+
+seen_end : (z : machine.State) (x : Option Value) (d : Conf) → StatesLook z (machine.Ended x d) → SeenEnd z x d
+seen_end (machine.Runs e) x d h = absurd h
+seen_end (machine.Trapped u e) x d h = absurd h
+seen_end (machine.Ended y e) x d h = record { conf = e; is = ap (λ v. machine.Ended v e) h.0; looks = h.1 }
+
+seen_run : (z : machine.State) (d : Conf) → StatesLook z (machine.Runs d) → SeenRun z d
+seen_run (machine.Runs e) d h = record { conf = e; is = refl; looks = h }
+seen_run (machine.Trapped u e) d h = absurd h
+seen_run (machine.Ended y e) d h = absurd h
+
+-- the arrays that are open have as many bytes
+module _ (code : Listing) where
+  abbrev bytes_by : List Home → ℕ
+  bytes_by [] = 0
+  bytes_by (h ∷ hs) = bytes_by hs + function_bytes code h.fn
+
+  waiting_by : (fs : List Frame) → waiting_bytes code fs ≡ bytes_by (map (λ (fr : Frame). fr.home) fs)
+  waiting_by [] = refl
+  waiting_by (fr ∷ fs) = ap (λ n. n + function_bytes code fr.home.fn) (waiting_by fs)
+
+  same_bytes : (c d : Conf) → LooksLike c d → open_bytes code d ≡ open_bytes code c
+  same_bytes c d h =
+      ap₂ (λ a b. a + b) (waiting_by d.waiting ∙ ap bytes_by h.waiting_is ∙ sym (waiting_by c.waiting)) (ap (λ (o : Home). function_bytes code o.fn) h.home_is)
+
+pub full_itself : (w : Setting) (c : Conf) → AreHarmless w.code w.forms c → IsFull w w.forms c → IsFull w all_kept c
+full_itself w c harmless h =
+    let e = seen_run (after w.code h.steps (machine.Runs c)) h.conf (harmless h.steps (machine.Runs h.conf) h.goes) in
+    record {
+      conf = e.conf;
+      steps = h.steps;
+      goes = own_run w.code all_kept h.steps (machine.Runs c) (machine.Runs e.conf) e.is;
+      address = h.address;
+      stack_is = h.stack_is;
+      full = subst (λ n. w.room ≤ h.address + n) (same_bytes w.code e.conf h.conf e.looks) h.full;
+    }
+
 -- ---- what the result of a function says of the machine
 
 abbrev pub Judged : Setting → ℕ → Conf → Result → Type 0
 Judged w f c (Returned v s) = (x : Option Value) × (v ≡ value_bits x) × Ends w c x s
-Judged w f c (Trapped (Some q) s) = Fails w c q s
-Judged w f c (OutOfFuel s) = Cut w f c s
+Judged w f c (Trapped (Some q) s) = Fails w all_kept c q s
+Judged w f c (OutOfFuel s) = Cut w all_kept f c s
 Judged w f c r = ⊥
 
 module _ (w : Setting) (top : w.waiting ≡ []) (scalar : gives_vector w.routine.returns ≡ false) where
@@ -101,17 +162,39 @@ module _ (w : Setting) (top : w.waiting ≡ []) (scalar : gives_vector w.routine
   answer_bits c None is = refl
   answer_bits c (Some x) is = answer_by w.routine.returns c x scalar is
 
-  judged : (f : ℕ) (c : Conf) → (IsFull w c → ⊥) → (r : Result) → Whole (the_machine w) (w.local Counter) w.rungs f f c r → Judged w f c (left r)
-  judged f c roomy (Fell s) h = absurd (let low = h.stands.low in omega arith)
-  judged f c roomy (Branched d s) h = absurd h
-  judged f c roomy (Returned v s) h = (
-    calls.answer w.routine h.conf h.register,
-    h.value_is ∙ answer_bits h.conf h.register h.given,
-    record { conf = h.conf; steps = h.steps; ends = h.leaves ∙ ap (λ ws. arrive w.code (calls.left w.routine h.conf h.register ws) h.conf) top; out_is = h.out_is; keeps = h.keeps },
-  )
-  judged f c roomy (Trapped None s) h = absurd (roomy h)
-  judged f c roomy (Trapped (Some q) s) h = h
-  judged f c roomy (OutOfFuel s) h = h
+  judged : (f : ℕ) (c : Conf) → AreHarmless w.code w.forms c → (IsFull w all_kept c → ⊥) → (r : Result) → Whole (the_machine w) (w.local Counter) w.rungs f f c r → Judged w f c (left r)
+  judged f c harmless roomy (Fell s) h = absurd (let low = h.stands.low in omega arith)
+  judged f c harmless roomy (Branched d s) h = absurd h
+  judged f c harmless roomy (Returned v s) h =
+      let x = calls.answer w.routine h.conf h.register in
+      let run = subst (λ ws. IsRun w.code w.forms h.steps (machine.Runs c) (arrive w.code (calls.left w.routine h.conf h.register ws) h.conf)) top h.leaves in
+      let e = seen_end (after w.code h.steps (machine.Runs c)) x h.conf (harmless h.steps (machine.Ended x h.conf) run) in (
+        x,
+        h.value_is ∙ answer_bits h.conf h.register h.given,
+        record { conf = e.conf; steps = h.steps; ends = e.is; out_is = h.out_is ∙ e.looks.out_is; keeps = subst (λ z. Keeps (shared_of w) z s.memory s.size) e.looks.arrays_are h.keeps },
+      )
+  judged f c harmless roomy (Trapped None s) h = absurd (roomy (full_itself w c harmless h))
+  judged f c harmless roomy (Trapped (Some q) s) h =
+      let e = seen_trap (after w.code h.steps (machine.Runs c)) h.trap h.conf (harmless h.steps (machine.Trapped h.trap h.conf) h.fails) in
+      record {
+        conf = e.conf;
+        steps = h.steps;
+        trap = h.trap;
+        fails = own_run w.code all_kept h.steps (machine.Runs c) (machine.Trapped h.trap e.conf) e.is;
+        report_is = h.report_is;
+        out_is = h.out_is ∙ e.looks.out_is;
+        keeps = subst (λ z. Keeps (shared_of w) z s.memory s.size) e.looks.arrays_are h.keeps;
+      }
+  judged f c harmless roomy (OutOfFuel s) h =
+      let e = seen_run (after w.code h.steps (machine.Runs c)) h.conf (harmless h.steps (machine.Runs h.conf) h.goes) in
+      record { conf = e.conf; steps = h.steps; goes = own_run w.code all_kept h.steps (machine.Runs c) (machine.Runs e.conf) e.is; far = h.far; out_is = h.out_is ∙ e.looks.out_is }
+
+  -- by forms that are all kept a run is the machine's own
+  fails_so : (c : Conf) (q : Report) (s : State) (h : Fails w all_kept c q s) → after w.code h.steps (machine.Runs c) ≡ machine.Trapped h.trap h.conf
+  fails_so c q s h = kept_run w.code h.steps (machine.Runs c) (machine.Trapped h.trap h.conf) h.fails
+
+  goes_so : (f : ℕ) (c : Conf) (s : State) (h : Cut w all_kept f c s) → after w.code h.steps (machine.Runs c) ≡ machine.Runs h.conf
+  goes_so f c s h = kept_run w.code h.steps (machine.Runs c) (machine.Runs h.conf) h.goes
 
   ends_there : (m : ℕ) (c : Conf) (x : Option Value) (d : Conf) (r : Result) → Judged w (suc m) c r → after w.code m (machine.Runs c) ≡ machine.Ended x d → Returns w c x d r
   ends_there m c x d (Returned v s) h e =
@@ -121,9 +204,9 @@ module _ (w : Setting) (top : w.waiting ≡ []) (scalar : gives_vector w.routine
       let value_is : h.0 ≡ x = cc in
       record { state = s; is = ap (λ z. Returned z s) (h.1 ∙ ap value_bits value_is); out_is = ends.out_is ∙ ap (λ z. z.out) conf_is; keeps = subst (λ z. Keeps (shared_of w) z.arrays s.memory s.size) conf_is ends.keeps }
   ends_there m c x d (Trapped (Some q) s) h e =
-      let same : machine.Ended x d ≡ machine.Trapped h.trap h.conf = one_end w.code m h.steps (machine.Runs c) (machine.Ended x d) (machine.Trapped h.trap h.conf) e h.fails tt tt in
+      let same : machine.Ended x d ≡ machine.Trapped h.trap h.conf = one_end w.code m h.steps (machine.Runs c) (machine.Ended x d) (machine.Trapped h.trap h.conf) e (fails_so c q s h) tt tt in
       absurd cc
-  ends_there m c x d (OutOfFuel s) h e = absurd (let lt = runs_before w.code h.steps m (machine.Runs c) (machine.Ended x d) h.conf h.goes e tt in omega (arith, h.far))
+  ends_there m c x d (OutOfFuel s) h e = absurd (let lt = runs_before w.code h.steps m (machine.Runs c) (machine.Ended x d) h.conf (goes_so (suc m) c s h) e tt in omega (arith, h.far))
   ends_there m c x d (Fell s) h e = absurd h
   ends_there m c x d (Branched k s) h e = absurd h
   ends_there m c x d (Trapped None s) h e = absurd h
@@ -134,11 +217,11 @@ module _ (w : Setting) (top : w.waiting ≡ []) (scalar : gives_vector w.routine
       let same : machine.Trapped t d ≡ machine.Ended h.0 ends.conf = one_end w.code m ends.steps (machine.Runs c) (machine.Trapped t d) (machine.Ended h.0 ends.conf) e ends.ends tt tt in
       absurd cc
   traps_there m c t d (Trapped (Some q) s) h e =
-      let same : machine.Trapped t d ≡ machine.Trapped h.trap h.conf = one_end w.code m h.steps (machine.Runs c) (machine.Trapped t d) (machine.Trapped h.trap h.conf) e h.fails tt tt in
+      let same : machine.Trapped t d ≡ machine.Trapped h.trap h.conf = one_end w.code m h.steps (machine.Runs c) (machine.Trapped t d) (machine.Trapped h.trap h.conf) e (fails_so c q s h) tt tt in
       let conf_is : h.conf ≡ d = cc in
       let trap_is : h.trap ≡ t = cc in
       record { state = s; is = ap (λ q. Trapped (Some q) s) (h.report_is ∙ ap (report_of w) trap_is); out_is = h.out_is ∙ ap (λ z. z.out) conf_is; keeps = subst (λ z. Keeps (shared_of w) z.arrays s.memory s.size) conf_is h.keeps }
-  traps_there m c t d (OutOfFuel s) h e = absurd (let lt = runs_before w.code h.steps m (machine.Runs c) (machine.Trapped t d) h.conf h.goes e tt in omega (arith, h.far))
+  traps_there m c t d (OutOfFuel s) h e = absurd (let lt = runs_before w.code h.steps m (machine.Runs c) (machine.Trapped t d) h.conf (goes_so (suc m) c s h) e tt in omega (arith, h.far))
   traps_there m c t d (Fell s) h e = absurd h
   traps_there m c t d (Branched k s) h e = absurd h
   traps_there m c t d (Trapped None s) h e = absurd h
@@ -146,7 +229,7 @@ module _ (w : Setting) (top : w.waiting ≡ []) (scalar : gives_vector w.routine
   returned_is : (f : ℕ) (c : Conf) (v : Option ℕ) (s : State) → Judged w f c (Returned v s) → (x : Option Value) × (v ≡ value_bits x) × Ends w c x s
   returned_is f c v s h = h
 
-  trapped_is : (f : ℕ) (c : Conf) (r : Option Report) (s : State) → Judged w f c (Trapped r s) → (q : Report) × (r ≡ Some q) × Fails w c q s
+  trapped_is : (f : ℕ) (c : Conf) (r : Option Report) (s : State) → Judged w f c (Trapped r s) → (q : Report) × (r ≡ Some q) × Fails w all_kept c q s
   trapped_is f c None s h = absurd h
   trapped_is f c (Some q) s h = (q, refl, h)
 
@@ -156,9 +239,9 @@ module _ (w : Setting) (top : w.waiting ≡ []) (scalar : gives_vector w.routine
       let lt = runs_before w.code m ends.steps (machine.Runs c) (machine.Ended h.0 ends.conf) d e ends.ends tt in
       subst (λ o. IsPrefix d.out o) (sym ends.out_is) (grown w.code m ends.steps (machine.Runs c) (machine.Ended h.0 ends.conf) d (omega arith) e ends.ends)
   written_so_far m c d (Trapped (Some q) s) h e =
-      let lt = runs_before w.code m h.steps (machine.Runs c) (machine.Trapped h.trap h.conf) d e h.fails tt in
-      subst (λ o. IsPrefix d.out o) (sym h.out_is) (grown w.code m h.steps (machine.Runs c) (machine.Trapped h.trap h.conf) d (omega arith) e h.fails)
-  written_so_far m c d (OutOfFuel s) h e = subst (λ o. IsPrefix d.out o) (sym h.out_is) (grown w.code m h.steps (machine.Runs c) (machine.Runs h.conf) d h.far e h.goes)
+      let lt = runs_before w.code m h.steps (machine.Runs c) (machine.Trapped h.trap h.conf) d e (fails_so c q s h) tt in
+      subst (λ o. IsPrefix d.out o) (sym h.out_is) (grown w.code m h.steps (machine.Runs c) (machine.Trapped h.trap h.conf) d (omega arith) e (fails_so c q s h))
+  written_so_far m c d (OutOfFuel s) h e = subst (λ o. IsPrefix d.out o) (sym h.out_is) (grown w.code m h.steps (machine.Runs c) (machine.Runs h.conf) d h.far e (goes_so m c s h))
   written_so_far m c d (Fell s) h e = absurd h
   written_so_far m c d (Branched k s) h e = absurd h
   written_so_far m c d (Trapped None s) h e = absurd h
@@ -176,9 +259,9 @@ module _ (w : Setting) (top : w.waiting ≡ []) (scalar : gives_vector w.routine
       }
 
 pub functions_agree : FunctionsAgree
-functions_agree w ready covered thin top scalar call right c s low st roomy =
+functions_agree w ready covered thin top scalar call right c s low st harmless roomy =
     agree w top scalar c (λ f. left (run f (call f) (function_code w) s))
-    (λ f. judged w top scalar f c roomy (run f (call f) (function_code w) s) (function_runs w ready covered thin f (call f) (λ g e. subst (λ n. CallsAgree w g (call n)) (sym e) (right g)) c s low st))
+    (λ f. judged w top scalar f c harmless roomy (run f (call f) (function_code w) s) (function_runs w ready covered thin f (call f) (λ g e. subst (λ n. CallsAgree w g (call n)) (sym e) (right g)) c s low st))
 
 told : (w : Setting) (fr : Frame) (rest : List Frame) → w.waiting ≡ fr ∷ rest → (f : ℕ) (c : Conf) (r : Result) → Whole (the_machine w) (w.local Counter) w.rungs f f c r → Told (the_machine w) (ComesBack w fr rest) f c (left r)
 told w fr rest e f c (Fell s) h = absurd (let low = h.stands.low in omega arith)
@@ -192,7 +275,7 @@ told w fr rest e f c (Returned v s) h =
       fits = h.fits;
       value_is = h.value_is;
       lanes_are = h.lanes_are;
-      goes = h.leaves ∙ ap (λ ws. arrive w.code (calls.left w.routine h.conf h.register ws) h.conf) e;
+      goes = subst (λ ws. IsRun w.code w.forms h.steps (machine.Runs c) (arrive w.code (calls.left w.routine h.conf h.register ws) h.conf)) e h.leaves;
       out_is = h.out_is;
       keeps = h.keeps;
     }

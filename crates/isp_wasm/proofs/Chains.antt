@@ -1,6 +1,6 @@
 -- All templates, the rungs that they make up, and the function.
-use Rattle.std.proofs.Common.{◌≡◌, ℕ, zero, suc, ◌+◌, ◌-◌, ◌<◌, ◌≤◌, ◌⊎◌, inl, inr, List, Option, Some, None, refl, sym, ap, subst, arith}
-use Rattle.std.specs.Prelude.{slice_get}
+use Rattle.std.proofs.Common.{◌≡◌, ℕ, zero, suc, ◌+◌, ◌-◌, ◌<◌, ◌≤◌, ◌⊎◌, inl, inr, List, Option, Some, None, Bool, true, false, refl, sym, ap, subst, arith}
+use Rattle.std.specs.Prelude.{slice_get, if◌then◌else◌}
 use Rattle.std.proofs.lemmas.Bool.{cases_lt}
 use Rattle.isp_code.specs.Conf.{Conf}
 use Rattle.isp_code.specs.declared.instr.Division.{Division}
@@ -13,16 +13,19 @@ use Rattle.isp_code.specs.declared.instr.VectorInstr.TheVariants as vector
 use Rattle.isp_code.specs.declared.register.Class.{Class}
 use Rattle.isp_code.specs.declared.register.Class.TheVariants as class
 use Rattle.isp_code.specs.declared.register.Register.{Register}
+use Rattle.isp_forms.specs.Writes.{is_pure}
+use Rattle.isp_forms.specs.declared.form.Form.{Form}
+use Rattle.isp_forms.specs.declared.form.Form.TheVariants.{Kept, Free, Useless}
 use Rattle.isp_wasm_meaning.specs.Meaning.{State, Result, Fell, Branched, Returned, Trapped, OutOfFuel, run, then_to}
-use Rattle.isp_wasm_meaning.specs.Syntax.{Unreachable}
+use Rattle.isp_wasm_meaning.specs.Syntax.{Skip, Unreachable}
 use Rattle.isp_wasm_meaning.specs.Ladder.{Meets, Whole, dispatched}
 use Rattle.isp_wasm_meaning.proofs.Ladders.{meets_then, dispatches}
 use Rattle.isp_wasm.specs.Places.{Setting, Counter, elem}
-use Rattle.isp_wasm.specs.Templates.{lane_checks, lane_stores, own_index, run_index, scalar_code, vector_code, quotients, return_code, code_of, code_at, span, rung, function_code}
+use Rattle.isp_wasm.specs.Templates.{lane_checks, lane_stores, own_index, scalar_code, vector_code, vector_line, quotients, return_code, code_of, code_at, span, rung, function_code}
 use Rattle.isp_wasm.specs.Agreement.{CallsAgree}
 use Rattle.isp_wasm.specs.Standing.{Stands, Final, StandsBefore, IsSettled, the_machine, vector_register}
 use Rattle.isp_wasm.specs.Thin.{IsArray, IsCovered, IsLast, IsThin, AllThin, IsThinScalar, IsThinVector, IsThinDivision}
-use Rattle.isp_wasm.proofs.Steps.{machine_laws}
+use Rattle.isp_wasm.proofs.Steps.{machine_laws, falls_useless}
 use Rattle.isp_wasm.proofs.Scalars.{scalars_fall, jumps_to, tests_fall, returns, answers, asserts}
 use Rattle.isp_wasm.proofs.Vectors.{copies, converts, unaries, binaries, compares, selects, splats, indices}
 use Rattle.isp_wasm.proofs.Masks.{masks_fall}
@@ -72,26 +75,44 @@ module _ (w : Setting) (ready : IsSettled w) (covered : IsCovered w) (thin : All
     as_vector : (d : Register) → d.class ≡ class.Vector → vector_register d.number ≡ d
     as_vector d cl = ap (λ a. record { class = a; number = d.number }) (sym cl)
 
-    vector_number : (d : ℕ) (i : VectorInstr) → slice_get w.routine.code pc ≡ Some (instr.Vector (vector_register d) i) → IsThinVector w (elem w (vector_register d)) i → Good k (pc + 1) c (run fuel call (vector_code w (vector_register d) i) s)
-    vector_number d (vector.Copy x m) has h = copies w ready fuel w.rungs k call pc c s st d x m has h
-    vector_number d (vector.Convert x m) has h = converts w ready fuel w.rungs k call pc c s st d x m has h
-    vector_number d (vector.Unary o x m) has h = unaries w ready fuel w.rungs k call pc c s st d o x m has h
-    vector_number d (vector.Binary o x y m) has h = binaries w ready fuel w.rungs k call pc c s st d o x y m has h
-    vector_number d (vector.Compare o x y m) has h = compares w ready fuel w.rungs k call pc c s st d o x y m has h
-    vector_number d (vector.Select t x y m) has h = selects w ready fuel w.rungs k call pc c s st d t x y m has h
-    vector_number d (vector.Splat x m) has h = splats w ready fuel w.rungs k call pc c s st d x m has h
-    vector_number d (vector.Index m) has h = indices w ready fuel w.rungs k call pc c s st d m has h
-    vector_number d (vector.Gather a i m q) has h = gathers w ready fuel w.rungs k call pc c s st d a i m q (found w ready a (elem w (vector_register d)) h.0) h.1 has
-    vector_number d (vector.LoadRun a i m q) has h = run_loads w ready fuel w.rungs k call pc c s st d a i m q h.0 h.1 has
-    vector_number d (vector.Scan o x m) has h = scans w ready fuel w.rungs k call pc c s st d o x m h.0 h.1 has
-    vector_number d (vector.Exchange e x i m) has h = exchanges w ready fuel w.rungs k call pc c s st d e x i m h.0 h.1 has
-    vector_number d (vector.Shuffle x i m) has h = shuffles w ready fuel w.rungs k call pc c s st d x i m h.0 h.1 has
-    vector_number d (vector.ShuffleTwo x y i m) has h = shuffles_two w ready fuel w.rungs k call pc c s st d x y i m h.0 h.1 h.2 has
-    vector_number d (vector.Insert x i y m) has h = inserts w ready fuel w.rungs k call pc c s st d x i y m h.0 h.1 h.2 has
+    vector_number : (d : ℕ) (i : VectorInstr) → slice_get w.routine.code pc ≡ Some (instr.Vector (vector_register d) i) → IsThinVector w (elem w (vector_register d)) i → (form : Form) → (form ≡ Free → w.forms w.home.fn pc ≡ Free)
+        → Good k (pc + 1) c (run fuel call (vector_code w form (vector_register d) i) s)
+    vector_number d (vector.Copy x m) has h form free = copies w ready fuel w.rungs k call pc c s st d x m has h form free
+    vector_number d (vector.Convert x m) has h form free = converts w ready fuel w.rungs k call pc c s st d x m has h form free
+    vector_number d (vector.Unary o x m) has h form free = unaries w ready fuel w.rungs k call pc c s st d o x m has h form free
+    vector_number d (vector.Binary o x y m) has h form free = binaries w ready fuel w.rungs k call pc c s st d o x y m has h form free
+    vector_number d (vector.Compare o x y m) has h form free = compares w ready fuel w.rungs k call pc c s st d o x y m has h form free
+    vector_number d (vector.Select t x y m) has h form free = selects w ready fuel w.rungs k call pc c s st d t x y m has h form free
+    vector_number d (vector.Splat x m) has h form free = splats w ready fuel w.rungs k call pc c s st d x m has h form free
+    vector_number d (vector.Index m) has h form free = indices w ready fuel w.rungs k call pc c s st d m has h form free
+    vector_number d (vector.Gather a i m q) has h form free = gathers w ready fuel w.rungs k call pc c s st d a i m q (found w ready a (elem w (vector_register d)) h.0) h.1 has
+    vector_number d (vector.LoadRun a i m q) has h form free = run_loads w ready fuel w.rungs k call pc c s st d a i m q h.0 h.1 has form free
+    vector_number d (vector.Scan o x m) has h form free = scans w ready fuel w.rungs k call pc c s st d o x m h.0 h.1 has form free
+    vector_number d (vector.Exchange e x i m) has h form free = exchanges w ready fuel w.rungs k call pc c s st d e x i m h.0 h.1 has form free
+    vector_number d (vector.Shuffle x i m) has h form free = shuffles w ready fuel w.rungs k call pc c s st d x i m h.0 h.1 has form free
+    vector_number d (vector.ShuffleTwo x y i m) has h form free = shuffles_two w ready fuel w.rungs k call pc c s st d x y i m h.0 h.1 h.2 has form free
+    vector_number d (vector.Insert x i y m) has h form free = inserts w ready fuel w.rungs k call pc c s st d x i y m h.0 h.1 h.2 has form free
 
-    vector_at : (d : Register) (i : VectorInstr) → slice_get w.routine.code pc ≡ Some (instr.Vector d i) → d.class ≡ class.Vector → IsThinVector w (elem w d) i → Good k (pc + 1) c (run fuel call (vector_code w d i) s)
-    vector_at d i has cl h =
-        subst (λ e. slice_get w.routine.code pc ≡ Some (instr.Vector e i) → IsThinVector w (elem w e) i → Good k (pc + 1) c (run fuel call (vector_code w e i) s)) (as_vector d cl) (vector_number d.number i) has h
+    vector_coded : (d : Register) (i : VectorInstr) → slice_get w.routine.code pc ≡ Some (instr.Vector d i) → d.class ≡ class.Vector → IsThinVector w (elem w d) i → (form : Form) → (form ≡ Free → w.forms w.home.fn pc ≡ Free)
+        → Good k (pc + 1) c (run fuel call (vector_code w form d i) s)
+    vector_coded d i has cl h form free =
+        subst (λ e. slice_get w.routine.code pc ≡ Some (instr.Vector e i) → IsThinVector w (elem w e) i → Good k (pc + 1) c (run fuel call (vector_code w form e i) s)) (as_vector d cl)
+        (λ has h. vector_number d.number i has h form free) has h
+
+    never_free : Kept ≡ Free → ⊥
+    never_free e = cc
+
+    -- what nobody reads may be left out, unless it may trap
+    left_out : (d : Register) (i : VectorInstr) → slice_get w.routine.code pc ≡ Some (instr.Vector d i) → w.forms w.home.fn pc ≡ Useless → (pure : Bool) → is_pure i ≡ pure
+        → Good k (pc + 1) c (run fuel call (vector_code w Kept d i) s) → Good k (pc + 1) c (run fuel call (if pure then Skip else vector_code w Kept d i) s)
+    left_out d i has is true pure kept = falls_useless w ready fuel w.rungs k pc c s d i st has is pure
+    left_out d i has is false pure kept = kept
+
+    vector_at : (d : Register) (i : VectorInstr) → slice_get w.routine.code pc ≡ Some (instr.Vector d i) → d.class ≡ class.Vector → IsThinVector w (elem w d) i → (form : Form) → w.forms w.home.fn pc ≡ form
+        → Good k (pc + 1) c (run fuel call (vector_line w form d i) s)
+    vector_at d i has cl h Kept is = vector_coded d i has cl h Kept (λ e. absurd (never_free e))
+    vector_at d i has cl h Free is = vector_coded d i has cl h Free (λ e. is)
+    vector_at d i has cl h Useless is = left_out d i has is (is_pure i) refl (vector_coded d i has cl h Kept (λ e. absurd (never_free e)))
 
     quotient_number : (o : Division) (a : Class) (d : ℕ) (x y m : Register) (q : ℕ) → slice_get w.routine.code pc ≡ Some (instr.Divide o (record { class = a; number = d }) x y m q)
         → IsThinDivision w a (elem w (record { class = a; number = d })) x y → Good k (pc + 1) c (run fuel call (quotients w a o (record { class = a; number = d }) x y m q) s)
@@ -99,47 +120,47 @@ module _ (w : Setting) (ready : IsSettled w) (covered : IsCovered w) (thin : All
     quotient_number o class.Vector d x y m q has h = divides_lanes w ready fuel w.rungs k call pc c s st o d x y m q h.0 h.1 h.2 has
     quotient_number o a d x y m q has h = absurd h
 
-    packed_load_at : (r a i y m : Register) (q : ℕ) → slice_get w.routine.code pc ≡ Some (instr.PackedLoad r a i y m q) → IsThin w (instr.PackedLoad r a i y m q)
-        → Good k (pc + 1) c (run fuel call (code_of w (w.rungs - suc k) (instr.PackedLoad r a i y m q)) s)
-    packed_load_at r a i y m q has h =
+    packed_load_at : (form : Form) (r a i y m : Register) (q : ℕ) → slice_get w.routine.code pc ≡ Some (instr.PackedLoad r a i y m q) → IsThin w (instr.PackedLoad r a i y m q)
+        → Good k (pc + 1) c (run fuel call (code_of w (w.rungs - suc k) form (instr.PackedLoad r a i y m q)) s)
+    packed_load_at form r a i y m q has h =
         subst
-        (λ e. slice_get w.routine.code pc ≡ Some (instr.PackedLoad r a i e m q) → IsArray w a (elem w e) → Good k (pc + 1) c (run fuel call (code_of w (w.rungs - suc k) (instr.PackedLoad r a i e m q)) s))
+        (λ e. slice_get w.routine.code pc ≡ Some (instr.PackedLoad r a i e m q) → IsArray w a (elem w e) → Good k (pc + 1) c (run fuel call (code_of w (w.rungs - suc k) form (instr.PackedLoad r a i e m q)) s))
         (as_vector y h.3) (λ has el. packed_loads w ready fuel w.rungs k call pc c s st y.number a i m q (found_shared w ready a (elem w (vector_register y.number)) el) el.shared r (h.0).class_is (h.0).elem_is h.2 has) has h.1
 
     -- one instruction
-    template : (i : Instr) → slice_get w.routine.code pc ≡ Some i → IsThin w i → Good k (pc + 1) c (run fuel call (code_of w (w.rungs - suc k) i) s)
-    template (instr.Scalar d i) has h = scalar_at d i has h.0 h.1
-    template (instr.Vector d i) has h = vector_at d i has h.0 h.1
-    template (instr.Mask d i) has h = masks_fall w ready fuel w.rungs k call pc c s st d i has h
-    template (instr.Divide o d x y m q) has h = quotient_number o d.class d.number x y m q has h
-    template (instr.Store a i y m q) has h = stores w ready fuel w.rungs k call pc c s st a i y m q has h.1 h.0 h.2
-    template (instr.Scatter a i y m q) has h =
+    template : (i : Instr) → slice_get w.routine.code pc ≡ Some i → IsThin w i → (form : Form) → w.forms w.home.fn pc ≡ form → Good k (pc + 1) c (run fuel call (code_of w (w.rungs - suc k) form i) s)
+    template (instr.Scalar d i) has h form e = scalar_at d i has h.0 h.1
+    template (instr.Vector d i) has h form e = vector_at d i has h.0 h.1 form e
+    template (instr.Mask d i) has h form e = masks_fall w ready fuel w.rungs k call pc c s st d i has h
+    template (instr.Divide o d x y m q) has h form e = quotient_number o d.class d.number x y m q has h
+    template (instr.Store a i y m q) has h form e = stores w ready fuel w.rungs k call pc c s st a i y m q has h.1 h.0 h.2
+    template (instr.Scatter a i y m q) has h form e =
         subst (Good k (pc + 1) c) (ends_so (run fuel call (lane_checks w a (own_index w i) m q) s) (run fuel call (lane_stores w a (own_index w i) y m))) (scatters w ready fuel w.rungs k call pc c s st a i y m q h.0 h.2 h.1 has)
-    template (instr.StoreRun a i y m q) has h = run_stores w ready fuel w.rungs k call pc c s st a i y m q h.0 h.2 h.1 has
-    template (instr.PackedStore r a i y m q) has h = packed_stores w ready fuel w.rungs k call pc c s st a i y m q h.1 h.3 h.2 r (h.0).class_is (h.0).elem_is has
-    template (instr.PackedLoad r a i y m q) has h = packed_load_at r a i y m q has h
-    template (instr.Jump to) has h = jumps_to w ready fuel w.rungs k call pc c s st to (instr.Jump to) has low h refl refl
-    template (instr.JumpIf t x to) has h = tests_fall w ready fuel w.rungs k call pc c s st to t x has low h refl
-    template (instr.Say t) has h = says_fall w ready fuel w.rungs k call pc c s t st has
-    template (instr.Fail x q) has h = asserts w ready fuel w.rungs k call pc c s st x q has
-    template (instr.PrintScalar x) has h = prints_scalar w ready fuel w.rungs k call pc c s st x has h
-    template (instr.PrintVector x m) has h = prints_vector w ready fuel w.rungs k call pc c s st x m has h
-    template (instr.Call x) has h = calls_fall w ready last w.rungs k call right pc c s st x has h
-    template (instr.Return None) has h = returns w ready fuel w.rungs k call pc c s st has h
-    template (instr.Return (Some x)) has h = over (Stands w (pc + 1)) (suc k) c (run fuel call (return_code w x.class x) s) (answers w ready fuel w.rungs k call pc c s st x has h)
-    template (instr.Clear a m) has h = clears w ready fuel w.rungs k call pc c s st a m h has
+    template (instr.StoreRun a i y m q) has h form e = run_stores w ready fuel w.rungs k call pc c s st a i y m q h.0 h.2 h.1 has
+    template (instr.PackedStore r a i y m q) has h form e = packed_stores w ready fuel w.rungs k call pc c s st a i y m q h.1 h.3 h.2 r (h.0).class_is (h.0).elem_is has
+    template (instr.PackedLoad r a i y m q) has h form e = packed_load_at form r a i y m q has h
+    template (instr.Jump to) has h form e = jumps_to w ready fuel w.rungs k call pc c s st to (instr.Jump to) has low h refl refl
+    template (instr.JumpIf t x to) has h form e = tests_fall w ready fuel w.rungs k call pc c s st to t x has low h refl form
+    template (instr.Say t) has h form e = says_fall w ready fuel w.rungs k call pc c s t st has
+    template (instr.Fail x q) has h form e = asserts w ready fuel w.rungs k call pc c s st x q has
+    template (instr.PrintScalar x) has h form e = prints_scalar w ready fuel w.rungs k call pc c s st x has h
+    template (instr.PrintVector x m) has h form e = prints_vector w ready fuel w.rungs k call pc c s st x m has h
+    template (instr.Call x) has h form e = calls_fall w ready last w.rungs k call right pc c s st x has h
+    template (instr.Return None) has h form e = returns w ready fuel w.rungs k call pc c s st has h
+    template (instr.Return (Some x)) has h form e = over (Stands w (pc + 1)) (suc k) c (run fuel call (return_code w x.class x) s) (answers w ready fuel w.rungs k call pc c s st x has h)
+    template (instr.Clear a m) has h form e = clears w ready fuel w.rungs k call pc c s st a m h has
 
   template_at : (k : ℕ) → k < w.rungs → (pc : ℕ) → pc < w.heads w.rungs → (c : Conf) (s : State) (o : Option Instr) → Stands w pc c s → slice_get w.routine.code pc ≡ o
-      → Good k (pc + 1) c (run fuel call (code_at w (w.rungs - suc k) o) s)
+      → Good k (pc + 1) c (run fuel call (code_at w (w.rungs - suc k) (w.forms w.home.fn pc) o) s)
   template_at k low pc lp c s None st has = absurd (covered.there pc lp has)
-  template_at k low pc lp c s (Some i) st has = template k low pc c s st i has (thin pc i has)
+  template_at k low pc lp c s (Some i) st has = template k low pc c s st i has (thin pc i has) (w.forms w.home.fn pc) refl
 
   -- so many instructions
   spans : (k : ℕ) → k < w.rungs → (m pc : ℕ) → pc + m ≤ w.heads w.rungs → (c : Conf) (s : State) → Stands w pc c s → Good k (pc + m) c (run fuel call (span w (w.rungs - suc k) pc m) s)
   spans k low zero pc lp c s st = record { conf = c; steps = 0; goes = refl; stands = subst (λ p. Stands w p c s) (let e : pc ≡ pc + zero = omega arith in e) st }
   spans k low (suc m) pc lp c s st =
       meets_then (the_machine w) (machine_laws w) (w.local Counter) w.rungs fuel call (rung w) (Stands w (pc + 1)) (Stands w (pc + suc m)) (suc k) c
-      (run fuel call (code_at w (w.rungs - suc k) (slice_get w.routine.code pc)) s) (run fuel call (span w (w.rungs - suc k) (pc + 1) m))
+      (run fuel call (code_at w (w.rungs - suc k) (w.forms w.home.fn pc) (slice_get w.routine.code pc)) s) (run fuel call (span w (w.rungs - suc k) (pc + 1) m))
       (template_at k low pc (omega arith) c s (slice_get w.routine.code pc) st refl)
       (λ c1 s1 st1. subst (λ p. Good k p c1 (run fuel call (span w (w.rungs - suc k) (pc + 1) m) s1)) (let e : pc + 1 + m ≡ pc + suc m = omega arith in e) (spans k low m (pc + 1) (omega arith) c1 s1 st1))
 
@@ -150,7 +171,7 @@ module _ (w : Setting) (ready : IsSettled w) (covered : IsCovered w) (thin : All
   abbrev pub Gone : ℕ → Conf → Result → Type 0
   Gone k = Meets (the_machine w) (w.local Counter) w.rungs fuel Never (suc k)
 
-  leaves_at : (k : ℕ) → k < w.rungs → (pc : ℕ) (c : Conf) (s : State) (o : Option Instr) → Stands w pc c s → slice_get w.routine.code pc ≡ o → IsLast w o → Gone k c (run fuel call (code_at w (w.rungs - suc k) o) s)
+  leaves_at : (k : ℕ) → k < w.rungs → (pc : ℕ) (c : Conf) (s : State) (o : Option Instr) → Stands w pc c s → slice_get w.routine.code pc ≡ o → IsLast w o → Gone k c (run fuel call (code_at w (w.rungs - suc k) (w.forms w.home.fn pc) o) s)
   leaves_at k low pc c s (Some (instr.Jump to)) st has h = jumps_to w ready fuel w.rungs k call pc c s st to (instr.Jump to) has low (thin pc (instr.Jump to) has) refl refl
   leaves_at k low pc c s (Some (instr.Return None)) st has h = returns w ready fuel w.rungs k call pc c s st has (thin pc (instr.Return None) has)
   leaves_at k low pc c s (Some (instr.Return (Some x))) st has h = over Never (suc k) c (run fuel call (return_code w x.class x) s) (answers w ready fuel w.rungs k call pc c s st x has (thin pc (instr.Return (Some x)) has))
@@ -159,11 +180,11 @@ module _ (w : Setting) (ready : IsSettled w) (covered : IsCovered w) (thin : All
   last_spans : (k : ℕ) → suc k ≡ w.rungs → (m pc : ℕ) → pc + suc m ≡ w.heads w.rungs → (c : Conf) (s : State) → Stands w pc c s → Gone k c (run fuel call (span w (w.rungs - suc k) pc (suc m)) s)
   last_spans k all zero pc e c s st =
       meets_then (the_machine w) (machine_laws w) (w.local Counter) w.rungs fuel call (rung w) Never Never (suc k) c
-      (run fuel call (code_at w (w.rungs - suc k) (slice_get w.routine.code pc)) s) (run fuel call (span w (w.rungs - suc k) (pc + 1) zero))
+      (run fuel call (code_at w (w.rungs - suc k) (w.forms w.home.fn pc) (slice_get w.routine.code pc)) s) (run fuel call (span w (w.rungs - suc k) (pc + 1) zero))
       (leaves_at k (omega arith) pc c s (slice_get w.routine.code pc) st refl (covered.ends k pc all (omega arith))) (λ c1 s1 never. absurd never)
   last_spans k all (suc m) pc e c s st =
       meets_then (the_machine w) (machine_laws w) (w.local Counter) w.rungs fuel call (rung w) (Stands w (pc + 1)) Never (suc k) c
-      (run fuel call (code_at w (w.rungs - suc k) (slice_get w.routine.code pc)) s) (run fuel call (span w (w.rungs - suc k) (pc + 1) (suc m)))
+      (run fuel call (code_at w (w.rungs - suc k) (w.forms w.home.fn pc) (slice_get w.routine.code pc)) s) (run fuel call (span w (w.rungs - suc k) (pc + 1) (suc m)))
       (template_at k (omega arith) pc (omega arith) c s (slice_get w.routine.code pc) st refl) (λ c1 s1 st1. last_spans k all m (pc + 1) (omega arith) c1 s1 st1)
 
   -- nothing stands where control never gets

@@ -20,6 +20,8 @@ use Rattle.isp_code.specs.Conf as machine
 use Rattle.isp_code.specs.Conf.{Conf}
 use Rattle.isp_code.specs.Registers.{passed}
 use Rattle.isp_code.specs.Machine.{after, outcome}
+use Rattle.isp_forms.specs.Runs.{all_kept, AreHarmless}
+use Rattle.isp_forms.proofs.Runs.{kept_run}
 use Rattle.isp_wasm_meaning.specs.Digits.{digit}
 use Rattle.isp_wasm_meaning.specs.Syntax.{I8x16, Code, Skip, Then, Set, Const128, GetGlobal}
 use Rattle.isp_wasm_meaning.specs.Meaning.{State, Result, Fell, Returned, Trapped, run, left, called, then_to, set_local, lane, flags}
@@ -35,7 +37,7 @@ use Rattle.isp_wasm.specs.Agreement.{Agrees, CallsAgree, out_of, value_bits}
 use Rattle.isp_wasm.specs.Entry.{entry_code, first, IsPassed, IsCalled, Shows, ReturnsSo, TrapsSo, SameOutcomes, EntriesAgree}
 use Rattle.isp_wasm.proofs.Frames.{put_same, put_other, there, elsewhere}
 use Rattle.isp_wasm.proofs.Rows.{enough, row_constant}
-use Rattle.isp_wasm.proofs.Agreement.{functions_agree}
+use Rattle.isp_wasm.proofs.Agreement.{functions_agree, full_itself}
 use Rattle.isp_wasm.proofs.Shared.{beside_shared}
 use Rattle.isp_wasm.proofs.Opening.{which_array, IsOpen, IsEntered, Starts, starts}
 
@@ -260,7 +262,7 @@ module _ (w : Setting) (ready : IsSettled w) where
 
     -- ---- its outcomes
 
-    module _ (covered : IsCovered w) (thin : AllThin w) (module_code : ℕ → Code) (f : ℕ) (code_is : module_code f ≡ entry_code w) (right : (n : ℕ) → CallsAgree w n (called module_code n)) (roomy : IsFull w (first w xs) → ⊥) where
+    module _ (covered : IsCovered w) (thin : AllThin w) (module_code : ℕ → Code) (f : ℕ) (code_is : module_code f ≡ entry_code w) (right : (n : ℕ) → CallsAgree w n (called module_code n)) (harmless : AreHarmless w.code w.forms (first w xs)) (roomy : IsFull w all_kept (first w xs) → ⊥) where
       calls_of : ℕ → ℕ → List ℕ → State → Result
       calls_of zero = called module_code zero
       calls_of (suc n) = called module_code n
@@ -269,9 +271,9 @@ module _ (w : Setting) (ready : IsSettled w) where
       begins_so : Starts w ready (first w xs) begun
       begins_so = by (starts w ready (first w xs) begun is_entered)
         where
-          by : Starts w ready (first w xs) begun ⊎ (((fuel : ℕ) (call : ℕ → List ℕ → State → Result) → run fuel call (begin_code w w.routine.locals) begun ≡ Trapped None begun) × IsFull w (first w xs)) → Starts w ready (first w xs) begun
+          by : Starts w ready (first w xs) begun ⊎ (((fuel : ℕ) (call : ℕ → List ℕ → State → Result) → run fuel call (begin_code w w.routine.locals) begun ≡ Trapped None begun) × IsFull w w.forms (first w xs)) → Starts w ready (first w xs) begun
           by (inl b) = b
-          by (inr none) = absurd (roomy none.1)
+          by (inr none) = absurd (roomy (full_itself w (first w xs) harmless none.1))
 
       abbrev there_state : State
       there_state = begins_so.state
@@ -283,7 +285,7 @@ module _ (w : Setting) (ready : IsSettled w) where
       unfolding calls_of
       agrees =
           functions_agree w ready covered thin call_is.alone call_is.no_vector calls_of right (first w xs) there_state (subst (λ z. z < w.rungs) (sym counter_there) call_is.some)
-          (subst (λ z. Stands w z (first w xs) there_state) (sym (ap w.heads counter_there ∙ call_is.head_is)) begins_so.stands) roomy
+          (subst (λ z. Stands w z (first w xs) there_state) (sym (ap w.heads counter_there ∙ call_is.head_is)) begins_so.stands) harmless roomy
 
       result_is : (n : ℕ) → called module_code (suc n) f arguments s ≡ left (run (suc n) (calls_of (suc n)) (function_code w) there_state)
       unfolding begun entered opened called_at calls_of
@@ -343,10 +345,10 @@ module _ (w : Setting) (ready : IsSettled w) where
             ends_only = λ n v u e. (let h = agrees.ends_only (suc n) v u (sym (result_is n) ∙ e) in let r = h.2 in
                 (r.steps, rows_now (rows xs) (r.conf).arrays, h.0, ap (outcome (rows xs)) r.ends ∙ ap (outcomes.Ends (rows_now (rows xs) (r.conf).arrays) h.0) (sym r.out_is), h.1, shows r.conf u r.keeps));
             traps_only = λ n q u e. (let h = agrees.traps_only (suc n) q u (sym (result_is n) ∙ e) in let r = h.2 in
-                (r.steps, rows_now (rows xs) (r.conf).arrays, r.trap, ap (outcome (rows xs)) r.fails ∙ ap (outcomes.Traps r.trap (rows_now (rows xs) (r.conf).arrays)) (sym r.out_is), h.1 ∙ ap Some r.report_is, shows r.conf u r.keeps));
+                (r.steps, rows_now (rows xs) (r.conf).arrays, r.trap, ap (outcome (rows xs)) (kept_run w.code r.steps (machine.Runs (first w xs)) (machine.Trapped r.trap r.conf) r.fails) ∙ ap (outcomes.Traps r.trap (rows_now (rows xs) (r.conf).arrays)) (sym r.out_is), h.1 ∙ ap Some r.report_is, shows r.conf u r.keeps));
             so_far = λ m out is. written_at m out (after w.code m (machine.Runs (first w xs))) refl is;
-            goes_on = λ n u e. (let r = agrees.goes_on (suc n) u (sym (result_is n) ∙ e) in (r.steps, r.far, ap (outcome (rows xs)) r.goes ∙ ap outcomes.GoesOn (sym r.out_is)));
+            goes_on = λ n u e. (let r = agrees.goes_on (suc n) u (sym (result_is n) ∙ e) in (r.steps, r.far, ap (outcome (rows xs)) (kept_run w.code r.steps (machine.Runs (first w xs)) (machine.Runs r.conf) r.goes) ∙ ap outcomes.GoesOn (sym r.out_is)));
           }
 
 pub entries_agree : EntriesAgree
-entries_agree w ready covered thin module_code f code_is right xs arguments s call_is roomy = same_outcomes w ready xs arguments s call_is covered thin module_code f code_is right roomy
+entries_agree w ready covered thin module_code f code_is right xs arguments s call_is harmless roomy = same_outcomes w ready xs arguments s call_is covered thin module_code f code_is right harmless roomy

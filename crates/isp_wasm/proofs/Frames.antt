@@ -99,6 +99,25 @@ module _ (w : Setting) where
           ap (lane (shape w (vector_register r)) k) (a (Vector r j) tt (λ e. let f = e.1 in ne cc)) ∙ h.vectors_are r j k p q
           ∙ ap (λ g. cell (elem w (vector_register r)) (g (j * count (shape w (vector_register r)) + k))) (sym (put_other ve d f r ne))
 
+  -- a register that is set twice
+  pub holds_again : (sc : ℕ → ℕ) (ve : ℕ → Lanes) (ma : ℕ → Sets.Mask) (l : ℕ → ℕ) (d : ℕ) (f g : Lanes) → Holds w sc (put ve d g) ma l → Holds w sc (put (put ve d f) d g) ma l
+  holds_again sc ve ma l d f g h =
+      record {
+        scalars_are = h.scalars_are;
+        vectors_are = λ r j k p q. h.vectors_are r j k p q ∙ ap (λ u. cell (elem w (vector_register r)) (u (j * count (shape w (vector_register r)) + k))) (same r (cases_eq r d));
+        masks_are = h.masks_are;
+        fits = h.fits;
+        members = h.members;
+        bases = h.bases;
+        counts = h.counts;
+        depth = h.depth;
+        top_is = h.top_is;
+      }
+    where
+      same : (r : ℕ) → (r ≡ d) ⊎ (r ≡ d → ⊥) → put ve d g r ≡ put (put ve d f) d g r
+      same r (inl e) = put_same ve d g r e ∙ sym (put_same (put ve d f) d g r e)
+      same r (inr ne) = put_other ve d g r ne ∙ sym (put_other (put ve d f) d g r ne ∙ put_other ve d f r ne)
+
   abbrev pub IsMaskPart : ℕ → Place → Type 0
   IsMaskPart d p = (j : ℕ) × (p ≡ Mask d j)
 

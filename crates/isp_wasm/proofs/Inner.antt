@@ -29,6 +29,7 @@ use Rattle.isp_code.specs.declared.register.Class.{Class}
 use Rattle.isp_code.specs.declared.register.Class.TheVariants as class
 use Rattle.isp_code.specs.declared.register.Register.{Register}
 use Rattle.isp_verify.specs.Accepted.{IsFine}
+use Rattle.isp_forms.specs.Runs.{Forms}
 use Rattle.isp_wasm_meaning.specs.Syntax.{I8x16, Code, Const128}
 use Rattle.isp_wasm_meaning.specs.Meaning.{loaded, State, Result, Fell, Branched, Returned, Trapped, OutOfFuel, called, run, left, then_to, value, lane, flags, count}
 use Rattle.isp_wasm_meaning.specs.Module.{Function, code_in, unused}
@@ -39,7 +40,7 @@ use Rattle.isp_wasm.specs.Rows.{cell, widened}
 use Rattle.isp_wasm.specs.Locals.{row, taken_from, taken_places, own_places, inner_local, local_at}
 use Rattle.isp_wasm.specs.Lanes.{array_register, store_at}
 use Rattle.isp_wasm.specs.Lines.{HasArrays}
-use Rattle.isp_wasm.specs.Module.{is_plain, all_plain, calls_function, is_called, inner, inner_of, inner_function, inner_functions, function_of, module_of}
+use Rattle.isp_wasm.specs.Module.{is_plain, all_plain, calls_function, is_called, inner, inner_of, inner_function, each_function, function_of, module_with}
 use Rattle.isp_wasm.specs.Stack.{IsBelow, moved_up, start, has_call, waiting_bytes, function_bytes, bytes_if, bytes_in, top}
 use Rattle.isp_wasm.specs.Standing.{all_of, shared_of, Holds, Keeps, Stands, IsFull, IsSettled, bits_by, bits_of, LanesBy, LanesOf, scalar_register, vector_register, the_machine}
 use Rattle.isp_wasm.specs.Templates.{listed, plus, waiting_calls, part_under, vector_local, mask_local, passed_all, arguments_of, called_number, function_code, begin_code, routine_code}
@@ -74,30 +75,35 @@ pub record IsOf (w : Setting) : Type 0 where
 
 -- ---- its number
 
-inner_get : (code : Listing) (hs : List Routine) (i f : ℕ) (h : Routine) → slice_get hs f ≡ Some h → slice_get (inner_functions code i hs) f ≡ Some (inner_function code h (i + f))
-inner_get code [] i f h has = absurd cc
-inner_get code (g ∷ hs) i zero h has = let same : g ≡ h = cc in ap (λ z. Some (inner_function code z i)) same ∙ ap (λ n. Some (inner_function code h n)) (let n : i ≡ i + 0 = omega arith in n)
-inner_get code (g ∷ hs) i (suc f) h has = inner_get code hs (suc i) f h has ∙ ap (λ n. Some (inner_function code h n)) (let n : suc i + f ≡ i + suc f = omega arith in n)
+pub each_get : (make : ℕ → Routine → Function) (hs : List Routine) (i f : ℕ) (h : Routine) → slice_get hs f ≡ Some h → slice_get (each_function make i hs) f ≡ Some (make (i + f) h)
+each_get make [] i f h has = absurd cc
+each_get make (g ∷ hs) i zero h has = let same : g ≡ h = cc in ap (λ z. Some (make i z)) same ∙ ap (λ n. Some (make n h)) (let n : i ≡ i + 0 = omega arith in n)
+each_get make (g ∷ hs) i (suc f) h has = each_get make hs (suc i) f h has ∙ ap (λ n. Some (make n h)) (let n : suc i + f ≡ i + suc f = omega arith in n)
 
-module _ (code : Listing) (h : Routine) (fn pc : ℕ) (k : Call) (found : slice_get code.routines fn ≡ Some h) (has : slice_get h.code pc ≡ Some (instr.Call k)) (plain : all_plain code ≡ true) (g : Routine) (callee : slice_get code.routines k.function ≡ Some g) where
+pub each_long : (make : ℕ → Routine → Function) (hs : List Routine) (i : ℕ) → length (each_function make i hs) ≡ length hs
+each_long make [] i = refl
+each_long make (h ∷ hs) i = ap suc (each_long make hs (suc i))
+
+module _ (code : Listing) (forms : Forms) (h : Routine) (fn pc : ℕ) (k : Call) (found : slice_get code.routines fn ≡ Some h) (has : slice_get h.code pc ≡ Some (instr.Call k)) (plain : all_plain code ≡ true) (g : Routine) (callee : slice_get code.routines k.function ≡ Some g) where
   calls_any : list_any has_call code.routines ≡ true
   calls_any = any_at has_call code.routines fn h found (calls_some h pc k has)
 
   called_one : is_called code k.function ≡ true
   called_one = any_at (λ h. list_any (calls_function k.function) h.code) code.routines fn h found (any_at (calls_function k.function) h.code pc (instr.Call k) has (eq-eqb k.function k.function refl))
 
-  function_is : inner_function code g k.function ≡ inner_of code g
-  function_is = ap (λ b. if b && all_plain code then inner_of code g else unused) called_one ∙ ap (λ b. if b then inner_of code g else unused) plain
+  function_is : inner_function code forms k.function g ≡ inner_of code forms k.function g
+  function_is = ap (λ b. if b && all_plain code then inner_of code forms k.function g else unused) called_one ∙ ap (λ b. if b then inner_of code forms k.function g else unused) plain
 
-  pub inner_at : slice_get (module_of code).functions (length code.routines + k.function) ≡ Some (inner_of code g)
+  pub inner_at : slice_get (module_with code forms).functions (length code.routines + k.function) ≡ Some (inner_of code forms k.function g)
   inner_at =
-      ap (λ b. slice_get (map (function_of code) code.routines ++ (if b then inner_functions code 0 code.routines else [])) (length code.routines + k.function)) calls_any
-      ∙ ap (λ n. slice_get (map (function_of code) code.routines ++ inner_functions code 0 code.routines) (n + k.function)) (sym (length-map code.routines (function_of code)))
-      ∙ past_list (map (function_of code) code.routines) (inner_functions code 0 code.routines) k.function ∙ inner_get code code.routines 0 k.function g callee
-      ∙ ap (λ n. Some (inner_function code g n)) (let n : 0 + k.function ≡ k.function = omega arith in n) ∙ ap Some function_is
+      ap (λ b. slice_get (each_function (function_of code forms) 0 code.routines ++ (if b then each_function (inner_function code forms) 0 code.routines else [])) (length code.routines + k.function)) calls_any
+      ∙ ap (λ n. slice_get (each_function (function_of code forms) 0 code.routines ++ each_function (inner_function code forms) 0 code.routines) (n + k.function)) (sym (each_long (function_of code forms) code.routines 0))
+      ∙ past_list (each_function (function_of code forms) 0 code.routines) (each_function (inner_function code forms) 0 code.routines) k.function
+      ∙ each_get (inner_function code forms) code.routines 0 k.function g callee
+      ∙ ap (λ n. Some (inner_function code forms n g)) (let n : 0 + k.function ≡ k.function = omega arith in n) ∙ ap Some function_is
 
-  inner_code : code_in (module_of code) (length code.routines + k.function) ≡ routine_code (inner code g)
-  inner_code = ap (λ (z : Function). z.code) (get_or_from_slice_get (module_of code).functions (length code.routines + k.function) (inner_of code g) unused inner_at)
+  inner_code : code_in (module_with code forms) (length code.routines + k.function) ≡ routine_code (inner code forms k.function g)
+  inner_code = ap (λ (z : Function). z.code) (get_or_from_slice_get (module_with code forms).functions (length code.routines + k.function) (inner_of code forms k.function g) unused inner_at)
 
 -- ---- registers that are passed
 
@@ -614,24 +620,24 @@ module _ (w : Setting) (of : IsOf w) (x : Call) (pc : ℕ) (has : slice_get w.ro
     told f d (OutOfFuel t) h = record { conf = h.conf; steps = h.steps; goes = h.goes; far = h.far; out_is = h.out_is }
 
     abbrev pub functions : ℕ → Code
-    functions = code_in (module_of w.code)
+    functions = code_in (module_with w.code w.forms)
 
     -- with one more for the loop than its calls have
     pub one_more : (f : ℕ) → CallsAgree callee f (called functions f) → Told (the_machine w) (Back w x c) (suc f) begun (called functions (suc f) (called_number w x) (map (value s.locals) (arguments_of w x)) s)
     one_more f right =
-        subst (λ code. Told (the_machine w) (Back w x c) (suc f) begun (left (run (suc f) (called functions f) code entered))) (sym (inner_code w.code w.routine w.home.fn pc x of.settled.found has (of.plain pc x has) g fine.found))
+        subst (λ code. Told (the_machine w) (Back w x c) (suc f) begun (left (run (suc f) (called functions f) code entered))) (sym (inner_code w.code w.forms w.routine w.home.fn pc x of.settled.found has (of.plain pc x has) g fine.found))
         (by (starts callee settled begun entered is_entered))
       where
         runs : State → Result
         runs u = run (suc f) (called functions f) (function_code callee) u
 
-        by : Starts callee settled begun entered ⊎ (((fuel : ℕ) (call : ℕ → List ℕ → State → Result) → run fuel call (begin_code callee g.locals) entered ≡ Trapped None entered) × IsFull callee begun)
+        by : Starts callee settled begun entered ⊎ (((fuel : ℕ) (call : ℕ → List ℕ → State → Result) → run fuel call (begin_code callee g.locals) entered ≡ Trapped None entered) × IsFull callee callee.forms begun)
             → Told (the_machine w) (Back w x c) (suc f) begun (left (run (suc f) (called functions f) (routine_code callee) entered))
         by (inl b) =
             subst (λ r. Told (the_machine w) (Back w x c) (suc f) begun (left (then_to r (run (suc f) (called functions f) (function_code callee))))) (sym (b.fell (suc f) (called functions f)))
             (told (suc f) begun (left (run (suc f) (called functions f) (function_code callee) b.state))
-            (calls_come_back callee settled (covered w.code g x.function of.accepted fine.found plain_g (inner_local (gang w) g) home frames callee.begins callee.sizes callee.elems s.memory w.room w.stack)
-            (all_thin w.code g x.function of.accepted fine.found plain_g (inner_local (gang w) g) home frames callee.begins callee.sizes callee.elems s.memory w.room w.stack has_arrays)
+            (calls_come_back callee settled (covered w.code g x.function of.accepted fine.found plain_g w.forms (inner_local (gang w) g) home frames callee.begins callee.sizes callee.elems s.memory w.room w.stack)
+            (all_thin w.code g x.function of.accepted fine.found plain_g w.forms (inner_local (gang w) g) home frames callee.begins callee.sizes callee.elems s.memory w.room w.stack has_arrays)
             (waits c x.result mask) c.waiting refl (called functions f) (suc f) (λ n e. subst (λ m. CallsAgree callee m (called functions f)) (let same : f ≡ n = omega (arith, e) in same) right) begun b.state
             (subst (λ n. n < callee.rungs) (sym (b.counter ∙ counter_is)) (first_head g.code (length g.code) (some_code w.code g x.function of.accepted fine.found plain_g)).0)
             (subst (λ n. Stands callee n begun b.state) (sym (ap callee.heads b.counter ∙ head_is)) b.stands)))
@@ -639,6 +645,6 @@ module _ (w : Setting) (of : IsOf w) (x : Call) (pc : ℕ) (has : slice_get w.ro
             subst (λ r. Told (the_machine w) (Back w x c) (suc f) begun (left (then_to r (run (suc f) (called functions f) (function_code callee))))) (sym (fell (suc f) (called functions f))) (told (suc f) begun (Trapped None entered) full)
 
 -- all functions that others call
-pub calls_agree : (f : ℕ) (w : Setting) → IsOf w → CallsAgree w f (called (code_in (module_of w.code)) f)
+pub calls_agree : (f : ℕ) (w : Setting) → IsOf w → CallsAgree w f (called (code_in (module_with w.code w.forms)) f)
 calls_agree zero w of x pc c s has fine st few = record { conf = calls.called c x fine.callee; steps = 0; goes = refl; far = omega arith; out_is = st.out_is }
 calls_agree (suc f) w of x pc c s has fine st few = one_more w of x pc has fine c s st few f (calls_agree f (callee w of x pc has fine c s st few) (is_of w of x pc has fine c s st few))

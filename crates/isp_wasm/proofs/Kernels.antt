@@ -1,9 +1,9 @@
 -- Accepted code meets what the law of entries asks, where its form is covered.
 use Rattle.std.proofs.Common.{◌≡◌, ℕ, zero, suc, ◌+◌, ◌-◌, ◌*◌, ◌^◌, ◌<◌, ◌≤◌, ◌⊎◌, inl, inr, List, [], ◌∷◌, ◌++◌, length, take, map, Option, Some, None, Bool, true, false, not, ◌&&◌, ◌||◌, refl, sym, ap, ◌∙◌, subst, arith, lit≤}
-use Rattle.std.specs.Prelude.{slice_get, slice_index, slice_index_or, nat_lt, ◌==◌, option_map, if◌then◌else◌}
+use Rattle.std.specs.Prelude.{slice_get, slice_index, slice_index_or, nat_lt, ◌==◌, if◌then◌else◌}
 use Rattle.std.specs.List.{list_any}
 use Rattle.std.proofs.lemmas.Bool.{cases_lt, lt-ltb, le-ltb, cond-true, cond-false, not-true}
-use Rattle.std.proofs.lemmas.Option.{slice_get-map, get_or_from_slice_get}
+use Rattle.std.proofs.lemmas.Option.{get_or_from_slice_get}
 use Rattle.std.proofs.lemmas.List.{get_or_past, get_or_append_left, length-append, length-map}
 use Rattle.std.proofs.lemmas.Nat.{mul-le}
 use Rattle.isp_base.specs.Arguments.{rows, row_bits}
@@ -25,12 +25,15 @@ use Rattle.isp_code.specs.declared.register.Register.{Register}
 use Rattle.isp_verify.specs.Accepted.{IsFine}
 use Rattle.isp_verify.specs.Faults.{header_fits, export_fits, can_export, is_vector, gives_vector, names_differ, is_function}
 use Rattle.isp_verify.proofs.AcceptedLaws.{accepted_fine}
+use Rattle.isp_code.specs.Conf as machine
+use Rattle.isp_forms.specs.Runs.{Forms, all_kept, AreHarmless}
+use Rattle.isp_forms.proofs.Runs.{kept_run}
 use Rattle.isp_wasm_meaning.specs.Meaning.{State, called, bytes}
 use Rattle.isp_wasm_meaning.specs.Module.{Function, code_in, unused}
 use Rattle.isp_wasm.specs.Places.{Setting, Place, bytes_of, Counter, Scalar, Vector, Mask, Base, Count, Depth, Top}
 use Rattle.isp_wasm.specs.Entry.{stack_in, entry_code, IsPassed, IsCalled, SameOutcomes}
 use Rattle.isp_wasm.specs.Locals.{param_places, own_places, local_in}
-use Rattle.isp_wasm.specs.Module.{text_start, is_plain, is_covered, kernel_of, function_of, inner_functions, module_of}
+use Rattle.isp_wasm.specs.Module.{text_start, is_plain, is_covered, kernel_of, function_of, inner_function, each_function, module_with}
 use Rattle.isp_wasm.specs.Lanes.{array_register, store_at}
 use Rattle.isp_wasm.specs.Lines.{HasArrays}
 use Rattle.isp_wasm.specs.Kernel.{row_elem, passed, array_end, IsLaidOut, HasRoom, in_call, KernelsAgree}
@@ -45,7 +48,7 @@ use Rattle.isp_wasm.proofs.Copies.{laid_of, per_lane_at, none_per_lane}
 use Rattle.isp_wasm.proofs.Opened as opened
 use Rattle.isp_wasm.proofs.Opened.{AreLaid, IsUnder}
 use Rattle.isp_wasm.proofs.Opening.{which_array}
-use Rattle.isp_wasm.proofs.Inner.{some_low, IsOf, calls_agree}
+use Rattle.isp_wasm.proofs.Inner.{some_low, each_get, each_long, IsOf, calls_agree}
 use Rattle.isp_wasm.proofs.Passing.{At, both_first, both_second, Passes, passes, rows_long, rows_typed, values_fit}
 use Rattle.isp_wasm.proofs.Heads.{first_head}
 use Rattle.isp_wasm.proofs.TextPlaces.{text_there, text_ends}
@@ -93,7 +96,7 @@ module _ (code : Listing) (h : Routine) (f : ℕ) (accepted : IsFine code) (foun
   pub gives_none : gives_vector h.returns ≡ false
   gives_none = not-true (gives_vector h.returns) (both_second (not (list_any is_vector h.params)) (not (gives_vector h.returns)) can)
 
-  module _ (xs : List Argument) (signature : has_signature (parameters_of h) xs ≡ true) (at : List ℕ) (s : State) (laid : IsLaidOut code xs at s) (room : uses_stack h ≡ true → HasRoom code xs at f h s) where
+  module _ (forms : Forms) (xs : List Argument) (signature : has_signature (parameters_of h) xs ≡ true) (at : List ℕ) (s : State) (laid : IsLaidOut code forms xs at s) (room : uses_stack h ≡ true → HasRoom code forms xs at f h s) where
     abbrev lanes : ℕ
     lanes = gang_width code.gang
 
@@ -103,13 +106,13 @@ module _ (code : Listing) (h : Routine) (f : ℕ) (accepted : IsFine code) (foun
     -- what there is before it opens its arrays, and from where on those lie
     abbrev outer : Setting
     outer =
-        placed code h local (record { fn = f; named = λ a. a; sizes = λ b. length (row_bits (rows xs) b); opened = length (rows xs) }) [] (slice_index at) (λ b. length (row_bits (rows xs) b)) (row_elem (rows xs)) s.memory s.size (stack_in h s)
+        placed code forms h local (record { fn = f; named = λ a. a; sizes = λ b. length (row_bits (rows xs) b); opened = length (rows xs) }) [] (slice_index at) (λ b. length (row_bits (rows xs) b)) (row_elem (rows xs)) s.memory s.size (stack_in h s)
 
     abbrev from_here : ℕ
     from_here = start (stack_in h s)
 
     abbrev w : Setting
-    w = in_call code xs at f h s
+    w = in_call code forms xs at f h s
 
     long : length (rows xs) ≡ length (param_elems class.Array h.params)
     long = rows_long h.params xs no_vector signature
@@ -354,13 +357,14 @@ module _ (code : Listing) (h : Routine) (f : ℕ) (accepted : IsFine code) (foun
 
     -- ---- the module
 
-    code_is : code_in (module_of code) f ≡ entry_code w
+    code_is : code_in (module_with code forms) f ≡ entry_code w
     code_is =
         ap (λ (g : Function). g.code)
-        (get_or_append_left (map (function_of code) code.routines) (if list_any has_call code.routines then inner_functions code 0 code.routines else []) unused f
-        (subst (λ n. f < n) (sym (length-map code.routines (function_of code))) (some_low code.routines f h found))
-        ∙ get_or_from_slice_get (map (function_of code) code.routines) f (function_of code h) unused (slice_get-map (function_of code) code.routines f ∙ ap (option_map (function_of code)) found)
-        ∙ ap (λ b. if b && is_covered code h then kernel_of code h else unused) exported ∙ ap (λ b. if b then kernel_of code h else unused) covers)
+        (get_or_append_left (each_function (function_of code forms) 0 code.routines) (if list_any has_call code.routines then each_function (inner_function code forms) 0 code.routines else []) unused f
+        (subst (λ n. f < n) (sym (each_long (function_of code forms) code.routines 0)) (some_low code.routines f h found))
+        ∙ get_or_from_slice_get (each_function (function_of code forms) 0 code.routines) f (function_of code forms (0 + f) h) unused (each_get (function_of code forms) code.routines 0 f h found)
+        ∙ ap (λ n. function_of code forms n h) (let n : 0 + f ≡ f = omega arith in n)
+        ∙ ap (λ b. if b && is_covered code h then kernel_of code forms f h else unused) exported ∙ ap (λ b. if b then kernel_of code forms f h else unused) covers)
 
     calls_use : (pc : ℕ) (k : Call) → slice_get h.code pc ≡ Some (instr.Call k) → uses_stack h ≡ true
     calls_use pc k has = ap (λ b. b || not (none_open h.locals)) (calls_some h pc k has)
@@ -378,19 +382,19 @@ module _ (code : Listing) (h : Routine) (f : ℕ) (accepted : IsFine code) (foun
         }
 
     -- the run does not come to where there is no room
-    some_stack : (b : Bool) → uses_stack h ≡ b → IsFull w (first_conf code f h xs) → ⊥
+    some_stack : (b : Bool) → uses_stack h ≡ b → IsFull w all_kept (first_conf code f h xs) → ⊥
     some_stack false e full = let none : None ≡ Some full.address = sym (ap (λ b. if b then Some (s.globals 17) else None) e) ∙ full.stack_is in cc
     some_stack true e full =
         let same : Some (s.globals 17) ≡ Some full.address = sym (stack_is e) ∙ full.stack_is in
         let here : s.globals 17 ≡ full.address = cc in
-        let lt = (room e).room full.steps full.conf full.goes in let no_room = full.full in omega (arith, lt, no_room, here)
+        let lt = (room e).room full.steps full.conf (kept_run code full.steps (machine.Runs (first_conf code f h xs)) (machine.Runs full.conf) full.goes) in let no_room = full.full in omega (arith, lt, no_room, here)
 
-    same_outcomes : SameOutcomes w xs (λ n. called (code_in (module_of code)) n f (passed xs at) s)
-    same_outcomes =
-        entries_agree w ready (covered code h f accepted found plain local (first_conf code f h xs).home [] w.begins w.sizes w.elems s.memory s.size (stack_in h s))
-        (all_thin code h f accepted found plain local (first_conf code f h xs).home [] w.begins w.sizes w.elems s.memory s.size (stack_in h s) has_arrays)
-        (code_in (module_of code)) f code_is (λ n. calls_agree n w of) xs (passed xs at) s call_is (some_stack (uses_stack h) refl)
+    same_outcomes : AreHarmless code forms (first_conf code f h xs) → SameOutcomes w xs (λ n. called (code_in (module_with code forms)) n f (passed xs at) s)
+    same_outcomes harmless =
+        entries_agree w ready (covered code h f accepted found plain forms local (first_conf code f h xs).home [] w.begins w.sizes w.elems s.memory s.size (stack_in h s))
+        (all_thin code h f accepted found plain forms local (first_conf code f h xs).home [] w.begins w.sizes w.elems s.memory s.size (stack_in h s) has_arrays)
+        (code_in (module_with code forms)) f code_is (λ n. calls_agree n w of) xs (passed xs at) s call_is harmless (some_stack (uses_stack h) refl)
 
 pub kernels_agree : KernelsAgree
-kernels_agree code accepted name xs f h entry covers at s laid room =
-    same_outcomes code h f (accepted_fine code accepted) entry.export.found entry.export.exported covers xs entry.fits at s laid room
+kernels_agree code forms accepted name xs f h entry covers harmless at s laid room =
+    same_outcomes code h f (accepted_fine code accepted) entry.export.found entry.export.exported covers forms xs entry.fits at s laid room harmless

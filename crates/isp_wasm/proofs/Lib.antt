@@ -6,6 +6,7 @@ mod Cells
 mod ConvertRows
 mod Shared
 mod Steps
+mod Frees
 mod Parts
 mod Vectors
 mod Lowest

@@ -82,7 +82,7 @@ module _ (v : Setting) (g : Routine) (f : ℕ) (names : ℕ → ℕ) (local : Pl
 
   abbrev pub inside : Setting
   inside =
-      placed u.code g local (new_home g f names u.home.sizes u.home.opened) waiting (with_starts u.home.opened u.begins (shared_starts (gang u) t g.locals)) (new_home g f names u.home.sizes u.home.opened).sizes
+      placed u.code u.forms g local (new_home g f names u.home.sizes u.home.opened) waiting (with_starts u.home.opened u.begins (shared_starts (gang u) t g.locals)) (new_home g f names u.home.sizes u.home.opened).sizes
       (with_elems u.home.opened u.elems (shared_elems g.locals)) before u.room u.stack
 
   abbrev pub old : ℕ

@@ -218,13 +218,13 @@ module _ (w : Setting) (ready : IsSettled w) where
     pub stands : Stands w 0 c state
     pub counter : state.locals (w.local Counter) ≡ s.locals (w.local Counter)
 
-  pub starts : (c : Conf) (s : State) → IsEntered c s → Starts c s ⊎ (((fuel : ℕ) (call : ℕ → List ℕ → State → Result) → run fuel call (begin_code w w.routine.locals) s ≡ Trapped None s) × IsFull w c)
+  pub starts : (c : Conf) (s : State) → IsEntered c s → Starts c s ⊎ (((fuel : ℕ) (call : ℕ → List ℕ → State → Result) → run fuel call (begin_code w w.routine.locals) s ≡ Trapped None s) × IsFull w w.forms c)
   starts c s e = by (begins w.routine.locals (bottom w) s e.top_is e.few e.small)
     where
       bytes_are : open_bytes w.code c ≡ waiting_bytes w.code w.waiting + bytes_in (gang w) w.routine.locals
       bytes_are = ap₂ (λ x y. x + y) (ap (waiting_bytes w.code) e.waiting_is) (ap (λ (h : Home). function_bytes w.code h.fn) e.home_is ∙ ap (bytes_if (gang w)) ready.found)
 
-      by : Begun w.routine.locals (bottom w) s ⊎ NoRoom w.routine.locals (bottom w) s → Starts c s ⊎ (((fuel : ℕ) (call : ℕ → List ℕ → State → Result) → run fuel call (begin_code w w.routine.locals) s ≡ Trapped None s) × IsFull w c)
+      by : Begun w.routine.locals (bottom w) s ⊎ NoRoom w.routine.locals (bottom w) s → Starts c s ⊎ (((fuel : ℕ) (call : ℕ → List ℕ → State → Result) → run fuel call (begin_code w w.routine.locals) s ≡ Trapped None s) × IsFull w w.forms c)
       by (inl b) =
           inl
           (record {

@@ -17,6 +17,7 @@ use Rattle.isp_code.specs.declared.instr.Instr.TheVariants as instr
 use Rattle.isp_verify.specs.Accepted.{IsFine}
 use Rattle.isp_verify.specs.Faults.{stays, last}
 use Rattle.isp_base.specs.Types.{gang_width}
+use Rattle.isp_forms.specs.Runs.{Forms}
 use Rattle.isp_wasm.specs.Places.{Setting, Place}
 use Rattle.isp_wasm.specs.Lines.{HasArrays, HasTemplate}
 use Rattle.isp_wasm.specs.Module.{goes_to, is_head, heads_of, joined, text_start, is_plain, all_plain, is_covered, numbered}
@@ -104,11 +105,11 @@ module _ (w : Setting) (heads : (pc to : ℕ) (i : Instr) → slice_get w.routin
 
 -- ---- a function
 
-module _ (code : Listing) (h : Routine) where
+module _ (code : Listing) (forms : Forms) (h : Routine) where
   -- in a call, with its locals numbered so
   abbrev pub placed : (Place → ℕ) → Home → List Frame → (ℕ → ℕ) → (ℕ → ℕ) → (ℕ → Elem) → (ℕ → ℕ) → ℕ → Option ℕ → Setting
   placed local home waiting begins sizes elems before room stack =
-      record (numbered code h) { local = local; home = home; waiting = waiting; begins = begins; sizes = sizes; elems = elems; before = before; room = room; stack = stack }
+      record (numbered code forms 0 h) { local = local; home = home; waiting = waiting; begins = begins; sizes = sizes; elems = elems; before = before; room = room; stack = stack }
 
 module _ (code : Listing) (h : Routine) (f : ℕ) (accepted : IsFine code) (found : slice_get code.routines f ≡ Some h) (plain : is_plain code h ≡ true) where
   pub bytes_low : suc (bytes_in (gang_width code.gang) h.locals) < 2 ^ 32
@@ -142,9 +143,9 @@ module _ (code : Listing) (h : Routine) (f : ℕ) (accepted : IsFine code) (foun
       by (inl lt) = lt
       by (inr le) = absurd (let gone : slice_get h.code (last h) ≡ None = slice_get_past h.code (last h) (omega (arith, le)) in let impossible : false ≡ true = ap stays (sym gone) ∙ stays_last in cc)
 
-  module _ (local : Place → ℕ) (home : Home) (waiting : List Frame) (begins sizes : ℕ → ℕ) (elems : ℕ → Elem) (before : ℕ → ℕ) (room : ℕ) (stack : Option ℕ) where
+  module _ (forms : Forms) (local : Place → ℕ) (home : Home) (waiting : List Frame) (begins sizes : ℕ → ℕ) (elems : ℕ → Elem) (before : ℕ → ℕ) (room : ℕ) (stack : Option ℕ) where
     w : Setting
-    w = placed code h local home waiting begins sizes elems before room stack
+    w = placed code forms h local home waiting begins sizes elems before room stack
 
     heads_end : w.heads w.rungs ≡ length h.code
     unfolding w
@@ -154,7 +155,7 @@ module _ (code : Listing) (h : Routine) (f : ℕ) (accepted : IsFine code) (foun
     unfolding w
     head_at to is lt = let found = inside h.code (length h.code) 0 (length h.code) to is (omega arith) (omega arith) in record { low = found.low; here = found.here }
 
-    pub covered : IsCovered (placed code h local home waiting begins sizes elems before room stack)
+    pub covered : IsCovered (placed code forms h local home waiting begins sizes elems before room stack)
     unfolding w
     covered =
         record {
@@ -165,7 +166,7 @@ module _ (code : Listing) (h : Routine) (f : ℕ) (accepted : IsFine code) (foun
         absurd_past : (pc : ℕ) → pc < length h.code → slice_get h.code pc ≡ None → ⊥
         absurd_past pc lt none = let some = slice_get-get_or h.code pc (instr.Jump 0) lt in let impossible : None ≡ Some (get_or h.code pc (instr.Jump 0)) = sym none ∙ some in cc
 
-    pub all_thin : HasArrays (placed code h local home waiting begins sizes elems before room stack) → AllThin (placed code h local home waiting begins sizes elems before room stack)
+    pub all_thin : HasArrays (placed code forms h local home waiting begins sizes elems before room stack) → AllThin (placed code forms h local home waiting begins sizes elems before room stack)
     unfolding w
     all_thin arrays pc i has =
         let line = accepted.lines f h found pc i has in

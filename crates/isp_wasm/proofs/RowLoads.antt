@@ -1,11 +1,11 @@
 -- The template that loads elements in a row: all at once where they are there and the lanes fill their parts, else lane by lane.
-use Rattle.std.proofs.Common.{◌≡◌, ℕ, zero, suc, ◌+◌, ◌-◌, ◌*◌, ◌/◌, ◌%◌, ◌^◌, ◌<◌, ◌≤◌, ◌⊎◌, inl, inr, List, Some, None, Bool, true, false, not, ◌&&◌, refl, sym, ap, ap₂, ◌∙◌, subst, arith, mod-eq_of_lt, bit_and}
+use Rattle.std.proofs.Common.{◌≡◌, ℕ, zero, suc, ◌+◌, ◌-◌, ◌*◌, ◌%◌, ◌^◌, ◌<◌, ◌≤◌, ◌⊎◌, inl, inr, List, Some, None, Bool, true, false, not, ◌&&◌, refl, sym, ap, ap₂, ◌∙◌, subst, arith, mod-eq_of_lt, bit_and}
 use Rattle.std.specs.Prelude.{slice_get, nat_eq, nat_lt, nat_le, if◌then◌else◌, pos, ◌+ℤ◌, unsigned_abs}
 use Rattle.std.proofs.lemmas.Bool.{ltb-true, lt-ltb, cases_eq, cond-true, le-leb, eqb-true}
 use Rattle.isp_base.specs.Cross.{run_outside}
 use Rattle.isp_base.specs.Access.{is_beyond}
 use Rattle.isp_base.specs.Maps.{on, over, put}
-use Rattle.isp_base.specs.Sets.{Mask, lowest}
+use Rattle.isp_base.specs.Sets.{lowest}
 use Rattle.isp_base.specs.Values.{number, width}
 use Rattle.isp_base.specs.declared.trap.TrapKind.TheVariants as kind
 use Rattle.isp_base.specs.declared.types.Elem.{Elem}
@@ -15,29 +15,31 @@ use Rattle.isp_code.specs.Lines.{act, set_vector, moved, unless, size, item}
 use Rattle.isp_code.specs.declared.instr.Instr.TheVariants as instr
 use Rattle.isp_code.specs.declared.instr.VectorInstr.TheVariants as vector
 use Rattle.isp_code.specs.declared.register.Register.{Register}
+use Rattle.isp_forms.specs.declared.form.Form.{Form}
+use Rattle.isp_forms.specs.declared.form.Form.TheVariants as line
 use Rattle.isp_wasm_meaning.specs.Syntax as syntax
-use Rattle.isp_wasm_meaning.specs.Syntax.{Code, Expr, If, Load}
-use Rattle.isp_wasm_meaning.specs.Meaning as wasm
-use Rattle.isp_wasm_meaning.specs.Meaning.{Report, State, Result, Fell, Trapped, run, value, behind, then_to, inside, flag, set_local, loaded, lane, count, wide}
+use Rattle.isp_wasm_meaning.specs.Syntax.{Code, Expr, If, Load, Local}
+use Rattle.isp_wasm_meaning.specs.Meaning.{State, Result, Fell, Trapped, run, value, behind, then_to, inside, flag, set_local, loaded, lane, count, wide}
 use Rattle.isp_wasm_meaning.specs.Ladder.{Meets}
 use Rattle.isp_wasm.specs.Places as place
 use Rattle.isp_wasm.specs.Places.{Setting, Counter, Fresh, IsKept, elem, shape, shape_of, bytes_of, parts, gang}
 use Rattle.isp_wasm.specs.Rows.{cell}
 use Rattle.isp_wasm.specs.Lanes.{store_at}
-use Rattle.isp_wasm.specs.Templates.{each, lane_loads, address_at, run_index, is_there, run_is_there, fills_parts, load_parts, load_row, load_run, all_at_once, select_lanes, scalar_local}
-use Rattle.isp_wasm.specs.Standing.{all_of, Stands, Holds, Keeps, IsSettled, the_machine, vector_register}
+use Rattle.isp_wasm.specs.Templates.{lane_loads, address_at, run_index, is_there, run_is_there, fills_parts, load_parts, load_row, load_run, all_at_once, select_lanes, put_lanes, scalar_local}
+use Rattle.isp_wasm.specs.Standing.{all_of, Stands, IsSettled, the_machine, vector_register}
 use Rattle.isp_wasm.specs.Thin.{IsArray, IsScalar}
 use Rattle.isp_wasm.proofs.Frames.{Alike, holds_alike, there, elsewhere}
 use Rattle.isp_wasm.proofs.Steps.{falls_on}
-use Rattle.isp_wasm.proofs.Parts.{Kept, Told, AreFresh}
+use Rattle.isp_wasm.proofs.Frees.{frees_fall}
+use Rattle.isp_wasm.proofs.Parts.{AreFresh, AreSet, are_set}
 use Rattle.isp_wasm.proofs.Results.{Selects, selects}
 use Rattle.isp_wasm.proofs.Rows.{enough}
-use Rattle.isp_wasm.proofs.Vectors.{narrow, scalar_fits}
+use Rattle.isp_wasm.proofs.Vectors.{narrow, scalar_fits, chosen_over}
 use Rattle.isp_wasm.proofs.Indices.{beyond_is, first_is}
 use Rattle.isp_wasm.proofs.LaneLoops.{none_lowest}
 use Rattle.isp_wasm.proofs.Opening.{some_lanes}
 use Rattle.isp_wasm.proofs.Shared.{store_shared}
-use Rattle.isp_wasm.proofs.RowRegions.{lane_bytes, part_begins, part_fits, part_read}
+use Rattle.isp_wasm.proofs.RowRegions.{part_begins, part_fits, part_read}
 use Rattle.isp_wasm.proofs.Elements.{IsFound, found_shared, many, few, size_is, address_is}
 use Rattle.isp_wasm.proofs.Loads.{test_is}
 use Rattle.isp_wasm.proofs.Gathers.{runs, runs_end}
@@ -251,31 +253,61 @@ module _ (w : Setting) (ready : IsSettled w) (fuel n k : ℕ) (call : ℕ → Li
           selects w ready fuel call c d m got (record s { locals = read.locals }) (holds_alike w c.scalars c.vectors c.masks s.locals read.locals st.holds read.alike)
           (λ j p l q. read.lanes j p (enough w (shape_of t) j p q) l q ∙ sym (item_is a i t el is sure (j * count (shape_of t) + p) q) ∙ sym (full.same (got (j * count (shape_of t) + p))))
 
-      row_ends : run fuel call (load_row w (vector_register d) a i m) s ≡ Fell (record s { locals = selected.locals })
-      row_ends = ap (λ r. then_to r (run fuel call (select_lanes w (vector_register d) m))) read.fell ∙ selected.fell
+      abbrev selecting : State → Result
+      selecting u = run fuel call (select_lanes w (vector_register d) m) u
 
-      row_good : Good (pc + 1) c (behind (run fuel call (load_row w (vector_register d) a i m) s))
-      row_good =
+      row_ends : then_to (run fuel call (load_parts w a i (parts w (shape_of t))) s) selecting ≡ Fell (record s { locals = selected.locals })
+      row_ends = ap (λ r. then_to r selecting) read.fell ∙ selected.fell
+
+      loads_so : act w.code w.routine c (instr.Vector (vector_register d) (vector.LoadRun a i m q)) ≡ Go (set_vector c (vector_register d) (on (c.masks m.number) got))
+      loads_so = ap (λ o. moved (unless w.code w.routine c o kind.Index q (on (c.masks m.number) got)) (set_vector c (vector_register d))) (none_outside a i t el is sure m)
+
+      -- the others are kept
+      keeping : Good (pc + 1) c (behind (then_to (run fuel call (load_parts w a i (parts w (shape_of t))) s) selecting))
+      keeping =
           subst (Good (pc + 1) c) (sym (ap behind row_ends))
           (falls_on w ready fuel n k pc c s (instr.Vector (vector_register d) (vector.LoadRun a i m q)) st has
           (record c { pc = c.pc + 1; vectors = put c.vectors d (over (on (c.masks m.number) got) (c.vectors d)) }) (record s { locals = selected.locals })
-          (ap (λ o. moved (unless w.code w.routine c o kind.Index q (on (c.masks m.number) got)) (set_vector c (vector_register d))) (none_outside a i t el is sure m))
-          refl refl refl refl selected.holds st.keeps)
+          loads_so refl refl refl refl selected.holds st.keeps)
+
+      abbrev putting : State → Result
+      putting u = run fuel call (put_lanes w line.Free (vector_register d) m) u
+
+      -- what falls on does so too at the end of an if
+      behind_good : (r : Result) (u : State) → r ≡ Fell u → Good (pc + 1) c r → Good (pc + 1) c (behind r)
+      behind_good r u e g = subst (λ z. Good (pc + 1) c z → Good (pc + 1) c (behind z)) (sym e) (λ z. z) g
+
+      freeing : w.forms w.home.fn pc ≡ line.Free → Good (pc + 1) c (behind (then_to (run fuel call (load_parts w a i (parts w (shape_of t))) s) putting))
+      freeing e =
+          subst (λ r. Good (pc + 1) c (behind r)) (sym (ap (λ r. then_to r putting) read.fell))
+          (behind_good (putting (record s { locals = read.locals })) (record s { locals = put_so.locals }) put_so.fell
+          (frees_fall w ready fuel n k call pc c s st (vector.LoadRun a i m q) d (on (c.masks m.number) got) got read.locals e has loads_so
+          (λ p q. chosen_over (c.masks m.number p) (got p) (c.vectors d p)) (holds_alike w c.scalars c.vectors c.masks s.locals read.locals st.holds read.alike)
+          (λ j p l q. read.lanes j p (enough w (shape_of t) j p q) l q ∙ sym (item_is a i t el is sure (j * count (shape_of t) + p) q) ∙ sym (full.same (got (j * count (shape_of t) + p))))))
+        where
+          put_so : AreSet w (place.Vector d) (parts w (shape_of t)) (λ j. Local (w.local (Fresh j))) (record s { locals = read.locals }) (putting (record s { locals = read.locals }))
+          put_so = are_set w ready fuel call (place.Vector d) (λ i j e. cc) (λ j. Local (w.local (Fresh j))) (record s { locals = read.locals }) (λ j m same. same (Fresh j) (λ i q e. cc)) (parts w (shape_of t))
+
+      row_good : (form : Form) → (form ≡ line.Free → w.forms w.home.fn pc ≡ line.Free) → Good (pc + 1) c (behind (run fuel call (load_row w form (vector_register d) a i m) s))
+      row_good line.Kept e = keeping
+      row_good line.Useless e = keeping
+      row_good line.Free e = freeing (e refl)
 
     lanes_good : Good (pc + 1) c (behind (run fuel call (lane_loads w (vector_register d) a (run_index w i) m q) s))
     lanes_good = runs_end w ready fuel n k call pc c s st d a i m q (found_shared w ready a t el) is has
 
-    at_once : (full : Fills w t) → (b : Bool) → AllThere a i t el is ≡ b
-        → Good (pc + 1) c (behind (if b then run fuel call (load_row w (vector_register d) a i m) s else run fuel call (lane_loads w (vector_register d) a (run_index w i) m q) s))
-    at_once full true sure = row_good full sure
-    at_once full false e = lanes_good
+    module _ (form : Form) (free : form ≡ line.Free → w.forms w.home.fn pc ≡ line.Free) where
+      at_once : (full : Fills w t) → (b : Bool) → AllThere a i t el is ≡ b
+          → Good (pc + 1) c (behind (if b then run fuel call (load_row w form (vector_register d) a i m) s else run fuel call (lane_loads w (vector_register d) a (run_index w i) m q) s))
+      at_once full true sure = row_good full sure form free
+      at_once full false e = lanes_good
 
-    loads : (b : Bool) → fills_parts w t ≡ b
-        → Good (pc + 1) c (run fuel call (all_at_once w b (run_is_there w a i) (load_row w (vector_register d) a i m) (lane_loads w (vector_register d) a (run_index w i) m q)) s)
-    loads true e =
-        subst (Good (pc + 1) c) (sym (tested a i t el is (load_row w (vector_register d) a i m) (lane_loads w (vector_register d) a (run_index w i) m q)))
-        (at_once (fills w t e) (AllThere a i t el is) refl)
-    loads false e = runs w ready fuel n k call pc c s st d a i m q (found_shared w ready a t el) is has
+      loads : (b : Bool) → fills_parts w t ≡ b
+          → Good (pc + 1) c (run fuel call (all_at_once w b (run_is_there w a i) (load_row w form (vector_register d) a i m) (lane_loads w (vector_register d) a (run_index w i) m q)) s)
+      loads true e =
+          subst (Good (pc + 1) c) (sym (tested a i t el is (load_row w form (vector_register d) a i m) (lane_loads w (vector_register d) a (run_index w i) m q)))
+          (at_once (fills w t e) (AllThere a i t el is) refl)
+      loads false e = runs w ready fuel n k call pc c s st d a i m q (found_shared w ready a t el) is has
 
-    pub run_loads : Good (pc + 1) c (run fuel call (load_run w (vector_register d) a i m q) s)
-    run_loads = loads (fills_parts w t) refl
+      pub run_loads : Good (pc + 1) c (run fuel call (load_run w form (vector_register d) a i m q) s)
+      run_loads = loads (fills_parts w t) refl

@@ -1,5 +1,5 @@
 -- The template that stores elements in a row: all at once where they are there and the lanes fill their parts, else lane by lane.
-use Rattle.std.proofs.Common.{◌≡◌, ℕ, zero, suc, ◌+◌, ◌-◌, ◌*◌, ◌/◌, ◌%◌, ◌^◌, ◌<◌, ◌≤◌, ◌≢◌, ◌⊎◌, inl, inr, List, Some, None, Bool, true, false, refl, sym, ap, ap₂, ◌∙◌, subst, arith}
+use Rattle.std.proofs.Common.{◌≡◌, ℕ, zero, suc, ◌+◌, ◌-◌, ◌*◌, ◌<◌, ◌≤◌, ◌≢◌, ◌⊎◌, inl, inr, List, Some, None, Bool, true, false, refl, sym, ap, ap₂, ◌∙◌, subst, arith}
 use Rattle.std.specs.Prelude.{slice_get, nat_eq, nat_le, if◌then◌else◌, pos, ◌+ℤ◌, unsigned_abs}
 use Rattle.std.proofs.lemmas.Bool.{cases_eq, cases_lt, cond-true, le-leb}
 use Rattle.isp_base.specs.Access.{scatter, put_at}
@@ -14,7 +14,7 @@ use Rattle.isp_code.specs.Conf.{Conf}
 use Rattle.isp_code.specs.Lines.{moved, unless, run_stored}
 use Rattle.isp_code.specs.declared.instr.Instr.TheVariants as instr
 use Rattle.isp_code.specs.declared.register.Register.{Register}
-use Rattle.isp_wasm_meaning.specs.Syntax.{Code, Expr, Bitselect, Local, Then}
+use Rattle.isp_wasm_meaning.specs.Syntax.{Code, Bitselect, Local, Then}
 use Rattle.isp_wasm_meaning.specs.Meaning as wasm
 use Rattle.isp_wasm_meaning.specs.Meaning.{State, Result, Fell, Trapped, run, value, behind, then_to, inside, lane, count, wide}
 use Rattle.isp_wasm_meaning.specs.Ladder.{Meets}
@@ -28,7 +28,6 @@ use Rattle.isp_wasm.specs.Thin.{IsArray, IsScalar, IsVector}
 use Rattle.isp_wasm.proofs.Frames.{put_same, put_other, holds_alike}
 use Rattle.isp_wasm.proofs.Steps.{falls_on}
 use Rattle.isp_wasm.proofs.Parts.{AreFresh}
-use Rattle.isp_wasm.proofs.Rows.{enough}
 use Rattle.isp_wasm.proofs.Vectors.{narrow, mask_row}
 use Rattle.isp_wasm.proofs.Indices.{first_is}
 use Rattle.isp_wasm.proofs.Opening.{some_lanes}

@@ -7,6 +7,9 @@ use Rattle.isp_base.specs.Arguments.{rows, row_bits}
 use Rattle.isp_code.specs.Entries.{IsEntry}
 use Rattle.isp_verify.specs.Faults.{code_fault}
 use Rattle.isp_base.specs.Values.{width, wrap_to}
+use Rattle.isp_code.specs.Machine.{first_conf}
+use Rattle.isp_forms.specs.Runs.{all_kept}
+use Rattle.isp_forms.proofs.Runs.{kept_harmless}
 use Rattle.isp_wasm_meaning.specs.Digits.{digit, packed}
 use Rattle.isp_wasm_meaning.specs.Meaning.{Report, Result, Returned, Trapped, called, loaded, bytes}
 use Rattle.isp_wasm_meaning.specs.Module.{code_in}
@@ -57,7 +60,7 @@ no_element : (b e : ℕ) → e < length (row_bits [] b) → ⊥
 no_element zero e h = omega (arith, h)
 no_element (suc b) e h = omega (arith, h)
 
-laid : IsLaidOut brighten sample_arguments sample_addresses sample_state
+laid : IsLaidOut brighten all_kept sample_arguments sample_addresses sample_state
 laid =
     record {
       begins = record { same = refl; room = lit≤ tt };
@@ -90,8 +93,8 @@ opens_none : uses_stack routine ≡ true → ⊥
 opens_none e = cc
 
 -- so it is said of this kernel
-pub brighten_agrees : SameOutcomes (in_call brighten sample_arguments sample_addresses 0 routine sample_state) sample_arguments (λ n. called (code_in (module_of brighten)) n 0 (passed sample_arguments sample_addresses) sample_state)
-brighten_agrees = kernels_agree brighten accepted (codes "brighten") sample_arguments 0 routine entry covers sample_addresses sample_state laid (λ e. absurd (opens_none e))
+pub brighten_agrees : SameOutcomes (in_call brighten all_kept sample_arguments sample_addresses 0 routine sample_state) sample_arguments (λ n. called (code_in (module_of brighten)) n 0 (passed sample_arguments sample_addresses) sample_state)
+brighten_agrees = kernels_agree brighten all_kept accepted (codes "brighten") sample_arguments 0 routine entry covers (kept_harmless brighten (first_conf brighten 0 routine sample_arguments)) sample_addresses sample_state laid (λ e. absurd (opens_none e))
 
 -- the first bytes of the memory where a function has returned
 abbrev pub memory_of : Result → List ℕ

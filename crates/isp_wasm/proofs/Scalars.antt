@@ -30,6 +30,7 @@ use Rattle.isp_code.specs.declared.function.Returns.TheVariants.{Nothing, Scalar
 use Rattle.isp_code.specs.declared.register.Class.{Class}
 use Rattle.isp_code.specs.declared.register.Class.TheVariants as class
 use Rattle.isp_code.specs.declared.register.Register.{Register}
+use Rattle.isp_forms.specs.declared.form.Form.{Form}
 use Rattle.isp_wasm_meaning.specs.Syntax as wasm
 use Rattle.isp_wasm_meaning.specs.Syntax.{Code, Set, Return}
 use Rattle.isp_wasm_meaning.specs.Meaning.{State, Result, Fell, Trapped, behind, then_to, run, set_local, value, flag, chosen, lane, Report}
@@ -244,36 +245,36 @@ module _ (w : Setting) (ready : IsSettled w) (fuel n k : ℕ) (call : ℕ → Li
   jumped to = run fuel call (jump_to w (suc (n - suc k)) to) s
 
   pub tests_fall : (to : ℕ) (t : JumpTest) (x : Register) → slice_get w.routine.code pc ≡ Some (instr.JumpIf t x to) → k < n → IsThin w (instr.JumpIf t x to) → n ≡ w.rungs
-      → Good (pc + 1) c (run fuel call (code_of w (n - suc k) (instr.JumpIf t x to)) s)
-  tests_fall to jump.False x has low thin all =
+      → (form : Form) → Good (pc + 1) c (run fuel call (code_of w (n - suc k) form (instr.JumpIf t x to)) s)
+  tests_fall to jump.False x has low thin all form =
       subst (λ r. Good (pc + 1) c (behind r)) (by (nat_eq (c.scalars x.number) 0) ∙ ap (λ v. if nat_eq (flag (nat_eq v 0)) 0 then Fell s else jumped to) (sym (st.holds.scalars_are x.number)))
       (jump_if to jump.False x (not (is_true (c.scalars x.number))) has low thin.1 all refl)
     where
       by : (b : Bool) → (if not (not b) then jumped to else Fell s) ≡ (if nat_eq (flag b) 0 then Fell s else jumped to)
       by true = refl
       by false = refl
-  tests_fall to jump.True x has low thin all =
+  tests_fall to jump.True x has low thin all form =
       subst (λ r. Good (pc + 1) c (behind r)) (by (nat_eq (c.scalars x.number) 0) ∙ ap (λ v. if nat_eq v 0 then Fell s else jumped to) (sym (st.holds.scalars_are x.number)))
       (jump_if to jump.True x (is_true (c.scalars x.number)) has low thin.1 all refl)
     where
       by : (b : Bool) → (if not b then jumped to else Fell s) ≡ (if b then Fell s else jumped to)
       by true = refl
       by false = refl
-  tests_fall to jump.Off x has low thin all =
+  tests_fall to jump.Off x has low thin all form =
       subst (λ r. Good (pc + 1) c (behind r)) (by (nat_eq (value s.locals (lanes_as_bits w x)) 0))
       (jump_if to jump.Off x (not (not (nat_eq (value s.locals (lanes_as_bits w x)) 0))) has low thin all (ap not (some_is w c.scalars c.vectors c.masks s.locals st.holds x)))
     where
       by : (b : Bool) → (if not (not b) then jumped to else Fell s) ≡ (if nat_eq (flag b) 0 then Fell s else jumped to)
       by true = refl
       by false = refl
-  tests_fall to jump.On x has low thin all =
+  tests_fall to jump.On x has low thin all form =
       subst (λ r. Good (pc + 1) c (behind r)) (by (nat_eq (value s.locals (lanes_as_bits w x)) 0))
       (jump_if to jump.On x (not (nat_eq (value s.locals (lanes_as_bits w x)) 0)) has low thin all (some_is w c.scalars c.vectors c.masks s.locals st.holds x))
     where
       by : (b : Bool) → (if not b then jumped to else Fell s) ≡ (if b then Fell s else jumped to)
       by true = refl
       by false = refl
-  tests_fall to jump.All x has low thin all =
+  tests_fall to jump.All x has low thin all form =
       subst (λ r. Good (pc + 1) c (behind r)) (by (nat_eq (value s.locals (lanes_as_bits w x)) (2 ^ gang w - 1)) ∙ ap (λ m. if nat_eq (flag (nat_eq (value s.locals (lanes_as_bits w x)) m)) 0 then Fell s else jumped to) (sym most))
       (jump_if to jump.All x (nat_eq (value s.locals (lanes_as_bits w x)) (2 ^ gang w - 1)) has low thin all (full_is w c.scalars c.vectors c.masks s.locals st.holds x))
     where

@@ -27,7 +27,7 @@ use Rattle.isp_wasm.specs.Places.{Setting, Place, gang, parts, elem, shape, size
 use Rattle.isp_wasm.specs.Rows.{widened}
 use Rattle.isp_wasm.specs.Templates.{fault, lowest_of, scalar_local, vector_local, mask_local, plus, waiting_calls, listed, part_under, passed_of, passed_all, arguments_of, called_number, scalar_result, result_local, select_lanes, vector_result, take_result, each, call_code}
 use Rattle.isp_wasm.proofs.Typed.{both, same, two, bitselect, source, widened_typed}
-use Rattle.isp_wasm.proofs.ValidLines.{HasTypes, fresh_low, source_low, global_at, few_results, each_valid, set_valid, then_valid, if_valid, local_typed, scalar_at, scalar_typed, vector_typed, mask_part_typed, select_valid, lowest_typed, plus_typed}
+use Rattle.isp_wasm.proofs.ValidLines.{HasTypes, fresh_low, source_low, global_at, few_results, each_valid, then_valid, if_valid, local_typed, scalar_at, scalar_typed, vector_typed, mask_part_typed, select_valid, lowest_typed, plus_typed}
 
 module _ (w : Setting) (local : ℕ → Option ValueType) (functions : List Function) (result : Option ValueType) (typed : HasTypes w local) where
   abbrev pub T : Expr → ValueType → Type 0

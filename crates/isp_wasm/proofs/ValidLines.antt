@@ -46,6 +46,9 @@ use Rattle.isp_code.specs.declared.instr.Scan.{Scan}
 use Rattle.isp_code.specs.declared.instr.Scan.TheVariants as scan
 use Rattle.isp_code.specs.declared.register.Class.TheVariants as class
 use Rattle.isp_code.specs.declared.register.Register.{Register}
+use Rattle.isp_forms.specs.Writes.{mask_under, is_pure}
+use Rattle.isp_forms.specs.declared.form.Form.{Form}
+use Rattle.isp_forms.specs.declared.form.Form.TheVariants.{Kept, Free, Useless}
 use Rattle.isp_wasm_meaning.specs.Meaning.{count}
 use Rattle.isp_wasm_meaning.specs.Module.{ValueType, V128, Function}
 use Rattle.isp_wasm_meaning.specs.Module as valued
@@ -56,8 +59,8 @@ use Rattle.isp_wasm_meaning.specs.Valid.{is_type, sized, held, has_type, of_type
 use Rattle.isp_wasm.specs.Places.{Setting, gang, parts, parts_for, elem, shape, shape_of, size_of, bytes_of, Counter, Scalar as ScalarAt, Vector as VectorAt, Mask as MaskAt, Base, Count, Fresh, Spare, Depth, Top}
 use Rattle.isp_wasm.specs.Words.{constant, below, whole_expr, plain_expr, unary_expr, compare_expr, convert_expr}
 use Rattle.isp_wasm.specs.Rows.{as_cell, lane_at, widened, by_lane, ones, compare_row, present}
-use Rattle.isp_wasm.specs.Templates.{each, scalar_local, vector_local, mask_local, set_lanes, set_mask, is_member, lanes_as_bits, lowest_of, lane_or, lane_or_zero, picked, first_value, folded, modulo, plus, exchange_expr, of_both, scan_expr, reduce_expr, scalar_code, vector_of, vector_code, mask_under}
-use Rattle.isp_wasm.specs.Templates.{select_lanes, fills_parts, run_is_there, load_parts, load_row, store_part, store_row, all_at_once}
+use Rattle.isp_wasm.specs.Templates.{each, scalar_local, vector_local, mask_local, set_lanes, set_mask, is_member, lanes_as_bits, lowest_of, lane_or, lane_or_zero, picked, first_value, folded, modulo, plus, exchange_expr, of_both, scan_expr, reduce_expr, scalar_code, vector_of, vector_code}
+use Rattle.isp_wasm.specs.Templates.{select_lanes, put_lanes, vector_line, fills_parts, run_is_there, load_parts, load_row, store_part, store_row, all_at_once}
 use Rattle.isp_wasm.specs.Templates.{best_step, best_of, fault, element_from, address_at, opened_bytes, base_if, base_at, lane_address, clear_if, is_there, spare, lane_loop, set_lane, lane_loads, lane_checks, lane_stores, own_index, run_index, rank_expr, packed_index, set_count, checked}
 use Rattle.isp_wasm.specs.Templates.{mask_bits, mask_of, numbers_part, range_count, quotients, code_of, magnitude_expr, division_of, turns_sign, quotient_to, jump_to, return_code, call_code, print_value, print_byte, print_comma, print_item, print_list}
 use Rattle.isp_wasm.proofs.Opening.{some_lanes as some_gang}
@@ -352,11 +355,19 @@ module _ (w : Setting) (local : ℕ → Option ValueType) (functions : List Func
       (bitselect local (Local (w.local (Fresh j))) (vector_local w x j) (widened s (mask_local w k) j) (local_typed (w.local (Fresh j)) V128 (typed.fresh j (fresh_low (gang w) s j l))) (vector_typed x xs (elem w x) refl j l)
       (widened_typed local s (mask_local w k) j (mask_part_typed k ks (source s j) (source_low (gang w) s j l)))))
 
-  pub lanes_valid : (d : ℕ) (x k : Register) (new : ℕ → Expr) → IsV x → IsM k → ((j : ℕ) → j < parts w (shape w x) → T (new j) V128) → C d (set_lanes w x k new)
-  lanes_valid d x k new xs ks h =
+  pub put_valid : (form : Form) (d : ℕ) (x k : Register) → IsV x → IsM k → C d (put_lanes w form x k)
+  put_valid Kept d x k xs ks = select_valid d x k xs ks
+  put_valid Useless d x k xs ks = select_valid d x k xs ks
+  put_valid Free d x k xs ks =
       let s = shape w x in
-      then_valid d (each (parts w s) (λ j. Set (w.local (Fresh j)) (new j))) (select_lanes w x k)
-      (each_valid d (parts w s) (λ j. Set (w.local (Fresh j)) (new j)) (λ j l. set_valid d (w.local (Fresh j)) (new j) V128 (typed.fresh j (fresh_low (gang w) s j l)) (h j l))) (select_valid d x k xs ks)
+      each_valid d (parts w s) (λ j. Set (w.local (VectorAt x.number j)) (Local (w.local (Fresh j))))
+      (λ j l. set_valid d (w.local (VectorAt x.number j)) (Local (w.local (Fresh j))) V128 (typed.vectors x xs j l) (local_typed (w.local (Fresh j)) V128 (typed.fresh j (fresh_low (gang w) s j l))))
+
+  pub lanes_valid : (form : Form) (d : ℕ) (x k : Register) (new : ℕ → Expr) → IsV x → IsM k → ((j : ℕ) → j < parts w (shape w x) → T (new j) V128) → C d (set_lanes w form x k new)
+  lanes_valid form d x k new xs ks h =
+      let s = shape w x in
+      then_valid d (each (parts w s) (λ j. Set (w.local (Fresh j)) (new j))) (put_lanes w form x k)
+      (each_valid d (parts w s) (λ j. Set (w.local (Fresh j)) (new j)) (λ j l. set_valid d (w.local (Fresh j)) (new j) V128 (typed.fresh j (fresh_low (gang w) s j l)) (h j l))) (put_valid form d x k xs ks)
 
   -- ---- elements in a row, all at once
 
@@ -369,8 +380,8 @@ module _ (w : Setting) (local : ℕ → Option ValueType) (functions : List Func
       (λ j l. both (is_type (local (w.local (Fresh j))) V128) (has_type local (address_at w a (scalar_local w i)) valued.I32 && nat_lt (j * 16) (2 ^ 32)) (local_typed (w.local (Fresh j)) V128 (typed.fresh j (fresh_low (gang w) s j l)))
       (both (has_type local (address_at w a (scalar_local w i)) valued.I32) (nat_lt (j * 16) (2 ^ 32)) (address_typed a as' (scalar_local w i) (scalar_typed i is I64 same)) (offset_low s j l)))
 
-  pub row_loads_valid : (d : ℕ) (x a i k : Register) → IsV x → IsA a → Is i → elem w i ≡ I64 → IsM k → C d (load_row w x a i k)
-  row_loads_valid d x a i k xs as' is same ks = then_valid d (load_parts w a i (parts w (shape w x))) (select_lanes w x k) (parts_valid d a i (shape w x) as' is same) (select_valid d x k xs ks)
+  pub row_loads_valid : (form : Form) (d : ℕ) (x a i k : Register) → IsV x → IsA a → Is i → elem w i ≡ I64 → IsM k → C d (load_row w form x a i k)
+  row_loads_valid form d x a i k xs as' is same ks = then_valid d (load_parts w a i (parts w (shape w x))) (put_lanes w form x k) (parts_valid d a i (shape w x) as' is same) (put_valid form d x k xs ks)
 
   pub row_stores_valid : (d : ℕ) (a i y k : Register) → IsA a → Is i → elem w i ≡ I64 → IsV y → IsM k → C d (store_row w a i y k)
   row_stores_valid d a i y k as' is same ys ks =
@@ -553,67 +564,77 @@ module _ (w : Setting) (local : ℕ → Option ValueType) (functions : List Func
   by_lanes : (d x : Register) → elem w x ≡ elem w d → (f : ℕ → Expr) → ((p : ℕ) → p < gang w → V (f p) (elem w x)) → (j : ℕ) → T (by_lane w (elem w d) f j) V128
   by_lanes d x e f h j = by_lane_typed local w (elem w d) f (λ p q. subst (V (f p)) e (h p q)) j
 
-  row_valid : (n : ℕ) (d : Register) (i : VectorInstr) → IsV d → IsM (mask_under w i) → ((j : ℕ) → j < parts w (shape w d) → T (vector_of w d i j) V128) → C n (set_lanes w d (mask_under w i) (vector_of w d i))
-  row_valid n d i ds ks h = lanes_valid n d (mask_under w i) (vector_of w d i) ds ks h
+  row_valid : (form : Form) (n : ℕ) (d : Register) (i : VectorInstr) → IsV d → IsM (mask_under i) → ((j : ℕ) → j < parts w (shape w d) → T (vector_of w d i j) V128) → C n (set_lanes w form d (mask_under i) (vector_of w d i))
+  row_valid form n d i ds ks h = lanes_valid form n d (mask_under i) (vector_of w d i) ds ks h
 
-  vectors_valid : (n : ℕ) (d : Register) (i : VectorInstr) → Fine (vector_operands d i) → C n (vector_code w d i)
-  vectors_valid n d (vector.Copy x k) f = row_valid n d (vector.Copy x k) (f.0).0 ((f.1).1).0 (λ j l. like x d ((f.1).0).0 ((f.1).0).1 j l)
-  vectors_valid n d (vector.Convert x k) f =
-      row_valid n d (vector.Convert x k) (f.0).0 ((f.1).1).0 (λ j l. convert_row_typed local w (elem w x) (elem w d) (vector_local w x) (like x x ((f.1).0).0 refl) j)
-  vectors_valid n d (vector.Unary o x k) f =
-      row_valid n d (vector.Unary o x k) (f.0).0 ((f.1).1).0 (λ j l. unary_row_typed local o (elem w d) (vector_local w x) j (like x d ((f.1).0).0 ((f.1).0).1 j l))
-  vectors_valid n d (vector.Binary o x y k) f =
-      row_valid n d (vector.Binary o x y k) (f.0).0 (((f.1).1).1).0
+  vectors_valid : (form : Form) (n : ℕ) (d : Register) (i : VectorInstr) → Fine (vector_operands d i) → C n (vector_code w form d i)
+  vectors_valid form n d (vector.Copy x k) f = row_valid form n d (vector.Copy x k) (f.0).0 ((f.1).1).0 (λ j l. like x d ((f.1).0).0 ((f.1).0).1 j l)
+  vectors_valid form n d (vector.Convert x k) f =
+      row_valid form n d (vector.Convert x k) (f.0).0 ((f.1).1).0 (λ j l. convert_row_typed local w (elem w x) (elem w d) (vector_local w x) (like x x ((f.1).0).0 refl) j)
+  vectors_valid form n d (vector.Unary o x k) f =
+      row_valid form n d (vector.Unary o x k) (f.0).0 ((f.1).1).0 (λ j l. unary_row_typed local o (elem w d) (vector_local w x) j (like x d ((f.1).0).0 ((f.1).0).1 j l))
+  vectors_valid form n d (vector.Binary o x y k) f =
+      row_valid form n d (vector.Binary o x y k) (f.0).0 (((f.1).1).1).0
       (λ j l. plain_row_typed local w o (elem w d) (vector_local w x) (vector_local w y) (integer (elem w d) (f.0).1) (like x d ((f.1).0).0 ((f.1).0).1) (like y d (((f.1).1).0).0 (((f.1).1).0).1) j l)
-  vectors_valid n d (vector.Compare o x y k) f =
-      row_valid n d (vector.Compare o x y k) (f.0).0 (((f.1).1).1).0
+  vectors_valid form n d (vector.Compare o x y k) f =
+      row_valid form n d (vector.Compare o x y k) (f.0).0 (((f.1).1).1).0
       (λ j l. narrowed_typed local (shape w x) (present w (shape w x) (compare_row o (elem w x) (vector_local w x) (vector_local w y))) j
       (present_typed local w (shape w x) (compare_row o (elem w x) (vector_local w x) (vector_local w y))
       (λ i m. compare_row_typed local o (elem w x) (vector_local w x) (vector_local w y) i (like x x ((f.1).0).0 refl i m) (like y x (((f.1).1).0).0 (((f.1).1).0).1 i m))))
-  vectors_valid n d (vector.Select t x y k) f =
-      row_valid n d (vector.Select t x y k) (f.0).0 ((((f.1).1).1).1).0
+  vectors_valid form n d (vector.Select t x y k) f =
+      row_valid form n d (vector.Select t x y k) (f.0).0 ((((f.1).1).1).1).0
       (λ j l. bitselect local (vector_local w x j) (vector_local w y j) (widened (shape w d) (vector_local w t) j) (like x d (((f.1).1).0).0 (((f.1).1).0).1 j l) (like y d ((((f.1).1).1).0).0 ((((f.1).1).1).0).1 j l)
       (widened_bools t ((f.1).0).0 ((f.1).0).1 (shape w d) j l))
-  vectors_valid n d (vector.Splat x k) f =
-      row_valid n d (vector.Splat x k) (f.0).0 ((f.1).1).0
+  vectors_valid form n d (vector.Splat x k) f =
+      row_valid form n d (vector.Splat x k) (f.0).0 ((f.1).1).0
       (λ j l. one local (Splat (shape w d)) (as_cell (elem w d) (scalar_local w x)) refl (cell_typed local (elem w d) (scalar_local w x) (scalar_typed x ((f.1).0).0 (elem w d) ((f.1).0).1)))
-  vectors_valid n d (vector.Index k) f = row_valid n d (vector.Index k) (f.0).0 (f.1).0 (λ j l. refl)
-  vectors_valid n d (vector.Scan o x k) f =
-      row_valid n d (vector.Scan o x k) (f.0).0 ((f.1).1).0 (λ j l. by_lanes d x ((f.1).0).1 (scan_expr w o x k) (scan_typed o x k ((f.1).0).0 ((f.1).1).0) j)
-  vectors_valid n d (vector.Exchange e x i k) f =
-      row_valid n d (vector.Exchange e x i k) (f.0).0 (((f.1).1).1).0
+  vectors_valid form n d (vector.Index k) f = row_valid form n d (vector.Index k) (f.0).0 (f.1).0 (λ j l. refl)
+  vectors_valid form n d (vector.Scan o x k) f =
+      row_valid form n d (vector.Scan o x k) (f.0).0 ((f.1).1).0 (λ j l. by_lanes d x ((f.1).0).1 (scan_expr w o x k) (scan_typed o x k ((f.1).0).0 ((f.1).1).0) j)
+  vectors_valid form n d (vector.Exchange e x i k) f =
+      row_valid form n d (vector.Exchange e x i k) (f.0).0 (((f.1).1).1).0
       (λ j l. by_lanes d x ((f.1).0).1 (exchange_expr w e x i k) (λ p q. exchange_typed e x i k ((f.1).0).0 (((f.1).1).0).0 (((f.1).1).0).1 (((f.1).1).1).0 p) j)
-  vectors_valid n d (vector.Shuffle x i k) f =
-      row_valid n d (vector.Shuffle x i k) (f.0).0 (((f.1).1).1).0
+  vectors_valid form n d (vector.Shuffle x i k) f =
+      row_valid form n d (vector.Shuffle x i k) (f.0).0 (((f.1).1).1).0
       (λ j l. by_lanes d x ((f.1).0).1 (λ p. picked w (size_of (elem w x)) (modulo w (gang w) (lane_or_zero w i k p)) (lane_or_zero w x k) (gang w))
       (λ p q. picked_typed (size_of (elem w x)) (modulo w (gang w) (lane_or_zero w i k p)) (lane_or_zero w x k) (gang w)
       (modulo_typed (gang w) (lane_or_zero w i k p) (subst (V (lane_or_zero w i k p)) (((f.1).1).0).1 (or_zero_typed i k (((f.1).1).0).0 (((f.1).1).1).0 p q)))
       (or_zero_typed x k ((f.1).0).0 (((f.1).1).1).0)) j)
-  vectors_valid n d (vector.ShuffleTwo x y i k) f =
+  vectors_valid form n d (vector.ShuffleTwo x y i k) f =
       let ks = ((((f.1).1).1).1).0 in
       let is = (((f.1).1).1).0 in
-      row_valid n d (vector.ShuffleTwo x y i k) (f.0).0 ks
+      row_valid form n d (vector.ShuffleTwo x y i k) (f.0).0 ks
       (λ j l. by_lanes d x ((f.1).0).1 (λ p. picked w (size_of (elem w x)) (modulo w (2 * gang w) (lane_or_zero w i k p)) (of_both w x y k) (2 * gang w))
       (λ p q. picked_typed (size_of (elem w x)) (modulo w (2 * gang w) (lane_or_zero w i k p)) (of_both w x y k) (2 * gang w)
       (modulo_typed (2 * gang w) (lane_or_zero w i k p) (subst (V (lane_or_zero w i k p)) is.1 (or_zero_typed i k is.0 ks p q)))
       (of_both_typed x y k ((f.1).0).0 (((f.1).1).0).0 ((((f.1).1).0).1 ∙ sym ((f.1).0).1) ks)) j)
-  vectors_valid n d (vector.Insert x i y k) f =
+  vectors_valid form n d (vector.Insert x i y k) f =
       let ks = ((((f.1).1).1).1).0 in
       let ys = (((f.1).1).1).0 in
-      row_valid n d (vector.Insert x i y k) (f.0).0 ks
+      row_valid form n d (vector.Insert x i y k) (f.0).0 ks
       (λ j l. by_lanes d x ((f.1).0).1 (λ p. Select (Two (wasm.Compare wasm.I32 Eq) (modulo w (gang w) (scalar_local w i)) (Const32 p)) (scalar_local w y) (lane_or_zero w x k p))
       (λ p q. select local (Two (wasm.Compare wasm.I32 Eq) (modulo w (gang w) (scalar_local w i)) (Const32 p)) (scalar_local w y) (lane_or_zero w x k p) (sized (size_of (elem w x)))
       (two local (wasm.Compare wasm.I32 Eq) (modulo w (gang w) (scalar_local w i)) (Const32 p) refl (modulo_typed (gang w) (scalar_local w i) (scalar_typed i (((f.1).1).0).0 I32 (((f.1).1).0).1)) refl)
       (scalar_typed y ys.0 (elem w x) (ys.1 ∙ sym ((f.1).0).1)) (or_zero_typed x k ((f.1).0).0 ks p q)) j)
-  vectors_valid n d (vector.Gather a i k q) f =
+  vectors_valid form n d (vector.Gather a i k q) f =
       loads_valid n d a (own_index w i) k q (f.0).0 ((f.1).0).0 ((f.1).0).2 (((f.1).1).1).0 (own_typed i (((f.1).1).0).0 (((f.1).1).0).1)
-  vectors_valid n d (vector.LoadRun a i k q) f =
+  vectors_valid form n d (vector.LoadRun a i k q) f =
       let xs = (f.0).0 in
       let as' = ((f.1).0).0 in
       let is = ((f.1).1).0 in
       let ks = (((f.1).1).1).0 in
-      at_once_valid n (fills_parts w (elem w d)) a i (load_row w d a i k) (lane_loads w d a (run_index w i) k q) as' is.0 is.1 (row_loads_valid (suc n) d a i k xs as' is.0 is.1 ks)
+      at_once_valid n (fills_parts w (elem w d)) a i (load_row w form d a i k) (lane_loads w d a (run_index w i) k q) as' is.0 is.1 (row_loads_valid form (suc n) d a i k xs as' is.0 is.1 ks)
       (λ n. loads_valid n d a (run_index w i) k q xs as' ((f.1).0).2 ks (run_typed i is.0 is.1))
+
+  -- where nothing is done
+  left_out_valid : (b : Bool) (n : ℕ) (d : Register) (i : VectorInstr) → Fine (vector_operands d i) → C n (if b then Skip else vector_code w Kept d i)
+  left_out_valid true n d i f = refl
+  left_out_valid false n d i f = vectors_valid Kept n d i f
+
+  vector_line_valid : (form : Form) (n : ℕ) (d : Register) (i : VectorInstr) → Fine (vector_operands d i) → C n (vector_line w form d i)
+  vector_line_valid Kept n d i f = vectors_valid Kept n d i f
+  vector_line_valid Free n d i f = vectors_valid Free n d i f
+  vector_line_valid Useless n d i f = left_out_valid (is_pure i) n d i f
 
   -- ---- masks
 
@@ -730,13 +751,13 @@ module _ (w : Setting) (local : ℕ → Option ValueType) (functions : List Func
   vector_back t class.Mask x e is same n = absurd (let other = is.0 in cc)
   vector_back t class.Array x e is same n = absurd (let other = is.0 in cc)
 
-  gives_valid : (g : Returns) (x : Option Register) → Gives g → IsGiven w.routine g x → (n : ℕ) → C n (code_of w 0 (instr.Return x))
-  gives_valid Nothing None e is n = ap (λ r. gives local r None) e
-  gives_valid Nothing (Some x) e is n = absurd is
-  gives_valid (GivesScalar t) None e is n = absurd is
-  gives_valid (GivesScalar t) (Some x) e is n = scalar_back t x.class x.number e is.0 is.1 n
-  gives_valid (GivesVector t) None e is n = absurd is
-  gives_valid (GivesVector t) (Some x) e is n = vector_back t x.class x.number e is.0 is.1 n
+  gives_valid : (g : Returns) (x : Option Register) → Gives g → IsGiven w.routine g x → (n : ℕ) (form : Form) → C n (code_of w 0 form (instr.Return x))
+  gives_valid Nothing None e is n form = ap (λ r. gives local r None) e
+  gives_valid Nothing (Some x) e is n form = absurd is
+  gives_valid (GivesScalar t) None e is n form = absurd is
+  gives_valid (GivesScalar t) (Some x) e is n form = scalar_back t x.class x.number e is.0 is.1 n
+  gives_valid (GivesVector t) None e is n form = absurd is
+  gives_valid (GivesVector t) (Some x) e is n form = vector_back t x.class x.number e is.0 is.1 n
 
   -- the mask of a call is one
   mask_last : (xs : List Register) (k : Register) → AllFine w.code w.routine (map any_register xs ++ MaskOperand k ∷ []) → IsM k
@@ -748,19 +769,19 @@ module _ (w : Setting) (local : ℕ → Option ValueType) (functions : List Func
   mask_of_call c (Some x) f = mask_last c.arguments c.mask ((f.1).1).1
 
   -- after so many labels, of which the last is the loop's
-  pub line_valid : Gives w.routine.returns → (n k : ℕ) → k < n → (i : Instr) → ((c : Call) → i ≡ instr.Call c → CallFine w.code w.routine c → IsM c.mask → C n (call_code w c)) → Fine (operands i) → CallsFine w.code w.routine i → C n (code_of w k i)
-  line_valid g n k h (instr.Scalar d i) called f fits = scalars_valid n d i f
-  line_valid g n k h (instr.Vector d i) called f fits = vectors_valid n d i f
-  line_valid g n k h (instr.Mask d i) called f fits = masks_valid n d i f
-  line_valid g n k h (instr.Divide o d x y m q) called f fits = quotients_valid n d.class o d x y m q refl f
-  line_valid g n k h (instr.Store a i y m q) called f fits =
+  pub line_valid : Gives w.routine.returns → (n k : ℕ) → k < n → (i : Instr) → ((c : Call) → i ≡ instr.Call c → CallFine w.code w.routine c → IsM c.mask → C n (call_code w c)) → Fine (operands i) → CallsFine w.code w.routine i → (form : Form) → C n (code_of w k form i)
+  line_valid g n k h (instr.Scalar d i) called f fits form = scalars_valid n d i f
+  line_valid g n k h (instr.Vector d i) called f fits form = vector_line_valid form n d i f
+  line_valid g n k h (instr.Mask d i) called f fits form = masks_valid n d i f
+  line_valid g n k h (instr.Divide o d x y m q) called f fits form = quotients_valid n d.class o d x y m q refl f
+  line_valid g n k h (instr.Store a i y m q) called f fits form =
       then_valid n (checked w a i m q) (Store (bytes_of (elem w a)) (address_at w a (scalar_local w i)) 0 (scalar_local w y)) (checked_valid n a i m q (f.0).0 ((f.1).0).0 ((f.1).0).1 (((f.1).1).1).0)
       (store_valid n (elem w a) (address_at w a (scalar_local w i)) (scalar_local w y) (address_typed a (f.0).0 (scalar_local w i) (scalar_typed i ((f.1).0).0 I64 ((f.1).0).1)) (scalar_typed y (((f.1).1).0).0 (elem w a) (((f.1).1).0).1))
-  line_valid g n k h (instr.Scatter a i y m q) called f fits =
+  line_valid g n k h (instr.Scatter a i y m q) called f fits form =
       let ks = (((f.1).1).1).0 in
       then_valid n (lane_checks w a (own_index w i) m q) (lane_stores w a (own_index w i) y m) (checks_valid n a (own_index w i) m q (f.0).0 ks (own_typed i ((f.1).0).0 ((f.1).0).1))
       (stores_valid n a (own_index w i) y m (f.0).0 (((f.1).1).0).0 (((f.1).1).0).1 ks (own_typed i ((f.1).0).0 ((f.1).0).1))
-  line_valid g n k h (instr.StoreRun a i y m q) called f fits =
+  line_valid g n k h (instr.StoreRun a i y m q) called f fits form =
       let ks = (((f.1).1).1).0 in
       let as' = (f.0).0 in
       let is = (f.1).0 in
@@ -768,26 +789,26 @@ module _ (w : Setting) (local : ℕ → Option ValueType) (functions : List Func
       at_once_valid n (fills_parts w (elem w y)) a i (store_row w a i y m) (Then (lane_checks w a (run_index w i) m q) (lane_stores w a (run_index w i) y m)) as' is.0 is.1 (row_stores_valid (suc n) a i y m as' is.0 is.1 ys.0 ks)
       (λ n. then_valid n (lane_checks w a (run_index w i) m q) (lane_stores w a (run_index w i) y m) (checks_valid n a (run_index w i) m q as' ks (run_typed i is.0 is.1))
       (stores_valid n a (run_index w i) y m as' ys.0 ys.1 ks (run_typed i is.0 is.1)))
-  line_valid g n k h (instr.PackedStore d a i y m q) called f fits =
+  line_valid g n k h (instr.PackedStore d a i y m q) called f fits form =
       let ks = ((((f.1).1).1).1).0 in
       let index = packed_typed i m (((f.1).1).0).0 (((f.1).1).0).1 ks in
       then_valid n (lane_checks w a (packed_index w i m) m q) (Then (lane_stores w a (packed_index w i m) y m) (set_count w d m)) (checks_valid n a (packed_index w i m) m q ((f.1).0).0 ks index)
       (then_valid n (lane_stores w a (packed_index w i m) y m) (set_count w d m) (stores_valid n a (packed_index w i m) y m ((f.1).0).0 ((((f.1).1).1).0).0 ((((f.1).1).1).0).1 ks index) (count_valid n d m (f.0).0 (f.0).1 ks))
-  line_valid g n k h (instr.PackedLoad d a i y m q) called f fits =
+  line_valid g n k h (instr.PackedLoad d a i y m q) called f fits form =
       let ks = ((((f.1).1).1).1).0 in
       then_valid n (lane_loads w y a (packed_index w i m) m q) (set_count w d m)
       (loads_valid n y a (packed_index w i m) m q ((((f.1).1).1).0).0 ((f.1).0).0 (sym ((((f.1).1).1).0).1) ks (packed_typed i m (((f.1).1).0).0 (((f.1).1).0).1 ks)) (count_valid n d m (f.0).0 (f.0).1 ks)
-  line_valid g n k h (instr.Jump to) called f fits = jump_valid n k to h
-  line_valid g n k h (instr.JumpIf jump.False x to) called f fits = jump_if n k to (One (Eqz wasm.I32) (scalar_local w x)) h (one local (Eqz wasm.I32) (scalar_local w x) refl (scalar_typed x (f.0).0 Truth (f.0).1))
-  line_valid g n k h (instr.JumpIf jump.True x to) called f fits = jump_if n k to (scalar_local w x) h (scalar_typed x (f.0).0 Truth (f.0).1)
-  line_valid g n k h (instr.JumpIf jump.Off x to) called f fits = jump_if n k to (One (Eqz wasm.I32) (lanes_as_bits w x)) h (one local (Eqz wasm.I32) (lanes_as_bits w x) refl (bits_typed x f.0))
-  line_valid g n k h (instr.JumpIf jump.On x to) called f fits = jump_if n k to (lanes_as_bits w x) h (bits_typed x f.0)
-  line_valid g n k h (instr.JumpIf jump.All x to) called f fits =
+  line_valid g n k h (instr.Jump to) called f fits form = jump_valid n k to h
+  line_valid g n k h (instr.JumpIf jump.False x to) called f fits form = jump_if n k to (One (Eqz wasm.I32) (scalar_local w x)) h (one local (Eqz wasm.I32) (scalar_local w x) refl (scalar_typed x (f.0).0 Truth (f.0).1))
+  line_valid g n k h (instr.JumpIf jump.True x to) called f fits form = jump_if n k to (scalar_local w x) h (scalar_typed x (f.0).0 Truth (f.0).1)
+  line_valid g n k h (instr.JumpIf jump.Off x to) called f fits form = jump_if n k to (One (Eqz wasm.I32) (lanes_as_bits w x)) h (one local (Eqz wasm.I32) (lanes_as_bits w x) refl (bits_typed x f.0))
+  line_valid g n k h (instr.JumpIf jump.On x to) called f fits form = jump_if n k to (lanes_as_bits w x) h (bits_typed x f.0)
+  line_valid g n k h (instr.JumpIf jump.All x to) called f fits form =
       jump_if n k to (Two (wasm.Compare wasm.I32 Eq) (lanes_as_bits w x) (Const32 (2 ^ gang w - 1))) h (two local (wasm.Compare wasm.I32 Eq) (lanes_as_bits w x) (Const32 (2 ^ gang w - 1)) refl (bits_typed x f.0) refl)
-  line_valid g n k h (instr.Say t) called f fits = refl
-  line_valid g n k h (instr.Fail x q) called f fits = if_valid n (lanes_as_bits w x) (fault w 2 q (lowest_of w x)) Skip (bits_typed x f.0) (lowest_typed x f.0) refl
-  line_valid g n k h (instr.Return x) called f fits = gives_valid w.routine.returns x g f.0 n
-  line_valid g n k h (instr.Clear a m) called f fits = clear_valid n (is_per_lane w.routine a) a m (f.0).0 (f.1).0
-  line_valid g n k h (instr.PrintScalar x) called f fits = print_valid n (elem w x) (scalar_local w x) (scalar_typed x (f.0).0 (elem w x) refl)
-  line_valid g n k h (instr.PrintVector x m) called f fits = list_valid n x m (f.0).0 (f.1).0
-  line_valid g n k h (instr.Call c) called f fits = called c refl fits (mask_of_call c c.result f)
+  line_valid g n k h (instr.Say t) called f fits form = refl
+  line_valid g n k h (instr.Fail x q) called f fits form = if_valid n (lanes_as_bits w x) (fault w 2 q (lowest_of w x)) Skip (bits_typed x f.0) (lowest_typed x f.0) refl
+  line_valid g n k h (instr.Return x) called f fits form = gives_valid w.routine.returns x g f.0 n form
+  line_valid g n k h (instr.Clear a m) called f fits form = clear_valid n (is_per_lane w.routine a) a m (f.0).0 (f.1).0
+  line_valid g n k h (instr.PrintScalar x) called f fits form = print_valid n (elem w x) (scalar_local w x) (scalar_typed x (f.0).0 (elem w x) refl)
+  line_valid g n k h (instr.PrintVector x m) called f fits form = list_valid n x m (f.0).0 (f.1).0
+  line_valid g n k h (instr.Call c) called f fits form = called c refl fits (mask_of_call c c.result f)

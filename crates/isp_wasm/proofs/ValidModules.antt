@@ -25,6 +25,7 @@ use Rattle.isp_code.specs.declared.register.Register.{Register}
 use Rattle.isp_verify.specs.Accepted.{IsFine}
 use Rattle.isp_verify.specs.Faults.{export_fits, names_differ, is_function, gives_vector}
 use Rattle.isp_verify.proofs.AcceptedLaws.{accepted_fine}
+use Rattle.isp_forms.specs.Runs.{Forms}
 use Rattle.isp_wasm_meaning.specs.Ladder.{counting, ladder, dispatched}
 use Rattle.isp_wasm_meaning.specs.Module.{ValueType, V128, Function, unused}
 use Rattle.isp_wasm_meaning.specs.Module as valued
@@ -35,7 +36,7 @@ use Rattle.isp_wasm.specs.Entry.{stack_code, entry_code}
 use Rattle.isp_wasm.specs.Kernel.{ModulesValid}
 use Rattle.isp_wasm.specs.Locals.{row, param_places, taken_from, taken_places, vector_places, mask_places, array_places, own_places, local_at}
 use Rattle.isp_wasm.specs.Stack.{uses_stack, has_call, local_bytes, bytes_in}
-use Rattle.isp_wasm.specs.Module.{heads_of, is_plain, all_plain, is_covered, is_called, given_type, back_type, numbered, type_of, kernel_of, inner_of, function_of, inner_function, inner_functions, module_of}
+use Rattle.isp_wasm.specs.Module.{heads_of, is_plain, all_plain, is_covered, is_called, given_type, back_type, numbered, type_of, kernel_of, inner_of, function_of, inner_function, each_function, module_with}
 use Rattle.isp_wasm.specs.Places.{Setting, Place, Counter, Scalar, Vector, Mask, Base, Count, Fresh, Spare, Depth, Top, gang, parts, parts_for, elem, shape_of, size_of}
 use Rattle.isp_wasm.specs.Standing.{scalar_register}
 use Rattle.isp_wasm.specs.Templates.{each, mask_part, call_code, code_at, span, rung, function_code, arrays_code, begin_code, routine_code}
@@ -65,15 +66,15 @@ module _ (w : Setting) (local : ℕ → Option ValueType) (functions : List Func
   abbrev pub C : ℕ → Code → Type 0
   C d c = is_valid local functions result d c ≡ true
 
-  at_valid : (n k pc : ℕ) → k < n → (o : Option Instr) → slice_get w.routine.code pc ≡ o → pc < length w.routine.code → C n (code_at w k o)
+  at_valid : (n k pc : ℕ) → k < n → (o : Option Instr) → slice_get w.routine.code pc ≡ o → pc < length w.routine.code → C n (code_at w k (w.forms w.home.fn pc) o)
   at_valid n k pc h None e low = absurd (let some = slice_get-get_or w.routine.code pc (instr.Jump 0) low in let impossible : None ≡ Some (get_or w.routine.code pc (instr.Jump 0)) = sym e ∙ some in cc)
   at_valid n k pc h (Some i) e low =
-      line_valid w local functions result typed back n k h i (λ c same. calls pc n c (e ∙ ap Some same)) (fine pc i e).0 (fine pc i e).1
+      line_valid w local functions result typed back n k h i (λ c same. calls pc n c (e ∙ ap Some same)) (fine pc i e).0 (fine pc i e).1 (w.forms w.home.fn pc)
 
   span_valid : (n k pc m : ℕ) → k < n → pc + m ≤ length w.routine.code → C n (span w k pc m)
   span_valid n k pc zero h le = refl
   span_valid n k pc (suc m) h le =
-      then_valid w local functions result typed n (code_at w k (slice_get w.routine.code pc)) (span w k (pc + 1) m) (at_valid n k pc h (slice_get w.routine.code pc) refl (omega (arith, le))) (span_valid n k (pc + 1) m h (omega (arith, le)))
+      then_valid w local functions result typed n (code_at w k (w.forms w.home.fn pc) (slice_get w.routine.code pc)) (span w k (pc + 1) m) (at_valid n k pc h (slice_get w.routine.code pc) refl (omega (arith, le))) (span_valid n k (pc + 1) m h (omega (arith, le)))
 
   heads_below : (d k : ℕ) → k + d ≡ w.rungs → w.heads k ≤ length w.routine.code
   heads_below zero k e = subst (λ j. w.heads j ≤ length w.routine.code) (let same : w.rungs ≡ k = omega (arith, e) in same) (let is = end in omega (arith, is))
@@ -153,10 +154,10 @@ module _ (w : Setting) (local : ℕ → Option ValueType) (functions : List Func
 -- ---- a function
 
 -- whose parameters are these places
-module _ (code : Listing) (h : Routine) (f : ℕ) (accepted : IsFine code) (found : slice_get code.routines f ≡ Some h) (plain : is_plain code h ≡ true) (qs : List Place)
+module _ (code : Listing) (forms : Forms) (h : Routine) (f : ℕ) (accepted : IsFine code) (found : slice_get code.routines f ≡ Some h) (plain : is_plain code h ≡ true) (qs : List Place)
     (scalars_in : (r : ℕ) → r < length (param_elems class.Scalar h.params) → Has qs (Scalar r)) (arrays_in : (a : ℕ) → a < length (param_elems class.Array h.params) → Has qs (Base a) × Has qs (Count a)) where
   abbrev pub w : Setting
-  w = record (numbered code h) { local = local_at (qs ++ own_places (gang_width code.gang) h) }
+  w = record (numbered code forms f h) { local = local_at (qs ++ own_places (gang_width code.gang) h) }
 
   lanes : ℕ
   lanes = gang_width code.gang
@@ -275,7 +276,7 @@ module _ (code : Listing) (h : Routine) (f : ℕ) (accepted : IsFine code) (foun
       spare_typed wasm.I64 = typed_at (Spare wasm.I64 0) (first_has (Spare wasm.I64 0) 3 refl)
 
   functions : List Function
-  functions = (module_of code).functions
+  functions = (module_with code forms).functions
 
   gives_back : (g : Returns) → gives_vector g ≡ false → Gives w locals functions (given_type (result_of g)) has_types g
   gives_back Nothing e = refl
@@ -300,11 +301,11 @@ module _ (code : Listing) (h : Routine) (f : ℕ) (accepted : IsFine code) (foun
     calls pc n c has fine ks =
         let g = fine.callee in
         let all = calling pc c has in
-        call_valid w locals functions result has_types n c fine (inner_of code g)
+        call_valid w locals functions result has_types n c fine (inner_of code forms c.function g)
         (record {
           place_type = type_of code g;
           types = record { depth_is = refl; top_is = refl; scalar_is = λ r. refl; vector_is = λ r j. refl; mask_is = λ r j. refl; base_is = λ a. refl; count_is = λ a. refl };
-          found = inner_at code h f pc c found has all g fine.found;
+          found = inner_at code forms h f pc c found has all g fine.found;
           params_are = refl;
           result_is = refl;
         })
@@ -328,11 +329,11 @@ module _ (code : Listing) (h : Routine) (f : ℕ) (accepted : IsFine code) (foun
     abbrev function_with : Option (List ℕ) → Code → Function
     function_with name c = record { export = name; params = map (type_of code h) qs; result = result; locals = map (type_of code h) (own_places (gang_width code.gang) h); code = c }
 
-    inner_ends : is_valid_function (module_of code).functions (function_with None (routine_code w)) ≡ true
+    inner_ends : is_valid_function (module_with code forms).functions (function_with None (routine_code w)) ≡ true
     unfolding locals functions
     inner_ends = both (is_valid locals functions result 0 (routine_code w)) (may_end result (routine_code w)) body_valid (ended result (routine_code w) refl)
 
-    kernel_ends : is_valid_function (module_of code).functions (function_with (Some h.name) (entry_code w)) ≡ true
+    kernel_ends : is_valid_function (module_with code forms).functions (function_with (Some h.name) (entry_code w)) ≡ true
     unfolding locals functions
     kernel_ends = both (is_valid locals functions result 0 (entry_code w)) (may_end result (entry_code w)) whole_valid (ended result (entry_code w) refl)
 
@@ -341,10 +342,10 @@ module _ (code : Listing) (h : Routine) (f : ℕ) (accepted : IsFine code) (foun
 from_zero : (n : ℕ) → 0 + n ≡ n
 from_zero n = omega arith
 
-kernel_valid : (code : Listing) (h : Routine) (f : ℕ) → IsFine code → slice_get code.routines f ≡ Some h → h.exported ≡ true → is_covered code h ≡ true → is_valid_function (module_of code).functions (kernel_of code h) ≡ true
-kernel_valid code h f accepted found exported covers =
-    kernel_ends code h f accepted found (covered_plain code h covers) (param_places h) scalars arrays (given_type (result_of h.returns))
-    (gives_back code h f accepted found (covered_plain code h covers) (param_places h) scalars arrays h.returns (gives_none code h f accepted found exported covers)) (covered_calls code h covers)
+kernel_valid : (code : Listing) (forms : Forms) (h : Routine) (f : ℕ) → IsFine code → slice_get code.routines f ≡ Some h → h.exported ≡ true → is_covered code h ≡ true → is_valid_function (module_with code forms).functions (kernel_of code forms f h) ≡ true
+kernel_valid code forms h f accepted found exported covers =
+    kernel_ends code forms h f accepted found (covered_plain code h covers) (param_places h) scalars arrays (given_type (result_of h.returns))
+    (gives_back code forms h f accepted found (covered_plain code h covers) (param_places h) scalars arrays h.returns (gives_none code h f accepted found exported covers)) (covered_calls code h covers)
   where
     scalars : (r : ℕ) → r < length (param_elems class.Scalar h.params) → Has (param_places h) (Scalar r)
     scalars r lt = subst (λ n. Has (param_places h) (Scalar n)) (from_zero r) (has_scalar h.params 0 0 r lt)
@@ -352,10 +353,10 @@ kernel_valid code h f accepted found exported covers =
     arrays : (a : ℕ) → a < length (param_elems class.Array h.params) → Has (param_places h) (Base a) × Has (param_places h) (Count a)
     arrays a lt = let has = has_array h.params 0 0 a lt in (subst (λ n. Has (param_places h) (Base n)) (from_zero a) has.0, subst (λ n. Has (param_places h) (Count n)) (from_zero a) has.1)
 
-inner_valid : (code : Listing) (h : Routine) (f : ℕ) → IsFine code → slice_get code.routines f ≡ Some h → all_plain code ≡ true → is_valid_function (module_of code).functions (inner_of code h) ≡ true
-inner_valid code h f accepted found all =
-    inner_ends code h f accepted found (all_at (is_plain code) code.routines f h all found) (taken_places (gang_width code.gang) h) scalars arrays (back_type h.returns)
-    (inner_back code h f accepted found (all_at (is_plain code) code.routines f h all found) (taken_places (gang_width code.gang) h) scalars arrays h.returns) (λ pc k has. all)
+inner_valid : (code : Listing) (forms : Forms) (h : Routine) (f : ℕ) → IsFine code → slice_get code.routines f ≡ Some h → all_plain code ≡ true → is_valid_function (module_with code forms).functions (inner_of code forms f h) ≡ true
+inner_valid code forms h f accepted found all =
+    inner_ends code forms h f accepted found (all_at (is_plain code) code.routines f h all found) (taken_places (gang_width code.gang) h) scalars arrays (back_type h.returns)
+    (inner_back code forms h f accepted found (all_at (is_plain code) code.routines f h all found) (taken_places (gang_width code.gang) h) scalars arrays h.returns) (λ pc k has. all)
   where
     behind : (p : Place) → Has (taken_from (gang_width code.gang) h.params 0 0 0) p → Has (taken_places (gang_width code.gang) h) p
     behind p has =
@@ -370,26 +371,22 @@ inner_valid code h f accepted found all =
         let has = has_taken_array (gang_width code.gang) h.params 0 0 0 a lt in
         (behind (Base a) (subst (λ n. Has (taken_from (gang_width code.gang) h.params 0 0 0) (Base n)) (from_zero a) has.0), behind (Count a) (subst (λ n. Has (taken_from (gang_width code.gang) h.params 0 0 0) (Count n)) (from_zero a) has.1))
 
-function_valid : (code : Listing) (h : Routine) (f : ℕ) → IsFine code → slice_get code.routines f ≡ Some h → (a b : Bool) → h.exported ≡ a → is_covered code h ≡ b
-    → is_valid_function (module_of code).functions (if a && b then kernel_of code h else unused) ≡ true
-function_valid code h f accepted found false b e g = refl
-function_valid code h f accepted found true false e g = refl
-function_valid code h f accepted found true true e g = kernel_valid code h f accepted found e g
+function_valid : (code : Listing) (forms : Forms) (h : Routine) (f : ℕ) → IsFine code → slice_get code.routines f ≡ Some h → (a b : Bool) → h.exported ≡ a → is_covered code h ≡ b
+    → is_valid_function (module_with code forms).functions (if a && b then kernel_of code forms f h else unused) ≡ true
+function_valid code forms h f accepted found false b e g = refl
+function_valid code forms h f accepted found true false e g = refl
+function_valid code forms h f accepted found true true e g = kernel_valid code forms h f accepted found e g
 
-called_valid : (code : Listing) (h : Routine) (f : ℕ) → IsFine code → slice_get code.routines f ≡ Some h → (a b : Bool) → all_plain code ≡ b → is_valid_function (module_of code).functions (if a && b then inner_of code h else unused) ≡ true
-called_valid code h f accepted found false b e = refl
-called_valid code h f accepted found true false e = refl
-called_valid code h f accepted found true true e = inner_valid code h f accepted found e
+called_valid : (code : Listing) (forms : Forms) (h : Routine) (f : ℕ) → IsFine code → slice_get code.routines f ≡ Some h → (a b : Bool) → all_plain code ≡ b → is_valid_function (module_with code forms).functions (if a && b then inner_of code forms f h else unused) ≡ true
+called_valid code forms h f accepted found false b e = refl
+called_valid code forms h f accepted found true false e = refl
+called_valid code forms h f accepted found true true e = inner_valid code forms h f accepted found e
 
-all_map : (p : Function → Bool) (g : Routine → Function) (xs : List Routine) → ((k : ℕ) (x : Routine) → slice_get xs k ≡ Some x → p (g x) ≡ true) → list_all p (map g xs) ≡ true
-all_map p g [] h = refl
-all_map p g (x ∷ xs) h = both (p (g x)) (list_all p (map g xs)) (h zero x refl) (all_map p g xs (λ k y e. h (suc k) y e))
-
-all_inner : (p : Function → Bool) (code : Listing) (xs : List Routine) (i : ℕ) → ((k : ℕ) (x : Routine) → slice_get xs k ≡ Some x → p (inner_function code x (i + k)) ≡ true) → list_all p (inner_functions code i xs) ≡ true
-all_inner p code [] i h = refl
-all_inner p code (x ∷ xs) i h =
-    both (p (inner_function code x i)) (list_all p (inner_functions code (suc i) xs)) (subst (λ n. p (inner_function code x n) ≡ true) (let same : i + 0 ≡ i = omega arith in same) (h zero x refl))
-    (all_inner p code xs (suc i) (λ k y e. subst (λ n. p (inner_function code y n) ≡ true) (let same : i + suc k ≡ suc i + k = omega arith in same) (h (suc k) y e)))
+all_each : (p : Function → Bool) (make : ℕ → Routine → Function) (xs : List Routine) (i : ℕ) → ((k : ℕ) (x : Routine) → slice_get xs k ≡ Some x → p (make (i + k) x) ≡ true) → list_all p (each_function make i xs) ≡ true
+all_each p make [] i h = refl
+all_each p make (x ∷ xs) i h =
+    both (p (make i x)) (list_all p (each_function make (suc i) xs)) (subst (λ n. p (make n x) ≡ true) (let same : i + 0 ≡ i = omega arith in same) (h zero x refl))
+    (all_each p make xs (suc i) (λ k y e. subst (λ n. p (make n y) ≡ true) (let same : i + suc k ≡ suc i + k = omega arith in same) (h (suc k) y e)))
 
 all_behind : (p : Function → Bool) (xs ys : List Function) → list_all p xs ≡ true → list_all p ys ≡ true → list_all p (xs ++ ys) ≡ true
 all_behind p [] ys h k = k
@@ -400,8 +397,11 @@ if_any p true xs h = h
 if_any p false xs h = refl
 
 pub modules_valid : ModulesValid
-modules_valid code accepted =
-    all_behind (is_valid_function (module_of code).functions) (map (function_of code) code.routines) (if list_any has_call code.routines then inner_functions code 0 code.routines else [])
-    (all_map (is_valid_function (module_of code).functions) (function_of code) code.routines (λ k h e. function_valid code h k (accepted_fine code accepted) e h.exported (is_covered code h) refl refl))
-    (if_any (is_valid_function (module_of code).functions) (list_any has_call code.routines) (inner_functions code 0 code.routines)
-    (all_inner (is_valid_function (module_of code).functions) code code.routines 0 (λ k h e. called_valid code h k (accepted_fine code accepted) e (is_called code (0 + k)) (all_plain code) refl)))
+modules_valid code forms accepted =
+    let valid = is_valid_function (module_with code forms).functions in
+    all_behind valid (each_function (function_of code forms) 0 code.routines) (if list_any has_call code.routines then each_function (inner_function code forms) 0 code.routines else [])
+    (all_each valid (function_of code forms) code.routines 0
+    (λ k h e. subst (λ n. valid (function_of code forms n h) ≡ true) (sym (from_zero k)) (function_valid code forms h k (accepted_fine code accepted) e h.exported (is_covered code h) refl refl)))
+    (if_any valid (list_any has_call code.routines) (each_function (inner_function code forms) 0 code.routines)
+    (all_each valid (inner_function code forms) code.routines 0
+    (λ k h e. subst (λ n. valid (inner_function code forms n h) ≡ true) (sym (from_zero k)) (called_valid code forms h k (accepted_fine code accepted) e (is_called code k) (all_plain code) refl))))

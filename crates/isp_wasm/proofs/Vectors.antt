@@ -14,12 +14,14 @@ use Rattle.isp_base.specs.declared.types.Elem.{Elem}
 use Rattle.isp_base.specs.declared.types.Elem.TheVariants.{Bool as Truth}
 use Rattle.isp_code.specs.Conf.{Conf, Go}
 use Rattle.isp_code.specs.Lines.{act, plain_of, set_vector}
-use Rattle.isp_code.specs.declared.instr.Instr.{Instr}
 use Rattle.isp_code.specs.declared.instr.Instr.TheVariants as instr
 use Rattle.isp_code.specs.declared.instr.Plain.{Plain}
 use Rattle.isp_code.specs.declared.instr.VectorInstr.{VectorInstr}
 use Rattle.isp_code.specs.declared.instr.VectorInstr.TheVariants as vector
 use Rattle.isp_code.specs.declared.register.Register.{Register}
+use Rattle.isp_forms.specs.Writes.{mask_under}
+use Rattle.isp_forms.specs.declared.form.Form.{Form}
+use Rattle.isp_forms.specs.declared.form.Form.TheVariants.{Kept, Free, Useless}
 use Rattle.isp_wasm_meaning.specs.Digits.{packed}
 use Rattle.isp_wasm_meaning.specs.Syntax as wasm
 use Rattle.isp_wasm_meaning.specs.Syntax.{I8x16, Expr, Code, Set, Then, Bitselect, Local, One, Splat, Const128}
@@ -29,11 +31,12 @@ use Rattle.isp_wasm_meaning.proofs.Lanes.{selected, lane_below}
 use Rattle.isp_wasm.specs.Places as place
 use Rattle.isp_wasm.specs.Places.{Setting, Place, Counter, Fresh, IsKept, elem, shape, shape_of, size_of, parts, gang}
 use Rattle.isp_wasm.specs.Rows.{cell, as_cell, half, widened, narrowed, present, compare_row, lane_at}
-use Rattle.isp_wasm.specs.Templates.{each, set_lanes, vector_local, scalar_local, mask_local, vector_of, vector_code}
+use Rattle.isp_wasm.specs.Templates.{each, select_lanes, put_lanes, set_lanes, vector_local, scalar_local, mask_local, vector_of, vector_code}
 use Rattle.isp_wasm.specs.Standing.{Stands, Holds, IsSettled, the_machine, vector_register}
 use Rattle.isp_wasm.specs.Thin.{IsVector, IsScalar, IsThinVector}
 use Rattle.isp_wasm.proofs.Frames.{holds_alike, holds_vector}
 use Rattle.isp_wasm.proofs.Steps.{falls_on}
+use Rattle.isp_wasm.proofs.Frees.{frees_fall}
 use Rattle.isp_wasm.proofs.Parts.{AreSet, AreFresh, are_set, are_fresh}
 use Rattle.isp_wasm.proofs.Rows.{IsRow, row_same, row_widened, row_narrowed, row_present, row_splat, row_constant, enough}
 use Rattle.isp_wasm.proofs.Cells.{IsCells, split_lane, cell_fits, cell_written, cell_of_bool, bool_flags, lane_value, plain_cells, unary_cells, compare_cells, select_cells}
@@ -113,65 +116,78 @@ module _ (w : Setting) (ready : IsSettled w) (fuel n k : ℕ) (call : ℕ → Li
 
   module _ (pc : ℕ) (c : Conf) (s : State) (st : Stands w pc c s) where
     -- the lanes of a mask of a vector register
-    pub lanes_fall : (i : Instr) (d : ℕ) (m : Register) (x : Map) (v : AllLanes) (new : ℕ → Expr) → slice_get w.routine.code pc ≡ Some i
-        → act w.code w.routine c i ≡ Go (set_vector c (vector_register d) x)
-        → ((p : ℕ) → p < gang w → (if c.masks m.number p then v p else c.vectors d p) ≡ over x (c.vectors d) p)
-        → ((l : ℕ → ℕ) → Holds w c.scalars c.vectors c.masks l → IsCells (gang w) (elem w (vector_register d)) l new v)
-        → Good (pc + 1) c (run fuel call (set_lanes w (vector_register d) m new) s)
-    lanes_fall i d m x v new has is where_on row =
-        subst (Good (pc + 1) c) (sym (ap (λ r. then_to r second) fresh.fell ∙ set.fell))
-        (falls_on w ready fuel n k pc c s i st has (record c { pc = c.pc + 1; vectors = put c.vectors d (over x (c.vectors d)) }) (record s { locals = set.locals }) is refl refl refl refl
-        (holds_vector w c.scalars c.vectors c.masks fresh.locals set.locals d (over x (c.vectors d)) held lanes
-        (λ p kept out. set.others p (λ i l e. out (i, e))))
-        st.keeps)
-      where
-        sh : wasm.Shape
-        sh = shape w (vector_register d)
+    module _ (i : VectorInstr) (d : ℕ) (x : Map) (v : AllLanes) (new : ℕ → Expr) (has : slice_get w.routine.code pc ≡ Some (instr.Vector (vector_register d) i))
+        (is : act w.code w.routine c (instr.Vector (vector_register d) i) ≡ Go (set_vector c (vector_register d) x))
+        (where_on : (p : ℕ) → p < gang w → (if c.masks (mask_under i).number p then v p else c.vectors d p) ≡ over x (c.vectors d) p)
+        (row : (l : ℕ → ℕ) → Holds w c.scalars c.vectors c.masks l → IsCells (gang w) (elem w (vector_register d)) l new v) where
+      abbrev m : Register
+      m = mask_under i
 
-        t : Elem
-        t = elem w (vector_register d)
+      abbrev sh : wasm.Shape
+      sh = shape w (vector_register d)
 
-        second : State → Result
-        second u = run fuel call (each (parts w sh) (λ j. Set (w.local (place.Vector d j)) (Bitselect (Local (w.local (Fresh j))) (vector_local w (vector_register d) j) (widened sh (mask_local w m) j)))) u
+      abbrev t : Elem
+      t = elem w (vector_register d)
 
-        fresh : AreFresh w (gang w) sh (λ p. cell t (v p)) (parts w sh) s (run fuel call (each (parts w sh) (λ j. Set (w.local (Fresh j)) (new j))) s)
-        fresh = are_fresh w ready fuel call (gang w) sh (λ p. cell t (v p)) new s (λ l a. row l (holds_alike w c.scalars c.vectors c.masks s.locals l st.holds a)) (parts w sh)
+      fresh : AreFresh w (gang w) sh (λ p. cell t (v p)) (parts w sh) s (run fuel call (each (parts w sh) (λ j. Set (w.local (Fresh j)) (new j))) s)
+      fresh = are_fresh w ready fuel call (gang w) sh (λ p. cell t (v p)) new s (λ l a. row l (holds_alike w c.scalars c.vectors c.masks s.locals l st.holds a)) (parts w sh)
 
-        held : Holds w c.scalars c.vectors c.masks fresh.locals
-        held = holds_alike w c.scalars c.vectors c.masks s.locals fresh.locals st.holds fresh.alike
+      held : Holds w c.scalars c.vectors c.masks fresh.locals
+      held = holds_alike w c.scalars c.vectors c.masks s.locals fresh.locals st.holds fresh.alike
 
-        masked : ℕ → Expr
-        masked j = Bitselect (Local (w.local (Fresh j))) (vector_local w (vector_register d) j) (widened sh (mask_local w m) j)
+      abbrev masked : ℕ → Expr
+      masked j = Bitselect (Local (w.local (Fresh j))) (vector_local w (vector_register d) j) (widened sh (mask_local w m) j)
 
-        set : AreSet w (place.Vector d) (parts w sh) masked (record s { locals = fresh.locals }) (second (record s { locals = fresh.locals }))
-        set =
-            are_set w ready fuel call (place.Vector d) (λ i j e. cc) masked (record s { locals = fresh.locals })
-            (λ j l same.
-            ap (λ a. select_bits a (l (w.local (Fresh j))) (l (w.local (place.Vector d j)))) (widened_same sh l fresh.locals (mask_local w m) j (λ j. same (place.Mask m.number j) (λ i q e. cc)))
-            ∙ ap₂ (select_bits (value fresh.locals (widened sh (mask_local w m) j))) (same (Fresh j) (λ i q e. cc)) (same (place.Vector d j) (λ i q. other_part d d i j q)))
-            (parts w sh)
+      abbrev selecting : State → Result
+      selecting u = run fuel call (select_lanes w (vector_register d) m) u
 
-        by : (b : Bool) (a u : ℕ) → (if b then cell t a else cell t u) ≡ cell t (if b then a else u)
-        by true a u = refl
-        by false a u = refl
+      set : AreSet w (place.Vector d) (parts w sh) masked (record s { locals = fresh.locals }) (selecting (record s { locals = fresh.locals }))
+      set =
+          are_set w ready fuel call (place.Vector d) (λ i j e. cc) masked (record s { locals = fresh.locals })
+          (λ j l same.
+          ap (λ a. select_bits a (l (w.local (Fresh j))) (l (w.local (place.Vector d j)))) (widened_same sh l fresh.locals (mask_local w m) j (λ j. same (place.Mask m.number j) (λ i q e. cc)))
+          ∙ ap₂ (select_bits (value fresh.locals (widened sh (mask_local w m) j))) (same (Fresh j) (λ i q e. cc)) (same (place.Vector d j) (λ i q. other_part d d i j q)))
+          (parts w sh)
 
-        lanes : (j i : ℕ) → i < count sh → j * count sh + i < gang w → lane sh i (set.locals (w.local (place.Vector d j))) ≡ cell t (over x (c.vectors d) (j * count sh + i))
-        lanes j i l q =
-            ap (lane sh i) (set.set_to j (enough w sh j i q))
-            ∙ selected sh i (value fresh.locals (widened sh (mask_local w m) j)) (fresh.locals (w.local (Fresh j))) (fresh.locals (w.local (place.Vector d j))) (c.masks m.number (j * count sh + i)) l
-            (mask_row w c fresh.locals held sh m (gang w) j i l q)
-            ∙ ap₂ (λ a b. if c.masks m.number (j * count sh + i) then a else b) (fresh.lanes j i (enough w sh j i q) l q) (held.vectors_are d j i l q)
-            ∙ by (c.masks m.number (j * count sh + i)) (v (j * count sh + i)) (c.vectors d (j * count sh + i))
-            ∙ ap (cell t) (where_on (j * count sh + i) q)
+      by : (b : Bool) (a u : ℕ) → (if b then cell t a else cell t u) ≡ cell t (if b then a else u)
+      by true a u = refl
+      by false a u = refl
+
+      lanes : (j i : ℕ) → i < count sh → j * count sh + i < gang w → lane sh i (set.locals (w.local (place.Vector d j))) ≡ cell t (over x (c.vectors d) (j * count sh + i))
+      lanes j i l q =
+          ap (lane sh i) (set.set_to j (enough w sh j i q))
+          ∙ selected sh i (value fresh.locals (widened sh (mask_local w m) j)) (fresh.locals (w.local (Fresh j))) (fresh.locals (w.local (place.Vector d j))) (c.masks m.number (j * count sh + i)) l
+          (mask_row w c fresh.locals held sh m (gang w) j i l q)
+          ∙ ap₂ (λ a b. if c.masks m.number (j * count sh + i) then a else b) (fresh.lanes j i (enough w sh j i q) l q) (held.vectors_are d j i l q)
+          ∙ by (c.masks m.number (j * count sh + i)) (v (j * count sh + i)) (c.vectors d (j * count sh + i))
+          ∙ ap (cell t) (where_on (j * count sh + i) q)
+
+      -- the others are kept
+      keeping : Good (pc + 1) c (then_to (run fuel call (each (parts w sh) (λ j. Set (w.local (Fresh j)) (new j))) s) selecting)
+      keeping =
+          subst (Good (pc + 1) c) (sym (ap (λ r. then_to r selecting) fresh.fell ∙ set.fell))
+          (falls_on w ready fuel n k pc c s (instr.Vector (vector_register d) i) st has (record c { pc = c.pc + 1; vectors = put c.vectors d (over x (c.vectors d)) }) (record s { locals = set.locals }) is refl refl refl refl
+          (holds_vector w c.scalars c.vectors c.masks fresh.locals set.locals d (over x (c.vectors d)) held lanes
+          (λ p kept out. set.others p (λ i l e. out (i, e))))
+          st.keeps)
+
+      pub lanes_fall : (form : Form) → (form ≡ Free → w.forms w.home.fn pc ≡ Free) → Good (pc + 1) c (run fuel call (set_lanes w form (vector_register d) (mask_under i) new) s)
+      lanes_fall Kept e = keeping
+      lanes_fall Useless e = keeping
+      lanes_fall Free e =
+          subst (Good (pc + 1) c) (sym (ap (λ r. then_to r (run fuel call (put_lanes w Free (vector_register d) (mask_under i)))) fresh.fell))
+          (frees_fall w ready fuel n k call pc c s st i d x v fresh.locals (e refl) has is where_on held (λ j q l b. fresh.lanes j q (enough w sh j q b) l b))
 
     -- ---- the instructions that work on each lane by itself
 
     abbrev pub At : ℕ → VectorInstr → Type 0
-    At d i = slice_get w.routine.code pc ≡ Some (instr.Vector (vector_register d) i) → IsThinVector w (elem w (vector_register d)) i → Good (pc + 1) c (run fuel call (vector_code w (vector_register d) i) s)
+    At d i =
+        slice_get w.routine.code pc ≡ Some (instr.Vector (vector_register d) i) → IsThinVector w (elem w (vector_register d)) i → (form : Form) → (form ≡ Free → w.forms w.home.fn pc ≡ Free)
+        → Good (pc + 1) c (run fuel call (vector_code w form (vector_register d) i) s)
 
     pub copies : (d : ℕ) (x m : Register) → At d (vector.Copy x m)
     copies d x m has h =
-        lanes_fall (instr.Vector (vector_register d) (vector.Copy x m)) d m (on (c.masks m.number) (c.vectors x.number)) (c.vectors x.number) (vector_local w x) has refl
+        lanes_fall (vector.Copy x m) d (on (c.masks m.number) (c.vectors x.number)) (c.vectors x.number) (vector_local w x) has refl
         (λ p q. chosen_over (c.masks m.number p) (c.vectors x.number p) (c.vectors d p)) (λ l held. vector_cells w c l held x (elem w (vector_register d)) h)
 
     pub converts : (d : ℕ) (x m : Register) → At d (vector.Convert x m)
@@ -179,21 +195,21 @@ module _ (w : Setting) (ready : IsSettled w) (fuel n k : ℕ) (call : ℕ → Li
         let t = elem w (vector_register d) in
         let u = elem w x in
         let f : ℕ → ℕ = (λ b. convert_bits t (number u b)) in
-        lanes_fall (instr.Vector (vector_register d) (vector.Convert x m)) d m (map1 f (on (c.masks m.number) (c.vectors x.number))) (λ p. f (c.vectors x.number p)) (vector_of w (vector_register d) (vector.Convert x m)) has refl
+        lanes_fall (vector.Convert x m) d (map1 f (on (c.masks m.number) (c.vectors x.number))) (λ p. f (c.vectors x.number p)) (vector_of w (vector_register d) (vector.Convert x m)) has refl
         (λ p q. chosen_over1 (c.masks m.number p) f (c.vectors x.number p) (c.vectors d p))
         (λ l held. convert_cells w l (vector_local w x) (c.vectors x.number) u t (vector_cells w c l held x u h) (vector_fits w c l held x u h))
 
     pub unaries : (d : ℕ) (o : UnaryOp) (x m : Register) → At d (vector.Unary o x m)
     unaries d o x m has h =
         let t = elem w (vector_register d) in
-        lanes_fall (instr.Vector (vector_register d) (vector.Unary o x m)) d m (map1 (unary_bits o t) (on (c.masks m.number) (c.vectors x.number))) (λ p. unary_bits o t (c.vectors x.number p)) (vector_of w (vector_register d) (vector.Unary o x m)) has refl
+        lanes_fall (vector.Unary o x m) d (map1 (unary_bits o t) (on (c.masks m.number) (c.vectors x.number))) (λ p. unary_bits o t (c.vectors x.number p)) (vector_of w (vector_register d) (vector.Unary o x m)) has refl
         (λ p q. chosen_over1 (c.masks m.number p) (unary_bits o t) (c.vectors x.number p) (c.vectors d p))
         (λ l held. unary_cells (gang w) l (vector_local w x) (c.vectors x.number) o t h.0 (vector_cells w c l held x t h.1) (vector_fits w c l held x t h.1))
 
     pub binaries : (d : ℕ) (o : Plain) (x y m : Register) → At d (vector.Binary o x y m)
     binaries d o x y m has h =
         let t = elem w (vector_register d) in
-        lanes_fall (instr.Vector (vector_register d) (vector.Binary o x y m)) d m (map2 (op_bits (plain_of o) t) (on (c.masks m.number) (c.vectors x.number)) (on (c.masks m.number) (c.vectors y.number)))
+        lanes_fall (vector.Binary o x y m) d (map2 (op_bits (plain_of o) t) (on (c.masks m.number) (c.vectors x.number)) (on (c.masks m.number) (c.vectors y.number)))
         (λ p. op_bits (plain_of o) t (c.vectors x.number p) (c.vectors y.number p)) (vector_of w (vector_register d) (vector.Binary o x y m)) has refl
         (λ p q. chosen_over2 (c.masks m.number p) (op_bits (plain_of o) t) (c.vectors x.number p) (c.vectors y.number p) (c.vectors d p))
         (λ l held. plain_cells w l (vector_local w x) (vector_local w y) (c.vectors x.number) (c.vectors y.number) o t h.0 (vector_cells w c l held x t h.1) (vector_cells w c l held y t h.2)
@@ -213,7 +229,7 @@ module _ (w : Setting) (ready : IsSettled w) (fuel n k : ℕ) (call : ℕ → Li
     pub compares : (d : ℕ) (o : Compare) (x y m : Register) → At d (vector.Compare o x y m)
     compares d o x y m has h =
         let u = elem w x in
-        lanes_fall (instr.Vector (vector_register d) (vector.Compare o x y m)) d m (map2 (compare_bits o u) (on (c.masks m.number) (c.vectors x.number)) (on (c.masks m.number) (c.vectors y.number)))
+        lanes_fall (vector.Compare o x y m) d (map2 (compare_bits o u) (on (c.masks m.number) (c.vectors x.number)) (on (c.masks m.number) (c.vectors y.number)))
         (λ p. compare_bits o u (c.vectors x.number p) (c.vectors y.number p)) (vector_of w (vector_register d) (vector.Compare o x y m)) has refl
         (λ p q. chosen_over2 (c.masks m.number p) (compare_bits o u) (c.vectors x.number p) (c.vectors y.number p) (c.vectors d p))
         (λ l held. subst (λ t. IsCells (gang w) t l (vector_of w (vector_register d) (vector.Compare o x y m)) (λ p. compare_bits o u (c.vectors x.number p) (c.vectors y.number p))) (sym h.0) (compare_lanes o u x y l held h.1 h.2))
@@ -228,7 +244,7 @@ module _ (w : Setting) (ready : IsSettled w) (fuel n k : ℕ) (call : ℕ → Li
     selects d t x y m has h =
         let u = elem w (vector_register d) in
         let v : ℕ → ℕ = (λ p. if is_true (c.vectors t.number p) then c.vectors x.number p else c.vectors y.number p) in
-        lanes_fall (instr.Vector (vector_register d) (vector.Select t x y m)) d m (on (c.masks m.number) v) v (vector_of w (vector_register d) (vector.Select t x y m)) has refl
+        lanes_fall (vector.Select t x y m) d (on (c.masks m.number) v) v (vector_of w (vector_register d) (vector.Select t x y m)) has refl
         (λ p q. chosen_over (c.masks m.number p) (v p) (c.vectors d p))
         (λ l held. select_cells (gang w) u l (vector_local w x) (vector_local w y) (widened (shape_of u) (vector_local w t)) (c.vectors x.number) (c.vectors y.number) (λ p. is_true (c.vectors t.number p))
         (vector_cells w c l held x u h.1) (vector_cells w c l held y u h.2) (row_widened (gang w) (shape_of u) l (vector_local w t) (λ p. is_true (c.vectors t.number p)) (bool_row l held t h.0)))
@@ -236,14 +252,14 @@ module _ (w : Setting) (ready : IsSettled w) (fuel n k : ℕ) (call : ℕ → Li
     pub splats : (d : ℕ) (x m : Register) → At d (vector.Splat x m)
     splats d x m has h =
         let u = elem w (vector_register d) in
-        lanes_fall (instr.Vector (vector_register d) (vector.Splat x m)) d m (on (c.masks m.number) (λ p. c.scalars x.number)) (λ p. c.scalars x.number) (vector_of w (vector_register d) (vector.Splat x m)) has refl
+        lanes_fall (vector.Splat x m) d (on (c.masks m.number) (λ p. c.scalars x.number)) (λ p. c.scalars x.number) (vector_of w (vector_register d) (vector.Splat x m)) has refl
         (λ p q. chosen_over (c.masks m.number p) (c.scalars x.number) (c.vectors d p))
         (λ l held. row_same (gang w) (shape_of u) l (λ j. One (Splat (shape_of u)) (as_cell u (scalar_local w x))) (λ p. value l (as_cell u (scalar_local w x)) % 2 ^ wide (shape_of u)) (λ p. cell u (c.scalars x.number))
         (λ p q. cell_written u l (scalar_local w x) (c.scalars x.number) (held.scalars_are x.number) (scalar_fits w c l held x u h)) (row_splat (gang w) (shape_of u) l (as_cell u (scalar_local w x))))
 
     pub indices : (d : ℕ) (m : Register) → At d (vector.Index m)
     indices d m has h =
-        lanes_fall (instr.Vector (vector_register d) (vector.Index m)) d m (on (c.masks m.number) (λ p. p)) (λ p. p) (vector_of w (vector_register d) (vector.Index m)) has refl
+        lanes_fall (vector.Index m) d (on (c.masks m.number) (λ p. p)) (λ p. p) (vector_of w (vector_register d) (vector.Index m)) has refl
         (λ p q. chosen_over (c.masks m.number p) p (c.vectors d p))
         (λ l held. subst (λ u. IsCells (gang w) u l (λ j. Const128 (of_lanes (shape_of u) (λ i. j * count (shape_of u) + i))) (λ p. p)) (sym h)
         (row_constant (gang w) wasm.I32x4 l (λ p. p) (λ p q. let le = narrow w.code.gang in omega arith)))

@@ -16,6 +16,7 @@ use Rattle.isp_code.specs.declared.instr.Instr.TheVariants as instr
 use Rattle.isp_code.specs.declared.register.Class.{Class}
 use Rattle.isp_code.specs.declared.register.Class.TheVariants as class
 use Rattle.isp_code.specs.declared.register.Register.{Register}
+use Rattle.isp_forms.specs.Runs.{all_kept, IsRun, AreHarmless}
 use Rattle.isp_verify.specs.Faults.{gives_vector}
 use Rattle.isp_wasm_meaning.specs.Ladder.{Told}
 use Rattle.isp_code.specs.Machine.{after}
@@ -55,9 +56,9 @@ module _ (w : Setting) (c : Conf) where
     pub ends : (m : ℕ) (x : Option Value) (d : Conf) → after w.code m (machine.Runs c) ≡ machine.Ended x d → Returns x d (result (suc m))
     pub traps : (m : ℕ) (t : Trap) (d : Conf) → after w.code m (machine.Runs c) ≡ machine.Trapped t d → Reports t d (result (suc m))
     pub ends_only : (f : ℕ) (v : Option ℕ) (s : State) → result f ≡ Returned v s → (x : Option Value) × (v ≡ value_bits x) × Ends w c x s
-    pub traps_only : (f : ℕ) (r : Option Report) (s : State) → result f ≡ Trapped r s → (q : Report) × (r ≡ Some q) × Fails w c q s
+    pub traps_only : (f : ℕ) (r : Option Report) (s : State) → result f ≡ Trapped r s → (q : Report) × (r ≡ Some q) × Fails w all_kept c q s
     -- where the function is cut, the machine still runs after as many instructions, with this output
-    pub goes_on : (f : ℕ) (s : State) → result f ≡ OutOfFuel s → Cut w f c s
+    pub goes_on : (f : ℕ) (s : State) → result f ≡ OutOfFuel s → Cut w all_kept f c s
     -- where the machine still runs after m instructions, its output is the beginning of that with the fuel m
     pub so_far : (m : ℕ) (d : Conf) → after w.code m (machine.Runs c) ≡ machine.Runs d → IsPrefix d.out (out_of (result m))
 
@@ -79,8 +80,8 @@ module _ (w : Setting) where
     pub conf : Conf
     pub steps : ℕ
     pub register : Option Register
-    pub goes : after w.code steps (machine.Runs d) ≡ machine.Runs
-        (record (with_result conf k.result register (c.masks k.mask.number) (resumed conf (waits c k.result (c.masks k.mask.number)) c.waiting)) { out = conf.out })
+    pub goes : IsRun w.code w.forms steps (machine.Runs d) (machine.Runs
+        (record (with_result conf k.result register (c.masks k.mask.number) (resumed conf (waits c k.result (c.masks k.mask.number)) c.waiting)) { out = conf.out }))
     pub brings : Brings k.result register conf v s
     pub out_is : s.out ≡ conf.out
     pub keeps : Keeps w (all_of w (record c { arrays = below c.home.opened conf.arrays })) s.memory s.size
@@ -91,12 +92,13 @@ module _ (w : Setting) where
       (k : Call) (pc : ℕ) (c : Conf) (s : State) → slice_get w.routine.code pc ≡ Some (instr.Call k) → (fine : CallFine w.code w.routine k) → Stands w pc c s
       → calls.depth c < most_calls → Told (the_machine w) (Back k c) f (calls.called c k fine.callee) (call (called_number w k) (map (value s.locals) (arguments_of w k)) s)
 
--- no call waits for the function, and it gives no vector back; all arrays that are opened have room
+-- No call waits for the function, and it gives no vector back; no run can tell in which form an instruction is; and all arrays
+-- that are opened have room.
 abbrev pub FunctionsAgree : Type 0
 FunctionsAgree =
     (w : Setting) → IsSettled w → IsCovered w → AllThin w → w.waiting ≡ [] → gives_vector w.routine.returns ≡ false → (call : ℕ → ℕ → List ℕ → State → Result)
     → ((f : ℕ) → CallsAgree w f (call (suc f))) → (c : Conf) (s : State) → s.locals (w.local Counter) < w.rungs
-    → Stands w (w.heads (s.locals (w.local Counter))) c s → (IsFull w c → ⊥) → Agrees w c (λ f. left (run f (call f) (function_code w) s))
+    → Stands w (w.heads (s.locals (w.local Counter))) c s → AreHarmless w.code w.forms c → (IsFull w all_kept c → ⊥) → Agrees w c (λ f. left (run f (call f) (function_code w) s))
 
 -- a call that waits goes on
 pub record ComesBack (w : Setting) (fr : Frame) (rest : List Frame) (c : Conf) (v : Option ℕ) (s : State) : Type 0 where
@@ -107,8 +109,8 @@ pub record ComesBack (w : Setting) (fr : Frame) (rest : List Frame) (c : Conf) (
   pub fits : (r : ℕ) → conf.scalars r < 2 ^ width (elem w (scalar_register r))
   pub value_is : v ≡ bits_of w conf register
   pub lanes_are : LanesOf w conf register s
-  pub goes : after w.code steps (machine.Runs c) ≡ machine.Runs
-      (record (with_result conf fr.result register fr.under (resumed conf fr rest)) { out = conf.out })
+  pub goes : IsRun w.code w.forms steps (machine.Runs c) (machine.Runs
+      (record (with_result conf fr.result register fr.under (resumed conf fr rest)) { out = conf.out }))
   pub out_is : s.out ≡ conf.out
   pub keeps : Keeps (shared_of w) conf.arrays s.memory s.size
 

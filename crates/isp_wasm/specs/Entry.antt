@@ -15,6 +15,7 @@ use Rattle.isp_code.specs.Listing.{Routine}
 use Rattle.isp_code.specs.Lines.{local_size}
 use Rattle.isp_code.specs.Registers.{passed}
 use Rattle.isp_code.specs.Machine.{values, first_conf, outcome_after}
+use Rattle.isp_forms.specs.Runs.{all_kept, AreHarmless}
 use Rattle.isp_verify.specs.Faults.{gives_vector}
 use Rattle.isp_wasm_meaning.specs.Syntax.{I8x16, Code, Skip, Then, Set, Const128, GetGlobal}
 use Rattle.isp_wasm_meaning.specs.Meaning.{Report, State, Result, Returned, Trapped, OutOfFuel, called, loaded}
@@ -106,10 +107,10 @@ module _ (w : Setting) where
     -- where the machine goes on, its output so far is the beginning of the call's
     pub so_far : (m : ℕ) (out : List ℕ) → outcome_after w.code w.home.fn w.routine xs m ≡ outcomes.GoesOn out → IsPrefix out (out_of (result m))
 
--- a module in which some function is this one, called by a host, and those that it calls do what the machine's calls do; all
--- arrays that are opened have room
+-- A module in which some function is this one, called by a host, and those that it calls do what the machine's calls do; no run
+-- can tell in which form an instruction is; and all arrays that are opened have room.
 abbrev pub EntriesAgree : Type 0
 EntriesAgree =
     (w : Setting) → IsSettled w → IsCovered w → AllThin w → (module_code : ℕ → Code) (f : ℕ) → module_code f ≡ entry_code w
     → ((n : ℕ) → CallsAgree w n (called module_code n)) → (xs : List Argument) (arguments : List ℕ) (s : State) → IsCalled w xs arguments s
-    → (IsFull w (first w xs) → ⊥) → SameOutcomes w xs (λ n. called module_code n f arguments s)
+    → AreHarmless w.code w.forms (first w xs) → (IsFull w all_kept (first w xs) → ⊥) → SameOutcomes w xs (λ n. called module_code n f arguments s)

@@ -11,6 +11,7 @@ use Rattle.isp_code.specs.declared.function.Returns.{Returns}
 use Rattle.isp_code.specs.declared.function.Returns.TheVariants.{Nothing, Scalar as GivesScalar, Vector as GivesVector}
 use Rattle.isp_code.specs.declared.instr.Instr.{Instr}
 use Rattle.isp_code.specs.declared.instr.Instr.TheVariants as instr
+use Rattle.isp_forms.specs.Runs.{Forms, all_kept}
 use Rattle.isp_wasm_meaning.specs.Valid.{sized}
 use Rattle.isp_wasm_meaning.specs.Module.{ValueType, I32, I64, V128, Function, Module, unused}
 use Rattle.isp_wasm.specs.Entry.{entry_code}
@@ -84,16 +85,37 @@ back_type Nothing = None
 back_type (GivesScalar t) = Some (sized (size_of t))
 back_type (GivesVector t) = None
 
-module _ (code : Listing) where
-  module _ (h : Routine) where
-    -- the numbers of a function, whichever call it is in
+module _ (code : Listing) (h : Routine) where
+  abbrev pub type_of : Place → ValueType
+  type_of Counter = I32
+  type_of Depth = I32
+  type_of Top = I32
+  type_of (Scalar r) = sized (size_of (elem_of h (scalar_register r)))
+  type_of (Base a) = I32
+  type_of (Count a) = I64
+  type_of (Spare t j) = sized t
+  type_of p = V128
+
+  abbrev pub given : Option Elem → Option ValueType
+  given o = given_type o
+
+-- a function for each routine, from number f on
+abbrev pub each_function : (ℕ → Routine → Function) → ℕ → List Routine → List Function
+each_function make f [] = []
+each_function make f (h ∷ hs) = make f h ∷ each_function make (suc f) hs
+
+-- code whose instructions are written in some forms
+module _ (code : Listing) (forms : Forms) where
+  module _ (f : ℕ) (h : Routine) where
+    -- the numbers of function f, whichever call it is in
     abbrev pub numbered : Setting
     numbered =
         record {
           code = code;
           routine = h;
-          home = record { fn = 0; named = λ a. a; sizes = λ b. 0; opened = 0 };
+          home = record { fn = f; named = λ a. a; sizes = λ b. 0; opened = 0 };
           waiting = [];
+          forms = forms;
           local = local_in (gang_width code.gang) h;
           rungs = length (heads_of h.code);
           heads = λ k. slice_index_or (heads_of h.code) k (length h.code);
@@ -111,26 +133,13 @@ module _ (code : Listing) where
     abbrev pub inner : Setting
     inner = record numbered { local = inner_local (gang_width code.gang) h }
 
-    abbrev pub type_of : Place → ValueType
-    type_of Counter = I32
-    type_of Depth = I32
-    type_of Top = I32
-    type_of (Scalar r) = sized (size_of (elem_of h (scalar_register r)))
-    type_of (Base a) = I32
-    type_of (Count a) = I64
-    type_of (Spare t j) = sized t
-    type_of p = V128
-
-    abbrev pub given : Option Elem → Option ValueType
-    given o = given_type o
-
     abbrev pub kernel_of : Function
     kernel_of =
         record {
           export = Some h.name;
-          params = map type_of (param_places h);
-          result = given (result_of h.returns);
-          locals = map type_of (own_places (gang_width code.gang) h);
+          params = map (type_of code h) (param_places h);
+          result = given code h (result_of h.returns);
+          locals = map (type_of code h) (own_places (gang_width code.gang) h);
           code = entry_code numbered;
         }
 
@@ -138,28 +147,27 @@ module _ (code : Listing) where
     inner_of =
         record {
           export = None;
-          params = map type_of (taken_places (gang_width code.gang) h);
+          params = map (type_of code h) (taken_places (gang_width code.gang) h);
           result = back_type h.returns;
-          locals = map type_of (own_places (gang_width code.gang) h);
+          locals = map (type_of code h) (own_places (gang_width code.gang) h);
           code = routine_code inner;
         }
 
     abbrev pub function_of : Function
     function_of = if h.exported && is_covered code h then kernel_of else unused
 
-    abbrev pub inner_function : ℕ → Function
-    inner_function f = if is_called code f && all_plain code then inner_of else unused
-
-  -- the functions that others call, from number f on
-  abbrev pub inner_functions : ℕ → List Routine → List Function
-  inner_functions f [] = []
-  inner_functions f (h ∷ hs) = inner_function h f ∷ inner_functions (suc f) hs
+    abbrev pub inner_function : Function
+    inner_function = if is_called code f && all_plain code then inner_of else unused
 
   -- A function for each one of the code, in order, which a host may call; of those that are not exported or not covered there is
   -- nothing. Where there are calls, after them another one for each, which others call.
-  abbrev pub module_of : Module
-  module_of =
+  abbrev pub module_with : Module
+  module_with =
       record {
-        functions = map function_of code.routines ++ (if list_any has_call code.routines then inner_functions 0 code.routines else []);
+        functions = each_function function_of 0 code.routines ++ (if list_any has_call code.routines then each_function inner_function 0 code.routines else []);
         memory = joined code.texts;
       }
+
+-- where each instruction keeps its lanes
+abbrev pub module_of : Listing → Module
+module_of code = module_with code all_kept

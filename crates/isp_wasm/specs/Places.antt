@@ -7,6 +7,7 @@ use Rattle.isp_code.specs.Conf.{Home, Frame}
 use Rattle.isp_code.specs.Listing.{Listing, Routine}
 use Rattle.isp_code.specs.Registers.{elem_of}
 use Rattle.isp_code.specs.declared.register.Register.{Register}
+use Rattle.isp_forms.specs.Runs.{Forms}
 use Rattle.isp_wasm_meaning.specs.Syntax as wasm
 use Rattle.isp_wasm_meaning.specs.Meaning.{count}
 
@@ -63,7 +64,7 @@ bytes_of U64 = 8
 abbrev pub parts_for : ℕ → wasm.Shape → ℕ
 parts_for lanes s = (lanes + (count s - 1)) / count s
 
--- A function of some code, as it runs: its arrays, the calls that wait for it, the local of each place; rungs, the first instruction of each, and
+-- A function of some code, as it runs: its arrays, the calls that wait for it, the form of each instruction of the code, the local of each place; rungs, the first instruction of each, and
 -- the rung that begins at an instruction; and where each store begins, how many elements it has, and their type; where each text lies; the memory as it begins, and its bytes;
 -- and from where on arrays lie that functions open, where any may.
 pub record Setting : Type 0 where
@@ -71,6 +72,7 @@ pub record Setting : Type 0 where
   pub routine : Routine
   pub home : Home
   pub waiting : List Frame
+  pub forms : Forms
   pub local : Place → ℕ
   pub rungs : ℕ
   pub heads : ℕ → ℕ

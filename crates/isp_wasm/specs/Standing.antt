@@ -15,6 +15,7 @@ use Rattle.isp_code.specs.Fine.{IsGiven}
 use Rattle.isp_code.specs.declared.register.Class.{Class}
 use Rattle.isp_code.specs.declared.register.Class.TheVariants as class
 use Rattle.isp_code.specs.declared.register.Register.{Register}
+use Rattle.isp_forms.specs.Runs.{Forms, IsRun}
 use Rattle.isp_wasm_meaning.specs.Syntax.{I8x16}
 use Rattle.isp_wasm_meaning.specs.Meaning.{Report, State, Result, Returned, Trapped, lane, flags, count, loaded, bytes}
 use Rattle.isp_wasm_meaning.specs.Ladder.{Machine}
@@ -117,7 +118,7 @@ module _ (w : Setting) where
     pub register : Option Register
     pub given : IsGiven w.routine w.routine.returns register
     pub fits : (r : ℕ) → conf.scalars r < 2 ^ width (elem w (scalar_register r))
-    pub leaves : after w.code steps (machine.Runs c) ≡ arrive w.code (left w.routine conf register w.waiting) conf
+    pub leaves : IsRun w.code w.forms steps (machine.Runs c) (arrive w.code (left w.routine conf register w.waiting) conf)
     pub value_is : v ≡ bits_of conf register
     pub lanes_are : LanesOf conf register s
     pub out_is : s.out ≡ conf.out
@@ -132,39 +133,40 @@ module _ (w : Setting) where
   abbrev pub report_of : Trap → Report
   report_of t = record { kind = kind_number t.kind; start = t.place.start; end = t.place.end; instance = t.instance }
 
-  pub record Fails (c : Conf) (r : Report) (s : State) : Type 0 where
+  -- by some forms
+  pub record Fails (forms : Forms) (c : Conf) (r : Report) (s : State) : Type 0 where
     pub conf : Conf
     pub steps : ℕ
     pub trap : Trap
-    pub fails : after w.code steps (machine.Runs c) ≡ machine.Trapped trap conf
+    pub fails : IsRun w.code forms steps (machine.Runs c) (machine.Trapped trap conf)
     pub report_is : r ≡ report_of trap
     pub out_is : s.out ≡ conf.out
     pub keeps : Keeps (shared_of w) conf.arrays s.memory s.size
 
   -- the machine comes to where all arrays that are open leave no byte of the memory after them
-  pub record IsFull (c : Conf) : Type 0 where
+  pub record IsFull (forms : Forms) (c : Conf) : Type 0 where
     pub conf : Conf
     pub steps : ℕ
-    pub goes : after w.code steps (machine.Runs c) ≡ machine.Runs conf
+    pub goes : IsRun w.code forms steps (machine.Runs c) (machine.Runs conf)
     pub address : ℕ
     pub stack_is : w.stack ≡ Some address
     pub full : w.room ≤ address + open_bytes w.code conf
 
   abbrev pub Final : Conf → Result → Type 0
   Final c (Returned v s) = Leaves c v s
-  Final c (Trapped (Some r) s) = Fails c r s
-  Final c (Trapped None s) = IsFull c
+  Final c (Trapped (Some r) s) = Fails w.forms c r s
+  Final c (Trapped None s) = IsFull w.forms c
   Final c r = ⊥
 
-  pub record Cut (f : ℕ) (c : Conf) (s : State) : Type 0 where
+  pub record Cut (forms : Forms) (f : ℕ) (c : Conf) (s : State) : Type 0 where
     pub conf : Conf
     pub steps : ℕ
-    pub goes : after w.code steps (machine.Runs c) ≡ machine.Runs conf
+    pub goes : IsRun w.code forms steps (machine.Runs c) (machine.Runs conf)
     pub far : f ≤ steps
     pub out_is : s.out ≡ conf.out
 
   abbrev pub Goes : ℕ → Conf → Conf → Type 0
-  Goes n x y = after w.code n (machine.Runs x) ≡ machine.Runs y
+  Goes n x y = IsRun w.code w.forms n (machine.Runs x) (machine.Runs y)
 
   -- after the last rung nothing stands
   pub record StandsBefore (k : ℕ) (c : Conf) (s : State) : Type 0 where
@@ -172,7 +174,7 @@ module _ (w : Setting) where
     pub stands : Stands w (w.heads k) c s
 
   abbrev pub the_machine : Machine
-  the_machine = record { Conf = Conf; Goes = Goes; Stands = StandsBefore; Final = Final; Cut = Cut }
+  the_machine = record { Conf = Conf; Goes = Goes; Stands = StandsBefore; Final = Final; Cut = Cut w.forms }
 
   -- what layout and code are asked for
   pub record IsSettled : Type 0 where

@@ -35,6 +35,9 @@ use Rattle.isp_code.specs.declared.instr.VectorInstr.TheVariants as vector
 use Rattle.isp_code.specs.declared.register.Class.{Class}
 use Rattle.isp_code.specs.declared.register.Class.TheVariants as class
 use Rattle.isp_code.specs.declared.register.Register.{Register}
+use Rattle.isp_forms.specs.Writes.{mask_under, is_pure}
+use Rattle.isp_forms.specs.declared.form.Form.{Form}
+use Rattle.isp_forms.specs.declared.form.Form.TheVariants.{Kept, Free, Useless}
 use Rattle.isp_wasm_meaning.specs.Meaning.{of_lanes, flags, count}
 use Rattle.isp_wasm_meaning.specs.Ladder.{dispatched}
 use Rattle.isp_wasm_meaning.specs.Syntax as wasm
@@ -70,12 +73,14 @@ module _ (w : Setting) where
       each (parts w (shape w d)) (λ j. Set (w.local (Vector d.number j))
       (Bitselect (Local (w.local (Fresh j))) (vector_local d j) (widened (shape w d) (mask_local k) j)))
 
+  -- where nobody reads the others, all lanes are
+  abbrev pub put_lanes : Form → Register → Register → Code
+  put_lanes Free d k = each (parts w (shape w d)) (λ j. Set (w.local (Vector d.number j)) (Local (w.local (Fresh j))))
+  put_lanes form d k = select_lanes d k
+
   -- the lanes of a mask are set; what they get is worked out before
-  abbrev pub set_lanes : Register → Register → (ℕ → Expr) → Code
-  set_lanes d k new =
-      Then (each (parts w (shape w d)) (λ j. Set (w.local (Fresh j)) (new j)))
-      (each (parts w (shape w d)) (λ j. Set (w.local (Vector d.number j))
-      (Bitselect (Local (w.local (Fresh j))) (vector_local d j) (widened (shape w d) (mask_local k) j))))
+  abbrev pub set_lanes : Form → Register → Register → (ℕ → Expr) → Code
+  set_lanes form d k new = Then (each (parts w (shape w d)) (λ j. Set (w.local (Fresh j)) (new j))) (put_lanes form d k)
 
   abbrev pub set_mask : Register → (ℕ → Expr) → Code
   set_mask d new =
@@ -276,8 +281,8 @@ module _ (w : Setting) where
   abbrev pub load_parts : Register → Register → ℕ → Code
   load_parts a i n = each n (λ j. Load 16 (w.local (Fresh j)) (address_at a (scalar_local i)) (j * 16))
 
-  abbrev pub load_row : Register → Register → Register → Register → Code
-  load_row d a i k = Then (load_parts a i (parts w (shape w d))) (select_lanes d k)
+  abbrev pub load_row : Form → Register → Register → Register → Register → Code
+  load_row form d a i k = Then (load_parts a i (parts w (shape w d))) (put_lanes form d k)
 
   -- an element whose lane is off gets what it has
   abbrev pub store_part : Register → Register → Register → Register → ℕ → Code
@@ -292,8 +297,8 @@ module _ (w : Setting) where
   all_at_once true there row lanes = If there row lanes
   all_at_once false there row lanes = lanes
 
-  abbrev pub load_run : Register → Register → Register → Register → ℕ → Code
-  load_run d a i k q = all_at_once (fills_parts (elem w d)) (run_is_there a i) (load_row d a i k) (lane_loads d a (run_index i) k q)
+  abbrev pub load_run : Form → Register → Register → Register → Register → ℕ → Code
+  load_run form d a i k q = all_at_once (fills_parts (elem w d)) (run_is_there a i) (load_row form d a i k) (lane_loads d a (run_index i) k q)
 
   abbrev pub store_run : Register → Register → Register → Register → ℕ → Code
   store_run a i y k q =
@@ -338,28 +343,15 @@ module _ (w : Setting) where
       by_lane w (elem w d) (λ p. Select (Two (wasm.Compare wasm.I32 Eq) (modulo (gang w) (scalar_local i)) (Const32 p)) (scalar_local y) (lane_or_zero x k p))
   vector_of d i = λ j. Const128 0
 
-  -- the mask under which an instruction writes
-  abbrev pub mask_under : VectorInstr → Register
-  mask_under (vector.Copy x k) = k
-  mask_under (vector.Convert x k) = k
-  mask_under (vector.Unary o x k) = k
-  mask_under (vector.Binary o x y k) = k
-  mask_under (vector.Compare o x y k) = k
-  mask_under (vector.Select t x y k) = k
-  mask_under (vector.Splat x k) = k
-  mask_under (vector.Index k) = k
-  mask_under (vector.Gather a i k q) = k
-  mask_under (vector.LoadRun a i k q) = k
-  mask_under (vector.Scan o x k) = k
-  mask_under (vector.Exchange e x i k) = k
-  mask_under (vector.Shuffle x i k) = k
-  mask_under (vector.ShuffleTwo x y i k) = k
-  mask_under (vector.Insert x i y k) = k
+  abbrev pub vector_code : Form → Register → VectorInstr → Code
+  vector_code form d (vector.Gather a i k q) = lane_loads d a (own_index i) k q
+  vector_code form d (vector.LoadRun a i k q) = load_run form d a i k q
+  vector_code form d i = set_lanes form d (mask_under i) (vector_of d i)
 
-  abbrev pub vector_code : Register → VectorInstr → Code
-  vector_code d (vector.Gather a i k q) = lane_loads d a (own_index i) k q
-  vector_code d (vector.LoadRun a i k q) = load_run d a i k q
-  vector_code d i = set_lanes d (mask_under i) (vector_of d i)
+  -- where nobody reads what it writes, and it never traps, nothing is done
+  abbrev pub vector_line : Form → Register → VectorInstr → Code
+  vector_line Useless d i = if is_pure i then Skip else vector_code Kept d i
+  vector_line form d i = vector_code form d i
 
   -- ---- masks
 
@@ -507,39 +499,39 @@ module _ (w : Setting) where
   jump_to depth to = Then (Set (w.local Counter) (Const32 (w.rung_at to))) (Br depth)
 
   -- depth: how many labels are between this and the loop's
-  abbrev pub code_of : ℕ → Instr → Code
-  code_of depth (instr.Scalar d i) = scalar_code d i
-  code_of depth (instr.Vector d i) = vector_code d i
-  code_of depth (instr.Mask d i) = set_mask d (mask_of i)
-  code_of depth (instr.Divide o d x y k q) = quotients d.class o d x y k q
-  code_of depth (instr.Store a i y k q) = Then (checked a i k q) (Store (bytes_of (elem w a)) (address_at a (scalar_local i)) 0 (scalar_local y))
-  code_of depth (instr.Scatter a i y k q) = Then (lane_checks a (own_index i) k q) (lane_stores a (own_index i) y k)
-  code_of depth (instr.StoreRun a i y k q) = store_run a i y k q
-  code_of depth (instr.PackedStore d a i y k q) = Then (lane_checks a (packed_index i k) k q) (Then (lane_stores a (packed_index i k) y k) (set_count d k))
-  code_of depth (instr.PackedLoad d a i y k q) = Then (lane_loads y a (packed_index i k) k q) (set_count d k)
-  code_of depth (instr.Jump to) = jump_to depth to
-  code_of depth (instr.JumpIf jump.False x to) = If (One (Eqz wasm.I32) (scalar_local x)) (jump_to (suc depth) to) Skip
-  code_of depth (instr.JumpIf jump.True x to) = If (scalar_local x) (jump_to (suc depth) to) Skip
-  code_of depth (instr.JumpIf jump.Off x to) = If (One (Eqz wasm.I32) (lanes_as_bits x)) (jump_to (suc depth) to) Skip
-  code_of depth (instr.JumpIf jump.On x to) = If (lanes_as_bits x) (jump_to (suc depth) to) Skip
-  code_of depth (instr.JumpIf jump.All x to) = If (Two (wasm.Compare wasm.I32 Eq) (lanes_as_bits x) (Const32 (2 ^ gang w - 1))) (jump_to (suc depth) to) Skip
-  code_of depth (instr.Say t) = Write (Const32 (w.text_at t)) (Const32 (length (text w t)))
-  code_of depth (instr.Call k) = call_code k
-  code_of depth (instr.PrintScalar x) = print_value (elem w x) (scalar_local x)
-  code_of depth (instr.PrintVector x k) = print_list x k
-  code_of depth (instr.Fail x q) = If (lanes_as_bits x) (fault 2 q (lowest_of x)) Skip
-  code_of depth (instr.Return None) = Return None
-  code_of depth (instr.Return (Some x)) = return_code x.class x
-  code_of depth (instr.Clear a k) = clear_if (is_per_lane w.routine a) a k
+  abbrev pub code_of : ℕ → Form → Instr → Code
+  code_of depth form (instr.Scalar d i) = scalar_code d i
+  code_of depth form (instr.Vector d i) = vector_line form d i
+  code_of depth form (instr.Mask d i) = set_mask d (mask_of i)
+  code_of depth form (instr.Divide o d x y k q) = quotients d.class o d x y k q
+  code_of depth form (instr.Store a i y k q) = Then (checked a i k q) (Store (bytes_of (elem w a)) (address_at a (scalar_local i)) 0 (scalar_local y))
+  code_of depth form (instr.Scatter a i y k q) = Then (lane_checks a (own_index i) k q) (lane_stores a (own_index i) y k)
+  code_of depth form (instr.StoreRun a i y k q) = store_run a i y k q
+  code_of depth form (instr.PackedStore d a i y k q) = Then (lane_checks a (packed_index i k) k q) (Then (lane_stores a (packed_index i k) y k) (set_count d k))
+  code_of depth form (instr.PackedLoad d a i y k q) = Then (lane_loads y a (packed_index i k) k q) (set_count d k)
+  code_of depth form (instr.Jump to) = jump_to depth to
+  code_of depth form (instr.JumpIf jump.False x to) = If (One (Eqz wasm.I32) (scalar_local x)) (jump_to (suc depth) to) Skip
+  code_of depth form (instr.JumpIf jump.True x to) = If (scalar_local x) (jump_to (suc depth) to) Skip
+  code_of depth form (instr.JumpIf jump.Off x to) = If (One (Eqz wasm.I32) (lanes_as_bits x)) (jump_to (suc depth) to) Skip
+  code_of depth form (instr.JumpIf jump.On x to) = If (lanes_as_bits x) (jump_to (suc depth) to) Skip
+  code_of depth form (instr.JumpIf jump.All x to) = If (Two (wasm.Compare wasm.I32 Eq) (lanes_as_bits x) (Const32 (2 ^ gang w - 1))) (jump_to (suc depth) to) Skip
+  code_of depth form (instr.Say t) = Write (Const32 (w.text_at t)) (Const32 (length (text w t)))
+  code_of depth form (instr.Call k) = call_code k
+  code_of depth form (instr.PrintScalar x) = print_value (elem w x) (scalar_local x)
+  code_of depth form (instr.PrintVector x k) = print_list x k
+  code_of depth form (instr.Fail x q) = If (lanes_as_bits x) (fault 2 q (lowest_of x)) Skip
+  code_of depth form (instr.Return None) = Return None
+  code_of depth form (instr.Return (Some x)) = return_code x.class x
+  code_of depth form (instr.Clear a k) = clear_if (is_per_lane w.routine a) a k
 
-  abbrev pub code_at : ℕ → Option Instr → Code
-  code_at depth None = Return None
-  code_at depth (Some i) = code_of depth i
+  abbrev pub code_at : ℕ → Form → Option Instr → Code
+  code_at depth form None = Return None
+  code_at depth form (Some i) = code_of depth form i
 
   -- so many instructions from one on
   abbrev pub span : ℕ → ℕ → ℕ → Code
   span depth pc zero = Skip
-  span depth pc (suc n) = Then (code_at depth (slice_get w.routine.code pc)) (span depth (pc + 1) n)
+  span depth pc (suc n) = Then (code_at depth (w.forms w.home.fn pc) (slice_get w.routine.code pc)) (span depth (pc + 1) n)
 
   -- the code from a head to the next one; from rung k the loop is after the labels of all higher rungs
   abbrev pub rung : ℕ → Code

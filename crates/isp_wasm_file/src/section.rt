@@ -3,15 +3,16 @@ ghost use Rattle.std.specs.Prelude.{◌≡◌, ◌++◌, codes, None, IfOk, IfEr
 ghost use Rattle.isp_asm.specs.Spelling.{text_of};
 ghost use Rattle.isp_wasm_binary.specs.Modules as modules;
 ghost use Rattle.isp_wasm_binary.specs.Numbers.{bytes};
-ghost use Rattle.isp_wasm_file.specs.File.{file_of, text_section};
+ghost use Rattle.isp_wasm_file.specs.File.{IsFile, IsModule, text_section};
 ghost use Rattle.isp_wasm_file.specs.declared.section.Stopped.TheVariants.{Memory};
 ghost use Rattle.isp_wasm_module.specs.Refused.{module_refusal, explains};
 
 use isp_asm::write;
 use isp_code::Code;
+use isp_lanes_forms::forms_for;
 use isp_verify::Verified;
 use isp_wasm_binary::Bytes;
-use isp_wasm_module::{Refusal, module};
+use isp_wasm_module::{Refusal, first_refusal, module};
 use std::alloc::{AllocError, Global};
 
 /// Why no section is written.
@@ -56,6 +57,21 @@ fn section(alloc: Global, code: &Code) -> Result<Vec<u8>, Stopped>
     Ok(section.into_vec())
 }
 
+// The module, each instruction in a form that no run can tell.
+fn in_forms(alloc: Global, code: &Verified) -> Result<Vec<u8>, Refusal>
+    ensures bytes { IfOk result (λ v. IsModule code.now v.items) }
+    ensures fits { OnOk result (module_refusal code.now ≡ None) }
+    ensures refused { IfErr result (λ e. explains e (module_refusal code.now)) }
+{
+    if let Some(refusal) = first_refusal(code) {
+        return Err(refusal);
+    }
+    match forms_for(alloc, code.code()) {
+        Ok(forms) => module(alloc, code, &forms),
+        Err(AllocError) => Err(Refusal::Memory),
+    }
+}
+
 // The module, and the section after it.
 fn with_text(alloc: Global, made: Vec<u8>, code: &Code) -> Result<Vec<u8>, Stopped>
     ensures { IfOk result (λ v. v.items ≡ made.items ++ text_section code.now) }
@@ -68,16 +84,17 @@ fn with_text(alloc: Global, made: Vec<u8>, code: &Code) -> Result<Vec<u8>, Stopp
 
 /// The file of the module of WebAssembly that accepted code is: its bytes, by `module` of isp_wasm_module, and after them a
 /// section `isp` that has the text of the code (docs/MACHINE.md). An engine passes over it; a host reads there for which gang
-/// the code is, and what each function takes and gives back.
+/// the code is, and what each function takes and gives back. An instruction keeps its lanes only where a later one may read them, as `forms_for` of
+/// isp_lanes_forms finds.
 ///
 /// Refused is what `module` refuses, by the function's number, and nothing else of the code; else memory was, or the module,
 /// a part of it or the text would have 2^32 bytes.
 pub fn file(alloc: Global, code: &Verified) -> Result<Vec<u8>, Refusal>
-    ensures bytes { IfOk result (λ v. v.items ≡ file_of code.now) }
+    ensures bytes { IfOk result (λ v. IsFile code.now v.items) }
     ensures fits { OnOk result (module_refusal code.now ≡ None) }
     ensures refused { IfErr result (λ e. explains e (module_refusal code.now)) }
 {
-    let module = module(alloc, code)?;
+    let module = in_forms(alloc, code)?;
     match with_text(alloc, module, code.code()) {
         Ok(file) => Ok(file),
         Err(Stopped::Memory) => Err(Refusal::Memory),

@@ -6,5 +6,5 @@ mod Written
 mod Exported
 mod Memories
 mod Contents
-mod FirstRefused
+pub mod FirstRefused
 mod Vectors

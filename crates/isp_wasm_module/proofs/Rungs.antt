@@ -32,10 +32,10 @@ step a b init f rest whole e g h = ap (λ l. l ++ rest) e ∙ append_assoc a f r
 
 -- an instruction, and then the others
 pub one_line : (w : Setting) (depth pc end : ℕ) (i : Instr) → pc < end → slice_get w.routine.code pc ≡ Some i
-    → code_bytes (span w depth pc (end - pc)) ≡ code_bytes (code_of w depth i) ++ code_bytes (span w depth (pc + 1) (end - (pc + 1)))
+    → code_bytes (span w depth pc (end - pc)) ≡ code_bytes (code_of w depth (w.forms w.home.fn pc) i) ++ code_bytes (span w depth (pc + 1) (end - (pc + 1)))
 one_line w depth pc end i h e =
     ap (λ n. code_bytes (span w depth pc n)) (let same : end - pc ≡ suc (end - (pc + 1)) = omega arith in same)
-    ∙ ap (λ o. code_bytes (code_at w depth o) ++ code_bytes (span w depth (pc + 1) (end - (pc + 1)))) e
+    ∙ ap (λ o. code_bytes (code_at w depth (w.forms w.home.fn pc) o) ++ code_bytes (span w depth (pc + 1) (end - (pc + 1)))) e
 
 pub rung_is : (w : Setting) (k : ℕ)
     → code_bytes (span w (w.rungs - 1 - k) (w.heads k) (w.heads (k + 1) - w.heads k)) ≡ code_bytes (rung w k)

@@ -47,7 +47,8 @@ fn span(
     ensures { OnOk result (out.new ≡ out.old ++ code_bytes (templates.span (setting kernel.now) depth start (end - start))) }
 {
     for number in start..end {
-        line(kernel, out, depth, kernel.instr(number))?;
+        let form = kernel.form(number);
+        line(kernel, out, depth, form, kernel.instr(number))?;
     }
     Ok(())
 }

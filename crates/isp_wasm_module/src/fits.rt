@@ -199,9 +199,9 @@ fn function_refusal(
     }
 }
 
-/// Why no module can be made, if none can.
+/// Why no module can be made of the code, if none can: the first function that is exported and not covered, or that has too many parameters or locals.
 #[tactic(auto, using(crate::proofs::FirstRefused::kept, crate::proofs::FirstRefused::found, crate::proofs::FirstRefused::none_left))]
-pub(crate) fn refusal(code: &Verified) -> Option<Refusal>
+pub fn refusal(code: &Verified) -> Option<Refusal>
     ensures { result ≡ module_refusal code.now }
 {
     for number in 0..routine_count(code) {

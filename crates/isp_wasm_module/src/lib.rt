@@ -13,7 +13,9 @@ mod opened;
 mod prints;
 mod refusal;
 mod sections;
+mod source;
 mod types;
 
+pub use fits::refusal as first_refusal;
 pub use refusal::Refusal;
 pub use sections::module;

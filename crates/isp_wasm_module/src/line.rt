@@ -7,6 +7,7 @@ ghost use Rattle.isp_wasm_write.specs.Settings.{setting};
 use crate::calls::call_line;
 use crate::prints;
 use isp_code::{Instr, Register, ScalarInstr};
+use isp_forms::Form;
 use isp_wasm_binary::Bytes;
 use isp_wasm_vectors::{across_line, lanes_line, vector_line};
 use isp_wasm_write::{Kernel, Refusal};
@@ -41,19 +42,20 @@ fn scalar_line(
     }
 }
 
-/// Appends an instruction, inside so many labels below the loop's.
+/// Appends an instruction, in a form, inside so many labels below the loop's.
 pub(crate) fn line(
     kernel: &Kernel,
     out: &mut Bytes,
     depth: u32,
+    form: Form,
     instr: &Instr,
 ) -> Result<(), Refusal>
     requires depth { depth + 1 < 2 ^ 32 }
-    ensures { OnOk result (out.new ≡ out.old ++ code_bytes (templates.code_of (setting kernel.now) depth instr.now)) }
+    ensures { OnOk result (out.new ≡ out.old ++ code_bytes (templates.code_of (setting kernel.now) depth form instr.now)) }
 {
     match *instr {
         Instr::Scalar { result, instr } => scalar_line(kernel, out, result, &instr),
-        Instr::Vector { result, instr } => vector_line(kernel, out, result, &instr),
+        Instr::Vector { result, instr } => vector_line(kernel, out, form, result, &instr),
         Instr::Mask { result, instr } => kernel.mask_line(out, result, &instr),
         Instr::Store {
             array,

@@ -1,5 +1,5 @@
 -- What a module exports is there, and no name stands twice.
-use Rattle.std.proofs.Common.{◌≡◌, ◌⊎◌, inl, inr, ⊎_elim, ℕ, zero, suc, ◌+◌, ◌<◌, List, [], ◌∷◌, ◌++◌, map, take, Option, Some, None, Bool, true, false, ◌&&◌, not, refl, sym, ap, ◌∙◌, subst, arith}
+use Rattle.std.proofs.Common.{◌≡◌, ◌⊎◌, inl, inr, ⊎_elim, ℕ, zero, suc, ◌+◌, ◌<◌, List, [], ◌∷◌, ◌++◌, take, Option, Some, None, Bool, true, false, ◌&&◌, not, refl, sym, ap, ◌∙◌, subst, arith}
 use Rattle.std.specs.Prelude.{◌||◌, ◌==◌, slice_get, if◌then◌else◌}
 use Rattle.std.specs.List.{list_all, list_any}
 use Rattle.std.proofs.lemmas.Bool.{cases_eq, cases_lt}
@@ -8,8 +8,9 @@ use Rattle.isp_code.specs.Listing.{Listing, Routine}
 use Rattle.isp_code.specs.Writable.{IsWritable, name_fits, routine_fits, param_fits, local_fits, instr_fits, number_fits}
 use Rattle.isp_verify.specs.Accepted.{IsFine}
 use Rattle.isp_verify.specs.Faults.{is_function, names_differ, export_fits}
+use Rattle.isp_forms.specs.Runs.{Forms}
 use Rattle.isp_wasm_meaning.specs.Module.{Function, unused}
-use Rattle.isp_wasm.specs.Module.{is_covered, is_called, all_plain, kernel_of, function_of, inner_of, inner_functions, module_of}
+use Rattle.isp_wasm.specs.Module.{is_covered, is_called, all_plain, kernel_of, function_of, inner_of, inner_function, each_function, module_with}
 use Rattle.isp_wasm.specs.Stack.{has_call}
 use Rattle.isp_wasm_binary.specs.Binary.{names, named}
 use Rattle.isp_wasm_binary.specs.Instructions.{hosts}
@@ -71,13 +72,13 @@ names_once (g ∷ gs) once n j k d e x y same = one_more g gs n j k d e once g.e
 
 -- ---- the functions of code have a name each
 
-abbrev Of : {A B : Type 0} → (A → B) → List A → List B → ℕ → B → Type 0
-Of {A = A} f xs ys k b = ((a : A) × (slice_get xs k ≡ Some a) × (f a ≡ b)) ⊎ ((j : ℕ) × (slice_get ys j ≡ Some b))
+abbrev Of : (ℕ → Routine → Function) → List Routine → List Function → ℕ → Function → Type 0
+Of make hs ys k g = ((h : Routine) × (n : ℕ) × (slice_get hs k ≡ Some h) × (make n h ≡ g)) ⊎ ((j : ℕ) × (slice_get ys j ≡ Some g))
 
-get_mapped : {A B : Type 0} (f : A → B) (xs : List A) (ys : List B) (k : ℕ) (b : B) → slice_get (map f xs ++ ys) k ≡ Some b → Of f xs ys k b
-get_mapped f [] ys k b e = inr (k, e)
-get_mapped f (a ∷ xs) ys zero b e = inl (a, refl, same_some (f a) b e)
-get_mapped f (a ∷ xs) ys (suc k) b e = get_mapped f xs ys k b e
+get_made : (make : ℕ → Routine → Function) (i : ℕ) (hs : List Routine) (ys : List Function) (k : ℕ) (g : Function) → slice_get (each_function make i hs ++ ys) k ≡ Some g → Of make hs ys k g
+get_made make i [] ys k g e = inr (k, e)
+get_made make i (h ∷ hs) ys zero g e = inl (h, i, refl, same_some (make i h) g e)
+get_made make i (h ∷ hs) ys (suc k) g e = get_made make (suc i) hs ys k g e
 
 none_is : (g : Function) (name : List ℕ) → g.export ≡ None → g.export ≡ Some name → ⊥
 none_is g name a b = let clash : None ≡ Some name = sym a ∙ b in cc
@@ -96,7 +97,7 @@ not_both : (b : Bool) → not b ≡ true → b ≡ true → ⊥
 not_both true e f = let no : ⊥ = cc in no
 not_both false e f = let no : ⊥ = cc in no
 
-module _ (image : Listing) where
+module _ (image : Listing) (forms : Forms) where
   -- a later function has another name
   other_name : IsFine image → (j k : ℕ) (f g : Routine) → j < k → slice_get image.routines j ≡ Some f → slice_get image.routines k ≡ Some g → f.name ≡ g.name → ⊥
   other_name fine j k f g lt x y same =
@@ -110,37 +111,37 @@ module _ (image : Listing) where
       (λ apart. ⊎_elim (λ lt. absurd (other_name fine j k f g lt x y same)) (λ le. absurd (other_name fine k j g f (omega (arith, le, apart)) y x (sym same))) (cases_lt j k))
       (cases_eq j k)
 
-  inner_unnamed : (b : Bool) (h : Routine) → (if b then inner_of image h else unused).export ≡ None
-  inner_unnamed true h = refl
-  inner_unnamed false h = refl
+  inner_unnamed : (b : Bool) (n : ℕ) (h : Routine) → (if b then inner_of image forms n h else unused).export ≡ None
+  inner_unnamed true n h = refl
+  inner_unnamed false n h = refl
 
-  inner_none : (hs : List Routine) (f j : ℕ) (g : Function) → slice_get (inner_functions image f hs) j ≡ Some g → g.export ≡ None
+  inner_none : (hs : List Routine) (f j : ℕ) (g : Function) → slice_get (each_function (inner_function image forms) f hs) j ≡ Some g → g.export ≡ None
   inner_none [] f j g e = absurd (let no : ⊥ = cc in no)
-  inner_none (h ∷ hs) f zero g e = ap (λ (z : Function). z.export) (sym (same_some _ g e)) ∙ inner_unnamed (is_called image f && all_plain image) h
+  inner_none (h ∷ hs) f zero g e = ap (λ (z : Function). z.export) (sym (same_some _ g e)) ∙ inner_unnamed (is_called image f && all_plain image) f h
   inner_none (h ∷ hs) f (suc j) g e = inner_none hs (suc f) j g e
 
-  behind_none : (b : Bool) (j : ℕ) (g : Function) → slice_get (if b then inner_functions image 0 image.routines else []) j ≡ Some g → g.export ≡ None
+  behind_none : (b : Bool) (j : ℕ) (g : Function) → slice_get (if b then each_function (inner_function image forms) 0 image.routines else []) j ≡ Some g → g.export ≡ None
   behind_none true j g e = inner_none image.routines 0 j g e
   behind_none false j g e = absurd (let no : ⊥ = cc in no)
 
-  named_kernel : (h : Routine) (b : Bool) (name : List ℕ) → (if b then kernel_of image h else unused).export ≡ Some name → h.name ≡ name
-  named_kernel h true name e = same_some h.name name e
-  named_kernel h false name e = absurd (let no : ⊥ = cc in no)
+  named_kernel : (n : ℕ) (h : Routine) (b : Bool) (name : List ℕ) → (if b then kernel_of image forms n h else unused).export ≡ Some name → h.name ≡ name
+  named_kernel n h true name e = same_some h.name name e
+  named_kernel n h false name e = absurd (let no : ⊥ = cc in no)
 
   -- a function that is exported has the name of the code's
   abbrev Routine_of : ℕ → List ℕ → Type 0
   Routine_of k name = (h : Routine) × (slice_get image.routines k ≡ Some h) × (h.name ≡ name)
 
   routine_of : (k : ℕ) (g : Function) (name : List ℕ) → g.export ≡ Some name
-      → Of (function_of image) image.routines (if list_any has_call image.routines then inner_functions image 0 image.routines else []) k g → Routine_of k name
-  routine_of k g name e (inl (h, found, is)) = (h, found, named_kernel h (h.exported && is_covered image h) name (ap (λ (z : Function). z.export) is ∙ e))
+      → Of (function_of image forms) image.routines (if list_any has_call image.routines then each_function (inner_function image forms) 0 image.routines else []) k g → Routine_of k name
+  routine_of k g name e (inl (h, n, found, is)) = (h, found, named_kernel n h (h.exported && is_covered image h) name (ap (λ (z : Function). z.export) is ∙ e))
   routine_of k g name e (inr (j, found)) = absurd (none_is g name (behind_none (list_any has_call image.routines) j g found) e)
 
-  routine_at : (k : ℕ) (g : Function) (name : List ℕ) → slice_get (module_of image).functions k ≡ Some g → g.export ≡ Some name → Routine_of k name
+  routine_at : (k : ℕ) (g : Function) (name : List ℕ) → slice_get (module_with image forms).functions k ≡ Some g → g.export ≡ Some name → Routine_of k name
   routine_at k g name x e =
-      routine_of k g name e (get_mapped (function_of image) image.routines (if list_any has_call image.routines then inner_functions image 0 image.routines else []) k g x)
+      routine_of k g name e (get_made (function_of image forms) 0 image.routines (if list_any has_call image.routines then each_function (inner_function image forms) 0 image.routines else []) k g x)
 
-  pub functions_once : IsFine image → Once (module_of image).functions
+  pub functions_once : IsFine image → Once (module_with image forms).functions
   functions_once fine j k f g name x y d e =
       let a = routine_at j f name x d in
       let b = routine_at k g name y e in
@@ -154,10 +155,10 @@ module _ (image : Listing) where
       let c = both (name_fits h.name && list_all param_fits h.params) (list_all local_fits h.locals) b.0 in
       (both (name_fits h.name) (list_all param_fits h.params) c.0).0
 
-  name_of : IsWritable image → (e : Export) → Named (module_of image).functions 0 e → name_fits e.name ≡ true
+  name_of : IsWritable image → (e : Export) → Named (module_with image forms).functions 0 e → name_fits e.name ≡ true
   name_of writable e it =
       let k = routine_at it.0 it.1 e.name it.2 it.3 in
       subst (λ z. name_fits z ≡ true) k.2 (word_name k.0 (all_at routine_fits image.routines it.0 k.0 writable.routines k.1))
 
-  pub no_name : IsWritable image → (e : Export) → Named (module_of image).functions 0 e → (name : List ℕ) → name_fits name ≡ false → e.name ≡ name → ⊥
+  pub no_name : IsWritable image → (e : Export) → Named (module_with image forms).functions 0 e → (name : List ℕ) → name_fits name ≡ false → e.name ≡ name → ⊥
   no_name writable e it name bad same = let good : name_fits name ≡ true = subst (λ z. name_fits z ≡ true) same (name_of writable e it) in let clash : true ≡ false = sym good ∙ bad in cc

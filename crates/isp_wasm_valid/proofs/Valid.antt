@@ -5,9 +5,10 @@ use Rattle.std.proofs.lemmas.Nat.{div_below}
 use Rattle.isp_code.specs.Listing.{Listing}
 use Rattle.isp_code.specs.Writable.{IsWritable, name_fits}
 use Rattle.isp_verify.specs.Accepted.{AcceptedIsFine, IsFine}
+use Rattle.isp_forms.specs.Runs.{Forms}
 use Rattle.isp_wasm_meaning.specs.Module.{Module}
 use Rattle.isp_wasm.specs.Kernel as functions
-use Rattle.isp_wasm.specs.Module.{module_of}
+use Rattle.isp_wasm.specs.Module.{module_with}
 use Rattle.isp_wasm_binary.specs.Binary.{names, sections_of}
 use Rattle.isp_wasm_binary.specs.Instructions.{hosts}
 use Rattle.isp_wasm_binary.specs.Modules.{Export, MemoryKind, GlobalKind}
@@ -67,14 +68,14 @@ few_pages n lt = let low : n / 65536 < 65536 = div_below n 65536 65536 (omega ar
 
 -- ---- names
 
-module _ (image : Listing) (fine : IsFine image) (writable : IsWritable image) where
+module _ (image : Listing) (forms : Forms) (fine : IsFine image) (writable : IsWritable image) where
   abbrev exported : List Export
-  exported = (sections_of (module_of image)).exports
+  exported = (sections_of (module_with image forms)).exports
 
   -- no function is exported as the memory or as a global
-  not_function : (a d e : Export) (k : ℕ) → name_fits a.name ≡ false → Some a ≡ Some d → slice_get (names 0 (module_of image).functions) k ≡ Some e → d.name ≡ e.name → ⊥
+  not_function : (a d e : Export) (k : ℕ) → name_fits a.name ≡ false → Some a ≡ Some d → slice_get (names 0 (module_with image forms).functions) k ≡ Some e → d.name ≡ e.name → ⊥
   not_function a d e k bad h x same =
-      no_name image writable e (named_from (module_of image).functions 0 k e x) a.name bad (sym same ∙ sym (ap (λ (z : Export). z.name) (same_some a d h)))
+      no_name image forms writable e (named_from (module_with image forms).functions 0 k e x) a.name bad (sym same ∙ sym (ap (λ (z : Export). z.name) (same_some a d h)))
 
   exports_once : (j k : ℕ) (d e : Export) → slice_get exported j ≡ Some d → slice_get exported k ≡ Some e → d.name ≡ e.name → j ≡ k
   exports_once zero zero d e x y same = refl
@@ -93,16 +94,16 @@ module _ (image : Listing) (fine : IsFine image) (writable : IsWritable image) w
   exports_once (suc (suc (suc j))) (suc zero) d e x y same = absurd (not_function base_export e d j refl y x (sym same))
   exports_once (suc (suc (suc j))) (suc (suc zero)) d e x y same = absurd (not_function stack_export e d j refl y x (sym same))
   exports_once (suc (suc (suc j))) (suc (suc (suc k))) d e x y same =
-      ap (λ z. suc (suc (suc z))) (names_once (module_of image).functions (functions_once image fine) 0 j k d e x y same)
+      ap (λ z. suc (suc (suc z))) (names_once (module_with image forms).functions (functions_once image forms fine) 0 j k d e x y same)
 
 -- ---- the whole
 
 pub modules_valid : functions.ModulesValid → AcceptedIsFine → ModulesValid
-modules_valid law fine image accepted writable few =
+modules_valid law fine image forms accepted writable few =
     record {
-      types = types_there (module_of image);
-      bodies = bodies_valid (module_of image) (law image accepted);
-      pages = few_pages (length (module_of image).memory) few;
-      exports = exports_there (module_of image);
-      names = exports_once image (fine image accepted) writable;
+      types = types_there (module_with image forms);
+      bodies = bodies_valid (module_with image forms) (law image forms accepted);
+      pages = few_pages (length (module_with image forms).memory) few;
+      exports = exports_there (module_with image forms);
+      names = exports_once image forms (fine image accepted) writable;
     }

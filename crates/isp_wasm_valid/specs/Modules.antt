@@ -1,13 +1,14 @@
 -- Which modules are valid: chapter 3.4 of the core specification of WebAssembly 2.0.
 --     IsValidBody     the code of a function
 --     IsValidModule   all sections of a module, which is what an engine asks before it takes its bytes
---     ModulesValid    that of the module that accepted code is
+--     ModulesValid    that of the module that accepted code is, with its instructions in any forms
 use Rattle.std.specs.Prelude.{◌≡◌, ℕ, zero, suc, ◌^◌, ◌<◌, ◌≤◌, List, [], ◌∷◌, ◌++◌, length, map, None, Some, slice_get, slice_index_or}
 use Rattle.isp_code.specs.Listing.{Listing}
 use Rattle.isp_code.specs.Writable.{IsWritable}
 use Rattle.isp_verify.specs.Faults.{code_fault}
+use Rattle.isp_forms.specs.Runs.{Forms}
 use Rattle.isp_wasm_meaning.specs.Module.{ValueType}
-use Rattle.isp_wasm.specs.Module.{module_of}
+use Rattle.isp_wasm.specs.Module.{module_with}
 use Rattle.isp_wasm_binary.specs.Binary.{sections_of}
 use Rattle.isp_wasm_binary.specs.Modules.{FuncType, Import, Group, Body, Export, Kind, FunctionKind, MemoryKind, GlobalKind, Sections}
 use Rattle.isp_wasm_binary.specs.Same.{code_words}
@@ -67,4 +68,5 @@ pub record IsValidModule (m : Sections) : Type 0 where
 
 -- of code in which the verifier finds no fault, which has a text, and whose texts have fewer than 2^32 bytes, as where a function is covered
 abbrev pub ModulesValid : Type 0
-ModulesValid = (code : Listing) → code_fault code ≡ None → IsWritable code → length (module_of code).memory < 2 ^ 32 → IsValidModule (sections_of (module_of code))
+ModulesValid =
+    (code : Listing) (forms : Forms) → code_fault code ≡ None → IsWritable code → length (module_with code forms).memory < 2 ^ 32 → IsValidModule (sections_of (module_with code forms))

@@ -5,6 +5,7 @@ pub mod Each
 pub mod FoldBytes
 pub mod GangLanes
 pub mod LanedParts
+pub mod PartLines
 pub mod PickBytes
 pub mod RankBytes
 pub mod Reductions

@@ -1,5 +1,6 @@
 //! Instructions that go lane by lane, where a mask has the lane: divisions, scatters, runs, and packed loads and stores.
 ghost use Rattle.std.specs.Prelude.{◌≡◌, ◌++◌, IsTrue, OnOk};
+ghost use Rattle.isp_forms.specs.declared.form.Form.TheVariants.{Kept};
 ghost use Rattle.isp_wasm.specs.Templates as templates;
 ghost use Rattle.isp_wasm_binary.specs.Instructions.{code_bytes};
 ghost use Rattle.isp_wasm_write.specs.Settings.{setting};
@@ -26,7 +27,7 @@ fn division(kernel: &Kernel, out: &mut Bytes, all: &Quotients) -> Result<(), Ref
 /// Appends a division, a scatter, a store of a run, or a packed load or store.
 pub fn lanes_line(kernel: &Kernel, out: &mut Bytes, instr: &Instr) -> Result<(), Refusal>
     requires { IsTrue (is_laned instr.now) }
-    ensures { OnOk result (out.new ≡ out.old ++ code_bytes (templates.code_of (setting kernel.now) 0 instr.now)) }
+    ensures { OnOk result (out.new ≡ out.old ++ code_bytes (templates.code_of (setting kernel.now) 0 Kept instr.now)) }
 {
     match *instr {
         Instr::Divide {

@@ -11,9 +11,10 @@ ghost use Rattle.isp_wasm_vectors.specs.reader.Runs as runs;
 use crate::loops::{Elements, Index, checked_stores, is_there, lane_loads};
 use crate::parts::{count_of, lanes, parts, shape};
 use crate::rows::widened_mask;
-use crate::vectors::select_lanes;
+use crate::vectors::put_lanes;
 use isp_base::Elem;
 use isp_code::Register;
+use isp_forms::Form;
 use isp_wasm_binary::{Binary, Bitwise, Bytes, Size, Width};
 use isp_wasm_write::{Kernel, Place, Refusal, shape_of};
 
@@ -79,12 +80,18 @@ fn load_parts(kernel: &Kernel, out: &mut Bytes, run: &Run, parts: u8) -> Result<
     Ok(())
 }
 
-// Appends that those of the mask go to a vector register.
-fn load_row(kernel: &Kernel, out: &mut Bytes, result_to: Register, run: &Run) -> Result<(), Refusal>
-    ensures { OnOk result (out.new ≡ out.old ++ code_bytes (runs.load_row (setting kernel.now) result_to run.now)) }
+// Appends that those of the mask go to a vector register, or all where nobody reads the others.
+fn load_row(
+    kernel: &Kernel,
+    out: &mut Bytes,
+    form: Form,
+    result_to: Register,
+    run: &Run,
+) -> Result<(), Refusal>
+    ensures { OnOk result (out.new ≡ out.old ++ code_bytes (runs.load_row (setting kernel.now) form result_to run.now)) }
 {
     load_parts(kernel, out, run, parts(kernel, shape(kernel, result_to)))?;
-    select_lanes(kernel, out, result_to, run.mask)
+    put_lanes(kernel, out, form, result_to, run.mask)
 }
 
 // Appends the same, lane by lane.
@@ -104,14 +111,15 @@ fn load_lanes(
 fn load_at_once(
     kernel: &Kernel,
     out: &mut Bytes,
+    form: Form,
     result_to: Register,
     run: &Run,
 ) -> Result<(), Refusal>
-    ensures { OnOk result (out.new ≡ out.old ++ code_bytes (runs.load_at_once (setting kernel.now) result_to run.now)) }
+    ensures { OnOk result (out.new ≡ out.old ++ code_bytes (runs.load_at_once (setting kernel.now) form result_to run.now)) }
 {
     run_is_there(kernel, out, run)?;
     out.begin_if()?;
-    load_row(kernel, out, result_to, run)?;
+    load_row(kernel, out, form, result_to, run)?;
     out.begin_else()?;
     load_lanes(kernel, out, result_to, run)?;
     Ok(out.end()?)
@@ -121,13 +129,14 @@ fn load_at_once(
 pub(crate) fn load_run(
     kernel: &Kernel,
     out: &mut Bytes,
+    form: Form,
     result_to: Register,
     run: &Run,
 ) -> Result<(), Refusal>
-    ensures { OnOk result (out.new ≡ out.old ++ code_bytes (templates.load_run (setting kernel.now) result_to run.now.array run.now.index run.now.mask run.now.place)) }
+    ensures { OnOk result (out.new ≡ out.old ++ code_bytes (templates.load_run (setting kernel.now) form result_to run.now.array run.now.index run.now.mask run.now.place)) }
 {
     if fills_parts(kernel, kernel.elem(result_to)) {
-        load_at_once(kernel, out, result_to, run)
+        load_at_once(kernel, out, form, result_to, run)
     } else {
         load_lanes(kernel, out, result_to, run)
     }

@@ -1,5 +1,6 @@
 //! Instructions that write lanes of a vector register.
 ghost use Rattle.std.specs.Prelude.{◌≡◌, ◌++◌, ◌<◌, ◌≤◌, IsTrue, OnOk};
+ghost use Rattle.isp_forms.specs.Writes.{is_pure, mask_under};
 ghost use Rattle.isp_wasm_meaning.specs.Syntax as wasm;
 ghost use Rattle.isp_wasm.specs.Places as places;
 ghost use Rattle.isp_wasm.specs.Rows as rows;
@@ -19,6 +20,7 @@ use crate::rows::{
 };
 use crate::runs::{Run, load_run};
 use isp_code::{Register, VectorInstr};
+use isp_forms::Form;
 use isp_wasm_binary::{Bytes, Unary};
 use isp_wasm_write::{Kernel, Place, Refusal};
 
@@ -187,8 +189,8 @@ fn all_set(
 }
 
 // The mask under which an instruction writes.
-fn mask_under(_kernel: &Kernel, instr: &VectorInstr) -> Register
-    ensures { result ≡ templates.mask_under (setting _kernel.now) instr.now }
+fn mask_under(instr: &VectorInstr) -> Register
+    ensures { result ≡ mask_under instr.now }
 {
     match *instr {
         VectorInstr::Copy { mask, .. }
@@ -209,19 +211,56 @@ fn mask_under(_kernel: &Kernel, instr: &VectorInstr) -> Register
     }
 }
 
+// A part of the register set is set in all lanes.
+fn part_put(kernel: &Kernel, out: &mut Bytes, result_to: Register, part: u8) -> Result<(), Refusal>
+    ensures { OnOk result (out.new ≡ out.old ++ code_bytes (vectors.put_part (setting kernel.now) result_to part)) }
+{
+    kernel.get(out, Place::Fresh(u32::from(part)))?;
+    kernel.set(out, Place::Vector(result_to.number, u32::from(part)))
+}
+
+#[tactic(auto, using(crate::proofs::Each::one_more))]
+fn all_put(kernel: &Kernel, out: &mut Bytes, result_to: Register, parts: u8) -> Result<(), Refusal>
+    ensures { OnOk result (out.new ≡ out.old ++ code_bytes (each parts (vectors.put_part (setting kernel.now) result_to))) }
+{
+    for part in 0..parts {
+        part_put(kernel, out, result_to, part)?;
+    }
+    Ok(())
+}
+
+/// Appends that a register gets what was worked out, in a local for each part: in the lanes of a mask, or in all where the line
+/// is free.
+pub(crate) fn put_lanes(
+    kernel: &Kernel,
+    out: &mut Bytes,
+    form: Form,
+    result_to: Register,
+    mask: Register,
+) -> Result<(), Refusal>
+    ensures { OnOk result (out.new ≡ out.old ++ code_bytes (templates.put_lanes (setting kernel.now) form result_to mask)) }
+{
+    let parts = parts(kernel, shape(kernel, result_to));
+    match form {
+        Form::Free => all_put(kernel, out, result_to, parts),
+        Form::Kept | Form::Useless => all_set(kernel, out, result_to, mask, parts),
+    }
+}
+
 // Appends that lanes of a register get what an instruction makes.
 fn set_lanes(
     kernel: &Kernel,
     out: &mut Bytes,
+    form: Form,
     result_to: Register,
     instr: &VectorInstr,
 ) -> Result<(), Refusal>
     requires { IsTrue (vectors.has_parts instr.now) }
-    ensures { OnOk result (out.new ≡ out.old ++ code_bytes (vectors.lanes_set (setting kernel.now) result_to instr.now)) }
+    ensures { OnOk result (out.new ≡ out.old ++ code_bytes (vectors.lanes_set (setting kernel.now) form result_to instr.now)) }
 {
     let parts = parts(kernel, shape(kernel, result_to));
     worked_out(kernel, out, result_to, instr, parts)?;
-    all_set(kernel, out, result_to, mask_under(kernel, instr), parts)
+    put_lanes(kernel, out, form, result_to, mask_under(instr))
 }
 
 /// Appends that the lanes of a mask are set to what was worked out, in a local for each part.
@@ -237,14 +276,15 @@ pub fn select_lanes(
     all_set(kernel, out, result_to, mask, parts)
 }
 
-/// Appends an instruction that writes lanes of a vector register.
-pub fn vector_line(
+// Appends what an instruction does that writes lanes of a vector register.
+fn vector_code(
     kernel: &Kernel,
     out: &mut Bytes,
+    form: Form,
     result_to: Register,
     instr: &VectorInstr,
 ) -> Result<(), Refusal>
-    ensures { OnOk result (out.new ≡ out.old ++ code_bytes (templates.vector_code (setting kernel.now) result_to instr.now)) }
+    ensures { OnOk result (out.new ≡ out.old ++ code_bytes (templates.vector_code (setting kernel.now) form result_to instr.now)) }
 {
     match *instr {
         VectorInstr::Gather {
@@ -273,8 +313,35 @@ pub fn vector_line(
                 mask,
                 place,
             };
-            load_run(kernel, out, result_to, &run)
+            load_run(kernel, out, form, result_to, &run)
         }
-        _ => set_lanes(kernel, out, result_to, instr),
+        _ => set_lanes(kernel, out, form, result_to, instr),
+    }
+}
+
+// Whether an instruction never traps.
+fn is_pure(instr: &VectorInstr) -> bool
+    ensures { result ≡ is_pure instr.now }
+{
+    !matches!(
+        instr,
+        VectorInstr::Gather { .. } | VectorInstr::LoadRun { .. }
+    )
+}
+
+/// Appends an instruction that writes lanes of a vector register, in a form. What is useless is left out, unless it may trap.
+pub fn vector_line(
+    kernel: &Kernel,
+    out: &mut Bytes,
+    form: Form,
+    result_to: Register,
+    instr: &VectorInstr,
+) -> Result<(), Refusal>
+    ensures { OnOk result (out.new ≡ out.old ++ code_bytes (templates.vector_line (setting kernel.now) form result_to instr.now)) }
+{
+    match form {
+        Form::Kept | Form::Free => vector_code(kernel, out, form, result_to, instr),
+        Form::Useless if is_pure(instr) => Ok(()),
+        Form::Useless => vector_code(kernel, out, Form::Kept, result_to, instr),
     }
 }

@@ -2,6 +2,7 @@
 ghost use Rattle.std.specs.Prelude.{◌≡◌, ◌++◌, ◌+◌, ◌-◌, ◌<◌, ◌^◌, OnOk};
 ghost use Rattle.isp_base.specs.Types.{gang_width};
 ghost use Rattle.isp_code.specs.declared.instr.Instr.TheVariants as instrs;
+ghost use Rattle.isp_forms.specs.declared.form.Form.TheVariants.{Kept};
 ghost use Rattle.isp_wasm.specs.Templates as templates;
 ghost use Rattle.isp_wasm_binary.specs.Instructions.{code_bytes, expr_bytes};
 ghost use Rattle.isp_wasm_write.specs.Settings.{setting};
@@ -69,7 +70,7 @@ impl<'a> Kernel<'a> {
         target: u32,
     ) -> Result<(), Refusal>
         requires { depth + 1 < 2 ^ 32 }
-        ensures { OnOk result (out.new ≡ out.old ++ code_bytes (templates.code_of (setting self.now) depth (instrs.JumpIf tested.0 tested.1 target))) }
+        ensures { OnOk result (out.new ≡ out.old ++ code_bytes (templates.code_of (setting self.now) depth Kept (instrs.JumpIf tested.0 tested.1 target))) }
     {
         self.passes(out, tested.0, tested.1)?;
         out.begin_if()?;

@@ -3,6 +3,7 @@ ghost use Rattle.std.specs.Prelude.{◌≡◌, ◌<◌, ◌≤◌, ◌^◌, leng
 ghost use Rattle.isp_base.specs.Types.{gang_width};
 ghost use Rattle.isp_code.specs.Listing.{routine_of};
 ghost use Rattle.isp_code.specs.Registers.{elem_of, passed, table_of};
+ghost use Rattle.isp_forms.specs.declared.form.Form.TheVariants.{Kept};
 ghost use Rattle.isp_wasm.specs.Locals.{name_of, paired, position, own_places};
 ghost use Rattle.isp_wasm_write.specs.Limits.{limit_fault, explains};
 ghost use Rattle.isp_wasm_write.specs.Places.{place_of};
@@ -14,6 +15,7 @@ use crate::locals;
 use crate::refusal::Refusal;
 use isp_base::{Elem, Span};
 use isp_code::{Class, Code, Function, Instr, Register, Returns};
+use isp_forms::Form;
 use isp_verify::Registers;
 use isp_wasm_binary::Size;
 use std::alloc::Global;
@@ -60,6 +62,7 @@ pub struct Kernel<'a> {
     function: &'a Function,
     registers: &'a Registers,
     caller: Caller,
+    forms: &'a [Form],
     given: Vec<Place>,
     own: Vec<Place>,
     names: Vec<u64>,
@@ -73,9 +76,9 @@ impl<'a> Model for Kernel<'a> {
 
     ghost Value = { Written };
 
-    ghost view = { λ k. record { code = k.code.now; routine = routine_of k.function.now; caller = k.caller } };
+    ghost view = { λ k. record { code = k.code.now; routine = routine_of k.function.now; caller = k.caller; forms = k.forms.now } };
 
-    ghost invariant = { λ k. AreTables (record { code = k.code.now; routine = routine_of k.function.now; caller = k.caller }) k.registers.now k.given.items k.own.items k.names.items k.heads.items };
+    ghost invariant = { λ k. AreTables (record { code = k.code.now; routine = routine_of k.function.now; caller = k.caller; forms = k.forms.now }) k.registers.now k.given.items k.own.items k.names.items k.heads.items };
 }
 
 // A register's number and a part's, in one.
@@ -133,17 +136,18 @@ fn head_or(heads: &[u64], place: usize, other: usize) -> usize
 }
 
 impl<'a> Kernel<'a> {
-    /// A function of accepted code, to be written for those who call it. Refused where an engine would not take it
-    /// (specs/Limits.antt).
+    /// A function of accepted code, to be written for those who call it, with its instructions in these forms. Refused where an
+    /// engine would not take it (specs/Limits.antt).
     pub fn new(
         alloc: Global,
         code: &'a Code,
         function: &'a Function,
         registers: &'a Registers,
         caller: Caller,
+        forms: &'a [Form],
     ) -> Result<Kernel<'a>, Refusal>
         requires { registers.now ≡ table_of (routine_of function.now) }
-        ensures made { IfOk result (λ k. k ≡ record { code = code.now; routine = routine_of function.now; caller = caller }) }
+        ensures made { IfOk result (λ k. k ≡ record { code = code.now; routine = routine_of function.now; caller = caller; forms = forms.now }) }
         ensures fits { OnOk result (limit_fault caller (gang_width code.now.gang) (routine_of function.now) ≡ None) }
         ensures refused { IfErr result (λ e. explains e (limit_fault caller (gang_width code.now.gang) (routine_of function.now))) }
     {
@@ -160,6 +164,7 @@ impl<'a> Kernel<'a> {
             function,
             registers,
             caller,
+            forms,
             given,
             own,
             names,
@@ -194,6 +199,16 @@ impl<'a> Kernel<'a> {
         ensures { slice_get self.now.routine.code number ≡ Some result.now }
     {
         &self.function.code[number]
+    }
+
+    /// The form in which an instruction is written; past those that are given, each keeps its lanes.
+    pub fn form(&self, number: usize) -> Form
+        ensures { result ≡ slice_index_or self.now.forms number Kept }
+    {
+        match self.forms.get(number) {
+            Some(form) => *form,
+            None => Form::Kept,
+        }
     }
 
     /// The code that it is a function of.

@@ -4,6 +4,7 @@ ghost use Rattle.isp_code.specs.Calls.{place_at};
 ghost use Rattle.isp_code.specs.declared.instr.Instr.TheVariants as instrs;
 ghost use Rattle.isp_code.specs.declared.instr.ScalarInstr.TheVariants as scalars;
 ghost use Rattle.isp_code.specs.declared.register.Class.TheVariants as classes;
+ghost use Rattle.isp_forms.specs.declared.form.Form.TheVariants.{Kept};
 ghost use Rattle.isp_wasm_meaning.specs.Syntax as wasm;
 ghost use Rattle.isp_wasm.specs.Places as places;
 ghost use Rattle.isp_wasm.specs.Templates as templates;
@@ -49,7 +50,7 @@ impl<'a> Kernel<'a> {
 
     /// Appends `ret`, of nothing, of a scalar or of a vector register. No other is given back: `NoLocal`.
     pub fn return_line(&self, out: &mut Bytes, register: Option<Register>) -> Result<(), Refusal>
-        ensures { OnOk result (out.new ≡ out.old ++ code_bytes (templates.code_of (setting self.now) 0 (instrs.Return register))) }
+        ensures { OnOk result (out.new ≡ out.old ++ code_bytes (templates.code_of (setting self.now) 0 Kept (instrs.Return register))) }
     {
         match register {
             None => Ok(out.give_back()?),
@@ -153,7 +154,7 @@ impl<'a> Kernel<'a> {
         mask: Register,
         place: u32,
     ) -> Result<(), Refusal>
-        ensures { OnOk result (out.new ≡ out.old ++ code_bytes (templates.code_of (setting self.now) 0 (instrs.Store element.0 element.1 value mask place))) }
+        ensures { OnOk result (out.new ≡ out.old ++ code_bytes (templates.code_of (setting self.now) 0 Kept (instrs.Store element.0 element.1 value mask place))) }
     {
         let span = self.span(place)?;
         self.checked(out, element, mask, span)?;
@@ -162,7 +163,7 @@ impl<'a> Kernel<'a> {
 
     /// Appends a trap of the lowest lane of a mask, if it has one.
     pub fn fail_line(&self, out: &mut Bytes, mask: Register, place: u32) -> Result<(), Refusal>
-        ensures { OnOk result (out.new ≡ out.old ++ code_bytes (templates.code_of (setting self.now) 0 (instrs.Fail mask place))) }
+        ensures { OnOk result (out.new ≡ out.old ++ code_bytes (templates.code_of (setting self.now) 0 Kept (instrs.Fail mask place))) }
     {
         let span = self.span(place)?;
         self.lanes_as_bits(out, mask)?;

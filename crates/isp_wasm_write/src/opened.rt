@@ -3,6 +3,7 @@ ghost use Rattle.std.specs.Prelude.{◌≡◌, ◌++◌, ◌∷◌, [], ◌-◌,
 ghost use Rattle.isp_code.specs.Lines.{local_size};
 ghost use Rattle.isp_code.specs.Registers.{passed, is_per_instance, is_per_lane};
 ghost use Rattle.isp_code.specs.declared.instr.Instr.TheVariants as instrs;
+ghost use Rattle.isp_forms.specs.declared.form.Form.TheVariants.{Kept};
 ghost use Rattle.isp_wasm_meaning.specs.Syntax as wasm;
 ghost use Rattle.isp_wasm.specs.Places as places;
 ghost use Rattle.isp_wasm.specs.Stack.{local_bytes, bytes_in};
@@ -238,7 +239,7 @@ impl<'a> Kernel<'a> {
         array: Register,
         mask: Register,
     ) -> Result<(), Refusal>
-        ensures { OnOk result (out.new ≡ out.old ++ code_bytes (templates.code_of (setting self.now) 0 (instrs.Clear array mask))) }
+        ensures { OnOk result (out.new ≡ out.old ++ code_bytes (templates.code_of (setting self.now) 0 Kept (instrs.Clear array mask))) }
     {
         self.clear_if(out, self.is_own(array), array, mask)
     }

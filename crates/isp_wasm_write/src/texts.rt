@@ -1,6 +1,7 @@
 //! The instruction that writes a text.
 ghost use Rattle.std.specs.Prelude.{◌≡◌, ◌++◌, ◌<◌, ◌≤◌, [], length, slice_index_or, OnOk, IfSome};
 ghost use Rattle.isp_code.specs.declared.instr.Instr.TheVariants as instrs;
+ghost use Rattle.isp_forms.specs.declared.form.Form.TheVariants.{Kept};
 ghost use Rattle.isp_wasm.specs.Module.{text_start};
 ghost use Rattle.isp_wasm.specs.Templates as templates;
 ghost use Rattle.isp_wasm_binary.specs.Instructions.{code_bytes};
@@ -42,7 +43,7 @@ fn text_length(code: &Code, number: usize) -> Option<u32>
 impl<'a> Kernel<'a> {
     /// Appends that a text is written.
     pub fn say_line(&self, out: &mut Bytes, text: u32) -> Result<(), Refusal>
-        ensures { OnOk result (out.new ≡ out.old ++ code_bytes (templates.code_of (setting self.now) 0 (instrs.Say text))) }
+        ensures { OnOk result (out.new ≡ out.old ++ code_bytes (templates.code_of (setting self.now) 0 Kept (instrs.Say text))) }
     {
         let number = text as usize;
         let code = self.code();

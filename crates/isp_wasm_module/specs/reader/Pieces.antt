@@ -4,7 +4,9 @@ use Rattle.isp_base.specs.Types.{gang_width}
 use Rattle.isp_code.specs.Entries.{result_of}
 use Rattle.isp_code.specs.Listing.{Listing}
 use Rattle.isp_code.specs.declared.function.Returns.{Returns}
-use Rattle.isp_wasm_meaning.specs.Module.{I32, ValueType, Function as WasmFunction, unused}
+use Rattle.isp_forms.specs.Tables.{forms_in, lists_of}
+use Rattle.isp_forms.specs.declared.form.Form.{Form}
+use Rattle.isp_wasm_meaning.specs.Module.{I32, Module, ValueType, Function as WasmFunction, unused}
 use Rattle.isp_wasm_meaning.specs.Syntax.{Code}
 use Rattle.isp_wasm_binary.specs.Binary.{grouped, host_imports, results}
 use Rattle.isp_wasm_binary.specs.Instructions.{code_bytes, word_bytes, Block_word, End_word}
@@ -12,16 +14,28 @@ use Rattle.isp_wasm_binary.specs.Modules.{Global, Sections, func_type, import_by
 use Rattle.isp_wasm_binary.specs.Numbers.{vector}
 use Rattle.isp_wasm.specs.Entry.{entry_code}
 use Rattle.isp_wasm.specs.Locals.{own_places}
-use Rattle.isp_wasm.specs.Module.{given_type, back_type, type_of, module_of}
+use Rattle.isp_wasm.specs.Module.{given_type, back_type, type_of, module_with}
 use Rattle.isp_wasm.specs.Places.{Setting}
 use Rattle.isp_wasm.specs.Templates.{routine_code}
 use Rattle.isp_wasm_write.specs.Settings.{Written, given_places, setting}
+use Rattle.isp_wasm_module.specs.declared.source.Source.{Source}
 use Rattle.isp_wasm_write.specs.declared.kernel.Caller.{Caller}
 use Rattle.isp_wasm_write.specs.declared.kernel.Caller.TheVariants.{Host, Function}
 
+-- the module, by the forms of the instructions of each function
+abbrev pub made_of : Listing → List (List Form) → Module
+made_of code lists = module_with code (forms_in lists)
+
 -- function number f of the module
-abbrev pub function_at : Listing → ℕ → WasmFunction
-function_at code f = slice_index_or (module_of code).functions f unused
+abbrev pub function_at : Listing → List (List Form) → ℕ → WasmFunction
+function_at code lists f = slice_index_or (made_of code lists).functions f unused
+
+-- the same of what is written
+abbrev pub module_for : Source → Module
+module_for s = made_of s.code.now (lists_of s.forms.now)
+
+abbrev pub function_for : Source → ℕ → WasmFunction
+function_for s f = function_at s.code.now (lists_of s.forms.now) f
 
 -- the locals of a function and its code
 abbrev pub inner_of : WasmFunction → List ℕ
@@ -62,8 +76,8 @@ written_of k =
     }
 
 -- function number f is one that is written
-pub record IsWritten (code : Listing) (f : ℕ) (k : Written) : Type 0 where
-  pub is : function_at code f ≡ written_of k
+pub record IsWritten (code : Listing) (lists : List (List Form)) (f : ℕ) (k : Written) : Type 0 where
+  pub is : function_at code lists f ≡ written_of k
 
 -- ---- sections, some at a time
 

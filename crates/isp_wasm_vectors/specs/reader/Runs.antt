@@ -1,6 +1,7 @@
 -- Elements in a row, as the code names them.
 use Rattle.std.specs.Prelude.{ℕ, ◌*◌}
 use Rattle.isp_code.specs.declared.register.Register.{Register}
+use Rattle.isp_forms.specs.declared.form.Form.{Form}
 use Rattle.isp_wasm_meaning.specs.Syntax.{Code, Load, If, Then}
 use Rattle.isp_wasm.specs.Places.{Setting, Fresh}
 use Rattle.isp_wasm.specs.Templates as templates
@@ -20,14 +21,14 @@ module _ (w : Setting) where
   abbrev pub part_store : Run → Register → ℕ → Code
   part_store r y j = store_part w r.array r.index y r.mask j
 
-  abbrev pub load_row : Register → Run → Code
-  load_row d r = templates.load_row w d r.array r.index r.mask
+  abbrev pub load_row : Form → Register → Run → Code
+  load_row form d r = templates.load_row w form d r.array r.index r.mask
 
   abbrev pub load_lanes : Register → Run → Code
   load_lanes d r = templates.lane_loads w d r.array (run_index w r.index) r.mask r.place
 
-  abbrev pub load_at_once : Register → Run → Code
-  load_at_once d r = If (run_is_there w r.array r.index) (load_row d r) (load_lanes d r)
+  abbrev pub load_at_once : Form → Register → Run → Code
+  load_at_once form d r = If (run_is_there w r.array r.index) (load_row form d r) (load_lanes d r)
 
   abbrev pub store_row : Run → Register → Code
   store_row r y = templates.store_row w r.array r.index y r.mask

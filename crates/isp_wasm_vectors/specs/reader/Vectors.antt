@@ -1,19 +1,19 @@
 -- What an instruction makes of a part, and of a lane, of the vector that it writes.
-use Rattle.std.specs.Prelude.{ℕ, List, ◌+◌, ◌*◌, ◌-◌, ◌++◌, min, Bool, true, false}
-use Rattle.isp_base.specs.declared.types.Elem.{Elem}
+use Rattle.std.specs.Prelude.{ℕ, List, ◌+◌, ◌*◌, ◌-◌, ◌++◌, Bool, true, false}
 use Rattle.isp_code.specs.declared.instr.Exchange.{Exchange}
 use Rattle.isp_code.specs.declared.instr.Exchange.TheVariants as exchange
 use Rattle.isp_code.specs.declared.instr.VectorInstr.{VectorInstr}
 use Rattle.isp_code.specs.declared.instr.VectorInstr.TheVariants as vector
 use Rattle.isp_code.specs.declared.register.Register.{Register}
+use Rattle.isp_forms.specs.Writes.{mask_under}
+use Rattle.isp_forms.specs.declared.form.Form.{Form}
 use Rattle.isp_wasm_meaning.specs.Syntax as wasm
 use Rattle.isp_wasm_meaning.specs.Syntax.{Replace, Splat, Eq, Expr, Const32, Local, One, Two, Select, Bitselect, Code, Set}
-use Rattle.isp_wasm.specs.Places.{Setting, Fresh, Vector, gang, elem, shape, shape_of, size_of}
+use Rattle.isp_wasm.specs.Places.{Setting, Fresh, Vector, gang, elem, shape, size_of}
 use Rattle.isp_wasm.specs.Words.{plain_expr}
 use Rattle.isp_wasm.specs.Rows.{lane_at, built, as_cell, by_lane, convert_row, widened}
-use Rattle.isp_wasm.specs.Templates.{scalar_local, vector_local, mask_local, set_lanes, mask_under, vector_of}
+use Rattle.isp_wasm.specs.Templates.{scalar_local, vector_local, mask_local, set_lanes, vector_of}
 use Rattle.isp_wasm.specs.Templates.{lane_or_zero, modulo, picked, of_both, scan_expr, exchange_expr}
-use Rattle.isp_wasm_meaning.specs.Meaning.{count}
 use Rattle.isp_wasm_binary.specs.Operators.{binary_bytes}
 use Rattle.isp_wasm_binary.specs.Instructions.{expr_bytes}
 use Rattle.isp_wasm_vectors.specs.declared.lane_values.At.{At}
@@ -105,5 +105,9 @@ module _ (w : Setting) where
   set_part d k j =
       Set (w.local (Vector d.number j)) (Bitselect (Local (w.local (Fresh j))) (vector_local w d j) (widened (shape w d) (mask_local w k) j))
 
-  abbrev pub lanes_set : Register → VectorInstr → Code
-  lanes_set d is = set_lanes w d (mask_under w is) (vector_of w d is)
+  -- or it is set to it in all lanes
+  abbrev pub put_part : Register → ℕ → Code
+  put_part d j = Set (w.local (Vector d.number j)) (Local (w.local (Fresh j)))
+
+  abbrev pub lanes_set : Form → Register → VectorInstr → Code
+  lanes_set form d is = set_lanes w form d (mask_under is) (vector_of w d is)

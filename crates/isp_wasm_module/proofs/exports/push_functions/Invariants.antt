@@ -1,11 +1,11 @@
 use Rattle.std.proofs.Common.{◌≡◌, ◌++◌, drop}
 use Rattle.std.specs.List.{flat_map}
-use Rattle.isp_wasm.specs.Module.{module_of}
 use Rattle.isp_wasm_binary.specs.Binary as binary
 use Rattle.isp_wasm_binary.specs.Modules as modules
+use Rattle.isp_wasm_module.specs.reader.Pieces.{module_for}
 use Rattle.isp_wasm_module.proofs.exports.push_functions.Given as goal
 
 -- what is written, and what the others will add
 abbrev pub invariant-loop-number : goal.invariant-loop-number
 invariant-loop-number l =
-    l.out ++ flat_map modules.export_bytes (binary.names l.number (drop l.number (module_of l.code).functions)) ≡ l.initial.out ++ flat_map modules.export_bytes (binary.names 0 (module_of l.code).functions)
+    l.out ++ flat_map modules.export_bytes (binary.names l.number (drop l.number (module_for l.source).functions)) ≡ l.initial.out ++ flat_map modules.export_bytes (binary.names 0 (module_for l.source).functions)

@@ -1,11 +1,11 @@
 use Rattle.std.proofs.Common.{◌≡◌, ◌++◌, map, drop}
 use Rattle.std.specs.List.{flat_map}
-use Rattle.isp_wasm.specs.Module.{module_of}
 use Rattle.isp_wasm_binary.specs.Binary as binary
 use Rattle.isp_wasm_binary.specs.Modules as modules
+use Rattle.isp_wasm_module.specs.reader.Pieces.{module_for}
 use Rattle.isp_wasm_module.proofs.functions.push_types.Given as goal
 
 -- what is written, and what the others will add
 abbrev pub invariant-loop-number : goal.invariant-loop-number
 invariant-loop-number l =
-    l.out ++ flat_map modules.func_type (map binary.type_of (drop l.number (module_of l.code).functions)) ≡ l.initial.out ++ flat_map modules.func_type (map binary.type_of (module_of l.code).functions)
+    l.out ++ flat_map modules.func_type (map binary.type_of (drop l.number (module_for l.source).functions)) ≡ l.initial.out ++ flat_map modules.func_type (map binary.type_of (module_for l.source).functions)

@@ -1,0 +1,4 @@
+pub mod Writes
+pub mod Runs
+pub mod Tables
+pub mod Laws

@@ -1,0 +1,3 @@
+mod Alikes
+mod Harmless
+mod Lists

@@ -1,0 +1,49 @@
+-- Forms that tables allow: a free instruction is one whose lanes that are off nobody reads again, a useless one writes what
+-- nobody reads.
+use Rattle.std.specs.Prelude.{◌≡◌, ℕ, ◌+◌, List, Option, Some, None, true, not, ◌&&◌, if◌then◌else◌, slice_get}
+use Rattle.isp_base.specs.declared.signature.Argument.{Argument}
+use Rattle.isp_code.specs.Listing.{Listing, Routine}
+use Rattle.isp_code.specs.Machine.{first_conf}
+use Rattle.isp_code.specs.declared.instr.Instr.{Instr}
+use Rattle.isp_code.specs.declared.instr.Instr.TheVariants as instr
+use Rattle.isp_code.specs.declared.instr.VectorInstr.{VectorInstr}
+use Rattle.isp_code.specs.declared.register.Register.{Register}
+use Rattle.isp_forms.specs.Runs.{Forms, AreHarmless}
+use Rattle.isp_forms.specs.declared.form.Form.{Form}
+use Rattle.isp_forms.specs.declared.form.Form.TheVariants.{Kept, Free, Useless}
+use Rattle.isp_lanes_read.specs.Free.{is_free, is_useless, is_call}
+use Rattle.isp_lanes_read.specs.Laws.{MasksHold, RunsAgree, FreeWrites}
+use Rattle.isp_lanes_read.specs.Rows.{Row, Rows, row_at}
+
+-- of an instruction, by the rows before and after it; a call is not free
+abbrev pub form_by : Row → Row → Instr → Form
+form_by row next i = if is_useless next i then Useless else (if is_free row next i && not (is_call i) then Free else Kept)
+
+abbrev pub form_at : Row → Row → Option Instr → Form
+form_at row next None = Kept
+form_at row next (Some i) = form_by row next i
+
+abbrev pub form_in : Row → Row → ℕ → Option Routine → Form
+form_in row next pc None = Kept
+form_in row next pc (Some h) = form_at row next (slice_get h.code pc)
+
+-- of all instructions of some code
+abbrev pub forms_of : Listing → Rows → Forms
+forms_of code rows f pc = form_in (row_at rows f pc) (row_at rows f (pc + 1)) pc (slice_get code.routines f)
+
+-- what tables allow, of each instruction on vectors
+pub record AreAllowed (code : Listing) (rows : Rows) (forms : Forms) : Type 0 where
+  pub free : (f : ℕ) (h : Routine) (pc : ℕ) (d : Register) (i : VectorInstr) → slice_get code.routines f ≡ Some h → slice_get h.code pc ≡ Some (instr.Vector d i)
+      → forms f pc ≡ Free → is_free (row_at rows f pc) (row_at rows f (pc + 1)) (instr.Vector d i) ≡ true
+  pub useless : (f : ℕ) (h : Routine) (pc : ℕ) (d : Register) (i : VectorInstr) → slice_get code.routines f ≡ Some h → slice_get h.code pc ≡ Some (instr.Vector d i)
+      → forms f pc ≡ Useless → is_useless (row_at rows f (pc + 1)) (instr.Vector d i) ≡ true
+
+-- Forms are harmless wherever a run of the code begins.
+abbrev pub BeginHarmless : Listing → Forms → Type 0
+BeginHarmless code forms = (f : ℕ) (h : Routine) (xs : List Argument) → slice_get code.routines f ≡ Some h → AreHarmless code forms (first_conf code f h xs)
+
+-- Where the laws of isp_lanes_read hold of tables, forms that they allow are harmless wherever a run begins, and so are those
+-- that the tables tell.
+pub record FormsAreHarmless : Type 0 where
+  pub allowed : (code : Listing) (rows : Rows) → MasksHold code rows → RunsAgree code rows → FreeWrites code rows → (forms : Forms) → AreAllowed code rows forms → BeginHarmless code forms
+  pub told : (code : Listing) (rows : Rows) → AreAllowed code rows (forms_of code rows)

@@ -1,0 +1,45 @@
+//! Forms for some code, by the tables that are found for it.
+ghost use Rattle.std.specs.Prelude.{◌≡◌, [], IfOk};
+ghost use Rattle.isp_forms.specs.Tables.{forms_in, lists_of};
+ghost use Rattle.isp_lanes_forms.specs.Allowed.{BeginHarmless};
+
+use crate::forms_are_harmless;
+use crate::told::forms_of;
+use isp_code::Code;
+use isp_forms::{FormTable, runs_by_forms};
+use isp_lanes_read::{check, find};
+use std::alloc::{AllocError, Global};
+
+// No tables are looked for where a function has more instructions: the search looks at each with all vectors that are read later.
+const MOST_LINES: usize = 8192;
+
+/// Forms of the instructions of some code: as many are free or useless as the tables tell that are found for it, and no run can tell. All are kept where
+/// the check does not take these tables, and where a function has more than 8,192 instructions. The error is that memory was refused.
+pub fn forms_for(alloc: Global, code: &Code) -> Result<FormTable, AllocError>
+    ensures { IfOk result (λ t. BeginHarmless code.now (forms_in (lists_of t))) }
+{
+    runs_by_forms();
+    forms_are_harmless();
+    if is_large(code) {
+        return Ok(kept(alloc));
+    }
+    let tables = find(alloc, code)?;
+    if check(code, &tables) {
+        forms_of(alloc, code, &tables)
+    } else {
+        Ok(kept(alloc))
+    }
+}
+
+fn is_large(code: &Code) -> bool {
+    code.functions().iter().any(|f| f.code.len() > MOST_LINES)
+}
+
+// Forms that are all kept.
+fn kept(alloc: Global) -> FormTable
+    ensures { lists_of result ≡ [] }
+{
+    FormTable {
+        functions: Vec::new(alloc),
+    }
+}
