@@ -1,19 +1,18 @@
 -- Forms that tables allow: a free instruction is one whose lanes that are off nobody reads again, a useless one writes what
 -- nobody reads.
 use Rattle.std.specs.Prelude.{◌≡◌, ℕ, ◌+◌, List, Option, Some, None, true, not, ◌&&◌, if◌then◌else◌, slice_get}
-use Rattle.isp_base.specs.declared.signature.Argument.{Argument}
 use Rattle.isp_code.specs.Listing.{Listing, Routine}
-use Rattle.isp_code.specs.Machine.{first_conf}
 use Rattle.isp_code.specs.declared.instr.Instr.{Instr}
 use Rattle.isp_code.specs.declared.instr.Instr.TheVariants as instr
 use Rattle.isp_code.specs.declared.instr.VectorInstr.{VectorInstr}
 use Rattle.isp_code.specs.declared.register.Register.{Register}
-use Rattle.isp_forms.specs.Runs.{Forms, AreHarmless}
+use Rattle.isp_forms.specs.Runs.{Forms}
 use Rattle.isp_forms.specs.declared.form.Form.{Form}
 use Rattle.isp_forms.specs.declared.form.Form.TheVariants.{Kept, Free, Useless}
 use Rattle.isp_lanes_read.specs.Free.{is_free, is_useless, is_call}
 use Rattle.isp_lanes_read.specs.Laws.{MasksHold, RunsAgree, FreeWrites}
 use Rattle.isp_lanes_read.specs.Rows.{Row, Rows, row_at}
+use Rattle.isp_lanes_forms.specs.Begins.{BeginHarmless}
 
 -- of an instruction, by the rows before and after it; a call is not free
 abbrev pub form_by : Row → Row → Instr → Form
@@ -37,10 +36,6 @@ pub record AreAllowed (code : Listing) (rows : Rows) (forms : Forms) : Type 0 wh
       → forms f pc ≡ Free → is_free (row_at rows f pc) (row_at rows f (pc + 1)) (instr.Vector d i) ≡ true
   pub useless : (f : ℕ) (h : Routine) (pc : ℕ) (d : Register) (i : VectorInstr) → slice_get code.routines f ≡ Some h → slice_get h.code pc ≡ Some (instr.Vector d i)
       → forms f pc ≡ Useless → is_useless (row_at rows f (pc + 1)) (instr.Vector d i) ≡ true
-
--- Forms are harmless wherever a run of the code begins.
-abbrev pub BeginHarmless : Listing → Forms → Type 0
-BeginHarmless code forms = (f : ℕ) (h : Routine) (xs : List Argument) → slice_get code.routines f ≡ Some h → AreHarmless code forms (first_conf code f h xs)
 
 -- Where the laws of isp_lanes_read hold of tables, forms that they allow are harmless wherever a run begins, and so are those
 -- that the tables tell.

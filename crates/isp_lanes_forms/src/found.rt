@@ -1,7 +1,7 @@
 //! Forms for some code, by the tables that are found for it.
 ghost use Rattle.std.specs.Prelude.{◌≡◌, [], IfOk};
 ghost use Rattle.isp_forms.specs.Tables.{forms_in, lists_of};
-ghost use Rattle.isp_lanes_forms.specs.Allowed.{BeginHarmless};
+ghost use Rattle.isp_lanes_forms.specs.Begins.{BeginHarmless};
 
 use crate::forms_are_harmless;
 use crate::told::forms_of;

@@ -5,7 +5,7 @@ use Rattle.std.specs.Prelude.{◌≡◌, ℕ, List, ◌++◌, codes}
 use Rattle.isp_asm.specs.Spelling.{text_of}
 use Rattle.isp_code.specs.Listing.{Listing}
 use Rattle.isp_forms.specs.Runs.{Forms}
-use Rattle.isp_lanes_forms.specs.Allowed.{BeginHarmless}
+use Rattle.isp_lanes_forms.specs.Begins.{BeginHarmless}
 use Rattle.isp_wasm.specs.Module.{module_with}
 use Rattle.isp_wasm_binary.specs.Binary.{bytes_of}
 use Rattle.isp_wasm_binary.specs.Modules.{section}

@@ -2,7 +2,8 @@ use Rattle.std.proofs.Common.{List, sym, subst}
 use Rattle.std.proofs.lemmas.Result.{IfOk-weaker}
 use Rattle.isp_forms.specs.Tables.{forms_in, lists_of}
 use Rattle.isp_forms.specs.declared.form.Form.{Form}
-use Rattle.isp_lanes_forms.specs.Allowed.{AreAllowed, BeginHarmless}
+use Rattle.isp_lanes_forms.specs.Allowed.{AreAllowed}
+use Rattle.isp_lanes_forms.specs.Begins.{BeginHarmless}
 use Rattle.isp_lanes_read.specs.Rows.{rows_of}
 use Rattle.isp_lanes_forms.proofs.found.forms_for.Goals as goal
 

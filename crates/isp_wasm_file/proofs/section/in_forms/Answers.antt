@@ -2,7 +2,7 @@ use Rattle.std.proofs.Common.{◌≡◌, sym, ◌∙◌, subst}
 use Rattle.std.proofs.lemmas.Result.{IfOk-weaker}
 use Rattle.isp_code.specs.Listing.{Listing}
 use Rattle.isp_forms.specs.Tables.{forms_in, lists_of}
-use Rattle.isp_lanes_forms.specs.Allowed.{BeginHarmless}
+use Rattle.isp_lanes_forms.specs.Begins.{BeginHarmless}
 use Rattle.isp_wasm.specs.Module.{module_with}
 use Rattle.isp_wasm_binary.specs.Binary.{bytes_of}
 use Rattle.isp_wasm_module.proofs.FirstRefused.{explained}
