@@ -12,7 +12,7 @@ use Rattle.isp_meaning.specs.Outcomes.{Val, Gives, Fails, Stops, Done}
 use Rattle.isp_meaning.specs.State.{State}
 use Rattle.isp_typed.specs.Typed.{TFunction}
 use Rattle.isp_typed.specs.declared.variable.ArrayVariable.{ArrayVariable}
-use Rattle.isp_lower_code.specs.Layout.{HasNoRows, IsApart, KnowsNothing}
+use Rattle.isp_lower_code.specs.Layout.{HasNoRows, IsApart, KnowsNothing, SetsNone}
 use Rattle.isp_lower_code.specs.Runs.{DoneRuns, Enters, Runs}
 use Rattle.isp_lower_code.specs.Setting.{Setting, ArrayFits, ArrayFitsAt, IsCalling, IsSettled, Spares, Stands}
 use Rattle.isp_lower_code.proofs.Lemmas.{none_known}
@@ -34,8 +34,8 @@ module _ (w : Setting) (k : ℕ → Bool) where
   calling i g pc q sp a ps s c f =
       record { function = f.function; here = f.here; place = f.place; at = f.at; mask = f.mask; some = f.some; inside = f.inside; hands = f.hands; result = f.result; arrays_are = f.arrays_are; out_is = f.out_is; used = f.used }
 
-  pub settled_with : w.layout.run ≡ None → HasNoRows w.layout → KnowsNothing w.layout → IsApart (with_loaded w k).layout → IsSettled w → IsSettled (with_loaded w k)
-  settled_with none rows nothing apart f =
+  pub settled_with : w.layout.run ≡ None → HasNoRows w.layout → SetsNone w.layout → KnowsNothing w.layout → IsApart (with_loaded w k).layout → IsSettled w → IsSettled (with_loaded w k)
+  settled_with none rows unset nothing apart f =
       record {
         gang = f.gang;
         found = f.found;
@@ -51,6 +51,7 @@ module _ (w : Setting) (k : ℕ → Bool) where
         known = λ v e. absurd (none_known w.layout nothing v e);
         constants = f.constants;
         rows = λ i n fine is. let no : true ≡ false = sym is ∙ rows i n in absurd (cc);
+        sets = λ rs is. let no : true ≡ false = sym is ∙ unset rs in absurd (cc);
       }
 
   -- ---- code runs

@@ -20,7 +20,7 @@ use Rattle.isp_lower.specs.Drafts.{draft_of}
 use Rattle.isp_registers.specs.Growth.{rows_of}
 use Rattle.isp_lower_code.specs.Fits.{ExprFits, SimpleFits}
 use Rattle.isp_lower_code.specs.Laws.{ExprRuns, SimpleRuns, ExprGoesOn, SimpleGoesOn, LayoutsAreApart}
-use Rattle.isp_lower_code.specs.Layout.{HasNoRows, IsApart, KnowsNothing, Layout}
+use Rattle.isp_lower_code.specs.Layout.{HasNoRows, IsApart, KnowsNothing, Layout, SetsNone}
 use Rattle.isp_registers.specs.Reserved.{Has}
 use Rattle.isp_lower_code.specs.Rows.{Variable, elem_in, layout_of}
 use Rattle.isp_lower_code.specs.Runs.{DoneRuns, Runs, Enters}
@@ -179,8 +179,9 @@ module _ (w : Setting) (old new last : Emitter) (piece : Piece) (asks : Ask) (h 
   settled_then apart settled =
       let none : w.layout.run ≡ None = ap (λ (l : Layout). l.run) h.rows.layout in
       let rows : HasNoRows w.layout = λ i n. ap (λ (l : Layout). l.is_row i n) h.rows.layout in
+      let unset : SetsNone w.layout = λ rs. ap (λ (l : Layout). l.sets rs) h.rows.layout in
       let nothing : KnowsNothing w.layout = λ v. ap (λ (l : Layout). l.known v) h.rows.layout in
-      settled_with w (loaded_then new) none rows nothing (subst IsApart (sym layout_is) (apart w.layout.rates (rows_of registers))) settled
+      settled_with w (loaded_then new) none rows unset nothing (subst IsApart (sym layout_is) (apart w.layout.rates (rows_of registers))) settled
 
 -- ---- the laws
 
@@ -237,8 +238,9 @@ module _ (apart : LayoutsAreApart) where
         let none : w.layout.run ≡ None = ap (λ (l : Layout). l.run) h.rows.layout in
         let own : IsApart u.layout = subst IsApart (sym (layout_is w old new last piece (expr_asks x n) h)) (apart w.layout.rates (rows_of now)) in
         let rows : HasNoRows w.layout = λ i n. ap (λ (l : Layout). l.is_row i n) h.rows.layout in
+        let unset : SetsNone w.layout = λ rs. ap (λ (l : Layout). l.sets rs) h.rows.layout in
         let nothing : KnowsNothing w.layout = λ v. ap (λ (l : Layout). l.known v) h.rows.layout in
-        let sure : ((m : ℕ) → IsSettled (with_turns u m)) = λ m. settled_with (with_turns w m) (loaded_then new) none rows nothing own (settled m) in
+        let sure : ((m : ℕ) → IsSettled (with_turns u m)) = λ m. settled_with (with_turns w m) (loaded_then new) none rows unset nothing own (settled m) in
         let rates = (sure 0).rates in
         go u sure x (length old.body.code.items) (length old.body.places.items) at.mask.number n q a s c cuts
         (expr_fits u rates old new now x at accepts there) (expr_stands u rates old new now x at accepts there)
@@ -259,8 +261,9 @@ module _ (apart : LayoutsAreApart) where
         let none : w.layout.run ≡ None = ap (λ (l : Layout). l.run) h.rows.layout in
         let own : IsApart u.layout = subst IsApart (sym (layout_is w old new last piece (simple_asks x n) h)) (apart w.layout.rates (rows_of now)) in
         let rows : HasNoRows w.layout = λ i n. ap (λ (l : Layout). l.is_row i n) h.rows.layout in
+        let unset : SetsNone w.layout = λ rs. ap (λ (l : Layout). l.sets rs) h.rows.layout in
         let nothing : KnowsNothing w.layout = λ v. ap (λ (l : Layout). l.known v) h.rows.layout in
-        let sure : ((m : ℕ) → IsSettled (with_turns u m)) = λ m. settled_with (with_turns w m) (loaded_then new) none rows nothing own (settled m) in
+        let sure : ((m : ℕ) → IsSettled (with_turns u m)) = λ m. settled_with (with_turns w m) (loaded_then new) none rows unset nothing own (settled m) in
         let rates = (sure 0).rates in
         go u sure x (length old.body.code.items) (length old.body.places.items) at.mask.number n q a s c cuts
         (simple_fits u rates old new now x at accepts there) (simple_stands u rates old new now x at accepts there)

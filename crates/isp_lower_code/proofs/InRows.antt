@@ -135,6 +135,7 @@ linked fs n rows masks code = record {
   constants = kept_there (with_rows rows masks code) (rates_in fs) rows
       (rows_made rows masks code);
   rows = λ vars i n fine rated is. absurd (cc);
+  sets = λ rs is. absurd (cc);
   headers = λ f g e. record
       { routine = routine_for g; found = routine_at fs f g e; params = params_held (params_of g); returns = refl };
 }

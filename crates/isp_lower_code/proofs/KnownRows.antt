@@ -47,6 +47,7 @@ use Rattle.isp_lower_code.proofs.Fitting.{expr_parts}
 use Rattle.isp_lower_code.proofs.Fixed.{known_on, known_part, unknown_holds}
 use Rattle.isp_lower_code.proofs.Found.{found_placed, found_typed}
 use Rattle.isp_lower_code.proofs.Kept.{Placed}
+use Rattle.isp_lower_code.proofs.KnownTables.{granted_known, table_known}
 use Rattle.isp_lower_code.proofs.Linears.{alone_nodes, linear_loads, linear_not}
 use Rattle.isp_lower_code.proofs.Parts.{ExprParts}
 use Rattle.isp_lower_code.proofs.Rated.{expr_tree}
@@ -261,6 +262,9 @@ module _ (w : Setting) (known : ℕ → Known) (there : TExpr → ℕ → Bool) 
         known = λ v e. let k = may.variables v e in record { varying = k.varying; constant = k.constant; unloaded = k.unloaded };
         constants = f.constants;
         rows = λ i n fine is. row_runs w known there f may i n fine (row_is known there w.layout i n is);
+        sets = λ rs is.
+            let s = f.sets rs is in
+            record { apart = s.apart; typed = s.typed; unloaded = s.unloaded; there = λ i n e. table_known known there w.layout w.routine w.function.variables (row_index_asks i n) (s.there i n e) };
       }
 
 -- ---- its instructions have their operands
@@ -282,7 +286,13 @@ module _ (fs : List TFunction) (code : Listing) (h : Routine) (l : Layout) (know
 
   known_linked : Links fs code h (with_known known there l)
   known_linked =
-      record { rates = links.rates; headers = links.headers; constants = links.constants; rows = λ vars i n fine rated is. row_linked vars i n fine (row_is known there l i n is) }
+      record {
+        rates = links.rates;
+        headers = links.headers;
+        constants = links.constants;
+        rows = λ vars i n fine rated is. row_linked vars i n fine (row_is known there l i n is);
+        sets = λ rs is. let s = links.sets rs is in record { singles = s.singles; there = λ i n e. granted_known known there l h (row_index_asks i n) (s.there i n e) };
+      }
 
 -- ---- it is short
 

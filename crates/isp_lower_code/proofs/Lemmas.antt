@@ -2,7 +2,7 @@
 
 -- ---- steps of the machine, and how they are put together
 
-pub use Rattle.isp_lower_code.proofs.Base.{are_front, are_back, put_same, put_other, comes_none, comes_on, step_by, step_is, step_go, step_fail, next_at, at_to, spares_all, spares_less, spares_on}
+pub use Rattle.isp_lower_code.proofs.Base.{not_both, are_front, are_back, put_same, put_other, comes_none, comes_on, step_by, step_is, step_go, step_fail, next_at, at_to, spares_all, spares_less, spares_on}
 pub use Rattle.isp_lower_code.proofs.Combine.{bind_runs, runs_after, failed_after, stopped_after, failed_less, stopped_less, set_comes, set_goes, set_masks, set_spares, set_stands}
 pub use Rattle.isp_lower_code.proofs.Jumps.{jumped, jump_comes, jump_at, masked, masked_at, where_comes, others_comes}
 pub use Rattle.isp_lower_code.proofs.Lines.{set_at, copy_line, place_named}
@@ -27,6 +27,7 @@ pub use Rattle.isp_lower_code.proofs.Scalar.{scalar_runs}
 pub use Rattle.isp_lower_code.proofs.ScalarPlaces.{scalar_places}
 pub use Rattle.isp_lower_code.proofs.RowAccess.{row_reads, row_writes}
 pub use Rattle.isp_lower_code.proofs.KnownRows.{known_rows}
+pub use Rattle.isp_lower_code.proofs.KnownTables.{granted_known, named_known, table_known}
 pub use Rattle.isp_lower_code.proofs.RowSound.{rows_sound}
 pub use Rattle.isp_lower_code.proofs.Stayed.{stays_same}
 pub use Rattle.isp_lower_code.proofs.Parts.{IsHeldIn, OperandFits, Owned, OwnTable, ExprParts, ValuesParts, SimpleParts, ItemsParts}

@@ -48,6 +48,7 @@ mod ScalarRates
 mod ScalarPlaces
 mod Scalar
 mod Linears
+mod KnownTables
 mod KnownRows
 mod RowAccess
 mod RowSound

@@ -33,6 +33,7 @@ use Rattle.isp_lower_code.specs.Asks.{Ask, expr_asks}
 use Rattle.isp_lower_code.specs.Code.{expr_code}
 use Rattle.isp_lower_code.specs.Fits.{ExprFits, InTable}
 use Rattle.isp_lower_code.specs.Layout.{HasNoRows, KnowsNothing}
+use Rattle.isp_lower_code.specs.RowCode.{row_index_asks}
 use Rattle.isp_lower_code.specs.Found.{found}
 use Rattle.isp_lower_code.specs.Runs.{Enters, Failed, Runs}
 use Rattle.isp_lower_code.specs.Scalar.{AreVarying, IsBy, ScalarsHold}
@@ -129,6 +130,13 @@ module _ (w : Setting) (known : ℕ → Known) where
   calling i g pc q sp a ps s c f =
       record { function = f.function; here = f.here; place = f.place; at = f.at; mask = f.mask; some = f.some; inside = f.inside; hands = f.hands; result = f.result; arrays_are = f.arrays_are; out_is = f.out_is; used = f.used }
 
+  pub table : (a : Ask) → InTable w a → InTable (singled_in w known) a
+  table a f =
+      let held = λ (b : ArrayVariable) (h : HoldsArray w.function.variables b). array_fine w.program.functions w.function.variables known b h in
+      all_grow (IsNamedIn w.routine w.layout) (IsNamedIn w.routine w.layout) (HoldsArray w.function.variables)
+      (HoldsArray (singled known w.function.variables)) (HoldsArray w.function.variables) (HoldsArray (singled known w.function.variables)) AnyMask
+      AnyMask (IsLoadedIn w.layout) (IsLoadedIn w.layout) (λ r x t h. h) held held (λ k h. h) (λ v h. h) a f
+
   pub settled : IsSettled w → HasNoRows w.layout → KnowsNothing w.layout → IsSettled (singled_in w known)
   settled f none nothing =
       record {
@@ -148,14 +156,8 @@ module _ (w : Setting) (known : ℕ → Known) where
         known = λ v is. let no : true ≡ false = sym is ∙ ap is_known (nothing v) in absurd (cc);
         constants = f.constants;
         rows = λ i n fine is. let no : true ≡ false = sym is ∙ none i n in absurd (cc);
+        sets = λ rs is. let m = f.sets rs is in record { apart = m.apart; typed = m.typed; unloaded = m.unloaded; there = λ i n e. table (row_index_asks i n) (m.there i n e) };
       }
-
-  pub table : (a : Ask) → InTable w a → InTable (singled_in w known) a
-  table a f =
-      let held = λ (b : ArrayVariable) (h : HoldsArray w.function.variables b). array_fine w.program.functions w.function.variables known b h in
-      all_grow (IsNamedIn w.routine w.layout) (IsNamedIn w.routine w.layout) (HoldsArray w.function.variables)
-      (HoldsArray (singled known w.function.variables)) (HoldsArray w.function.variables) (HoldsArray (singled known w.function.variables)) AnyMask
-      AnyMask (IsLoadedIn w.layout) (IsLoadedIn w.layout) (λ r x t h. h) held held (λ k h. h) (λ v h. h) a f
 
   -- ---- the machine stands for a state there, and here
 

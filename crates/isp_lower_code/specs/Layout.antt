@@ -7,7 +7,8 @@
 -- with some bits may be kept at a rate: each has a register, which holds it while the function runs. Indices may be taken as rows: at which
 -- slots which, the code of the scalar from which such an index counts on, given its instruction, place, mask and slot, and the scalar's register.
 -- Of varying variables it may be known, in members of a run, that one is the same in each, or counts on from one to the next (isp_steady): the
--- scalar register of its number has the scalar by which it is so.
+-- scalar register of its number has the scalar by which it is so. A `foreach` may set such scalars of its indices, by its ranges: so its body knows
+-- them; and it is said of which indices, at which slots, the registers of a row are there.
 use Rattle.std.specs.Prelude.{◌≡◌, ◌≢◌, ℕ, List, Option, Some, None, Bool, true, false, ◌||◌, nat_eq}
 use Rattle.isp_base.specs.declared.types.Elem.{Elem}
 use Rattle.isp_base.specs.declared.types.Rate.{Rate}
@@ -16,7 +17,7 @@ use Rattle.isp_code.specs.declared.instr.Instr.{Instr}
 use Rattle.isp_code.specs.declared.register.Class.{Class}
 use Rattle.isp_code.specs.declared.register.Class.TheVariants as class
 use Rattle.isp_code.specs.declared.register.Register.{Register}
-use Rattle.isp_typed.specs.Typed.{TExpr}
+use Rattle.isp_typed.specs.Typed.{TExpr, TRange}
 use Rattle.isp_steady.specs.Known.{Known, Unknown, is_known}
 
 pub record Layout : Type 0 where
@@ -36,6 +37,8 @@ pub record Layout : Type 0 where
   pub is_row : TExpr → ℕ → Bool
   pub row : TExpr → (pc p k n : ℕ) → List Instr
   pub row_at : TExpr → ℕ → ℕ
+  pub sets : List TRange → Bool
+  pub there : TExpr → ℕ → Bool
 
 pub record IsApart (l : Layout) : Type 0 where
   pub variables : (r : Rate) (v w : ℕ) → v ≢ w → l.variable r v ≢ l.variable r w
@@ -72,6 +75,13 @@ nothing_known v = Unknown
 
 abbrev pub KnowsNothing : Layout → Type 0
 KnowsNothing l = (v : ℕ) → l.known v ≡ Unknown
+
+-- no `foreach` sets scalars of its indices
+abbrev pub sets_none : List TRange → Bool
+sets_none rs = false
+
+abbrev pub SetsNone : Layout → Type 0
+SetsNone l = (rs : List TRange) → l.sets rs ≡ false
 
 -- A variable is fixed where it counts the lanes of a run, or is known: in code of such a layout nothing writes it.
 abbrev pub is_counter_of : Option ℕ → ℕ → Bool

@@ -2,6 +2,7 @@ pub mod Callees
 pub mod Steps
 pub mod Held
 pub mod Layout
+pub mod Indices
 pub mod Instructions
 pub mod Library
 pub mod Calls

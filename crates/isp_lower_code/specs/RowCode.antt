@@ -11,7 +11,9 @@ use Rattle.isp_code.specs.declared.instr.Instr.TheVariants as instr
 use Rattle.isp_code.specs.declared.instr.JumpTest.TheVariants as jump
 use Rattle.isp_code.specs.declared.instr.Plain.TheVariants as plain
 use Rattle.isp_code.specs.declared.instr.VectorInstr.TheVariants as vector
-use Rattle.isp_lower_code.specs.Asks.{Ask, Both, Number, spare_ask}
+use Rattle.isp_typed.specs.Typed.{TExpr, type_of}
+use Rattle.isp_steady.specs.Alone.{alone}
+use Rattle.isp_lower_code.specs.Asks.{Ask, Both, Number, expr_asks, spare_ask}
 use Rattle.isp_lower_code.specs.Instructions.{compare, compute, constant, convert, jump_on, read, read_run, splat, write, write_run}
 use Rattle.isp_lower_code.specs.Layout.{Layout, mask_register, register}
 use Rattle.isp_lower_code.specs.Pieces.{choice, two}
@@ -54,6 +56,11 @@ abbrev pub row_asks : Elem → ℕ → Ask
 row_asks t m =
     Both (spare_ask Uniform t m)
     (Both (spare_ask Uniform Truth m) (Both (spare_ask Uniform I64 m) (Both (spare_ask Varying t m) (Both (spare_ask Varying I64 m) (Both (Number (m + 1)) (Both (spare_ask Varying I32 (m + 1)) (spare_ask Varying t (m + 1))))))))
+
+-- Those of an index at slot n: of its scalar, and of an access that reads it, assigns to it or changes it.
+abbrev pub row_index_asks : TExpr → ℕ → Ask
+row_index_asks i n =
+    Both (expr_asks (alone i) n) (Both (row_asks (type_of i).elem (n + 1)) (Both (row_asks (type_of i).elem (n + 2)) (row_asks (type_of i).elem (n + 3))))
 
 -- an index of this type may stand for a row: a uint64 may be no number of int64
 pub record IsRowType (t : Elem) : Type 0 where

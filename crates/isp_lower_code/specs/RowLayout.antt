@@ -12,13 +12,12 @@ use Rattle.isp_meaning.specs.State.{State}
 use Rattle.isp_steady.specs.Alone.{alone}
 use Rattle.isp_steady.specs.Known.{AreAsKnown, Known, is_known}
 use Rattle.isp_steady.specs.Linear.{linear}
-use Rattle.isp_lower_code.specs.Asks.{Ask, Both, expr_asks}
 use Rattle.isp_lower_code.specs.Code.{expr_code}
 use Rattle.isp_lower_code.specs.Elements.{counts}
 use Rattle.isp_lower_code.specs.Fits.{InTable}
 use Rattle.isp_lower_code.specs.Found.{found}
 use Rattle.isp_lower_code.specs.Layout.{HasNoRows, KnowsNothing, Layout}
-use Rattle.isp_lower_code.specs.RowCode.{row_asks}
+pub use Rattle.isp_lower_code.specs.RowCode.{row_index_asks}
 use Rattle.isp_lower_code.specs.Setting.{IsKnownIn, IsSettled, Setting, Stands}
 use Rattle.isp_lower_code.specs.Sound.{Granted, Links}
 
@@ -38,11 +37,6 @@ with_known known there l =
       row = λ i pc p k n. expr_code l (alone i) pc p k n;
       row_at = λ i n. found l (alone i) n;
     }
-
--- the registers of an index at slot n: of its scalar, and of an access that reads it, assigns to it or changes it
-abbrev pub row_index_asks : TExpr → ℕ → Ask
-row_index_asks i n =
-    Both (expr_asks (alone i) n) (Both (row_asks (type_of i).elem (n + 1)) (Both (row_asks (type_of i).elem (n + 2)) (row_asks (type_of i).elem (n + 3))))
 
 -- the same call by this layout
 abbrev pub knowing : Setting → (ℕ → Known) → (TExpr → ℕ → Bool) → Setting

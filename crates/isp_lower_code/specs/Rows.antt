@@ -6,7 +6,7 @@ use Rattle.isp_base.specs.Ranks.{rank, same_elem}
 use Rattle.isp_base.specs.declared.types.Elem.{Elem}
 use Rattle.isp_base.specs.declared.types.Rate.{Rate}
 use Rattle.isp_base.specs.declared.types.Rate.TheVariants.{Uniform, Varying}
-use Rattle.isp_lower_code.specs.Layout.{Layout, no_rows, nothing_known}
+use Rattle.isp_lower_code.specs.Layout.{Layout, no_rows, nothing_known, sets_none}
 
 pub data Name : Type 0 where
   Variable : ℕ → Name
@@ -82,6 +82,8 @@ layout_of rates rows =
       is_row = no_rows;
       row = λ i pc p k n. [];
       row_at = λ i n. 0;
+      sets = sets_none;
+      there = no_rows;
     }
 
 -- the number of the register that a layout has for a name

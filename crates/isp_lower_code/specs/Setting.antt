@@ -1,13 +1,14 @@
 -- What the laws ask of a call of a compiled function.
-use Rattle.std.specs.Prelude.{◌≡◌, ◌≤◌, ◌<◌, ℕ, suc, ◌+◌, length, Some, true, slice_get}
+use Rattle.std.specs.Prelude.{◌≡◌, ◌≤◌, ◌<◌, ℕ, suc, ◌+◌, List, length, Some, true, false, slice_get}
 use Rattle.isp_base.specs.Sets.{Mask}
 use Rattle.isp_base.specs.declared.types.Elem.{Elem}
+use Rattle.isp_base.specs.declared.types.Elem.TheVariants.{I32}
 use Rattle.isp_base.specs.declared.types.Rate.{Rate}
 use Rattle.isp_base.specs.declared.types.Rate.TheVariants.{Uniform}
 use Rattle.isp_code.specs.Conf.{Conf}
 use Rattle.isp_code.specs.Registers.{elem_of}
 use Rattle.isp_typed.specs.Fine.{FineExpr, HoldsArray}
-use Rattle.isp_typed.specs.Typed.{TExpr, type_of}
+use Rattle.isp_typed.specs.Typed.{TExpr, TRange, type_of}
 use Rattle.isp_typed.specs.declared.variable.ArrayVariable.{ArrayVariable}
 use Rattle.isp_meaning.specs.Calls.{most_calls}
 use Rattle.isp_meaning.specs.Expressions.{value}
@@ -16,8 +17,9 @@ use Rattle.isp_steady.specs.Known.{is_known}
 use Rattle.isp_steady.specs.Values.{IsCounted}
 use Rattle.isp_lower_code.specs.Callees.{rates_in}
 use Rattle.isp_lower_code.specs.Fits.{InTable}
+use Rattle.isp_lower_code.specs.Indices.{AreApart, EachIndex}
 use Rattle.isp_lower_code.specs.Layout.{IsApart, register}
-use Rattle.isp_lower_code.specs.RowCode.{IsRowType, row_asks}
+use Rattle.isp_lower_code.specs.RowCode.{IsRowType, row_asks, row_index_asks}
 use Rattle.isp_lower_code.specs.Runs.{Enters, Runs}
 use Rattle.isp_lower_code.specs.Spans.{expr_places}
 use Rattle.isp_lower_code.specs.Tables.{IsTyped}
@@ -45,10 +47,19 @@ pub record RowRuns (w : Setting) (i : TExpr) (n : ℕ) : Type 0 where
       (λ m c'. IsCounted (type_of i).elem a (c'.scalars (w.layout.row_at i n)) m)
       (value (gang_of w) w.frame (calls_of w) i a s)
 
+-- A `foreach` may set the scalars of its indices: they are different variables that no packed load writes, their scalar registers have the type
+-- of an index; and where the layout says that the registers of a row are there, they are in the table.
+pub record MaySet (w : Setting) (rs : List TRange) : Type 0 where
+  pub apart : AreApart rs
+  pub typed : EachIndex (λ i. IsTyped w Uniform (w.layout.variable Uniform i) I32) rs
+  pub unloaded : EachIndex (λ i. w.layout.loaded i ≡ false) rs
+  pub there : (i : TExpr) (n : ℕ) → w.layout.there i n ≡ true → InTable w (row_index_asks i n)
+
 -- The routine is that of the call, its registers are apart, it hands over as the functions' parameters ask, and its arrays
 -- are those of the function's variables, with the same stores open on both sides; those that run and those that may still
 -- run are as many calls as there may be; a call from here does what it means; the registers of constants that are kept have
--- their types; what is known is of constants; and the code of indices that are taken as rows does what they mean.
+-- their types; what is known is of constants; the code of indices that are taken as rows does what they mean; and where a `foreach` sets scalars
+-- of its indices, it may.
 pub record IsSettled (w : Setting) : Type 0 where
   pub gang : w.code.gang ≡ w.program.gang
   pub found : slice_get w.code.routines w.home.fn ≡ Some w.routine
@@ -64,3 +75,4 @@ pub record IsSettled (w : Setting) : Type 0 where
   pub known : (v : ℕ) → is_known (w.layout.known v) ≡ true → IsKnownIn w v
   pub constants : (r : Rate) (t : Elem) (b : ℕ) → w.layout.kept r t b ≡ true → elem_of w.routine (register r (w.layout.constant r t b)) ≡ t
   pub rows : (i : TExpr) (n : ℕ) → FineExpr w.program.functions w.function.variables i → w.layout.is_row i n ≡ true → RowRuns w i n
+  pub sets : (rs : List TRange) → w.layout.sets rs ≡ true → MaySet w rs

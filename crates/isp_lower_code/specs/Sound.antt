@@ -2,6 +2,7 @@
 -- kinds, its places are there, and its jumps go to instructions of the function.
 use Rattle.std.specs.Prelude.{◌≡◌, ◌≤◌, ◌<◌, ℕ, ◌+◌, List, [], ◌∷◌, length, Some, true, false, slice_get}
 use Rattle.isp_base.specs.declared.types.Elem.{Elem}
+use Rattle.isp_base.specs.declared.types.Elem.TheVariants.{I32}
 use Rattle.isp_base.specs.declared.types.Rate.{Rate}
 use Rattle.isp_base.specs.declared.types.Rate.TheVariants.{Uniform, Varying}
 use Rattle.isp_base.specs.declared.types.Span.{Span}
@@ -13,14 +14,15 @@ use Rattle.isp_code.specs.declared.instr.Instr.{Instr}
 use Rattle.isp_code.specs.declared.register.Class.TheVariants as class
 use Rattle.isp_code.specs.declared.function.Param.{Param}
 use Rattle.isp_typed.specs.Fine.{FineExpr, params_of}
-use Rattle.isp_typed.specs.Typed.{TExpr, TFunction, TSimple, TItem, type_of}
+use Rattle.isp_typed.specs.Typed.{TExpr, TFunction, TRange, TSimple, TItem, type_of}
 use Rattle.isp_typed.specs.declared.variable.Variable.{Variable}
 use Rattle.isp_lower_code.specs.Callees.{rates_in}
 use Rattle.isp_lower_code.specs.Header.{kind_of, elem_held, returns_of}
 use Rattle.isp_typed.specs.declared.variable.ArrayVariable.{ArrayVariable}
+use Rattle.isp_lower_code.specs.Indices.{EachIndex}
 use Rattle.isp_lower_code.specs.Layout.{Layout, class_at, register, array_register}
 use Rattle.isp_lower_code.specs.Rated.{IsRated}
-use Rattle.isp_lower_code.specs.RowCode.{IsRowType, row_asks}
+use Rattle.isp_lower_code.specs.RowCode.{IsRowType, row_asks, row_index_asks}
 use Rattle.isp_lower_code.specs.Rows.{Name, numbered}
 use Rattle.isp_lower_code.specs.Spans.{expr_places}
 use Rattle.isp_lower_code.specs.Asks.{Ask, All, expr_asks, simple_asks, items_asks}
@@ -109,10 +111,16 @@ pub record RowLinked (code : Listing) (h : Routine) (l : Layout) (i : TExpr) (n 
   pub granted : (m : ℕ) → n < m → m ≤ n + 3 → Granted h l (row_asks (type_of i).elem m)
   pub sound : PartSound code h (expr_places l i) (λ pc p k. l.row i pc p k n)
 
+-- where a `foreach` sets the scalars of its indices, they have registers; and what a row asks for is there where the layout says so
+pub record SetsLinked (h : Routine) (l : Layout) (rs : List TRange) : Type 0 where
+  pub singles : EachIndex (λ i. IsRegister h Uniform (l.variable Uniform i) I32) rs
+  pub there : (i : TExpr) (n : ℕ) → l.there i n ≡ true → Granted h l (row_index_asks i n)
+
 -- each function has its routine, code hands over at the rates of the parameters, constants that are kept have their registers, and so have
--- indices that are taken as rows
+-- indices that are taken as rows, and those of which a `foreach` sets scalars
 pub record Links (fs : List TFunction) (code : Listing) (h : Routine) (l : Layout) : Type 0 where
   pub rates : l.rates ≡ rates_in fs
   pub headers : (f : ℕ) (g : TFunction) → slice_get fs f ≡ Some g → HasHeader code f g
   pub constants : HasKept h l
   pub rows : (vars : List Variable) (i : TExpr) (n : ℕ) → FineExpr fs vars i → IsRated fs i → l.is_row i n ≡ true → RowLinked code h l i n
+  pub sets : (rs : List TRange) → l.sets rs ≡ true → SetsLinked h l rs

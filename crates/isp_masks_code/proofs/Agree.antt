@@ -90,6 +90,7 @@ module _ (program : Program) (code : Listing) (all : AreCompiled program code) (
     known = λ v e. absurd (none_known l is.known v e);
     constants = is.kept_typed;
     rows = λ i n fine e. let no : true ≡ false = sym e ∙ is.rows i n in absurd (cc);
+    sets = λ rs e. let no : true ≡ false = sym e ∙ is.sets rs in absurd (cc);
     calls = calls_run program code all 255 f h g l (λ a. a) [] (handed 0 xs) (first_frame xs) n is.found (opened_there n) (sizes_there n) refl;
   }
 

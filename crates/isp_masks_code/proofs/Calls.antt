@@ -172,6 +172,7 @@ module _ (program : Program) (code : Listing) (all : AreCompiled program code) w
         known = λ v e. absurd (none_known l1 compiled.compiled.known v e);
         constants = compiled.compiled.kept_typed;
         rows = λ i m fine e. let no : true ≡ false = sym e ∙ compiled.compiled.rows i m in absurd (cc);
+        sets = λ rs e. let no : true ≡ false = sym e ∙ compiled.compiled.sets rs in absurd (cc);
       }
 
       -- ---- the body

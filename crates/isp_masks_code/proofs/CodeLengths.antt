@@ -20,9 +20,11 @@ use Rattle.isp_lower_code.specs.Code.{expr_code, value_registers, values_code}
 use Rattle.isp_lower_code.specs.Found.{found, operand, operand_of}
 use Rattle.isp_lower_code.specs.Instructions.{copy}
 use Rattle.isp_lower_code.specs.Layout.{Layout, outside}
+use Rattle.isp_lower_code.specs.RowLayout.{KnownRows}
 use Rattle.isp_lower_code.specs.Spans.{expr_places}
+use Rattle.isp_steady.specs.Indices.{indices_of, known_indices}
 use Rattle.isp_lower_code.specs.declared.constant.Constant.{Constant}
-use Rattle.isp_lower_code.proofs.Lemmas.{RowsShort, expr_long, operand_long, index_long, values_long, simple_long, items_long, expr_places_few, values_places_few, simple_places_few, items_places_few}
+use Rattle.isp_lower_code.proofs.Lemmas.{RowsShort, known_rows, expr_long, operand_long, index_long, values_long, simple_long, items_long, expr_places_few, values_places_few, simple_places_few, items_places_few}
 use Rattle.isp_masks_code.specs.Asserts.{fails_code}
 use Rattle.isp_masks_code.specs.Exits.{all_go_on, both_go_on, exits_of, leaving_of}
 use Rattle.isp_masks_code.specs.Fors.{first_code, step_code, first_places, test_places, step_places}
@@ -30,14 +32,14 @@ use Rattle.isp_masks_code.specs.Keeping.{constants_code, keep_steps}
 use Rattle.isp_masks_code.specs.Loops.{endless_code, for_code, is_wide, no_code}
 use Rattle.isp_masks_code.specs.Prints.{own_rates, parts, parts_code, print_code}
 use Rattle.isp_masks_code.specs.Again.{block_again, stmt_again, stmts_again}
-use Rattle.isp_masks_code.specs.Ranges.{RunBodies, bound_code, bounds_code, foreach_code, measures_code, places_slot, ranges_code, ranges_places, runs_slot}
+use Rattle.isp_masks_code.specs.Ranges.{RunBodies, bound_code, bounds_code, foreach_code, measures_code, places_slot, ranges_code, ranges_places, runs_slot, set_bodies}
 use Rattle.isp_masks_code.specs.Rounds.{values_of}
 use Rattle.isp_masks_code.specs.Sets.{leave_code}
 use Rattle.isp_masks_code.specs.Spots.{Numbers, Spot, body_spot, first_spot, past}
 use Rattle.isp_masks_code.specs.Statements.{answer_code, behind, run_bodies, function_code, if_code, if_else_code, rest_code, test_place, block_code, block_places, block_texts, body_layout, returned, stmt_code, stmt_places, stmt_texts, stmts_code, stmts_places, stmts_texts}
-use Rattle.isp_masks_code.proofs.Bodies.{body_as}
+use Rattle.isp_masks_code.proofs.Bodies.{body_as, run_as}
 use Rattle.isp_masks_code.proofs.ConstantBodies.{constants_short}
-use Rattle.isp_masks_code.proofs.PieceLengths.{Most, jump_long, fails_long, if_long, if_else_long, do_long, for_long, endless_long, active_long, unique_long, ranges_long}
+use Rattle.isp_masks_code.proofs.PieceLengths.{Most, jump_long, fails_long, if_long, if_else_long, do_long, for_long, endless_long, active_long, unique_long, ranges_long, set_long}
 use Rattle.isp_masks_code.proofs.Prints.{parts_counted, words_counted}
 use Rattle.isp_masks_code.proofs.FewVariables.{ranges_low}
 
@@ -204,9 +206,13 @@ module _ (fs : List TFunction) (vars : List Variable) (answer : Option Ty) where
         let k = runs_slot spot.slot rs in
         let z1 = past (ranges_places l rs) z in
         let room = 128 * (stmt_nodes x + stmt_again x) in
-        let most : (z2 : Numbers) (pc1 : ℕ) → length (stmt_code lb answer x pc1 z2 (body_spot k)) ≤ room = λ z2 pc1. less (stmt_long lb (body_as RowsShort l rs short (λ o d i pc p k n is. absurd (cc))) x f.2 pc1 z2 (body_spot k)) in
-        let h = foreach_long l short rs pc z.place spot.on spot.slot room (run_bodies lb answer x k z1) (most z1) (most (behind lb x z1)) in
-        omega (arith, h)
+        let rows : KnownRows = known_rows in
+        let m = places_slot spot.slot rs in
+        let most : (z2 : Numbers) (pc1 : ℕ) → length (stmt_code lb answer x pc1 z2 (body_spot k)) ≤ room = λ z2 pc1. less (stmt_long lb (body_as RowsShort l rs short (λ o d i pc p k n is. absurd (cc)) (λ e o d. rows.short (run_as l o d) (known_indices (indices_of rs)) l.there (λ i n. refl))) x f.2 pc1 z2 (body_spot k)) in
+        let full = set_long l rs m room (λ pc1. stmt_code lb answer x pc1 z1 (body_spot k)) (most z1) in
+        let rest = set_long l rs m room (λ pc1. stmt_code lb answer x pc1 (behind lb x z1) (body_spot k)) (most (behind lb x z1)) in
+        let h = foreach_long l short rs pc z.place spot.on spot.slot (room + length rs) (set_bodies l rs m (run_bodies lb answer x k z1)) full rest in
+        omega (arith, h, ranges_low rs)
     stmt_long l short (t_foreach_active w m i x s) f pc z spot =
         let at = body_spot (spot.slot + 1) in
         let h =

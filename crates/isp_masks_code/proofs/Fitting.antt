@@ -9,11 +9,13 @@ use Rattle.isp_typed.specs.declared.variable.Variable as variable
 use Rattle.isp_typed.specs.Typed.{TExpr, t_exprs, type_of, elem_of, TSimple, TFirst, t_first_declare, t_first_simple, TRange, TStmt, t_block, t_declare, t_simple, t_if}
 use Rattle.isp_typed.specs.Typed.{t_if_else, t_while, t_do, t_for, t_foreach, t_foreach_active, t_foreach_unique, t_unmasked, t_jump, t_return, t_print, t_assert, TBlock}
 use Rattle.isp_typed.specs.Typed.{t_braces, TStmts, t_no_stmts, t_stmt_then, TItem, t_plain, t_with_value, t_with_size}
+use Rattle.isp_steady.specs.Indices.{indices_of, known_indices}
+use Rattle.isp_steady.specs.Known.{is_known}
 use Rattle.isp_lower_code.specs.Asks.{Ask}
 use Rattle.isp_lower_code.specs.Fits.{ItemsOther}
 use Rattle.isp_lower_code.specs.Rated.{Reaches}
 use Rattle.isp_lower_code.specs.Setting.{Setting, OtherAt, is_constant}
-use Rattle.isp_lower_code.proofs.Lemmas.{AreFine, ExprTree, IsHeldIn, OperandTree, Owned, OwnTable, owned, expr_fits, operand_fits, values_fit, simple_fits, items_fit, FixedConstant, all_grow, simple_other, within_fixed}
+use Rattle.isp_lower_code.proofs.Lemmas.{AreFine, ExprTree, IsHeldIn, OperandTree, Owned, OwnTable, owned, expr_fits, operand_fits, values_fit, simple_fits, items_fit, FixedConstant, all_grow, named_known, simple_other, within_fixed}
 use Rattle.isp_masks_code.specs.Prints.{own_rates}
 use Rattle.isp_masks_code.specs.Asks.{answer_asks, unique_asks, bound_asks, bounds_asks, places_asks, ranges_asks, part_slot, parts_slot, first_asks, test_part_asks, step_asks, stmt_asks, block_asks, stmts_asks}
 use Rattle.isp_masks_code.specs.Ranges.{places_slot, runs_slot}
@@ -22,12 +24,13 @@ use Rattle.isp_masks_code.proofs.Own.{block_own, stmt_own}
 use Rattle.isp_masks_code.proofs.Parts.{AnswerFits, BoundParts, BoundsParts, RangesTyped, ForeachFits, UniqueFits, FirstFits, TestFits, StepFits, StmtParts, BlockParts, StmtsParts, RangesConstant}
 use Rattle.isp_masks_code.proofs.Rated.{stmt_tree, block_tree}
 use Rattle.isp_masks_code.proofs.Trees.{AnswerTree, RangesTree, FirstTree, TestTree, StepTree, StmtTree, BlockTree, StmtsTree}
-use Rattle.isp_masks_code.proofs.Bodies.{body_as, run_as, with_layout}
+use Rattle.isp_masks_code.proofs.Bodies.{body_as, known_as, named_same, run_as, with_layout}
+use Rattle.isp_masks_code.proofs.Indices.{known_index}
 use Rattle.isp_masks_code.specs.Free.{AreIndices, BlockFree, FirstFree, ItemsFree, StmtFree, StmtsFree, is_index, last_index_of}
-use Rattle.isp_masks_code.specs.Statements.{body_layout}
-use Rattle.isp_lower_code.specs.Layout.{Layout, NoneFixed, is_fixed, outside}
-use Rattle.isp_lower_code.specs.Rows.{Name, Variable, Result, Spare, Place, Fresh, Kept}
-use Rattle.isp_lower_code.specs.Tables.{AnyMask, IsLoadedIn, IsNamedIn}
+use Rattle.isp_masks_code.specs.Statements.{body_layout, last_layout, layout_by}
+use Rattle.isp_lower_code.specs.Layout.{Layout, NoneFixed, is_counter_of, is_fixed, outside}
+use Rattle.isp_lower_code.specs.RowLayout.{with_known}
+use Rattle.isp_lower_code.specs.Tables.{AnyMask, IsLoadedIn}
 use Rattle.isp_typed.specs.Fine.{FineBlock, FineExpr, FineFirst, FineReturned, FineValue, FineRange, FineSimple, FineStmt, FineStmts, HoldsArray}
 use Rattle.isp_typed.specs.Indices.{foreach_index}
 use Rattle.isp_tree.specs.Sound.{IfAny}
@@ -113,19 +116,17 @@ module _ (w : Setting) where
   step_fits None n k f t i = tt
   step_fits (Some x) n k f t i = simple_fits w x n f t i (simple_other w k x f)
 
--- a table is told of registers alone
-named_same : (h : Routine) (l : Layout) (o : Option ℕ) (d : Bool) (r : Rate) (x : Name) (t : Elem) → IsNamedIn h l r x t → IsNamedIn h (run_as l o d) r x t
-named_same h l o d r (Variable v) t f = f
-named_same h l o d r Result t f = f
-named_same h l o d r (Spare u j) t f = f
-named_same h l o d r Place t f = f
-named_same h l o d r (Fresh j) t f = f
-named_same h l o d r (Kept u b) t f = f
-
+-- a table is told of registers alone, whichever variables are known
 table_same : (h : Routine) (l : Layout) (vars : List variable.Variable) (o : Option ℕ) (d : Bool) (a : Ask) → OwnTable h l vars a → OwnTable h (run_as l o d) vars a
 table_same h l vars o d a f =
     all_grow (IsHeldIn h l vars) (IsHeldIn h (run_as l o d) vars) (HoldsArray vars) (HoldsArray vars) (HoldsArray vars) (HoldsArray vars) AnyMask AnyMask
     (IsLoadedIn l) (IsLoadedIn l) (λ r x t f. (named_same h l o d r x t f.0, f.1)) (λ y f. f) (λ y f. f) (λ k f. f) (λ v f. f) a f
+
+table_knows : (h : Routine) (l : Layout) (vars : List variable.Variable) (rs : List TRange) (o : Option ℕ) (d : Bool) (a : Ask) → OwnTable h l vars a → OwnTable h (known_as l rs o d) vars a
+table_knows h l vars rs o d a f =
+    all_grow (IsHeldIn h (run_as l o d) vars) (IsHeldIn h (known_as l rs o d) vars) (HoldsArray vars) (HoldsArray vars) (HoldsArray vars) (HoldsArray vars) AnyMask AnyMask
+    (IsLoadedIn l) (IsLoadedIn l) (λ r x t g. (named_known (known_indices (indices_of rs)) l.there (run_as l o d) h r x t g.0, g.1)) (λ y g. g) (λ y g. g) (λ k g. g) (λ v g. g) a
+    (table_same h l vars o d a f)
 
 values_fine : (w : Setting) (xs : List TExpr) → All (FineExpr w.program.functions w.function.variables) xs → AreFine w (t_exprs xs)
 values_fine w [] f = tt
@@ -138,7 +139,7 @@ last_constant w (r ∷ []) i e f = let same : r.index ≡ i = cc in subst (λ j.
 last_constant w (r ∷ q ∷ rs) i e f = last_constant w (q ∷ rs) i e f.1
 
 -- and so is each index
-index_constant : (w : Setting) (rs : List TRange) (v : ℕ) → RangesConstant w rs → is_index rs v ≡ true → slice_get w.function.variables v ≡ Some foreach_index
+pub index_constant : (w : Setting) (rs : List TRange) (v : ℕ) → RangesConstant w rs → is_index rs v ≡ true → slice_get w.function.variables v ≡ Some foreach_index
 index_constant w [] v f e = absurd (cc)
 index_constant w (r ∷ rs) v f e = by (nat_eq v r.index) refl e (index_constant w rs v f.1)
   where
@@ -152,10 +153,26 @@ or_true : (b : Bool) → (b || true) ≡ true
 or_true true = refl
 or_true false = refl
 
+last_fixed : (l : Layout) (rs : List TRange) → NoneFixed l → AreIndices rs (is_fixed (last_layout l rs))
+last_fixed l [] none v h = absurd (let no : true ≡ false = sym h ∙ none v in cc)
+last_fixed l (r ∷ []) none v h = ap (λ b. b || false) (eq-eqb v r.index (within_fixed l r.index v none h))
+last_fixed l (r ∷ q ∷ rs) none v h = ap (λ b. nat_eq v r.index || b) (last_fixed l (q ∷ rs) none v h) ∙ or_true (nat_eq v r.index)
+
+-- those that are known are indices too
+known_fixed : (l : Layout) (rs : List TRange) → AreIndices rs (is_fixed l) → AreIndices rs (is_fixed (with_known (known_indices (indices_of rs)) l.there l))
+known_fixed l rs bare v h = by (is_counter_of l.run v) refl h
+  where
+    by : (b : Bool) → is_counter_of l.run v ≡ b → (b || is_known (known_indices (indices_of rs) v)) ≡ true → is_index rs v ≡ true
+    by true e h1 = bare v (ap (λ b. b || is_known (l.known v)) e)
+    by false e h1 = known_index rs v h1
+
+fixed_by_layout : (d : Bool) (l : Layout) (rs : List TRange) → NoneFixed l → AreIndices rs (is_fixed (layout_by d l rs))
+fixed_by_layout false l rs none v h = last_fixed l rs none v h
+fixed_by_layout true l [] none v h = absurd (let no : true ≡ false = sym h ∙ none v in cc)
+fixed_by_layout true l (r ∷ rs) none v h = known_fixed (last_layout l (r ∷ rs)) (r ∷ rs) (last_fixed l (r ∷ rs) none) v h
+
 body_fixed : (l : Layout) (rs : List TRange) → NoneFixed l → AreIndices rs (is_fixed (body_layout l rs))
-body_fixed l [] none v h = absurd (let no : true ≡ false = sym h ∙ none v in cc)
-body_fixed l (r ∷ []) none v h = ap (λ b. b || false) (eq-eqb v r.index (within_fixed l r.index v none h))
-body_fixed l (r ∷ q ∷ rs) none v h = ap (λ b. nat_eq v r.index || b) (body_fixed l (q ∷ rs) none v h) ∙ or_true (nat_eq v r.index)
+body_fixed l rs none = fixed_by_layout (l.sets rs) l rs none
 
 body_constant : (w : Setting) (rs : List TRange) (m : Mask) (b : ℕ) → NoneFixed w.layout → RangesConstant w rs → FixedConstant (with_layout w (body_layout w.layout rs) m b)
 body_constant w rs m b none f v e = ap is_constant (index_constant w rs v f (body_fixed w.layout rs none v e))
@@ -180,7 +197,8 @@ mutual
         λ m b. stmt_fits x (with_layout w (body_layout w.layout rs) m b) (runs_slot n rs + 3) (body_constant w rs m b free.0 fits.constants) f.2
             (free.1 (is_fixed (body_layout w.layout rs)) (body_fixed w.layout rs free.0)) t.2
             (body_as (λ l. OwnTable w.routine l w.function.variables (stmt_asks w.frame.answer x (runs_slot n rs + 3))) w.layout rs i.1
-            (λ o d. table_same w.routine w.layout w.function.variables o d (stmt_asks w.frame.answer x (runs_slot n rs + 3)) i.1)),
+            (λ o d. table_same w.routine w.layout w.function.variables o d (stmt_asks w.frame.answer x (runs_slot n rs + 3)) i.1)
+            (λ e o d. table_knows w.routine w.layout w.function.variables rs o d (stmt_asks w.frame.answer x (runs_slot n rs + 3)) i.1)),
       )
   stmt_fits (t_foreach_active g j z x sp) w n k f free t i = ((I64, i.0.0.1), stmt_fits x w (n + 1 + 3) k f.2 free t i.1)
   stmt_fits (t_foreach_unique g j z u e x sp) w n k f free t i = (unique_fits w z u e n f.2.0 t.0 t.1 i.0, stmt_fits x w (n + 1 + 3) k f.3 free t.2 i.1)

@@ -1,5 +1,5 @@
 -- `foreach` does what it means, where the code of its body does: its bounds are taken, then the ranges make their runs.
-use Rattle.std.proofs.Common.{◌≡◌, ℕ, ◌+◌, List, [], ◌++◌, length, ap, ◌∙◌, subst, arith, length-append, append-nil, Some}
+use Rattle.std.proofs.Common.{◌≡◌, ℕ, ◌+◌, List, [], ◌++◌, length, refl, ap, ◌∙◌, subst, arith, length-append, append-nil, Some}
 use Rattle.isp_base.specs.Sets.{Mask}
 use Rattle.isp_code.specs.Conf.{Conf}
 use Rattle.isp_code.specs.declared.instr.Instr.{Instr}
@@ -19,6 +19,7 @@ use Rattle.isp_masks_code.proofs.Bounds.{Measured, bounds_run, measures_run}
 use Rattle.isp_masks_code.proofs.Combine.{stmt_after, with_runs}
 use Rattle.isp_masks_code.proofs.Counting.{rounds_join}
 use Rattle.isp_masks_code.proofs.Parts.{ForeachFits}
+use Rattle.isp_masks_code.proofs.Outers.{no_slots, none_below, outer_slots}
 use Rattle.isp_masks_code.proofs.RangeRuns.{ranges_run}
 use Rattle.isp_masks_code.proofs.RangesHeld.{AreHeld, measures_on, sets_none}
 use Rattle.isp_masks_code.proofs.Sweeps.{passes_to, passes_all}
@@ -28,7 +29,7 @@ use Rattle.isp_masks_code.specs.Free.{last_index_of}
 module _ (w : Setting) (ready : IsSettled w) where
   pub foreach_runs : (rs : List TRange) (pc p : ℕ) (spot : Spot) (q : ℕ) (a : Mask) (s : State) (c : Conf) (counter : ℕ) (code : RunBodies)
       (body : Mask → State → Res) → NoneFixed w.layout → last_index_of rs ≡ Some counter → ForeachFits w rs spot.slot
-      → BodiesRun w counter (runs_slot spot.slot rs) code body → AreAt w.routine.code pc (foreach_code w.layout rs pc p spot.on spot.slot code)
+      → BodiesRun w counter (outer_slots rs (places_slot spot.slot rs) no_slots) (runs_slot spot.slot rs) code body → AreAt w.routine.code pc (foreach_code w.layout rs pc p spot.on spot.slot code)
       → AreAt w.code.places p (ranges_places w.layout rs) → AreThree spot → EntersAt w pc spot a s c q
       → StmtRuns w w.turns c (pc + length (foreach_code w.layout rs pc p spot.on spot.slot code)) spot q
       (with_value (ranges (gang_of w) w.frame (calls_of w) rs a (tick s))
@@ -93,7 +94,8 @@ module _ (w : Setting) (ready : IsSettled w) where
           (subst (λ u. StmtRuns w w.turns c2 end spot (ok.steps + (8 + q)) u) (rounds_join body a list [] s2 ∙ ap (λ rs. rounds body a rs s2) (append-nil list))
           (passes_all w ready c2 end spot (ok.steps + (8 + q)) a v three (ok.masks spot.on (omega (arith, three.low_on)) ∙ first.low.masks spot.on three.low_on ∙ b.mask)
           (passes_to w ready c2 (pc2 + length last) end (places_slot n rs) n (ok.steps + (8 + q)) v ends (omega arith)
-          (ranges_run w ready body a n h counter code none runs rs xs li [] (λ m u. u) (n + 1 + 1) (places_slot n rs) pc2 c2 s2 (ok.steps + (8 + q))
+          (ranges_run w ready body a n h counter (outer_slots rs (places_slot n rs) no_slots) code none runs rs xs li [] (λ m u. u) (n + 1 + 1) (places_slot n rs) pc2 c2 s2 (ok.steps + (8 + q))
+          no_slots refl (none_below (places_slot n rs)) (λ m u v ne. tt)
           (omega (arith, fit.few)) (omega arith) (omega arith) (omega arith) fit.places ok.holds
           (measures_on w n (n + 1 + 1) c1 c2 (omega arith) (record { spares = ok.spares; masks = ok.masks }) first.has)
           (sets_none w ready h (places_slot n rs) c2) (are_back w.routine.code pc1 bounds last rest) ok.at ok.stands (omega (arith, ok.bound))))))

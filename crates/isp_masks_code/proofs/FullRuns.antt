@@ -166,7 +166,7 @@ module _ (w : Setting) (ready : IsSettled w) (none : NoneFixed w.layout) (n h i 
 
   -- ---- the runs, whose code begins at an instruction
 
-  module _ (b : RunBodies) (body : Mask → State → Res) (all : Mask) (bodies : BodiesRun w i h b body) (pc stop : ℕ) (has : AreAt w.routine.code pc (runs_code w.layout d set i e m n h b pc)) (stops : pc + length (runs_code w.layout d set i e m n h b pc) ≡ stop) where
+  module _ (b : RunBodies) (body : Mask → State → Res) (all : Mask) (bodies : BodiesRun w i it.slots h b body) (pc stop : ℕ) (has : AreAt w.routine.code pc (runs_code w.layout d set i e m n h b pc)) (stops : pc + length (runs_code w.layout d set i e m n h b pc) ≡ stop) where
     abbrev alone : Bool
     alone = goes_on d set
 
@@ -434,7 +434,7 @@ module _ (w : Setting) (ready : IsSettled w) (none : NoneFixed w.layout) (n h i 
         here = ap (λ y. number I64 (y place)) f.7 ∙ ran.place
 
         by : number I64 (c2.scalars (wide w.layout n)) ≡ pos g
-        by = ap (λ y. number I64 (y (wide w.layout n))) f.7 ∙ ap (number I64) (ran.low.spares.scalars_stay I64 n (omega (arith, it.slots)) ∙ lo.spares.scalars_stay I64 n (omega (arith, it.slots))) ∙ it.measures.lanes
+        by = ap (λ y. number I64 (y (wide w.layout n))) f.7 ∙ ap (number I64) (ran.low.spares.scalars_stay I64 n (omega (arith, it.above)) ∙ lo.spares.scalars_stay I64 n (omega (arith, it.above))) ∙ it.measures.lanes
 
         place3 : number I64 (c3.scalars place) ≡ z1
         place3 =
@@ -466,7 +466,7 @@ module _ (w : Setting) (ready : IsSettled w) (none : NoneFixed w.layout) (n h i 
     -- what is so of so many runs after one that has all lanes
     abbrev Again : ℕ → ℤ → Type 0
     Again k z =
-        (s : State) (c : Conf) (q : ℕ) → CountsTo g k (z +ℤ pos g) x.end → full z ≡ true → IsNotLess z → FullBegun z s c → 6 + 32 * k + q ≤ 32 * s.work
+        (s : State) (c : Conf) (q : ℕ) → CountsTo g k (z +ℤ pos g) x.end → full z ≡ true → IsNotLess z → FullBegun z s c → 9 + 32 * k + q ≤ 32 * s.work
         → Passes w c stop m q (rounds body all (round z ∷ later k z) s)
 
     behind_full : (al : Bool) (k : ℕ) (z : ℤ) → full (z +ℤ pos g) ≡ al → ((j : ℕ) → k ≡ suc j → Again j (z +ℤ pos g)) → IsNotLess z → CountsTo g k (z +ℤ pos g) x.end
@@ -484,7 +484,7 @@ module _ (w : Setting) (ready : IsSettled w) (none : NoneFixed w.layout) (n h i 
     one_full k z ih s c q counts f low y le =
         let lt = fits_some g x.end z (some_width w.code.gang) f in
         body_part w ready none n h i x e m d set before c0 it body b.full top stop (6 + 32 * k) q z s c (λ s1. rounds body all (later k z) s1) bodies.full
-        (are_front w.routine.code top (b.full top) (refill b.kept h ++ full_back w.layout place m n next) has_turn) lt y.is le
+        (are_front w.routine.code top (b.full top) (refill b.kept h ++ full_back w.layout place m n next) has_turn) lt y.is (omega (arith, le))
         (λ s1 went u ct rt c1 j is comes ran le1. let t = gone z s1 went c c1 lt low y.limited y.is.is.low (λ ek. bodies.whole ek (on_in z) went u ct rt (begun z s) s1 is ∙ sym (everyone_in z f)) ran in
         passes_after w ready c1 t.0 t.1 stop m (j + q) _ t.3 t.4 (behind_full (full (z +ℤ pos g)) k z refl ih low counts s1 t.0 (t.1 + (j + q)) ran.counts t.5 (omega (arith, le1, t.2))))
 
@@ -537,7 +537,7 @@ module _ (w : Setting) (ready : IsSettled w) (none : NoneFixed w.layout) (n h i 
         end1 = ap (number I64) (low01.spares.scalars_stay I64 (e + 1) it.ends) ∙ it.the_end
 
         lanes1 : number I64 (c1.scalars (wide w.layout n)) ≡ pos g
-        lanes1 = ap (number I64) (low01.spares.scalars_stay I64 n (omega (arith, it.slots))) ∙ it.measures.lanes
+        lanes1 = ap (number I64) (low01.spares.scalars_stay I64 n (omega (arith, it.above))) ∙ it.measures.lanes
 
         limited2 : Limited c2
         limited2 = ap (number I64) (put_same c1.scalars last v) ∙ ap₂ (λ a u. number I64 (wrap I64 (a -ℤ u))) end1 lanes1 ∙ back_is I64 (x.end -ℤ pos g) (last_value g x.end (few_width w.code.gang) it.bottom it.high)

@@ -32,8 +32,9 @@ use Rattle.isp_lower_code.proofs.Lemmas.{set_at, set_comes, set_goes, set_spares
 use Rattle.isp_masks_code.specs.Ranges.{wide, narrow, test, lane, last_index, next_index, run_place}
 use Rattle.isp_masks_code.specs.Spots.{body_spot}
 use Rattle.isp_masks_code.specs.StmtRuns.{StmtRuns}
-use Rattle.isp_masks_code.proofs.Bodies.{RunBodyRuns, in_run, run_spares, run_stands, with_layout, within_is}
+use Rattle.isp_masks_code.proofs.Bodies.{OutersAre, RunBodyRuns, in_run, run_spares, run_stands, with_layout, within_is}
 use Rattle.isp_masks_code.proofs.Numbered.{any_run, index_is, next_is, run_before, run_inside}
+use Rattle.isp_masks_code.proofs.Outers.{AreBelow, outers_on, outers_written}
 use Rattle.isp_masks_code.proofs.RangesHeld.{AreSet, HasMeasures, Sets, gang, measures_on, round_after}
 use Rattle.isp_masks_code.proofs.Sweeps.{IsNotLess, Low, Passes, low_on, next_low, passes_after}
 
@@ -109,9 +110,10 @@ module _ (w : Setting) (ready : IsSettled w) (none : NoneFixed w.layout) where
 -- ---- what is asked of the runs: registers have their types, and what they hold in configuration c0 stays
 
 pub record IsRuns (w : Setting) (n h i : ℕ) (x : Range) (e m : ℕ) (d : Bool) (set : List Instr) (before : Mask → State → State) (c0 : Conf) : Type 0 where
+  pub slots : ℕ → Option ℕ
   pub place : IsRunPlace w i h m d (run_place w.layout d m)
   pub index : x.index ≡ i
-  pub slots : n + 1 < m
+  pub above : n + 1 < m
   pub ends : e + 1 < m
   pub below : m + 1 + 1 ≤ h
   pub high : x.end ≤ℤ pos (2 ^ 31)
@@ -124,6 +126,8 @@ pub record IsRuns (w : Setting) (n h i : ℕ) (x : Range) (e m : ℕ) (d : Bool)
   pub the_end : number I64 (c0.scalars (wide w.layout (e + 1))) ≡ x.end
   pub sets : Sets w h m c0 set before
   pub few : length set ≤ 2
+  pub below_it : AreBelow slots m
+  pub outers : (a : Mask) (s : State) → OutersAre w slots i a (before a s) c0
 
 module _ (w : Setting) (ready : IsSettled w) (none : NoneFixed w.layout) (n h i : ℕ) (x : Range) (e m : ℕ) (d : Bool) (set : List Instr) (before : Mask → State → State) (c0 : Conf) (it : IsRuns w n h i x e m d set before c0) where
   second_so : (b k : Bool) → (b && k) ≡ true → k ≡ true
@@ -275,7 +279,7 @@ module _ (w : Setting) (ready : IsSettled w) (none : NoneFixed w.layout) (n h i 
       place4 = ap (number I64) (put_other c1.scalars g b r it.place.apart) ∙ place1
 
       measures3 : HasMeasures w n c3
-      measures3 = measures_on w n m c0 c3 it.slots (low_on w m c0 c c3 t.low (record { spares = spares3; masks = λ j lt. ap (λ f. f j) o.masks })) it.measures
+      measures3 = measures_on w n m c0 c3 it.above (low_on w m c0 c c3 t.low (record { spares = spares3; masks = λ j lt. ap (λ f. f j) o.masks })) it.measures
 
       old : Lanes
       old = c2.vectors u
@@ -347,7 +351,7 @@ module _ (w : Setting) (ready : IsSettled w) (none : NoneFixed w.layout) (n h i 
       same = set_none.none (ap length alone.1)
 
       measures : HasMeasures w n c
-      measures = measures_on w n m c0 c it.slots t.low it.measures
+      measures = measures_on w n m c0 c it.above t.low it.measures
 
       before_it : CountsFrom z (members z) (s.varying i)
       before_it = subst (λ k. Counted k z (members z) (s.varying i)) alone.0 was
@@ -396,7 +400,7 @@ module _ (w : Setting) (ready : IsSettled w) (none : NoneFixed w.layout) (n h i 
 
   -- what comes after it is told how many steps it took
   pub body_part : (body : Mask → State → Res) (code : ℕ → List Instr) (top pc' k q : ℕ) (z : ℤ) (s : State) (c : Conf) (rest : State → Res)
-      → RunBodyRuns w i h code body → AreAt w.routine.code top (code top) → int_lt z x.end ≡ true → Begun top z s c → k + q ≤ 32 * s.work
+      → RunBodyRuns w i it.slots h code body → AreAt w.routine.code top (code top) → int_lt z x.end ≡ true → Begun top z s c → 3 + (k + q) ≤ 32 * s.work
       → ((s1 : State) (g u ct rt : Mask) (c1 : Conf) (j : ℕ) → body (members z) (begins z s) ≡ Went s1 g u ct rt → Comes w c j c1 → Ran (top + length (code top)) z s1 g c c1 → j + (k + q) ≤ 32 * s1.work → Passes w c1 pc' m (j + q) (rest s1))
       → Passes w c pc' m q (go_on (body (members z) (begins z s)) (λ s1 g u ct rt. rest s1))
   body_part body code top pc' k q z s c rest runs has lt b le next =
@@ -410,6 +414,7 @@ module _ (w : Setting) (ready : IsSettled w) (none : NoneFixed w.layout) (n h i 
         inside = run_inside (gang w) x z;
         stands = b.is.stands;
         used = omega (arith, le, b.work);
+        outers = outers_on w it.slots i m a (begins z s) c0 c it.below_it b.is.low (outers_written w it.slots i x.index a a (Each (on a (λ p1. wrap I32 (z +ℤ pos p1)))) (before a s) c0 it.index (it.outers a s));
         counts = it.place.begins a (begins z s) c
             (subst (λ t. CountsFrom t a ((begins z s).varying i)) (sym b.is.place) b.counts);
       }))

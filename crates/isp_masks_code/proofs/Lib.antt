@@ -21,6 +21,10 @@ mod Counting
 mod Sweeps
 mod Numbered
 mod RangesHeld
+mod Indices
+mod Outers
+mod Singles
+mod KnownBodies
 mod LastRuns
 mod FullRuns
 mod RangeRuns

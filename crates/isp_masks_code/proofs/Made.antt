@@ -98,7 +98,7 @@ module _ (fs : List TFunction) (code : Listing) (h : TFunction) (g : Routine) (r
     variables = h.variables;
     fine = fine.body;
     rated = plain;
-    links = record { rates = refl; headers = headers; constants = kept_there g (rates_in fs) rows made.types; rows = λ vars i n fine rated is. absurd (cc) };
+    links = record { rates = refl; headers = headers; constants = kept_there g (rates_in fs) rows made.types; rows = λ vars i n fine rated is. absurd (cc); sets = λ rs is. absurd (cc) };
     present = present.present;
     masks = made.masks;
     constants = made.constants;
@@ -139,6 +139,7 @@ made_compiled program code f h g rows z gang source found fine plain free made s
   outside = refl;
   known = λ v. refl;
   rows = λ i n. refl;
+  sets = λ rs. refl;
   constants = made.constants;
   keeps = made.keeps;
   kept_typed = λ r t b e. (kept_there g (rates_in program.functions) rows made.types r t b e).1;

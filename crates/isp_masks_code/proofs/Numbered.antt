@@ -25,7 +25,7 @@ small_number p lt = ap (number_to 32 (2 ^ 31 - 1)) (mod-eq_of_lt (far p lt)) ∙
     far p lt = omega arith
 
 -- wrapping first does not matter
-wrapped_sum : (z : ℤ) (p : ℕ) → wrap I32 (number I32 (wrap I32 z) +ℤ pos p) ≡ wrap I32 (z +ℤ pos p)
+pub wrapped_sum : (z : ℤ) (p : ℕ) → wrap I32 (number I32 (wrap I32 z) +ℤ pos p) ≡ wrap I32 (z +ℤ pos p)
 wrapped_sum z p = by (same_is I32 z).0 (same_is I32 z).1
   where
     by : (k : ℤ) → number I32 (wrap I32 z) ≡ z +ℤ k *ℤ pos (2 ^ 32) → wrap I32 (number I32 (wrap I32 z) +ℤ pos p) ≡ wrap I32 (z +ℤ pos p)

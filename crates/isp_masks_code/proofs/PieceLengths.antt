@@ -1,5 +1,5 @@
 -- How many instructions small pieces of the code of statements have, given how many their parts have at most.
-use Rattle.std.proofs.Common.{ℕ, ◌+◌, ◌*◌, ◌≤◌, List, [], ◌∷◌, ◌++◌, length, Bool, true, false, arith, length-append}
+use Rattle.std.proofs.Common.{◌≡◌, ℕ, ◌+◌, ◌*◌, ◌≤◌, List, [], ◌∷◌, ◌++◌, length, Bool, true, false, refl, arith, length-append}
 use Rattle.isp_base.specs.declared.types.Rate.{Rate}
 use Rattle.isp_base.specs.declared.types.Rate.TheVariants.{Uniform, Varying}
 use Rattle.isp_code.specs.declared.instr.Instr.{Instr}
@@ -17,7 +17,7 @@ use Rattle.isp_lower_code.specs.Pieces.{guard, two}
 use Rattle.isp_masks_code.specs.Asserts.{fails_code}
 use Rattle.isp_masks_code.specs.Exits.{nobody_leaves}
 use Rattle.isp_masks_code.specs.Loops.{copy_mask, if_needed, enter_code, loop_end_code, jump_all, rejoin_code, turn_code, sift_code, live_code, again_code, next_code, loop_code, tested_code, no_code, do_code, for_code, endless_code}
-use Rattle.isp_masks_code.specs.Ranges.{RunBodies, full_back, full_code, goes_on, index_step, last_index, narrow, next_from, outer_index, ranges_code, refill, rest_run, run_place, runs_code, test, wide}
+use Rattle.isp_masks_code.specs.Ranges.{RunBodies, begun, singles_code, full_back, full_code, goes_on, index_step, last_index, narrow, next_from, outer_index, ranges_code, refill, rest_run, run_place, runs_code, test, wide}
 use Rattle.isp_masks_code.specs.Rounds.{Values, active_code, rounds_code, take_code, unique_code, value_code}
 use Rattle.isp_masks_code.specs.Sets.{clear_mask, jump_code, jumped_code, unite}
 use Rattle.isp_masks_code.specs.Spots.{Spot, under, widely}
@@ -245,6 +245,22 @@ module _ (l : Layout) where
       let full = guard (jump_on jump.False (test l (m + 1))) pc3 (full_code l alone body.kept own i x m n h body.full) in
       let tail = pc3 + length full in
       omega (arith, length-append set index, length-append full (rest_run l own x e h body.rest tail), full_long alone body.kept own i x m n h a body.full (pc3 + 1) fa, rest_long own x e h a body.rest tail fb)
+
+  -- the scalars of the indices are one instruction each
+  pub singles_long : (rs : List TRange) (m : ℕ) → length (singles_code l rs m) ≡ length rs
+  singles_long [] m = refl
+  singles_long (r ∷ []) m = refl
+  singles_long (r ∷ q ∷ rs) m = omega (arith, singles_long (q ∷ rs) (m + 1 + 1))
+
+  pub set_long : (rs : List TRange) (m a : ℕ) (body : ℕ → List Instr) → Most a body → Most (a + length rs) (begun (l.sets rs) (singles_code l rs m) body)
+  set_long rs m a body fa = go (l.sets rs)
+    where
+      own : List Instr
+      own = singles_code l rs m
+
+      go : (d : Bool) → Most (a + length rs) (begun d own body)
+      go false pc = omega (arith, fa pc)
+      go true pc = omega (arith, length-append own (body (pc + length own)), fa (pc + length own), singles_long rs m)
 
   pub ranges_long : (n h a : ℕ) (body : RunBodies) (rs : List TRange) (set : List Instr) (e m pc : ℕ) → Most a body.full → Most a body.rest
       → length (ranges_code l n h body rs set e m pc) ≤ a + a + 2 * length set + 8 * length rs + 19

@@ -1,5 +1,5 @@
 -- The ranges of a `foreach` make its runs: by recursion on the ranges, the last of which is taken in runs.
-use Rattle.std.proofs.Common.{◌≡◌, ℕ, ◌+◌, ◌*◌, ◌<◌, ◌≤◌, List, [], ◌∷◌, ◌++◌, length, map, Some, Bool, true, false, refl, sym, ap, ap₂, ◌∙◌, subst, arith, length-append}
+use Rattle.std.proofs.Common.{◌≡◌, ℕ, ◌+◌, ◌*◌, ◌<◌, ◌≤◌, List, [], ◌∷◌, ◌++◌, length, map, Option, Some, Bool, true, false, refl, sym, ap, ap₂, ◌∙◌, subst, arith, length-append}
 use Rattle.std.specs.Prelude.{slice_get, ◌≢◌, ℤ, int_lt, not, if◌then◌else◌}
 use Rattle.std.proofs.Math.Nat.{one-mul}
 use Rattle.std.proofs.Math.Path.{fun_ext}
@@ -26,22 +26,24 @@ use Rattle.isp_lower_code.specs.Setting.{Setting, IsSettled, AreAt, At, Stands}
 use Rattle.isp_lower_code.proofs.Lemmas.{are_front, put_same, put_other, comes_on, jumped, jump_comes, jump_at, set_at, set_comes, set_goes, set_spares, set_stands}
 use Rattle.isp_masks_code.specs.Free.{last_index_of}
 use Rattle.isp_masks_code.specs.Ranges.{RunBodies, wide, narrow, test, outer_index, ranges_code}
-use Rattle.isp_masks_code.proofs.Bodies.{BodiesRun}
+use Rattle.isp_masks_code.proofs.Bodies.{BodiesRun, OutersAre}
 use Rattle.isp_masks_code.proofs.Counting.{counts_ones, counts_runs, counted_by, turns_cost, map_of_joined, map_of_map}
 use Rattle.isp_masks_code.proofs.FullRuns.{runs_all}
 use Rattle.isp_masks_code.proofs.LastRuns.{IsRuns, run_place_is}
 use Rattle.isp_masks_code.proofs.Parts.{RangesTyped}
+use Rattle.isp_masks_code.proofs.Outers.{AreBelow, one_below, outer_slots, outers_more, with_slot}
 use Rattle.isp_masks_code.proofs.RangesHeld.{AreHeld, HasMeasures, Sets, gang, held_on, measures_on, round_after, sets_more, with_index}
 use Rattle.isp_masks_code.proofs.Sweeps.{Low, low_all, low_on, Passes, passes_after, passes_to, IsSweep, sweep_runs}
 
-module _ (w : Setting) (ready : IsSettled w) (body : Mask → State → Res) (all : Mask) (n h counter : ℕ) (code : RunBodies) (none : NoneFixed w.layout) (runs : BodiesRun w counter h code body) where
+module _ (w : Setting) (ready : IsSettled w) (body : Mask → State → Res) (all : Mask) (n h counter : ℕ) (slots : ℕ → Option ℕ) (code : RunBodies) (none : NoneFixed w.layout) (runs : BodiesRun w counter slots h code body) where
   one_some : (i j : ℕ) → Some i ≡ Some j → i ≡ j
   one_some i j e = cc
 
-  -- what the ranges from one on do, whose bounds begin at slot e and whose places begin at slot m
+  -- what the ranges from one on do, whose bounds begin at slot e and whose places begin at slot m; the values of those outside are in some slots
   abbrev pub RangesRun : List TRange → List Range → Type 0
   RangesRun rs xs =
       last_index_of rs ≡ Some counter → (set : List Instr) (before : Mask → State → State) (e m pc : ℕ) (c0 : Conf) (s : State) (q : ℕ)
+      → (outer : ℕ → Option ℕ) → slots ≡ outer_slots rs m outer → AreBelow outer m → ((a : Mask) (s1 : State) → OutersAre w outer counter a (before a s1) c0)
       → length set + length rs ≤ 3 → n + 1 < e → e + (length rs + length rs) ≤ m → m + (length rs + length rs) ≤ h → RangesTyped w rs m
       → AreHeld w rs xs e c0 → HasMeasures w n c0 → Sets w h m c0 set before
       → AreAt w.routine.code pc (ranges_code w.layout n h code rs set e m pc) → At w c0 pc → Stands w s c0
@@ -73,7 +75,7 @@ module _ (w : Setting) (ready : IsSettled w) (body : Mask → State → Res) (al
     begun_stands s st = set_stands w ready Uniform c0 I64 m (One (c0.scalars (wide w.layout e))) s st
 
   last_range : (r : TRange) (x : Range) → RangesRun (r ∷ []) (x ∷ [])
-  last_range r x li set before e m pc c0 s q few ne em mh typed held measures sets has at st le =
+  last_range r x li set before e m pc c0 s q outer is_outer below_it told few ne em mh typed held measures sets has at st le =
       subst (λ rs. Passes w c0 stop m q (rounds body all rs s)) (sym (map_of_map (round_after before) (last_run (gang w) x) (from_on (gang w) count x.start)))
       (runs_all w ready none n h r.index x e m d set before c0 it code body all own pc stop has refl count x.start s c0 q held.0.start held.0.low
       (counts_runs w.code.gang count x.start x.end refl) at (low_all w m c0) st (omega (arith, le, one-mul count)))
@@ -87,14 +89,20 @@ module _ (w : Setting) (ready : IsSettled w) (body : Mask → State → Res) (al
       count : ℕ
       count = runs_for (gang w) (length_of x)
 
-      own : BodiesRun w r.index h code body
-      own = subst (λ j. BodiesRun w j h code body) (sym (one_some r.index counter li)) runs
+      same : counter ≡ r.index
+      same = sym (one_some r.index counter li)
+
+      own : BodiesRun w r.index outer h code body
+      own = subst (λ (f : ℕ → Option ℕ). BodiesRun w r.index f h code body) is_outer (subst (λ j. BodiesRun w j slots h code body) same runs)
 
       it : IsRuns w n h r.index x e m d set before c0
       it = record {
         place = run_place_is w ready none r.index h m d refl (omega (arith, mh)) typed.0.run typed.0.place;
         index = held.0.index;
-        slots = omega (arith, ne, em);
+        slots = outer;
+        above = omega (arith, ne, em);
+        below_it = below_it;
+        outers = λ a s1. subst (λ j. OutersAre w outer j a (before a s1) c0) same (told a s1);
         ends = omega (arith, em);
         below = omega (arith, mh);
         high = held.0.high;
@@ -110,7 +118,7 @@ module _ (w : Setting) (ready : IsSettled w) (body : Mask → State → Res) (al
       }
 
   outer_range : (r q : TRange) (rs : List TRange) (x y : Range) (ys : List Range) → RangesRun (q ∷ rs) (y ∷ ys) → RangesRun (r ∷ q ∷ rs) (x ∷ y ∷ ys)
-  outer_range r q rs x y ys inner li set before e m pc c0 s u few ne em mh typed held measures sets has at st le =
+  outer_range r q rs x y ys inner li set before e m pc c0 s u outer is_outer below_it told few ne em mh typed held measures sets has at st le =
       passes_after w ready c0 c1 1 stop' m u _ (begun_comes e m pc c0 below has.0 at) lo1
       (passes_to w ready c1 stop stop' m m (1 + u) _ ends (omega arith)
       (subst (λ rs. Passes w c1 stop m (1 + u) (rounds body all rs s)) lists
@@ -220,6 +228,8 @@ module _ (w : Setting) (ready : IsSettled w) (body : Mask → State → Res) (al
           (record { spares = set_spares w ready Uniform c I32 (m + 1) (m + 1) (One b) (omega arith); masks = λ j lt. refl })
           (passes_to w ready c2 (top + 1 + 1 + 1 + length (inner_code (top + 1 + 1 + 1))) (top + 1 + 1 + length (inside (top + 1 + 1))) (m + 1 + 1) (m + 1) (1 + v) _ (omega arith) (omega arith)
           (inner li more (with_index x.index z before) (e + 1 + 1) (m + 1 + 1) (top + 1 + 1 + 1) c2 s1 (1 + v)
+          (with_slot r.index (m + 1) outer) is_outer (one_below r.index m outer below_it)
+          (subst (λ j. (a : Mask) (s2 : State) → OutersAre w (with_slot r.index (m + 1) outer) counter a (with_index j z before a s2) c2) (sym held.0.index) (outers_more w outer counter r.index m z before c0 c2 below_it lo02 bits told))
           (omega (arith, few, length-append set (outer_index w.layout r.index (m + 1) h ∷ []))) (omega (arith, ne)) (omega (arith, em))
           (omega (arith, mh)) typed.1 (held_on w (q ∷ rs) (y ∷ ys) (e + 1 + 1) m c0 c2 (omega (arith, em)) lo02 held.1)
           (measures_on w n m c0 c2 (omega (arith, ne, below)) lo02 measures)
@@ -260,11 +270,11 @@ module _ (w : Setting) (ready : IsSettled w) (body : Mask → State → Res) (al
       }
 
   pub ranges_run : (rs : List TRange) (xs : List Range) → RangesRun rs xs
-  ranges_run [] [] li set before e m pc c0 s q few ne em mh typed held measures sets has at st le = absurd (cc)
-  ranges_run [] (x ∷ xs) li set before e m pc c0 s q few ne em mh typed held measures sets has at st le = absurd held
-  ranges_run (r ∷ rs) [] li set before e m pc c0 s q few ne em mh typed held measures sets has at st le = absurd held
-  ranges_run (r ∷ []) (x ∷ []) li set before e m pc c0 s q few ne em mh typed held measures sets has at st le = last_range r x li set before e m pc c0 s q few ne em mh typed held measures sets has at st le
-  ranges_run (r ∷ []) (x ∷ y ∷ ys) li set before e m pc c0 s q few ne em mh typed held measures sets has at st le = absurd held.1
-  ranges_run (r ∷ p ∷ rs) (x ∷ []) li set before e m pc c0 s q few ne em mh typed held measures sets has at st le = absurd held.1
-  ranges_run (r ∷ p ∷ rs) (x ∷ y ∷ ys) li set before e m pc c0 s q few ne em mh typed held measures sets has at st le = outer_range r p rs x y ys
-      (ranges_run (p ∷ rs) (y ∷ ys)) li set before e m pc c0 s q few ne em mh typed held measures sets has at st le
+  ranges_run [] [] li set before e m pc c0 s q outer is_outer below_it told few ne em mh typed held measures sets has at st le = absurd (cc)
+  ranges_run [] (x ∷ xs) li set before e m pc c0 s q outer is_outer below_it told few ne em mh typed held measures sets has at st le = absurd held
+  ranges_run (r ∷ rs) [] li set before e m pc c0 s q outer is_outer below_it told few ne em mh typed held measures sets has at st le = absurd held
+  ranges_run (r ∷ []) (x ∷ []) li set before e m pc c0 s q outer is_outer below_it told few ne em mh typed held measures sets has at st le = last_range r x li set before e m pc c0 s q outer is_outer below_it told few ne em mh typed held measures sets has at st le
+  ranges_run (r ∷ []) (x ∷ y ∷ ys) li set before e m pc c0 s q outer is_outer below_it told few ne em mh typed held measures sets has at st le = absurd held.1
+  ranges_run (r ∷ p ∷ rs) (x ∷ []) li set before e m pc c0 s q outer is_outer below_it told few ne em mh typed held measures sets has at st le = absurd held.1
+  ranges_run (r ∷ p ∷ rs) (x ∷ y ∷ ys) li set before e m pc c0 s q outer is_outer below_it told few ne em mh typed held measures sets has at st le = outer_range r p rs x y ys
+      (ranges_run (p ∷ rs) (y ∷ ys)) li set before e m pc c0 s q outer is_outer below_it told few ne em mh typed held measures sets has at st le

@@ -15,17 +15,20 @@ use Rattle.isp_tree.specs.declared.stmt.Form.TheVariants.{Plain, Coherent}
 use Rattle.isp_tree.specs.declared.stmt.Jump.{Jump}
 use Rattle.isp_tree.specs.declared.stmt.Jump.TheVariants.{Break, Continue}
 use Rattle.isp_typed.specs.Typed.{TExpr, type_of, elem_of as type_elem, TSimple, TFirst, t_first_declare, t_first_simple, TStmt, t_block, t_declare, t_simple, t_if, t_if_else, t_while, t_do, t_for, t_foreach}
-use Rattle.isp_typed.specs.Typed.{t_foreach_active, t_foreach_unique, t_unmasked, t_jump, t_return, t_print, t_assert, TBlock, t_braces, TStmts, t_no_stmts, t_stmt_then, TFunction}
+use Rattle.isp_typed.specs.Typed.{t_foreach_active, t_foreach_unique, t_unmasked, t_jump, t_return, t_print, t_assert, TBlock, t_braces, TStmts, t_no_stmts, t_stmt_then, TFunction, TRange}
 use Rattle.isp_lower_code.specs.Code.{expr_code}
 use Rattle.isp_lower_code.specs.Found.{found, operand, operand_of}
 use Rattle.isp_lower_code.specs.Instructions.{jump_off, copy}
 use Rattle.isp_lower_code.specs.Pieces.{guard}
 use Rattle.isp_lower_code.specs.Spans.{expr_places}
 use Rattle.isp_lower_code.specs.Layout.{Layout, class_at, register, outside}
+use Rattle.isp_lower_code.specs.RowCode.{row_index_asks}
+use Rattle.isp_lower_code.specs.RowLayout.{KnownRows}
+use Rattle.isp_steady.specs.Indices.{indices_of, known_indices}
 use Rattle.isp_masks_code.specs.Exits.{exits_of, all_go_on, both_go_on, leaving_of}
 use Rattle.isp_masks_code.specs.Fors.{first_code, step_code, first_places, step_places}
 use Rattle.isp_masks_code.specs.Loops.{endless_code, for_code, is_wide, jump_all, no_code}
-use Rattle.isp_masks_code.specs.Ranges.{ranges_places, runs_slot}
+use Rattle.isp_masks_code.specs.Ranges.{places_slot, ranges_places, runs_slot, set_bodies}
 use Rattle.isp_masks_code.specs.Rounds.{values_of}
 use Rattle.isp_masks_code.specs.Sets.{unite, leave_code, jump_code, jumped_code}
 use Rattle.isp_masks_code.specs.declared.exits.Leaving.{Leaving}
@@ -34,16 +37,16 @@ use Rattle.isp_masks_code.specs.Spots.{Numbers, Spot, body_spot, first_spot, pas
 use Rattle.isp_masks_code.specs.Statements.{behind, run_bodies, rest_code, parted_code, kept_code, both_kept_code, left_code, wide_code, if_code, if_else_code, answer_code, returned, stmt_places, block_places, stmts_places, stmt_texts, block_texts, stmts_texts, stmt_code, block_code, stmts_code, function_code, body_layout, test_place}
 use Rattle.isp_masks_code.specs.Asks.{unique_asks, part_asks, first_asks, step_asks, answer_asks, block_asks, stmt_asks, stmts_asks}
 use Rattle.isp_lower_code.specs.Sound.{AreSound, Links, PartSound, IsRegister, Granted, ExprPresent, HasRegister, HasArray, HasLocal, HasMask}
-use Rattle.isp_lower_code.proofs.Lemmas.{found_there, operand_there, sound_both, copy_sound, here_then, value_sound, part_sound, simple_sound, items_sound, ExprTree, OperandTree, all_grow}
+use Rattle.isp_lower_code.proofs.Lemmas.{found_there, operand_there, sound_both, copy_sound, here_then, value_sound, part_sound, simple_sound, items_sound, ExprTree, OperandTree, all_grow, granted_known, known_rows}
 use Rattle.isp_masks_code.proofs.Combine.{part_spot}
-use Rattle.isp_masks_code.proofs.SoundRanges.{foreach_sound}
+use Rattle.isp_masks_code.proofs.SoundRanges.{foreach_sound, set_sound}
 use Rattle.isp_masks_code.proofs.SoundLoops.{HereSound, ValuesThere, whole, active_sound, unique_sound, unmasked_sound, guard_sound, two_sound, for_sound, endless_sound, turned_sound}
 use Rattle.isp_masks_code.specs.Keeping.{Each, constants_asks, constants_code}
 use Rattle.isp_masks_code.proofs.ConstantsSound.{constants_sound}
 use Rattle.isp_masks_code.proofs.SoundAsserts.{assert_sound}
 use Rattle.isp_masks_code.proofs.SoundPrints.{print_sound}
 use Rattle.isp_masks_code.proofs.Trees.{AnswerTree, BlockTree, FirstTree, StepTree, StmtTree, StmtsTree}
-use Rattle.isp_masks_code.proofs.Bodies.{body_as, run_as}
+use Rattle.isp_masks_code.proofs.Bodies.{body_as, known_as, run_as}
 use Rattle.isp_lower_code.specs.Rows.{Name, Variable, Result, Spare, Place, Fresh, Kept}
 use Rattle.isp_lower_code.specs.Tables.{AnyArray, IsLoadedIn}
 use Rattle.isp_lower_code.specs.Asks.{All, Ask}
@@ -221,9 +224,6 @@ module _ (code : Listing) (h : Routine) where
         (operand_there fs h l links.constants t.rate t.elem x n is.0 is.1 f.1) lk) lt
 
   -- which variable counts the lanes of a run is no matter to what is there
-  links_same : (fs : List TFunction) (l : Layout) (o : Option ℕ) (d : Bool) → Links fs code h l → Links fs code h (run_as l o d)
-  links_same fs l o d links = record { rates = links.rates; headers = links.headers; constants = links.constants; rows = λ vars i n fine rated is. absurd (cc) }
-
   register_same : (l : Layout) (o : Option ℕ) (d : Bool) (r : Rate) (x : Name) (t : Elem) → HasRegister h l r x t → HasRegister h (run_as l o d) r x t
   register_same l o d r (Variable v) t f = f
   register_same l o d r Result t f = f
@@ -236,6 +236,24 @@ module _ (code : Listing) (h : Routine) where
   granted_same l o d a f =
       all_grow (HasRegister h l) (HasRegister h (run_as l o d)) (HasArray h l) (HasArray h (run_as l o d)) (HasLocal h l) (HasLocal h (run_as l o d))
       (HasMask h) (HasMask h) (IsLoadedIn l) (IsLoadedIn l) (λ r x t. register_same l o d r x t) (λ y f. f) (λ y f. f) (λ k f. f) (λ v f. f) a f
+
+  links_same : (fs : List TFunction) (l : Layout) (o : Option ℕ) (d : Bool) → Links fs code h l → Links fs code h (run_as l o d)
+  links_same fs l o d links = record {
+    rates = links.rates;
+    headers = links.headers;
+    constants = links.constants;
+    rows = λ vars i n fine rated is. absurd (cc);
+    sets = λ rs is. let s = links.sets rs is in record { singles = s.singles; there = λ i n e. granted_same l o d (row_index_asks i n) (s.there i n e) };
+  }
+
+  -- where indices are known
+  links_known : (fs : List TFunction) (l : Layout) (rs : List TRange) (o : Option ℕ) (d : Bool) → Links fs code h l → l.sets rs ≡ true → Links fs code h (known_as l rs o d)
+  links_known fs l rs o d links is =
+      let rows : KnownRows = known_rows in
+      rows.linked fs code h (run_as l o d) (known_indices (indices_of rs)) l.there (links_same fs l o d links) (λ i n e. granted_same l o d (row_index_asks i n) ((links.sets rs is).there i n e))
+
+  granted_as : (l : Layout) (rs : List TRange) (o : Option ℕ) (d : Bool) (a : Ask) → Granted h l a → Granted h (known_as l rs o d) a
+  granted_as l rs o d a f = granted_known (known_indices (indices_of rs)) l.there (run_as l o d) h a (granted_same l o d a f)
 
   -- the values of `foreach_unique`, and their registers
   any_operand : (t : Elem) (e : TExpr) → OperandTree Varying (worked t) e → OperandTree Varying (type_elem e) e
@@ -371,12 +389,16 @@ module _ (code : Listing) (h : Routine) where
           let e2 = length-append px px in
           let t1 = length-append (stmt_texts x) (stmt_texts x) in
           let own : HasMasks (body_spot k) = (f.0.1.1.1.1.0, f.0.1.1.1.1.1.0, f.0.1.1.1.1.1.1) in
-          let linked = body_as (λ m. Links fs code h m) l rs links (λ o d. links_same fs l o d links) in
-          let granted = body_as (λ m. Granted h m (stmt_asks answer x (k + 3))) l rs f.1 (λ o d. granted_same l o d (stmt_asks answer x (k + 3)) f.1) in
-          foreach_sound code h l fs links rs z.place spot.on n (run_bodies lb answer x k z1) is.1 f.0.0 f.0.1.0
-          f.0.1.1.0 lm.0 own.0 (omega (arith, e1, pl)) (λ pc1 lt1. stmt_sound x lb linked pc1 z1 (body_spot k) is.2 granted own
-          (omega (arith, e1, e2, pl)) (omega (arith, t1, tx)) lt1) (λ pc1 lt1. stmt_sound x lb linked pc1 z2 (body_spot k) is.2 granted own
-          (omega (arith, e1, e2, pl)) (omega (arith, t1, tx)) lt1) pc lt
+          let linked = body_as (λ m. Links fs code h m) l rs links (λ o d. links_same fs l o d links) (λ e o d. links_known fs l rs o d links e) in
+          let granted = body_as (λ m. Granted h m (stmt_asks answer x (k + 3))) l rs f.1 (λ o d. granted_same l o d (stmt_asks answer x (k + 3)) f.1) (λ e o d. granted_as l rs o d (stmt_asks answer x (k + 3)) f.1) in
+          let m = places_slot n rs in
+          let some : 0 < h.masks = omega (arith, own.0) in
+          foreach_sound code h l fs links rs z.place spot.on n (set_bodies l rs m (run_bodies lb answer x k z1)) is.1 f.0.0 f.0.1.0
+          f.0.1.1.0 lm.0 own.0 (omega (arith, e1, pl))
+          (set_sound code h l fs links rs m (λ pc1. stmt_code lb answer x pc1 z1 (body_spot k)) f.0.1.1.0 some
+          (λ pc1 lt1. stmt_sound x lb linked pc1 z1 (body_spot k) is.2 granted own (omega (arith, e1, e2, pl)) (omega (arith, t1, tx)) lt1))
+          (set_sound code h l fs links rs m (λ pc1. stmt_code lb answer x pc1 z2 (body_spot k)) f.0.1.1.0 some
+          (λ pc1 lt1. stmt_sound x lb linked pc1 z2 (body_spot k) is.2 granted own (omega (arith, e1, e2, pl)) (omega (arith, t1, tx)) lt1)) pc lt
       stmt_sound (t_foreach_active w g i x sp) l links pc z spot is f lm pl tx lt =
           let n = spot.slot in
           let own : HasMasks (body_spot (n + 1)) = (f.0.1.1.1.1.0, f.0.1.1.1.1.1.0, f.0.1.1.1.1.1.1) in

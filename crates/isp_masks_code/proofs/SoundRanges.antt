@@ -20,12 +20,13 @@ use Rattle.isp_lower_code.specs.Instructions.{compare, compute, constant, conver
 use Rattle.isp_lower_code.specs.Known.{constant_of}
 use Rattle.isp_lower_code.specs.Pieces.{guard, two}
 use Rattle.isp_lower_code.specs.Spans.{expr_places}
+use Rattle.isp_lower_code.specs.Indices.{EachIndex}
 use Rattle.isp_lower_code.specs.Layout.{Layout}
 use Rattle.isp_lower_code.specs.Rated.{Reaches}
 use Rattle.isp_lower_code.specs.Sound.{AreSound, Granted, IsRegister, IsSound, Links}
 use Rattle.isp_lower_code.proofs.Lemmas.{sound_both, compare_sound, constant_sound, convert_sound, copy_sound, splat_sound, found_there, value_sound, ExprTree, OperandTree}
 use Rattle.isp_masks_code.specs.Asks.{bound_asks, bounds_asks, measures_asks, place_asks, places_asks}
-use Rattle.isp_masks_code.specs.Ranges.{RunBodies, goes_on, wide, narrow, test, lane, lane_numbers, sum_lanes, range_mask, places_slot, runs_slot, measures_code, bound_code, bounds_code, ranges_places, sweep_code, outer_index, last_index, index_step, next_from, refill, full_back, full_code, full_test, rest_run, run_place, runs_code, ranges_code, foreach_code}
+use Rattle.isp_masks_code.specs.Ranges.{RunBodies, begun, singles_code, goes_on, wide, narrow, test, lane, lane_numbers, sum_lanes, range_mask, places_slot, runs_slot, measures_code, bound_code, bounds_code, ranges_places, sweep_code, outer_index, last_index, index_step, next_from, refill, full_back, full_code, full_test, rest_run, run_place, runs_code, ranges_code, foreach_code}
 use Rattle.isp_masks_code.specs.Rounds.{fill_mask}
 use Rattle.isp_masks_code.proofs.Bounds.{bound_is}
 use Rattle.isp_masks_code.proofs.SoundLoops.{HereSound, two_sound}
@@ -256,6 +257,27 @@ module _ (code : Listing) (h : Routine) (l : Layout) where
         sound_both code h ca (cb ++ cr) (bound_sound r.start pc p k n is.0 is.1 f.0 lk (omega (arith, g1, g2, pl)) (omega (arith, e1, e2, lt)))
         (sound_both code h cb cr (bound_sound r.end pc1 p1 k (n + 1) is.2 is.3 f.1.1.0 lk (omega (arith, g1, g2, pl)) (omega (arith, e1, e2, lt)))
         (bounds_sound rs pc2 p2 k (n + 1 + 1) is.4 f.1.1.1.1 lk (omega (arith, g1, g2, pl)) (omega (arith, e1, e2, lt))))
+
+    -- before the body
+    singles_sound : (rs : List TRange) (m : ℕ) → EachIndex (λ i. IsRegister h Uniform (l.variable Uniform i) I32) rs → Granted h l (places_asks rs m) → 0 < h.masks
+        → AreSound code h (singles_code l rs m)
+    singles_sound [] m f p some = tt
+    singles_sound (r ∷ []) m f p some = (convert_sound code h Uniform I32 I64 (l.variable Uniform r.index) (l.place Uniform) 0 f.0 p.0.1.1.1.1.1.1.1 some, tt)
+    singles_sound (r ∷ q ∷ rs) m f p some =
+        (copy_sound code h Uniform I32 (l.variable Uniform r.index) (narrow l (m + 1)) 0 f.0 p.0.1.1.1.0 some, singles_sound (q ∷ rs) (m + 1 + 1) f.1 p.1.1 some)
+
+    pub set_sound : (rs : List TRange) (m : ℕ) (body : ℕ → List Instr) → Granted h l (places_asks rs m) → 0 < h.masks → HereSound code h body
+        → HereSound code h (begun (l.sets rs) (singles_code l rs m) body)
+    set_sound rs m body p some fb = go (l.sets rs) refl
+      where
+        own : List Instr
+        own = singles_code l rs m
+
+        go : (d : Bool) → l.sets rs ≡ d → HereSound code h (begun d own body)
+        go false e pc lt = fb pc lt
+        go true e pc lt =
+            let next = body (pc + length own) in
+            sound_both code h own next (singles_sound rs m (links.sets rs e).singles p some) (fb (pc + length own) (omega (arith, lt, length-append own next)))
 
     pub foreach_sound : (rs : List TRange) (p k n : ℕ) (body : RunBodies) → RangesTree fs rs → Granted h l (measures_asks n)
         → Granted h l (bounds_asks rs (n + 1 + 1)) → Granted h l (places_asks rs (places_slot n rs)) → k < h.masks → runs_slot n rs < h.masks

@@ -22,7 +22,7 @@ use Rattle.isp_lower_code.specs.Setting.{Setting, IsSettled, gang_of, calls_of, 
 use Rattle.isp_lower_code.proofs.Lemmas.{are_front, are_back, comes_none, at_to, spares_all, expr_runs, few, enters_less, enters_part, items_run, simple_runs, ExprParts}
 use Rattle.isp_masks_code.specs.Asserts.{fails_code}
 use Rattle.isp_masks_code.specs.Named.{AllNamed, AreNamed, BlockNamed, Named}
-use Rattle.isp_masks_code.specs.Ranges.{ranges_places, runs_slot, places_slot}
+use Rattle.isp_masks_code.specs.Ranges.{ranges_places, runs_slot, places_slot, set_bodies}
 use Rattle.isp_masks_code.specs.Spots.{Numbers, Spot, body_spot, past}
 use Rattle.isp_masks_code.specs.Statements.{behind, run_bodies, rest_code, if_code, if_else_code, stmt_places, stmt_code, block_code, stmts_code, stmt_texts, body_layout}
 use Rattle.isp_masks_code.specs.Exits.{either_leaves, exits_of, block_exits, nobody_leaves, all_go_on, both_go_on, leaving_of}
@@ -42,13 +42,13 @@ use Rattle.isp_masks_code.proofs.Names.{named_back, named_front, named_past}
 use Rattle.isp_masks_code.proofs.Sequences.{set_aside, rest_runs, then_runs}
 use Rattle.isp_masks_code.proofs.Prints.{print_runs}
 use Rattle.isp_masks_code.proofs.Parts.{BlockParts, StmtParts, StmtsParts, RangesTyped}
-use Rattle.isp_masks_code.proofs.Bodies.{foreach_body, outside_back, outside_settled, outside_stands, with_layout}
+use Rattle.isp_masks_code.proofs.Bodies.{outside_back, outside_settled, outside_stands, with_layout}
+use Rattle.isp_masks_code.proofs.KnownBodies.{foreach_body}
 use Rattle.isp_masks_code.specs.Free.{last_index_of}
 use Rattle.isp_lower_code.specs.Layout.{outside}
 use Rattle.isp_lower_code.specs.Tables.{IsTyped}
-use Rattle.isp_base.specs.declared.types.Rate.TheVariants.{Varying}
-use Rattle.isp_base.specs.declared.types.Elem.TheVariants.{I32}
-use Rattle.isp_masks_code.proofs.Fitting.{last_constant}
+use Rattle.isp_base.specs.declared.types.Rate.TheVariants.{Uniform, Varying}
+use Rattle.isp_base.specs.declared.types.Elem.TheVariants.{I32, I64}
 
 module _ (w : Setting) (ready : IsSettled w) where
   -- a test, and what follows it for the same set
@@ -83,6 +83,10 @@ last_typed : (w : Setting) (rs : List TRange) (i m : ℕ) → last_index_of rs �
 last_typed w [] i m e f = absurd (cc)
 last_typed w (r ∷ []) i m e f = let same : r.index ≡ i = cc in subst (λ j. IsTyped w Varying (w.layout.variable Varying j) I32) same f.0.index
 last_typed w (r ∷ q ∷ rs) i m e f = last_typed w (q ∷ rs) i (m + 1 + 1) e f.1
+
+place_typed : (w : Setting) (rs : List TRange) (m : ℕ) → 1 ≤ length rs → RangesTyped w rs m → IsTyped w Uniform (w.layout.place Uniform) I64
+place_typed w [] m some f = absurd (omega (arith, some))
+place_typed w (r ∷ rs) m some f = f.0.run
 
 mutual
   pub stmt_runs : (x : TStmt) (w : Setting) (ready : IsSettled w) (pc : ℕ) (z : Numbers) (spot : Spot) (q : ℕ) (a : Mask) (s : State) (c : Conf)
@@ -141,9 +145,9 @@ mutual
       let px = stmt_places l1 x in
       let own = named_past w.code z pl _ _ names in
       let part = λ (z2 : Numbers) (named : AreNamed w.code z2 px (stmt_texts x)).
-      foreach_body w ready fit.1 rs last.0 x h z2 last.1 (last_typed w rs last.0 (places_slot spot.slot rs) last.1 fit.0.places) (last_constant w rs last.0 last.1 fit.0.constants) named
+      foreach_body w ready fit.1 rs last.0 (places_slot spot.slot rs) x h z2 last.1 fit.0.few (place_typed w rs (places_slot spot.slot rs) fit.0.some fit.0.places) (last_typed w rs last.0 (places_slot spot.slot rs) last.1 fit.0.places) fit.0.constants named
       (λ m k ready1 T s1 c1 pc1 y at named1 en. body_runs (with_layout w l1 m k) ready1 x h z2 (stmt_runs x (with_layout w l1 m k) ready1) (fit.2 m k) named1 T s1 c1 pc1 y at en) in
-      foreach_runs w ready rs pc z.place spot (0 + q) a s c last.0 (run_bodies l1 w.frame.answer x h z1) (run (gang_of w) w.frame (calls_of w) w.turns x) fit.1 last.1 fit.0
+      foreach_runs w ready rs pc z.place spot (0 + q) a s c last.0 (set_bodies w.layout rs (places_slot spot.slot rs) (run_bodies l1 w.frame.answer x h z1)) (run (gang_of w) w.frame (calls_of w) w.turns x) fit.1 last.1 fit.0
       (record {
         full = part z1 (named_front w.code z1 px px (stmt_texts x) (stmt_texts x) own);
         rest = part (behind l1 x z1) (named_back w.code z1 px px (stmt_texts x) (stmt_texts x) own);

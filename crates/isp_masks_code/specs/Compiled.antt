@@ -22,7 +22,7 @@ use Rattle.isp_meaning.specs.Runs.{handed, first_frame, first_state}
 use Rattle.isp_meaning.specs.Expressions.{Passed}
 use Rattle.isp_meaning.specs.State.{State, Frame}
 use Rattle.isp_lower_code.specs.Callees.{rates_in}
-use Rattle.isp_lower_code.specs.Layout.{HasNoRows, KnowsNothing, Layout, IsApart, register}
+use Rattle.isp_lower_code.specs.Layout.{HasNoRows, KnowsNothing, Layout, IsApart, SetsNone, register}
 use Rattle.isp_lower_code.specs.Setting.{Setting, AreAt}
 use Rattle.isp_lower_code.specs.Tables.{Table}
 use Rattle.isp_lower_code.specs.declared.constant.Constant.{Constant}
@@ -97,6 +97,7 @@ pub record IsCompiled (program : Program) (code : Listing) (f : ℕ) (h : TFunct
   pub outside : l.in_run ≡ false
   pub known : KnowsNothing l
   pub rows : HasNoRows l
+  pub sets : SetsNone l
   -- the constants are those that the layout keeps, in registers of their types, as are the spare ones through which vectors get them
   pub keeps : KeepsThem l constants
   pub kept_typed : (r : Rate) (t : Elem) (b : ℕ) → l.kept r t b ≡ true → elem_of g (register r (l.constant r t b)) ≡ t

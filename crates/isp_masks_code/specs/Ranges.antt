@@ -1,6 +1,7 @@
 -- The code of `foreach`, given the code of its body, which stands twice: for the runs that have all lanes, and for the one after
--- them. Slots n and n + 1 have what all runs use; then each range has two slots, for its start and its end, and after these two
--- for its place and its index; slot h, after all, is the first of the body's masks.
+-- them; and before each, where the layout says so, what sets the scalars of the indices. Slots n and n + 1 have what all runs use; then
+-- each range has two slots, for its start and its end, and after these two for its place and its index; slot h, after all, is the first of
+-- the body's masks.
 use Rattle.std.specs.Prelude.{ℕ, ◌+◌, List, [], ◌∷◌, ◌++◌, length, Bool, true, false}
 use Rattle.isp_base.specs.declared.operators.Compare.TheVariants.{Less, LessOrEqual}
 use Rattle.isp_base.specs.declared.types.Elem.TheVariants.{Bool as Truth, I32, I64}
@@ -63,6 +64,11 @@ abbrev pub refill : Bool → ℕ → List Instr
 refill true h = []
 refill false h = fill_mask h ∷ []
 
+-- Code before that of a body, where there is any.
+abbrev pub begun : Bool → List Instr → (ℕ → List Instr) → ℕ → List Instr
+begun false own body = body
+begun true own body = λ pc. two pc own body
+
 module _ (l : Layout) where
   abbrev pub wide : ℕ → ℕ
   wide i = l.spare Uniform I64 i
@@ -122,6 +128,19 @@ module _ (l : Layout) where
 
   abbrev pub next_index : ℕ → ℕ → ℕ → Instr
   next_index i n h = compute Varying plain.Add (l.variable Varying i) (l.variable Varying i) (lane (n + 1)) h
+
+  -- ---- the scalars of the indices, where the body begins
+
+  -- That of the last one is the place, and those of the others stand in the slots of their ranges, whose places begin at slot m.
+  abbrev pub singles_code : List TRange → ℕ → List Instr
+  singles_code [] m = []
+  singles_code (r ∷ []) m = convert Uniform (l.variable Uniform r.index) (l.place Uniform) 0 ∷ []
+  singles_code (r ∷ q ∷ rs) m = copy Uniform (l.variable Uniform r.index) (narrow (m + 1)) 0 ∷ singles_code (q ∷ rs) (m + 1 + 1)
+
+  -- both codes of the body, where they are set before it
+  abbrev pub set_bodies : List TRange → ℕ → RunBodies → RunBodies
+  set_bodies rs m body =
+      record { full = begun (l.sets rs) (singles_code rs m) body.full; rest = begun (l.sets rs) (singles_code rs m) body.rest; kept = body.kept }
 
   -- ---- its runs that have all lanes, under mask h, which has all
 

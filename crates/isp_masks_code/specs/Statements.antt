@@ -22,6 +22,8 @@ use Rattle.isp_lower_code.specs.Pieces.{two, guard, choice}
 use Rattle.isp_lower_code.specs.Spans.{expr_places}
 use Rattle.isp_lower_code.specs.Items.{items_code, items_places}
 use Rattle.isp_lower_code.specs.Simple.{simple_code, simple_places}
+use Rattle.isp_lower_code.specs.RowLayout.{with_known}
+use Rattle.isp_steady.specs.Indices.{indices_of, known_indices}
 use Rattle.isp_lower_code.specs.declared.constant.Constant.{Constant}
 use Rattle.isp_masks_code.specs.Asserts.{assert_code, assert_places}
 use Rattle.isp_masks_code.specs.Exits.{exits_of, all_go_on, both_go_on, leaving_of}
@@ -29,7 +31,7 @@ use Rattle.isp_masks_code.specs.Fors.{back_code, first_code, step_code, first_pl
 use Rattle.isp_masks_code.specs.Loops.{copy_mask, is_wide, jump_all, next_code, turn_code, while_code, for_code, endless_code, do_code}
 use Rattle.isp_masks_code.specs.Keeping.{constants_code}
 use Rattle.isp_masks_code.specs.Prints.{print_code, print_places, print_texts}
-use Rattle.isp_masks_code.specs.Ranges.{RunBodies, foreach_code, ranges_places, runs_slot}
+use Rattle.isp_masks_code.specs.Ranges.{RunBodies, foreach_code, places_slot, ranges_places, runs_slot, set_bodies}
 use Rattle.isp_masks_code.specs.Rounds.{unmasked_code, active_code, values_of, unique_code}
 use Rattle.isp_masks_code.specs.Sets.{unite, leave_code, jump_code, jumped_code}
 use Rattle.isp_masks_code.specs.Spots.{Numbers, Spot, body_spot, first_spot, past, under, widely}
@@ -134,12 +136,21 @@ module _ (l : Layout) where
   returned None = None
   returned (Some t) = Some (register t.rate (l.result t.rate))
 
--- ---- the layout of a body: of a `foreach`, whose last index may count the lanes of each run
+-- ---- the layout of a body: of a `foreach`, whose last index may count the lanes of each run; where the scalars of its indices are set, these
+-- are known
+
+abbrev pub last_layout : Layout → List TRange → Layout
+last_layout l [] = l
+last_layout l (r ∷ []) = within l r.index
+last_layout l (r ∷ q ∷ rs) = last_layout l (q ∷ rs)
+
+abbrev pub layout_by : Bool → Layout → List TRange → Layout
+layout_by false l rs = last_layout l rs
+layout_by true l [] = l
+layout_by true l (r ∷ rs) = with_known (known_indices (indices_of (r ∷ rs))) l.there (last_layout l (r ∷ rs))
 
 abbrev pub body_layout : Layout → List TRange → Layout
-body_layout l [] = l
-body_layout l (r ∷ []) = within l r.index
-body_layout l (r ∷ q ∷ rs) = body_layout l (q ∷ rs)
+body_layout l rs = layout_by (l.sets rs) l rs
 
 -- ---- the places that code names, in order
 
@@ -218,7 +229,8 @@ abbrev mutual
       let lb = body_layout l rs in
       let z1 = past (ranges_places l rs) z in
       let at = body_spot (runs_slot spot.slot rs) in
-      foreach_code l rs pc z.place spot.on spot.slot (record { full = λ pc1. stmt_code lb answer x pc1 z1 at; rest = λ pc1. stmt_code lb answer x pc1 (behind lb x z1) at; kept = all_go_on x })
+      let bodies : RunBodies = record { full = λ pc1. stmt_code lb answer x pc1 z1 at; rest = λ pc1. stmt_code lb answer x pc1 (behind lb x z1) at; kept = all_go_on x } in
+      foreach_code l rs pc z.place spot.on spot.slot (set_bodies l rs (places_slot spot.slot rs) bodies)
   stmt_code l answer (t_foreach_active w g i x sp) pc z spot =
       active_code (l.variable Uniform i) pc spot.on spot.slot (λ pc1. stmt_code l answer x pc1 z (body_spot (spot.slot + 1)))
   stmt_code l answer (t_foreach_unique w g i t e x sp) pc z spot =

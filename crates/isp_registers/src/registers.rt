@@ -36,12 +36,23 @@ pub struct RegisterRow {
 
 /// The registers that a function has so far, by class: the number of one is that of the first row of its name. The variables that
 /// packed loads write are rows too, which are no registers.
-#[derive(Drop)]
 pub struct Registers {
     pub scalars: RegisterRows,
     pub vectors: RegisterRows,
     pub arrays: RegisterRows,
     pub loaded: RegisterRows,
+}
+
+// Written, so that each way out of a function that owns registers lets go of them by one call; a derived one is eight.
+impl Drop for Registers {
+    fn drop(self) {
+        let Registers {
+            scalars: _,
+            vectors: _,
+            arrays: _,
+            loaded: _,
+        } = self;
+    }
 }
 
 /// A register of a name that says its type: the next one where there is none.
