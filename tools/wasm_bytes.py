@@ -75,6 +75,8 @@ def lane_rows():
         for op, word in (("Eq", "eq"), ("Ne", "ne"), ("LtU", "lt_u"), ("LtS", "lt_s")):
             if (op, shape) != ("LtU", "I64x2"):
                 yield set_row(f"{word}_{name}", two(f"(CompareLanes {shape} {op})"), f"{name}.{word}", ("v128", "v128"), "v128")
+        for op, word in (("Shl", "shl"), ("ShrU", "shr_u"), ("ShrS", "shr_s")):
+            yield set_row(f"{word}_{name}", two(f"(ShiftLanes {shape} {op})"), f"{name}.{word}", ("v128", "i32"), "v128")
         yield set_row(f"splat_{name}", one(f"(Splat {shape})"), f"{name}.splat", (lane,), "v128")
         yield set_row(f"bitmask_{name}", one(f"(Bitmask {shape})"), f"{name}.bitmask", ("v128",), "i32")
         for place in (0, 128 // width - 1):
@@ -236,7 +238,7 @@ def theorems():
              "use Rattle.isp_wasm_meaning.specs.Syntax.{I8x16, I16x8, I32x4, I64x2, I32, I64, Add, Sub, Mul, And, Or, Xor, Shl, ShrU, ShrS, "
              "Eq, Ne, LtU, LtS, DivU, RemU}",
              "use Rattle.isp_wasm_meaning.specs.Syntax.{Eqz, Ctz, Wrap, ExtendU, ExtendS, Extend8S, Extend16S, Splat, Extract, ExtendLow, ExtendHigh, Bitmask}",
-             "use Rattle.isp_wasm_meaning.specs.Syntax.{Of, BitsOf, ShiftOf, Compare, Lanes, CompareLanes, Bits, Replace, Shuffle}",
+             "use Rattle.isp_wasm_meaning.specs.Syntax.{Of, BitsOf, ShiftOf, Compare, Lanes, CompareLanes, ShiftLanes, Bits, Replace, Shuffle}",
              "use Rattle.isp_wasm_meaning.specs.Syntax.{Const32, Const64, Const128, Local, One, Two, Select, Bitselect}",
              "use Rattle.isp_wasm_meaning.specs.Syntax.{Skip, Then, Set, Load, Store, Divide, If, Block, Loop, Br, BrTable, Return, Unreachable, Call, Write, Fail}",
              "use Rattle.isp_wasm_meaning.specs.Syntax.{SignedText, UnsignedText, TruthText, ByteText, Print, GetGlobal, SetGlobal, Clear}",

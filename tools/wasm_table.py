@@ -44,8 +44,11 @@ def vectors(width):
 
 
 def operands(kind):
+    """Returns the numbers that an operand of a kind is tried with; a width stands for the amount of a shift."""
     if kind == "address":
         return [0, 1, 5, 8]
+    if isinstance(kind, int):
+        return [0, 1, kind - 1, kind, kind + 3]
     if kind in SHAPES:
         return vectors(SHAPES[kind][1])
     return vectors(8) if kind == "v128" else edges(BITS[kind])
@@ -79,6 +82,8 @@ def table():
         for op, word in (("Eq", "eq"), ("Ne", "ne"), ("LtU", "lt_u"), ("LtS", "lt_s")):
             if (op, shape) != ("LtU", "I64x2"):
                 rows.append((f"{word}_{name}", f"binary (CompareLanes {shape} {op})", f"{name}.{word}", (shape, shape), "v128"))
+        for op, word in (("Shl", "shl"), ("ShrU", "shr_u"), ("ShrS", "shr_s")):
+            rows.append((f"{word}_{name}", f"binary (ShiftLanes {shape} {op})", f"{name}.{word}", (shape, width), "v128"))
         rows.append((f"splat_{name}", f"unary (Splat {shape})", f"{name}.splat", (lane,), "v128"))
         for place in (0, 128 // width - 1):
             signless = "_u" if width < 32 else ""
@@ -128,7 +133,7 @@ def text(rows):
                 value = f"({row[3][1]}.load (i32.const 16))"
                 lines.append(f"  (func (export \"f{place}\") ({row[2]} {at} {value}) (v128.store (i32.const 48) (v128.load (i32.const 64))))")
             continue
-        kinds = [kind if kind in BITS else "v128" for kind in row[3]]
+        kinds = ["i32" if isinstance(kind, int) else kind if kind in BITS else "v128" for kind in row[3]]
         given = " ".join(f"({kind}.load (i32.const {16 * at}))" for at, kind in enumerate(kinds))
         lines.append(f"  (func (export \"f{place}\") ({row[4]}.store (i32.const 48) ({row[2]} {given})))")
     return "\n".join([*lines, ")"])
@@ -185,7 +190,7 @@ def theorems(rows, results):
              "use Rattle.isp_wasm_meaning.specs.Syntax.{I8x16, I16x8, I32x4, I64x2, I32, I64, Add, Sub, Mul, And, Or, Xor, Shl, ShrU, ShrS, "
              "Eq, Ne, LtU, LtS, DivU, RemU}",
              "use Rattle.isp_wasm_meaning.specs.Syntax.{Eqz, Ctz, Wrap, ExtendU, ExtendS, Extend8S, Extend16S, Splat, Extract, ExtendLow, ExtendHigh, Bitmask}",
-             "use Rattle.isp_wasm_meaning.specs.Syntax.{Of, BitsOf, ShiftOf, Compare, Lanes, CompareLanes, Bits, Replace, Shuffle}",
+             "use Rattle.isp_wasm_meaning.specs.Syntax.{Of, BitsOf, ShiftOf, Compare, Lanes, CompareLanes, ShiftLanes, Bits, Replace, Shuffle}",
              "use Rattle.isp_wasm_meaning.specs.Syntax.{Const32, Const128, Select, Bitselect}",
              "use Rattle.isp_wasm_meaning.specs.Meaning.{unary, binary, quotient, trailing, value, loaded, stored}", "",
              "-- bytes in memory", "abbrev pattern : ℕ → ℕ", "pattern i = (37 * i + 200) % 256", "",

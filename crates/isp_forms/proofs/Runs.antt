@@ -5,7 +5,7 @@ use Rattle.isp_code.specs.Listing.{Listing}
 use Rattle.isp_code.specs.Machine.{advance, after}
 use Rattle.isp_forms.specs.Laws.{RunsByForms}
 use Rattle.isp_forms.specs.Runs.{Forms, all_kept, IsStep, IsRun, LooksLike, StatesLook, AreHarmless}
-use Rattle.isp_forms.specs.declared.form.Form.TheVariants.{Kept, Free, Useless}
+use Rattle.isp_forms.specs.declared.form.Form.TheVariants.{Kept, Free, Useless, KeptBy, FreeBy}
 
 module _ (code : Listing) (forms : Forms) where
   pub own_run : (m : ℕ) (s t : State) → after code m s ≡ t → IsRun code forms m s t
@@ -26,11 +26,19 @@ not_free e = cc
 not_useless : Kept ≡ Useless → ⊥
 not_useless e = cc
 
+not_kept_by : (b : ℕ) → Kept ≡ KeptBy b → ⊥
+not_kept_by b e = cc
+
+not_free_by : (b : ℕ) → Kept ≡ FreeBy b → ⊥
+not_free_by b e = cc
+
 module _ (code : Listing) where
   kept_step : (s t : State) → IsStep code all_kept s t → advance code s ≡ t
   kept_step (Runs c) t (inl e) = e
   kept_step (Runs c) t (inr (inl f)) = absurd (not_free f.before.form_is)
-  kept_step (Runs c) t (inr (inr f)) = absurd (not_useless f.before.form_is)
+  kept_step (Runs c) t (inr (inr (inl f))) = absurd (not_useless f.before.form_is)
+  kept_step (Runs c) t (inr (inr (inr (inl f)))) = absurd (not_kept_by f.at.amount f.at.before.form_is)
+  kept_step (Runs c) t (inr (inr (inr (inr f)))) = absurd (not_free_by f.at.amount f.at.before.form_is)
   kept_step (Trapped x c) t (inl e) = e
   kept_step (Trapped x c) t (inr f) = absurd f
   kept_step (Ended x c) t (inl e) = e

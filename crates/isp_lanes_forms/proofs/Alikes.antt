@@ -57,6 +57,15 @@ module _ (code : Listing) (rows : Rows) where
   pub alike_itself : (a : Conf) → Alike code rows a a
   alike_itself a = record { same = refl; lanes = λ v p r. refl; waiting = all_itself a.waiting }
 
+  -- the same, but for vectors, whose lanes are equal
+  pub alike_by_lanes : (a b : Conf) → b ≡ record a { vectors = b.vectors } → ((v p : ℕ) → a.vectors v p ≡ b.vectors v p) → Alike code rows a b
+  alike_by_lanes a b same lanes =
+      record {
+        same = same ∙ ap (λ ws. let y : Conf = record a { waiting = ws; vectors = b.vectors } in y) (sym (ap (λ (z : Conf). z.waiting) same));
+        lanes = λ v p r. lanes v p;
+        waiting = subst (AllAlike code rows a.waiting) (sym (ap (λ (z : Conf). z.waiting) same)) (all_itself a.waiting);
+      }
+
   pub with_out : (a b : Conf) (o : List ℕ) → Alike code rows a b → Alike code rows (record a { out = o }) (record b { out = o })
   with_out a b o alike = record { same = ap (λ (z : Conf). let y : Conf = record z { out = o } in y) alike.same; lanes = alike.lanes; waiting = alike.waiting }
 

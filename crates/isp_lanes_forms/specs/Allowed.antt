@@ -1,6 +1,6 @@
 -- Forms that tables allow: a free instruction is one whose lanes that are off nobody reads again, a useless one writes what
 -- nobody reads.
-use Rattle.std.specs.Prelude.{◌≡◌, ℕ, ◌+◌, List, Option, Some, None, true, not, ◌&&◌, if◌then◌else◌, slice_get}
+use Rattle.std.specs.Prelude.{◌≡◌, ℕ, ◌+◌, Option, Some, None, true, not, ◌&&◌, if◌then◌else◌, slice_get}
 use Rattle.isp_code.specs.Listing.{Listing, Routine}
 use Rattle.isp_code.specs.declared.instr.Instr.{Instr}
 use Rattle.isp_code.specs.declared.instr.Instr.TheVariants as instr
@@ -8,7 +8,8 @@ use Rattle.isp_code.specs.declared.instr.VectorInstr.{VectorInstr}
 use Rattle.isp_code.specs.declared.register.Register.{Register}
 use Rattle.isp_forms.specs.Runs.{Forms}
 use Rattle.isp_forms.specs.declared.form.Form.{Form}
-use Rattle.isp_forms.specs.declared.form.Form.TheVariants.{Kept, Free, Useless}
+use Rattle.isp_forms.specs.declared.form.Form.TheVariants.{Kept, Free, Useless, FreeBy}
+use Rattle.isp_constants.specs.Amounts.{AmountsHold}
 use Rattle.isp_lanes_read.specs.Free.{is_free, is_useless, is_call}
 use Rattle.isp_lanes_read.specs.Laws.{MasksHold, RunsAgree, FreeWrites}
 use Rattle.isp_lanes_read.specs.Rows.{Row, Rows, row_at}
@@ -30,15 +31,21 @@ form_in row next pc (Some h) = form_at row next (slice_get h.code pc)
 abbrev pub forms_of : Listing → Rows → Forms
 forms_of code rows f pc = form_in (row_at rows f pc) (row_at rows f (pc + 1)) pc (slice_get code.routines f)
 
--- what tables allow, of each instruction on vectors
-pub record AreAllowed (code : Listing) (rows : Rows) (forms : Forms) : Type 0 where
-  pub free : (f : ℕ) (h : Routine) (pc : ℕ) (d : Register) (i : VectorInstr) → slice_get code.routines f ≡ Some h → slice_get h.code pc ≡ Some (instr.Vector d i)
-      → forms f pc ≡ Free → is_free (row_at rows f pc) (row_at rows f (pc + 1)) (instr.Vector d i) ≡ true
-  pub useless : (f : ℕ) (h : Routine) (pc : ℕ) (d : Register) (i : VectorInstr) → slice_get code.routines f ≡ Some h → slice_get h.code pc ≡ Some (instr.Vector d i)
-      → forms f pc ≡ Useless → is_useless (row_at rows f (pc + 1)) (instr.Vector d i) ≡ true
+-- what the rows before and after an instruction have to tell for a form
+abbrev pub IsAllowed : Row → Row → Instr → Form → Type 0
+IsAllowed row next i Free = is_free row next i ≡ true
+IsAllowed row next i (FreeBy b) = is_free row next i ≡ true
+IsAllowed row next i Useless = is_useless next i ≡ true
+IsAllowed row next i form = Unit {0}
 
--- Where the laws of isp_lanes_read hold of tables, forms that they allow are harmless wherever a run begins, and so are those
--- that the tables tell.
+-- what tables allow, of each instruction on vectors
+abbrev pub AreAllowed : Listing → Rows → Forms → Type 0
+AreAllowed code rows forms =
+    (f : ℕ) (h : Routine) (pc : ℕ) (d : Register) (i : VectorInstr) → slice_get code.routines f ≡ Some h → slice_get h.code pc ≡ Some (instr.Vector d i)
+    → IsAllowed (row_at rows f pc) (row_at rows f (pc + 1)) (instr.Vector d i) (forms f pc)
+
+-- Where the laws of isp_lanes_read hold of tables, forms that they allow are harmless wherever a run begins, if operands that are told as
+-- numbers have them; and the tables allow those that they tell.
 pub record FormsAreHarmless : Type 0 where
-  pub allowed : (code : Listing) (rows : Rows) → MasksHold code rows → RunsAgree code rows → FreeWrites code rows → (forms : Forms) → AreAllowed code rows forms → BeginHarmless code forms
+  pub allowed : (code : Listing) (rows : Rows) → MasksHold code rows → RunsAgree code rows → FreeWrites code rows → (forms : Forms) → AreAllowed code rows forms → AmountsHold code forms → BeginHarmless code forms
   pub told : (code : Listing) (rows : Rows) → AreAllowed code rows (forms_of code rows)

@@ -21,7 +21,6 @@ use Rattle.isp_code.specs.declared.register.Class.TheVariants as class
 use Rattle.isp_code.specs.declared.register.Register.{Register}
 use Rattle.isp_forms.specs.Writes.{mask_under}
 use Rattle.isp_forms.specs.declared.form.Form.{Form}
-use Rattle.isp_forms.specs.declared.form.Form.TheVariants.{Free}
 use Rattle.isp_wasm_meaning.specs.Syntax as wasm
 use Rattle.isp_wasm_meaning.specs.Syntax.{Expr, Const32, Select, Two}
 use Rattle.isp_wasm_meaning.specs.Meaning.{State, Result, Fell, run, value, chosen, flag, set_local}
@@ -34,6 +33,7 @@ use Rattle.isp_wasm.specs.Standing.{Stands, Holds, IsSettled, the_machine, vecto
 use Rattle.isp_wasm.specs.Thin.{IsInteger, IsVector, IsScalar}
 use Rattle.isp_wasm.proofs.WordLaws.{chosen_is}
 use Rattle.isp_wasm.proofs.Cells.{by_lane_is}
+use Rattle.isp_wasm.proofs.Steps.{IsWritten}
 use Rattle.isp_wasm.proofs.Vectors.{narrow, chosen_over, lanes_fall, scalar_fits, vector_fits}
 use Rattle.isp_wasm.proofs.Scalars.{falls_scalar}
 use Rattle.isp_wasm.proofs.Picks.{lane_named, lane_of_two, lane_first, modulo_is, modulo_two, turned_lane, lane_low, two_low, shifted_lane, picked_is, picked_low, lane_zero_is, scan_is}
@@ -178,7 +178,7 @@ module _ (w : Setting) (ready : IsSettled w) (fuel n k : ℕ) (call : ℕ → Li
   each_lane : (d : ℕ) (i : VectorInstr) (v : Lanes) (e : ℕ → Expr) → slice_get w.routine.code pc ≡ Some (instr.Vector (vector_register d) i)
       → act w.code w.routine c (instr.Vector (vector_register d) i) ≡ Go (set_vector c (vector_register d) (on (c.masks (mask_under i).number) v))
       → ((l : ℕ → ℕ) → Holds w c.scalars c.vectors c.masks l → (p : ℕ) → p < gang w → (value l (e p) ≡ v p) × (v p < 2 ^ width (elem w (vector_register d))))
-      → (form : Form) → (form ≡ Free → w.forms w.home.fn pc ≡ Free) → Good (pc + 1) c (run fuel call (set_lanes w form (vector_register d) (mask_under i) (by_lane w (elem w (vector_register d)) e)) s)
+      → (form : Form) → IsWritten w pc form → Good (pc + 1) c (run fuel call (set_lanes w form (vector_register d) (mask_under i) (by_lane w (elem w (vector_register d)) e)) s)
   each_lane d i v e has is h =
       lanes_fall w ready fuel n k call pc c s st i d (on (c.masks (mask_under i).number) v) v (by_lane w (elem w (vector_register d)) e) has is
       (λ p q. chosen_over (c.masks (mask_under i).number p) (v p) (c.vectors d p)) (λ l held. by_lane_is w (elem w (vector_register d)) l e v (h l held))
@@ -188,28 +188,28 @@ module _ (w : Setting) (ready : IsSettled w) (fuel n k : ℕ) (call : ℕ → Li
   same_type x t xv = record { class_is = xv.class_is; elem_is = refl }
 
   pub scans : (d : ℕ) (o : Scan) (x m : Register) → IsInteger (elem w (vector_register d)) → IsVector w x (elem w (vector_register d)) → slice_get w.routine.code pc ≡ Some (instr.Vector (vector_register d) (vector.Scan o x m))
-      → (form : Form) → (form ≡ Free → w.forms w.home.fn pc ≡ Free) → Good (pc + 1) c (run fuel call (vector_code w form (vector_register d) (vector.Scan o x m)) s)
+      → (form : Form) → IsWritten w pc form → Good (pc + 1) c (run fuel call (vector_code w form (vector_register d) (vector.Scan o x m)) s)
   scans d o x m num xv has =
       each_lane d (vector.Scan o x m) (exclusive_scan (scan_of o) (elem w (vector_register d)) (lanes_of w c x m)) (scan_expr w o x m) has refl
       (λ l held p low. subst (λ t. (value l (scan_expr w o x m p) ≡ exclusive_scan (scan_of o) t (lanes_of w c x m) p) × (exclusive_scan (scan_of o) t (lanes_of w c x m) p < 2 ^ width t)) xv.elem_is
       (scan_is w c l held o x m (subst IsInteger (sym xv.elem_is) num) (same_type x (elem w (vector_register d)) xv) p (omega arith)))
 
   pub exchanges : (d : ℕ) (e : Exchange) (x i m : Register) → IsVector w x (elem w (vector_register d)) → IsScalar w i I32 → slice_get w.routine.code pc ≡ Some (instr.Vector (vector_register d) (vector.Exchange e x i m))
-      → (form : Form) → (form ≡ Free → w.forms w.home.fn pc ≡ Free) → Good (pc + 1) c (run fuel call (vector_code w form (vector_register d) (vector.Exchange e x i m)) s)
+      → (form : Form) → IsWritten w pc form → Good (pc + 1) c (run fuel call (vector_code w form (vector_register d) (vector.Exchange e x i m)) s)
   exchanges d e x i m xv is has =
       each_lane d (vector.Exchange e x i m) (exchanged e (gang w) (lanes_of w c x m) (number I32 (c.scalars i.number))) (exchange_expr w e x i m) has refl
       (λ l held p low. subst (λ t. (value l (exchange_expr w e x i m p) ≡ exchanged e (gang w) (lanes_of w c x m) (number I32 (c.scalars i.number)) p) × (exchanged e (gang w) (lanes_of w c x m) (number I32 (c.scalars i.number)) p < 2 ^ width t))
       xv.elem_is (exchange_is w c l held e x i m (same_type x (elem w (vector_register d)) xv) is p low))
 
   pub shuffles : (d : ℕ) (x i m : Register) → IsVector w x (elem w (vector_register d)) → IsVector w i I32 → slice_get w.routine.code pc ≡ Some (instr.Vector (vector_register d) (vector.Shuffle x i m))
-      → (form : Form) → (form ≡ Free → w.forms w.home.fn pc ≡ Free) → Good (pc + 1) c (run fuel call (vector_code w form (vector_register d) (vector.Shuffle x i m)) s)
+      → (form : Form) → IsWritten w pc form → Good (pc + 1) c (run fuel call (vector_code w form (vector_register d) (vector.Shuffle x i m)) s)
   shuffles d x i m xv iv has =
       each_lane d (vector.Shuffle x i m) (shuffle (gang w) (lanes_of w c x m) (lanes_of w c i m)) (λ p. picked w (size_of (elem w x)) (modulo w (gang w) (lane_or_zero w i m p)) (lane_or_zero w x m) (gang w)) has refl
       (λ l held p low. subst (λ t. (value l (picked w (size_of (elem w x)) (modulo w (gang w) (lane_or_zero w i m p)) (lane_or_zero w x m) (gang w)) ≡ shuffle (gang w) (lanes_of w c x m) (lanes_of w c i m) p) × (shuffle (gang w) (lanes_of w c x m) (lanes_of w c i m) p < 2 ^ width t))
       xv.elem_is (shuffle_is w c l held x i m (same_type x (elem w (vector_register d)) xv) iv iv.elem_is p low))
 
   pub shuffles_two : (d : ℕ) (x y i m : Register) → IsVector w x (elem w (vector_register d)) → IsVector w y (elem w (vector_register d)) → IsVector w i I32
-      → slice_get w.routine.code pc ≡ Some (instr.Vector (vector_register d) (vector.ShuffleTwo x y i m)) → (form : Form) → (form ≡ Free → w.forms w.home.fn pc ≡ Free) → Good (pc + 1) c (run fuel call (vector_code w form (vector_register d) (vector.ShuffleTwo x y i m)) s)
+      → slice_get w.routine.code pc ≡ Some (instr.Vector (vector_register d) (vector.ShuffleTwo x y i m)) → (form : Form) → IsWritten w pc form → Good (pc + 1) c (run fuel call (vector_code w form (vector_register d) (vector.ShuffleTwo x y i m)) s)
   shuffles_two d x y i m xv yv iv has =
       each_lane d (vector.ShuffleTwo x y i m) (shuffle_two (gang w) (lanes_of w c x m) (lanes_of w c y m) (lanes_of w c i m))
       (λ p. picked w (size_of (elem w x)) (modulo w (2 * gang w) (lane_or_zero w i m p)) (of_both w x y m) (2 * gang w)) has refl
@@ -218,7 +218,7 @@ module _ (w : Setting) (ready : IsSettled w) (fuel n k : ℕ) (call : ℕ → Li
       (shuffle_two_is w c l held x y i m (same_type x (elem w (vector_register d)) xv) (same_type y (elem w (vector_register d)) yv) (yv.elem_is ∙ sym xv.elem_is) iv iv.elem_is p low))
 
   pub inserts : (d : ℕ) (x i y m : Register) → IsVector w x (elem w (vector_register d)) → IsScalar w i I32 → IsScalar w y (elem w (vector_register d))
-      → slice_get w.routine.code pc ≡ Some (instr.Vector (vector_register d) (vector.Insert x i y m)) → (form : Form) → (form ≡ Free → w.forms w.home.fn pc ≡ Free) → Good (pc + 1) c (run fuel call (vector_code w form (vector_register d) (vector.Insert x i y m)) s)
+      → slice_get w.routine.code pc ≡ Some (instr.Vector (vector_register d) (vector.Insert x i y m)) → (form : Form) → IsWritten w pc form → Good (pc + 1) c (run fuel call (vector_code w form (vector_register d) (vector.Insert x i y m)) s)
   inserts d x i y m xv is ys has =
       each_lane d (vector.Insert x i y m) (insert (gang w) (lanes_of w c x m) (number I32 (c.scalars i.number)) (c.scalars y.number))
       (λ p. Select (Two (wasm.Compare wasm.I32 wasm.Eq) (modulo w (gang w) (scalar_local w i)) (Const32 p)) (scalar_local w y) (lane_or_zero w x m p)) has refl

@@ -21,14 +21,14 @@ use Rattle.isp_code.specs.declared.instr.Plain.TheVariants as plain
 use Rattle.isp_wasm_meaning.specs.Digits.{packed}
 use Rattle.isp_wasm_meaning.specs.Syntax as wasm
 use Rattle.isp_wasm_meaning.specs.Syntax.{I8x16, I64x2, Add, Sub, Mul, And, Or, Xor, Eq, LtS, LtU, Expr, Const32, Const128}
-use Rattle.isp_wasm_meaning.specs.Meaning.{lane, flags, wide, count, value, whole, bitwise, tested, raised, of_lanes}
+use Rattle.isp_wasm_meaning.specs.Meaning.{lane, flags, wide, count, value, whole, bitwise, shifted, tested, raised, of_lanes}
 use Rattle.isp_wasm.specs.Places.{Setting, shape_of, gang}
-use Rattle.isp_wasm.specs.Words.{plain_expr, less_of}
-use Rattle.isp_wasm.specs.Rows.{cell, as_cell, lane_at, raised_lanes, below_row, inverted, compare_row, unary_row, ones, by_lane, plain_row}
+use Rattle.isp_wasm.specs.Words.{plain_expr, less_of, right_of}
+use Rattle.isp_wasm.specs.Rows.{cell, as_cell, lane_at, raised_lanes, below_row, inverted, compare_row, unary_row, ones, by_lane, plain_row, shift_row}
 use Rattle.isp_wasm.specs.Thin.{IsInteger, IsUnary}
-use Rattle.isp_wasm.proofs.WordLaws.{less_words, add_bits, sub_bits, mul_bits, plain_is, op_fits, same_test}
+use Rattle.isp_wasm.proofs.WordLaws.{less_words, add_bits, sub_bits, mul_bits, plain_is, op_fits, same_test, shl_known, shr_known}
 use Rattle.isp_wasm.proofs.Converts.{negative_is, all_turned}
-use Rattle.isp_wasm.proofs.Rows.{IsRow, row_same, row_whole, row_tested, row_bits, row_select, row_constant, row_built}
+use Rattle.isp_wasm.proofs.Rows.{IsRow, row_same, row_whole, row_tested, row_bits, row_shifted, row_select, row_constant, row_built}
 
 -- ---- one lane
 
@@ -274,6 +274,20 @@ bits_cells : (n : ℕ) (o : wasm.Bitwise) (t : Elem) (l : ℕ → ℕ) (x y : �
     → IsCells n t l (λ j. wasm.Two (wasm.Bits o) (x j) (y j)) v
 bits_cells n o t l x y f g v num a b is =
     covered n t l (λ j. wasm.Two (wasm.Bits o) (x j) (y j)) (λ p. bitwise o (f p) (g p)) v num is (row_bits n (shape_of t) o l x y f g (bare n t l x f num a) (bare n t l y g num b))
+
+-- a shift of all lanes by one amount
+shifted_cells : (n : ℕ) (o : wasm.Shift) (t : Elem) (l : ℕ → ℕ) (x : ℕ → Expr) (f v : ℕ → ℕ) (b : ℕ) → IsInteger t → IsCells n t l x f → ((p : ℕ) → p < n → shifted (width t) o (f p) (b % width t % 2 ^ 32) ≡ v p)
+    → IsCells n t l (λ j. wasm.Two (wasm.ShiftLanes (shape_of t) o) (x j) (Const32 (b % width t))) v
+shifted_cells n o t l x f v b num a is =
+    covered n t l (λ j. wasm.Two (wasm.ShiftLanes (shape_of t) o) (x j) (Const32 (b % width t))) (λ p. shifted (wide (shape_of t)) o (f p) (b % width t % 2 ^ 32)) v num
+    (λ p q. ap (λ k. shifted k o (f p) (b % width t % 2 ^ 32)) (lane_width t num) ∙ is p q) (row_shifted n (shape_of t) o l x (Const32 (b % width t)) f (bare n t l x f num a))
+
+module _ (n : ℕ) (t : Elem) (l : ℕ → ℕ) (x : ℕ → Expr) (f : ℕ → ℕ) (b : ℕ) (num : IsInteger t) (a : IsCells n t l x f) (fit : (p : ℕ) → p < n → f p < 2 ^ width t) where
+  pub shl_cells : IsCells n t l (shift_row plain.Shl t x b) (λ p. op_bits (plain_of plain.Shl) t (f p) b)
+  shl_cells = shifted_cells n wasm.Shl t l x f (λ p. op_bits (plain_of plain.Shl) t (f p) b) b num a (λ p q. shl_known t (f p) b num (fit p q))
+
+  pub shr_cells : IsCells n t l (shift_row plain.Shr t x b) (λ p. op_bits (plain_of plain.Shr) t (f p) b)
+  shr_cells = shifted_cells n (right_of t) t l x f (λ p. op_bits (plain_of plain.Shr) t (f p) b) b num a (λ p q. shr_known t (f p) b num (fit p q))
 
 choose_cells : (n : ℕ) (t : Elem) (l : ℕ → ℕ) (x y c : ℕ → Expr) (f g v : ℕ → ℕ) (m : ℕ → Bool) → IsCells n t l x f → IsCells n t l y g → IsRow n (shape_of t) l c (λ p. flags (wide (shape_of t)) (m p))
     → ((p : ℕ) → p < n → (if m p then f p else g p) ≡ v p) → IsCells n t l (λ j. wasm.Bitselect (x j) (y j) (c j)) v

@@ -15,7 +15,7 @@ use Rattle.isp_code.specs.declared.register.Class.TheVariants as class
 use Rattle.isp_code.specs.declared.register.Register.{Register}
 use Rattle.isp_forms.specs.Writes.{is_pure}
 use Rattle.isp_forms.specs.declared.form.Form.{Form}
-use Rattle.isp_forms.specs.declared.form.Form.TheVariants.{Kept, Free, Useless}
+use Rattle.isp_forms.specs.declared.form.Form.TheVariants.{Kept, Free, Useless, KeptBy, FreeBy}
 use Rattle.isp_wasm_meaning.specs.Meaning.{State, Result, Fell, Branched, Returned, Trapped, OutOfFuel, run, then_to}
 use Rattle.isp_wasm_meaning.specs.Syntax.{Skip, Unreachable}
 use Rattle.isp_wasm_meaning.specs.Ladder.{Meets, Whole, dispatched}
@@ -25,7 +25,7 @@ use Rattle.isp_wasm.specs.Templates.{lane_checks, lane_stores, own_index, scalar
 use Rattle.isp_wasm.specs.Agreement.{CallsAgree}
 use Rattle.isp_wasm.specs.Standing.{Stands, Final, StandsBefore, IsSettled, the_machine, vector_register}
 use Rattle.isp_wasm.specs.Thin.{IsArray, IsCovered, IsLast, IsThin, AllThin, IsThinScalar, IsThinVector, IsThinDivision}
-use Rattle.isp_wasm.proofs.Steps.{machine_laws, falls_useless}
+use Rattle.isp_wasm.proofs.Steps.{IsWritten, machine_laws, falls_useless}
 use Rattle.isp_wasm.proofs.Scalars.{scalars_fall, jumps_to, tests_fall, returns, answers, asserts}
 use Rattle.isp_wasm.proofs.Vectors.{copies, converts, unaries, binaries, compares, selects, splats, indices}
 use Rattle.isp_wasm.proofs.Masks.{masks_fall}
@@ -75,32 +75,29 @@ module _ (w : Setting) (ready : IsSettled w) (covered : IsCovered w) (thin : All
     as_vector : (d : Register) → d.class ≡ class.Vector → vector_register d.number ≡ d
     as_vector d cl = ap (λ a. record { class = a; number = d.number }) (sym cl)
 
-    vector_number : (d : ℕ) (i : VectorInstr) → slice_get w.routine.code pc ≡ Some (instr.Vector (vector_register d) i) → IsThinVector w (elem w (vector_register d)) i → (form : Form) → (form ≡ Free → w.forms w.home.fn pc ≡ Free)
+    vector_number : (d : ℕ) (i : VectorInstr) → slice_get w.routine.code pc ≡ Some (instr.Vector (vector_register d) i) → IsThinVector w (elem w (vector_register d)) i → (form : Form) → IsWritten w pc form
         → Good k (pc + 1) c (run fuel call (vector_code w form (vector_register d) i) s)
-    vector_number d (vector.Copy x m) has h form free = copies w ready fuel w.rungs k call pc c s st d x m has h form free
-    vector_number d (vector.Convert x m) has h form free = converts w ready fuel w.rungs k call pc c s st d x m has h form free
-    vector_number d (vector.Unary o x m) has h form free = unaries w ready fuel w.rungs k call pc c s st d o x m has h form free
-    vector_number d (vector.Binary o x y m) has h form free = binaries w ready fuel w.rungs k call pc c s st d o x y m has h form free
-    vector_number d (vector.Compare o x y m) has h form free = compares w ready fuel w.rungs k call pc c s st d o x y m has h form free
-    vector_number d (vector.Select t x y m) has h form free = selects w ready fuel w.rungs k call pc c s st d t x y m has h form free
-    vector_number d (vector.Splat x m) has h form free = splats w ready fuel w.rungs k call pc c s st d x m has h form free
-    vector_number d (vector.Index m) has h form free = indices w ready fuel w.rungs k call pc c s st d m has h form free
-    vector_number d (vector.Gather a i m q) has h form free = gathers w ready fuel w.rungs k call pc c s st d a i m q (found w ready a (elem w (vector_register d)) h.0) h.1 has
-    vector_number d (vector.LoadRun a i m q) has h form free = run_loads w ready fuel w.rungs k call pc c s st d a i m q h.0 h.1 has form free
-    vector_number d (vector.Scan o x m) has h form free = scans w ready fuel w.rungs k call pc c s st d o x m h.0 h.1 has form free
-    vector_number d (vector.Exchange e x i m) has h form free = exchanges w ready fuel w.rungs k call pc c s st d e x i m h.0 h.1 has form free
-    vector_number d (vector.Shuffle x i m) has h form free = shuffles w ready fuel w.rungs k call pc c s st d x i m h.0 h.1 has form free
-    vector_number d (vector.ShuffleTwo x y i m) has h form free = shuffles_two w ready fuel w.rungs k call pc c s st d x y i m h.0 h.1 h.2 has form free
-    vector_number d (vector.Insert x i y m) has h form free = inserts w ready fuel w.rungs k call pc c s st d x i y m h.0 h.1 h.2 has form free
+    vector_number d (vector.Copy x m) has h form written = copies w ready fuel w.rungs k call pc c s st d x m has h form written
+    vector_number d (vector.Convert x m) has h form written = converts w ready fuel w.rungs k call pc c s st d x m has h form written
+    vector_number d (vector.Unary o x m) has h form written = unaries w ready fuel w.rungs k call pc c s st d o x m has h form written
+    vector_number d (vector.Binary o x y m) has h form written = binaries w ready fuel w.rungs k call pc c s st d o x y m has h form written
+    vector_number d (vector.Compare o x y m) has h form written = compares w ready fuel w.rungs k call pc c s st d o x y m has h form written
+    vector_number d (vector.Select t x y m) has h form written = selects w ready fuel w.rungs k call pc c s st d t x y m has h form written
+    vector_number d (vector.Splat x m) has h form written = splats w ready fuel w.rungs k call pc c s st d x m has h form written
+    vector_number d (vector.Index m) has h form written = indices w ready fuel w.rungs k call pc c s st d m has h form written
+    vector_number d (vector.Gather a i m q) has h form written = gathers w ready fuel w.rungs k call pc c s st d a i m q (found w ready a (elem w (vector_register d)) h.0) h.1 has
+    vector_number d (vector.LoadRun a i m q) has h form written = run_loads w ready fuel w.rungs k call pc c s st d a i m q h.0 h.1 has form written
+    vector_number d (vector.Scan o x m) has h form written = scans w ready fuel w.rungs k call pc c s st d o x m h.0 h.1 has form written
+    vector_number d (vector.Exchange e x i m) has h form written = exchanges w ready fuel w.rungs k call pc c s st d e x i m h.0 h.1 has form written
+    vector_number d (vector.Shuffle x i m) has h form written = shuffles w ready fuel w.rungs k call pc c s st d x i m h.0 h.1 has form written
+    vector_number d (vector.ShuffleTwo x y i m) has h form written = shuffles_two w ready fuel w.rungs k call pc c s st d x y i m h.0 h.1 h.2 has form written
+    vector_number d (vector.Insert x i y m) has h form written = inserts w ready fuel w.rungs k call pc c s st d x i y m h.0 h.1 h.2 has form written
 
-    vector_coded : (d : Register) (i : VectorInstr) → slice_get w.routine.code pc ≡ Some (instr.Vector d i) → d.class ≡ class.Vector → IsThinVector w (elem w d) i → (form : Form) → (form ≡ Free → w.forms w.home.fn pc ≡ Free)
+    vector_coded : (d : Register) (i : VectorInstr) → slice_get w.routine.code pc ≡ Some (instr.Vector d i) → d.class ≡ class.Vector → IsThinVector w (elem w d) i → (form : Form) → IsWritten w pc form
         → Good k (pc + 1) c (run fuel call (vector_code w form d i) s)
-    vector_coded d i has cl h form free =
+    vector_coded d i has cl h form written =
         subst (λ e. slice_get w.routine.code pc ≡ Some (instr.Vector e i) → IsThinVector w (elem w e) i → Good k (pc + 1) c (run fuel call (vector_code w form e i) s)) (as_vector d cl)
-        (λ has h. vector_number d.number i has h form free) has h
-
-    never_free : Kept ≡ Free → ⊥
-    never_free e = cc
+        (λ has h. vector_number d.number i has h form written) has h
 
     -- what nobody reads may be left out, unless it may trap
     left_out : (d : Register) (i : VectorInstr) → slice_get w.routine.code pc ≡ Some (instr.Vector d i) → w.forms w.home.fn pc ≡ Useless → (pure : Bool) → is_pure i ≡ pure
@@ -110,9 +107,11 @@ module _ (w : Setting) (ready : IsSettled w) (covered : IsCovered w) (thin : All
 
     vector_at : (d : Register) (i : VectorInstr) → slice_get w.routine.code pc ≡ Some (instr.Vector d i) → d.class ≡ class.Vector → IsThinVector w (elem w d) i → (form : Form) → w.forms w.home.fn pc ≡ form
         → Good k (pc + 1) c (run fuel call (vector_line w form d i) s)
-    vector_at d i has cl h Kept is = vector_coded d i has cl h Kept (λ e. absurd (never_free e))
+    vector_at d i has cl h Kept is = vector_coded d i has cl h Kept (λ e. is)
     vector_at d i has cl h Free is = vector_coded d i has cl h Free (λ e. is)
-    vector_at d i has cl h Useless is = left_out d i has is (is_pure i) refl (vector_coded d i has cl h Kept (λ e. absurd (never_free e)))
+    vector_at d i has cl h (KeptBy b) is = vector_coded d i has cl h (KeptBy b) (λ e. is)
+    vector_at d i has cl h (FreeBy b) is = vector_coded d i has cl h (FreeBy b) (λ e. is)
+    vector_at d i has cl h Useless is = left_out d i has is (is_pure i) refl (vector_coded d i has cl h Kept (λ other. absurd (other refl)))
 
     quotient_number : (o : Division) (a : Class) (d : ℕ) (x y m : Register) (q : ℕ) → slice_get w.routine.code pc ≡ Some (instr.Divide o (record { class = a; number = d }) x y m q)
         → IsThinDivision w a (elem w (record { class = a; number = d })) x y → Good k (pc + 1) c (run fuel call (quotients w a o (record { class = a; number = d }) x y m q) s)

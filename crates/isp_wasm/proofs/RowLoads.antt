@@ -29,7 +29,7 @@ use Rattle.isp_wasm.specs.Templates.{lane_loads, address_at, run_index, is_there
 use Rattle.isp_wasm.specs.Standing.{all_of, Stands, IsSettled, the_machine, vector_register}
 use Rattle.isp_wasm.specs.Thin.{IsArray, IsScalar}
 use Rattle.isp_wasm.proofs.Frames.{Alike, holds_alike, there, elsewhere}
-use Rattle.isp_wasm.proofs.Steps.{falls_on}
+use Rattle.isp_wasm.proofs.Steps.{IsWritten, falls_on}
 use Rattle.isp_wasm.proofs.Frees.{frees_fall}
 use Rattle.isp_wasm.proofs.Parts.{AreFresh, AreSet, are_set}
 use Rattle.isp_wasm.proofs.Results.{Selects, selects}
@@ -288,18 +288,20 @@ module _ (w : Setting) (ready : IsSettled w) (fuel n k : ℕ) (call : ℕ → Li
           put_so : AreSet w (place.Vector d) (parts w (shape_of t)) (λ j. Local (w.local (Fresh j))) (record s { locals = read.locals }) (putting (record s { locals = read.locals }))
           put_so = are_set w ready fuel call (place.Vector d) (λ i j e. cc) (λ j. Local (w.local (Fresh j))) (record s { locals = read.locals }) (λ j m same. same (Fresh j) (λ i q e. cc)) (parts w (shape_of t))
 
-      row_good : (form : Form) → (form ≡ line.Free → w.forms w.home.fn pc ≡ line.Free) → Good (pc + 1) c (behind (run fuel call (load_row w form (vector_register d) a i m) s))
+      row_good : (form : Form) → IsWritten w pc form → Good (pc + 1) c (behind (run fuel call (load_row w form (vector_register d) a i m) s))
       row_good line.Kept e = keeping
       row_good line.Useless e = keeping
-      row_good line.Free e = freeing (e refl)
+      row_good (line.KeptBy b) e = keeping
+      row_good (line.FreeBy b) e = keeping
+      row_good line.Free e = freeing (e (λ k. cc))
 
     lanes_good : Good (pc + 1) c (behind (run fuel call (lane_loads w (vector_register d) a (run_index w i) m q) s))
     lanes_good = runs_end w ready fuel n k call pc c s st d a i m q (found_shared w ready a t el) is has
 
-    module _ (form : Form) (free : form ≡ line.Free → w.forms w.home.fn pc ≡ line.Free) where
+    module _ (form : Form) (written : IsWritten w pc form) where
       at_once : (full : Fills w t) → (b : Bool) → AllThere a i t el is ≡ b
           → Good (pc + 1) c (behind (if b then run fuel call (load_row w form (vector_register d) a i m) s else run fuel call (lane_loads w (vector_register d) a (run_index w i) m q) s))
-      at_once full true sure = row_good full sure form free
+      at_once full true sure = row_good full sure form written
       at_once full false e = lanes_good
 
       loads : (b : Bool) → fills_parts w t ≡ b

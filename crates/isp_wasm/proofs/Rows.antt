@@ -5,14 +5,14 @@ use Rattle.std.proofs.lemmas.Bool.{eqb-true, eqb-false, lt-ltb, cases_lt, cases_
 use Rattle.std.proofs.lemmas.Nat.{pow_pos, le-div}
 use Rattle.std.proofs.Math.Nat.{mod-lt}
 use Rattle.std.proofs.Math.Pow.{mod-mod-pow}
-use Rattle.isp_wasm_meaning.specs.Syntax.{Shape, I8x16, I16x8, I32x4, I64x2, Whole, Bitwise, Test, Expr, Const128, One, Two, Bitselect, ExtendLow, ExtendHigh, Splat, Lanes, CompareLanes, Bits}
-use Rattle.isp_wasm_meaning.specs.Meaning.{lane, of_lanes, flags, wide, count, halved, value, signed, whole, tested, bitwise}
+use Rattle.isp_wasm_meaning.specs.Syntax.{Shape, I8x16, I16x8, I32x4, I64x2, Whole, Bitwise, Shift, Test, Expr, Const128, One, Two, Bitselect, ExtendLow, ExtendHigh, Splat, Lanes, CompareLanes, ShiftLanes, Bits}
+use Rattle.isp_wasm_meaning.specs.Meaning.{lane, of_lanes, flags, wide, count, halved, value, signed, whole, tested, bitwise, shifted}
 use Rattle.isp_wasm_meaning.proofs.Digits.{packed-below}
-use Rattle.isp_wasm_meaning.proofs.Lanes.{lane_is, selected, extended_low, extended_high, IsWide}
+use Rattle.isp_wasm_meaning.proofs.Lanes.{lane_is, lane_below, selected, extended_low, extended_high, IsWide}
 use Rattle.isp_wasm_meaning.proofs.Bits.{lane_bits, replaced_same, replaced_other, joined_low, joined_high}
 use Rattle.isp_wasm.specs.Places.{Setting, gang, parts}
 use Rattle.isp_wasm.specs.Rows.{extended, widened, joined, narrowed, resized_row, built, present}
-use Rattle.isp_wasm.proofs.WordLaws.{whole_below}
+use Rattle.isp_wasm.proofs.WordLaws.{whole_below, shifted_below}
 use Rattle.isp_wasm.proofs.Converts.{signed_low, signed_high}
 
 -- the first n lanes of a row are these
@@ -42,6 +42,12 @@ row_tested n s o l a b f g x y j i q r =
 
 pub row_bits : (n : ℕ) (s : Shape) (o : Bitwise) (l : ℕ → ℕ) (a b : ℕ → Expr) (f g : ℕ → ℕ) → IsRow n s l a f → IsRow n s l b g → IsRow n s l (λ j. Two (Bits o) (a j) (b j)) (λ p. bitwise o (f p) (g p))
 row_bits n s o l a b f g x y j i q r = lane_bits s o i (value l (a j)) (value l (b j)) ∙ ap₂ (bitwise o) (x j i q r) (y j i q r)
+
+pub row_shifted : (n : ℕ) (s : Shape) (o : Shift) (l : ℕ → ℕ) (a : ℕ → Expr) (e : Expr) (f : ℕ → ℕ) → IsRow n s l a f → IsRow n s l (λ j. Two (ShiftLanes s o) (a j) e) (λ p. shifted (wide s) o (f p) (value l e))
+row_shifted n s o l a e f x j i q r =
+    lane_is s i (λ i. shifted (wide s) o (lane s i (value l (a j))) (value l e))
+    (λ i z. shifted_below (wide s) o (lane s i (value l (a j))) (value l e) (lane_below s i (value l (a j)))) q
+    ∙ ap (λ u. shifted (wide s) o u (value l e)) (x j i q r)
 
 pub row_select : (n : ℕ) (s : Shape) (l : ℕ → ℕ) (a b c : ℕ → Expr) (f g : ℕ → ℕ) (m : ℕ → Bool) → IsRow n s l a f → IsRow n s l b g → IsRow n s l c (λ p. flags (wide s) (m p))
     → IsRow n s l (λ j. Bitselect (a j) (b j) (c j)) (λ p. if m p then f p else g p)

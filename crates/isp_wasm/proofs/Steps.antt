@@ -10,12 +10,14 @@ use Rattle.isp_code.specs.Calls.{left}
 use Rattle.isp_code.specs.Machine.{step, act_in, act_at, arrive}
 use Rattle.isp_code.specs.declared.instr.Instr.{Instr}
 use Rattle.isp_code.specs.declared.instr.Instr.TheVariants as instr
+use Rattle.isp_code.specs.declared.instr.Plain.{Plain}
 use Rattle.isp_code.specs.declared.instr.VectorInstr.{VectorInstr}
+use Rattle.isp_code.specs.declared.instr.VectorInstr.TheVariants.{Binary}
 use Rattle.isp_code.specs.declared.register.Register.{Register}
-use Rattle.isp_forms.specs.Runs.{IsRun, IsBefore, forgotten}
+use Rattle.isp_forms.specs.Runs.{IsRun, IsBefore, IsKnown, computed_by, forgotten}
 use Rattle.isp_forms.specs.Writes.{mask_under, is_pure}
 use Rattle.isp_forms.specs.declared.form.Form.{Form}
-use Rattle.isp_forms.specs.declared.form.Form.TheVariants.{Free, Useless}
+use Rattle.isp_forms.specs.declared.form.Form.TheVariants.{Kept, Free, Useless, KeptBy, FreeBy}
 use Rattle.isp_forms.proofs.Runs.{runs_join}
 use Rattle.isp_wasm_meaning.specs.Meaning.{Report, State, Result, Fell, Branched, Returned, Trapped, OutOfFuel}
 use Rattle.isp_wasm_meaning.specs.Ladder.{Laws, Meets}
@@ -51,6 +53,23 @@ module _ (w : Setting) where
         cut_none = λ k x s st. record { conf = x; steps = 0; goes = refl; far = omega arith; out_is = st.stands.out_is };
       }
 
+  -- the form in which an instruction is written is its own, or it is kept
+  abbrev pub IsWritten : ℕ → Form → Type 0
+  IsWritten pc form = (form ≡ Kept → ⊥) → w.forms w.home.fn pc ≡ form
+
+  -- where other vectors are held, behind an instruction
+  stands_behind : (pc : ℕ) (c : Conf) (s t : State) (vectors : ℕ → Lanes) → Stands w pc c s → t.out ≡ s.out → Holds w c.scalars vectors c.masks t.locals → Keeps w (all_of w c) t.memory t.size
+      → Stands w (pc + 1) (record c { pc = c.pc + 1; vectors = vectors }) t
+  stands_behind pc c s t vectors st out holds keeps =
+      record {
+        home_is = st.home_is;
+        waiting_is = st.waiting_is;
+        pc_is = ap (λ p. p + 1) st.pc_is;
+        out_is = out ∙ st.out_is;
+        holds = holds;
+        keeps = keeps;
+      }
+
   module _ (ready : IsSettled w) where
     step_at : (pc : ℕ) (c : Conf) (s : State) (i : Option Instr) → Stands w pc c s → slice_get w.routine.code pc ≡ i → step w.code c ≡ act_at w.code w.routine c i
     step_at pc c s i st has =
@@ -82,15 +101,7 @@ module _ (w : Setting) where
             conf = record (forgotten (set_vector c d x) d.number (c.masks (mask_under i).number) old) { out = c.out };
             steps = 1;
             goes = (machine.Runs c, refl, inr (inl (record { routine = w.routine; vector = d; what = i; before = before Free pc c s d i st has form; done = set_vector c d x; goes = is; old = old; is = refl })));
-            stands =
-                record {
-                  home_is = st.home_is;
-                  waiting_is = st.waiting_is;
-                  pc_is = ap (λ p. p + 1) st.pc_is;
-                  out_is = out ∙ st.out_is;
-                  holds = holds;
-                  keeps = keeps;
-                };
+            stands = stands_behind pc c s t (forgotten (set_vector c d x) d.number (c.masks (mask_under i).number) old).vectors st out holds keeps;
           }
 
       pub falls_useless : w.forms w.home.fn pc ≡ Useless → is_pure i ≡ true → Meets (the_machine w) (w.local Counter) n fuel (Stands w (pc + 1)) (suc k) c (Fell s)
@@ -98,16 +109,38 @@ module _ (w : Setting) where
           record {
             conf = next c;
             steps = 1;
-            goes = (machine.Runs c, refl, inr (inr (record { routine = w.routine; vector = d; what = i; before = before Useless pc c s d i st has form; pure = pure; is = refl })));
-            stands =
-                record {
-                  home_is = st.home_is;
-                  waiting_is = st.waiting_is;
-                  pc_is = ap (λ p. p + 1) st.pc_is;
-                  out_is = st.out_is;
-                  holds = st.holds;
-                  keeps = st.keeps;
-                };
+            goes = (machine.Runs c, refl, inr (inr (inl (record { routine = w.routine; vector = d; what = i; before = before Useless pc c s d i st has form; pure = pure; is = refl }))));
+            stands = stands_behind pc c s s c.vectors st refl st.holds st.keeps;
+          }
+
+    -- an operator, by the number that its form says
+    module _ (fuel n k pc : ℕ) (c : Conf) (s : State) (d : Register) (o : Plain) (x y m : Register) (b : ℕ) (st : Stands w pc c s) (has : slice_get w.routine.code pc ≡ Some (instr.Vector d (Binary o x y m))) where
+      abbrev result : Conf
+      result = set_vector c d (computed_by w.routine c d o x m b)
+
+      known : (form : ℕ → Form) → w.forms w.home.fn pc ≡ form b → IsKnown w.code w.forms form c
+      known form is = record { routine = w.routine; vector = d; operator = o; left = x; right = y; mask = m; amount = b; before = before (form b) pc c s d (Binary o x y m) st has is }
+
+      pub falls_known : (t : State) → w.forms w.home.fn pc ≡ KeptBy b → t.out ≡ s.out → Holds w c.scalars result.vectors c.masks t.locals → Keeps w (all_of w c) t.memory t.size
+          → Meets (the_machine w) (w.local Counter) n fuel (Stands w (pc + 1)) (suc k) c (Fell t)
+      unfolding known
+      falls_known t form out holds keeps =
+          record {
+            conf = record result { out = c.out };
+            steps = 1;
+            goes = (machine.Runs c, refl, inr (inr (inr (inl (record { at = known KeptBy form; is = refl })))));
+            stands = stands_behind pc c s t result.vectors st out holds keeps;
+          }
+
+      pub falls_known_free : (old : Lanes) (t : State) → w.forms w.home.fn pc ≡ FreeBy b → t.out ≡ s.out → Holds w c.scalars (forgotten result d.number (c.masks m.number) old).vectors c.masks t.locals → Keeps w (all_of w c) t.memory t.size
+          → Meets (the_machine w) (w.local Counter) n fuel (Stands w (pc + 1)) (suc k) c (Fell t)
+      unfolding known
+      falls_known_free old t form out holds keeps =
+          record {
+            conf = record (forgotten result d.number (c.masks m.number) old) { out = c.out };
+            steps = 1;
+            goes = (machine.Runs c, refl, inr (inr (inr (inr (record { at = known FreeBy form; old = old; is = refl })))));
+            stands = stands_behind pc c s t (forgotten result d.number (c.masks m.number) old).vectors st out holds keeps;
           }
 
     -- an instruction after which control goes on

@@ -18,13 +18,13 @@ use Rattle.isp_wasm_meaning.specs.Module.{ValueType, V128}
 use Rattle.isp_wasm_meaning.specs.Module as valued
 use Rattle.isp_wasm_meaning.specs.Syntax as wasm
 use Rattle.isp_wasm_meaning.specs.Syntax.{Size, Whole, Shape, I8x16, I16x8, I32x4, I64x2, Add, Sub, Mul, And, Or, Xor, Shl, ShrU, ShrS, Test, Eq, Ne, LtU, LtS}
-use Rattle.isp_wasm_meaning.specs.Syntax.{Unary, Eqz, Wrap, ExtendU, ExtendS, Extend8S, Extend16S, Splat, Extract, ExtendLow, ExtendHigh, Of, BitsOf, ShiftOf, Lanes, CompareLanes, Bits, Replace, Shuffle}
+use Rattle.isp_wasm_meaning.specs.Syntax.{Unary, Eqz, Wrap, ExtendU, ExtendS, Extend8S, Extend16S, Splat, Extract, ExtendLow, ExtendHigh, Of, BitsOf, ShiftOf, Lanes, CompareLanes, ShiftLanes, Bits, Replace, Shuffle}
 use Rattle.isp_wasm_meaning.specs.Syntax.{Binary, Expr, Const32, Const64, Const128, One, Two, Select, Bitselect}
 use Rattle.isp_wasm_meaning.specs.Valid.{same_type, sized, unpacked, taken, given, is_unary, first_taken, second_taken, given_by, is_binary, has_type}
 use Rattle.isp_wasm.specs.Places.{Setting, gang, parts, shape_of, size_of}
 use Rattle.isp_wasm.specs.Words as words
 use Rattle.isp_wasm.specs.Words.{constant, with_sign, cut, amount_of, less_of, right_of, below, whole_expr, plain_expr, unary_expr, compare_expr, longer, convert_expr}
-use Rattle.isp_wasm.specs.Rows.{as_cell, lane_at, built, half, extended, widened, joined, narrowed, resized_row, without_sign, ones, raised_lanes, below_row, inverted, compare_row, unary_row, by_lane, present, convert_row, plain_row}
+use Rattle.isp_wasm.specs.Rows.{as_cell, lane_at, built, half, extended, widened, joined, narrowed, resized_row, without_sign, ones, raised_lanes, below_row, inverted, compare_row, unary_row, by_lane, present, convert_row, plain_row, shift_row}
 use Rattle.isp_wasm.specs.Thin.{IsUnary, IsInteger}
 
 pub both : (a b : Bool) → a ≡ true → b ≡ true → (a && b) ≡ true
@@ -308,6 +308,10 @@ module _ (local : ℕ → Option ValueType) where
   compare_row_typed compare.LessOrEqual t x y j h k = inverted_typed (below_row t y x) j (below_row_typed y x j k h t)
   compare_row_typed compare.Greater t x y j h k = below_row_typed y x j k h t
   compare_row_typed compare.GreaterOrEqual t x y j h k = inverted_typed (below_row t x y) j (below_row_typed x y j h k t)
+
+  pub shift_row_typed : (o : Plain) (t : Elem) (x : ℕ → Expr) (b j : ℕ) → T (x j) V128 → T (shift_row o t x b j) V128
+  shift_row_typed plain.Shl t x b j h = two (ShiftLanes (shape_of t) Shl) (x j) (Const32 (b % width t)) refl h refl
+  shift_row_typed o t x b j h = two (ShiftLanes (shape_of t) (right_of t)) (x j) (Const32 (b % width t)) refl h refl
 
   pub unary_row_typed : (o : UnaryOp) (t : Elem) (x : ℕ → Expr) (j : ℕ) → T (x j) V128 → T (unary_row o t x j) V128
   unary_row_typed unary.Negate t x j h = two (Lanes (shape_of t) Sub) (Const128 0) (x j) (sums (shape_of t)).1 refl h

@@ -41,6 +41,7 @@ use Rattle.isp_code.specs.declared.instr.Exchange.{Exchange}
 use Rattle.isp_code.specs.declared.instr.Exchange.TheVariants as exchange
 use Rattle.isp_code.specs.declared.instr.MaskOp.{MaskOp}
 use Rattle.isp_code.specs.declared.instr.MaskOp.TheVariants as mask_op
+use Rattle.isp_code.specs.declared.instr.Plain.{Plain}
 use Rattle.isp_code.specs.declared.instr.Plain.TheVariants as plain
 use Rattle.isp_code.specs.declared.instr.Scan.{Scan}
 use Rattle.isp_code.specs.declared.instr.Scan.TheVariants as scan
@@ -48,7 +49,7 @@ use Rattle.isp_code.specs.declared.register.Class.TheVariants as class
 use Rattle.isp_code.specs.declared.register.Register.{Register}
 use Rattle.isp_forms.specs.Writes.{mask_under, is_pure}
 use Rattle.isp_forms.specs.declared.form.Form.{Form}
-use Rattle.isp_forms.specs.declared.form.Form.TheVariants.{Kept, Free, Useless}
+use Rattle.isp_forms.specs.declared.form.Form.TheVariants.{Kept, Free, Useless, KeptBy, FreeBy}
 use Rattle.isp_wasm_meaning.specs.Meaning.{count}
 use Rattle.isp_wasm_meaning.specs.Module.{ValueType, V128, Function}
 use Rattle.isp_wasm_meaning.specs.Module as valued
@@ -58,13 +59,13 @@ use Rattle.isp_wasm_meaning.specs.Syntax.{Expr, Const32, Const64, Const128, Loca
 use Rattle.isp_wasm_meaning.specs.Valid.{is_type, sized, held, has_type, of_type, global_type, changes, is_label, gives, is_valid}
 use Rattle.isp_wasm.specs.Places.{Setting, gang, parts, parts_for, elem, shape, shape_of, size_of, bytes_of, Counter, Scalar as ScalarAt, Vector as VectorAt, Mask as MaskAt, Base, Count, Fresh, Spare, Depth, Top}
 use Rattle.isp_wasm.specs.Words.{constant, below, whole_expr, plain_expr, unary_expr, compare_expr, convert_expr}
-use Rattle.isp_wasm.specs.Rows.{as_cell, lane_at, widened, by_lane, ones, compare_row, present}
-use Rattle.isp_wasm.specs.Templates.{each, scalar_local, vector_local, mask_local, set_lanes, set_mask, is_member, lanes_as_bits, lowest_of, lane_or, lane_or_zero, picked, first_value, folded, modulo, plus, exchange_expr, of_both, scan_expr, reduce_expr, scalar_code, vector_of, vector_code}
+use Rattle.isp_wasm.specs.Rows.{as_cell, lane_at, widened, by_lane, ones, compare_row, present, shift_row}
+use Rattle.isp_wasm.specs.Templates.{each, scalar_local, vector_local, mask_local, set_lanes, set_mask, is_member, lanes_as_bits, lowest_of, lane_or, lane_or_zero, picked, first_value, folded, modulo, plus, exchange_expr, of_both, scan_expr, reduce_expr, scalar_code, vector_of, known_code, vector_code}
 use Rattle.isp_wasm.specs.Templates.{select_lanes, put_lanes, vector_line, fills_parts, run_is_there, load_parts, load_row, store_part, store_row, all_at_once}
 use Rattle.isp_wasm.specs.Templates.{best_step, best_of, fault, element_from, address_at, opened_bytes, base_if, base_at, lane_address, clear_if, is_there, spare, lane_loop, set_lane, lane_loads, lane_checks, lane_stores, own_index, run_index, rank_expr, packed_index, set_count, checked}
 use Rattle.isp_wasm.specs.Templates.{mask_bits, mask_of, numbers_part, range_count, quotients, code_of, magnitude_expr, division_of, turns_sign, quotient_to, jump_to, return_code, call_code, print_value, print_byte, print_comma, print_item, print_list}
 use Rattle.isp_wasm.proofs.Opening.{some_lanes as some_gang}
-use Rattle.isp_wasm.proofs.Typed.{both, same, one, two, select, bitselect, number, unary_typed, compare_typed, plain_typed, whole_typed, below_typed, convert_typed, zero_typed, negated, magnitude_typed, low, lane_typed, cell_typed, source, widened_typed, part_low, unary_row_typed, compare_row_typed, plain_row_typed, present_typed, narrowed_typed, convert_row_typed, by_lane_typed}
+use Rattle.isp_wasm.proofs.Typed.{both, same, one, two, select, bitselect, number, unary_typed, compare_typed, plain_typed, whole_typed, below_typed, convert_typed, zero_typed, negated, magnitude_typed, low, lane_typed, cell_typed, source, widened_typed, part_low, unary_row_typed, compare_row_typed, shift_row_typed, plain_row_typed, present_typed, narrowed_typed, convert_row_typed, by_lane_typed}
 
 -- ---- how many parts
 
@@ -358,6 +359,8 @@ module _ (w : Setting) (local : ℕ → Option ValueType) (functions : List Func
   pub put_valid : (form : Form) (d : ℕ) (x k : Register) → IsV x → IsM k → C d (put_lanes w form x k)
   put_valid Kept d x k xs ks = select_valid d x k xs ks
   put_valid Useless d x k xs ks = select_valid d x k xs ks
+  put_valid (KeptBy b) d x k xs ks = select_valid d x k xs ks
+  put_valid (FreeBy b) d x k xs ks = select_valid d x k xs ks
   put_valid Free d x k xs ks =
       let s = shape w x in
       each_valid d (parts w s) (λ j. Set (w.local (VectorAt x.number j)) (Local (w.local (Fresh j))))
@@ -567,15 +570,35 @@ module _ (w : Setting) (local : ℕ → Option ValueType) (functions : List Func
   row_valid : (form : Form) (n : ℕ) (d : Register) (i : VectorInstr) → IsV d → IsM (mask_under i) → ((j : ℕ) → j < parts w (shape w d) → T (vector_of w d i j) V128) → C n (set_lanes w form d (mask_under i) (vector_of w d i))
   row_valid form n d i ds ks h = lanes_valid form n d (mask_under i) (vector_of w d i) ds ks h
 
+  plains_valid : (form : Form) (n : ℕ) (d : Register) (o : Plain) (x y k : Register) → Fine (vector_operands d (vector.Binary o x y k)) → C n (set_lanes w form d k (vector_of w d (vector.Binary o x y k)))
+  plains_valid form n d o x y k f =
+      row_valid form n d (vector.Binary o x y k) (f.0).0 (((f.1).1).1).0
+      (λ j l. plain_row_typed local w o (elem w d) (vector_local w x) (vector_local w y) (integer (elem w d) (f.0).1) (like x d ((f.1).0).0 ((f.1).0).1) (like y d (((f.1).1).0).0 (((f.1).1).0).1) j l)
+
+  shifts_valid : (form : Form) (b n : ℕ) (d : Register) (o : Plain) (x y k : Register) → Fine (vector_operands d (vector.Binary o x y k)) → C n (set_lanes w form d k (shift_row o (elem w d) (vector_local w x) b))
+  shifts_valid form b n d o x y k f =
+      lanes_valid form n d k (shift_row o (elem w d) (vector_local w x) b) (f.0).0 (((f.1).1).1).0
+      (λ j l. shift_row_typed local o (elem w d) (vector_local w x) b j (like x d ((f.1).0).0 ((f.1).0).1 j l))
+
+  knowns_valid : (form : Form) (b n : ℕ) (d : Register) (o : Plain) (x y k : Register) → Fine (vector_operands d (vector.Binary o x y k)) → C n (known_code w form b d o x y k)
+  knowns_valid form b n d plain.Shl x y k f = shifts_valid form b n d plain.Shl x y k f
+  knowns_valid form b n d plain.Shr x y k f = shifts_valid form b n d plain.Shr x y k f
+  knowns_valid form b n d o x y k f = plains_valid Kept n d o x y k f
+
+  binaries_valid : (form : Form) (n : ℕ) (d : Register) (o : Plain) (x y k : Register) → Fine (vector_operands d (vector.Binary o x y k)) → C n (vector_code w form d (vector.Binary o x y k))
+  binaries_valid Kept n d o x y k f = plains_valid Kept n d o x y k f
+  binaries_valid Free n d o x y k f = plains_valid Free n d o x y k f
+  binaries_valid Useless n d o x y k f = plains_valid Useless n d o x y k f
+  binaries_valid (KeptBy b) n d o x y k f = knowns_valid Kept b n d o x y k f
+  binaries_valid (FreeBy b) n d o x y k f = knowns_valid Free b n d o x y k f
+
   vectors_valid : (form : Form) (n : ℕ) (d : Register) (i : VectorInstr) → Fine (vector_operands d i) → C n (vector_code w form d i)
   vectors_valid form n d (vector.Copy x k) f = row_valid form n d (vector.Copy x k) (f.0).0 ((f.1).1).0 (λ j l. like x d ((f.1).0).0 ((f.1).0).1 j l)
   vectors_valid form n d (vector.Convert x k) f =
       row_valid form n d (vector.Convert x k) (f.0).0 ((f.1).1).0 (λ j l. convert_row_typed local w (elem w x) (elem w d) (vector_local w x) (like x x ((f.1).0).0 refl) j)
   vectors_valid form n d (vector.Unary o x k) f =
       row_valid form n d (vector.Unary o x k) (f.0).0 ((f.1).1).0 (λ j l. unary_row_typed local o (elem w d) (vector_local w x) j (like x d ((f.1).0).0 ((f.1).0).1 j l))
-  vectors_valid form n d (vector.Binary o x y k) f =
-      row_valid form n d (vector.Binary o x y k) (f.0).0 (((f.1).1).1).0
-      (λ j l. plain_row_typed local w o (elem w d) (vector_local w x) (vector_local w y) (integer (elem w d) (f.0).1) (like x d ((f.1).0).0 ((f.1).0).1) (like y d (((f.1).1).0).0 (((f.1).1).0).1) j l)
+  vectors_valid form n d (vector.Binary o x y k) f = binaries_valid form n d o x y k f
   vectors_valid form n d (vector.Compare o x y k) f =
       row_valid form n d (vector.Compare o x y k) (f.0).0 (((f.1).1).1).0
       (λ j l. narrowed_typed local (shape w x) (present w (shape w x) (compare_row o (elem w x) (vector_local w x) (vector_local w y))) j
@@ -634,6 +657,8 @@ module _ (w : Setting) (local : ℕ → Option ValueType) (functions : List Func
   vector_line_valid : (form : Form) (n : ℕ) (d : Register) (i : VectorInstr) → Fine (vector_operands d i) → C n (vector_line w form d i)
   vector_line_valid Kept n d i f = vectors_valid Kept n d i f
   vector_line_valid Free n d i f = vectors_valid Free n d i f
+  vector_line_valid (KeptBy b) n d i f = vectors_valid (KeptBy b) n d i f
+  vector_line_valid (FreeBy b) n d i f = vectors_valid (FreeBy b) n d i f
   vector_line_valid Useless n d i f = left_out_valid (is_pure i) n d i f
 
   -- ---- masks

@@ -16,30 +16,31 @@ use Rattle.isp_code.specs.Conf.{Conf, Go}
 use Rattle.isp_code.specs.Lines.{act, plain_of, set_vector}
 use Rattle.isp_code.specs.declared.instr.Instr.TheVariants as instr
 use Rattle.isp_code.specs.declared.instr.Plain.{Plain}
+use Rattle.isp_code.specs.declared.instr.Plain.TheVariants as plain
 use Rattle.isp_code.specs.declared.instr.VectorInstr.{VectorInstr}
 use Rattle.isp_code.specs.declared.instr.VectorInstr.TheVariants as vector
 use Rattle.isp_code.specs.declared.register.Register.{Register}
 use Rattle.isp_forms.specs.Writes.{mask_under}
 use Rattle.isp_forms.specs.declared.form.Form.{Form}
-use Rattle.isp_forms.specs.declared.form.Form.TheVariants.{Kept, Free, Useless}
+use Rattle.isp_forms.specs.declared.form.Form.TheVariants.{Kept, Free, Useless, KeptBy, FreeBy}
 use Rattle.isp_wasm_meaning.specs.Digits.{packed}
 use Rattle.isp_wasm_meaning.specs.Syntax as wasm
 use Rattle.isp_wasm_meaning.specs.Syntax.{I8x16, Expr, Code, Set, Then, Bitselect, Local, One, Splat, Const128}
-use Rattle.isp_wasm_meaning.specs.Meaning.{State, Result, run, value, lane, of_lanes, wide, count, flags, chosen, bit_of, unary, then_to}
+use Rattle.isp_wasm_meaning.specs.Meaning.{State, Result, Fell, run, value, lane, of_lanes, wide, count, flags, chosen, bit_of, unary, then_to}
 use Rattle.isp_wasm_meaning.specs.Ladder.{Meets}
 use Rattle.isp_wasm_meaning.proofs.Lanes.{selected, lane_below}
 use Rattle.isp_wasm.specs.Places as place
 use Rattle.isp_wasm.specs.Places.{Setting, Place, Counter, Fresh, IsKept, elem, shape, shape_of, size_of, parts, gang}
-use Rattle.isp_wasm.specs.Rows.{cell, as_cell, half, widened, narrowed, present, compare_row, lane_at}
-use Rattle.isp_wasm.specs.Templates.{each, select_lanes, put_lanes, set_lanes, vector_local, scalar_local, mask_local, vector_of, vector_code}
-use Rattle.isp_wasm.specs.Standing.{Stands, Holds, IsSettled, the_machine, vector_register}
+use Rattle.isp_wasm.specs.Rows.{cell, as_cell, half, widened, narrowed, present, compare_row, lane_at, shift_row}
+use Rattle.isp_wasm.specs.Templates.{each, select_lanes, put_lanes, set_lanes, vector_local, scalar_local, mask_local, vector_of, known_code, vector_code}
+use Rattle.isp_wasm.specs.Standing.{Stands, Holds, Keeps, all_of, IsSettled, the_machine, vector_register}
 use Rattle.isp_wasm.specs.Thin.{IsVector, IsScalar, IsThinVector}
 use Rattle.isp_wasm.proofs.Frames.{holds_alike, holds_vector}
-use Rattle.isp_wasm.proofs.Steps.{falls_on}
-use Rattle.isp_wasm.proofs.Frees.{frees_fall}
+use Rattle.isp_wasm.proofs.Steps.{IsWritten, falls_on, falls_free, falls_known, falls_known_free}
+use Rattle.isp_wasm.proofs.Frees.{Frees, all_fall}
 use Rattle.isp_wasm.proofs.Parts.{AreSet, AreFresh, are_set, are_fresh}
 use Rattle.isp_wasm.proofs.Rows.{IsRow, row_same, row_widened, row_narrowed, row_present, row_splat, row_constant, enough}
-use Rattle.isp_wasm.proofs.Cells.{IsCells, split_lane, cell_fits, cell_written, cell_of_bool, bool_flags, lane_value, plain_cells, unary_cells, compare_cells, select_cells}
+use Rattle.isp_wasm.proofs.Cells.{IsCells, split_lane, cell_fits, cell_written, cell_of_bool, bool_flags, lane_value, plain_cells, shl_cells, shr_cells, unary_cells, compare_cells, select_cells}
 use Rattle.isp_wasm.proofs.ConvertRows.{convert_cells}
 
 pub other_part : (r d i j : ℕ) → i < j → place.Vector r j ≡ place.Vector d i → ⊥
@@ -115,14 +116,14 @@ module _ (w : Setting) (ready : IsSettled w) (fuel n k : ℕ) (call : ℕ → Li
   select_bits a x y = packed 2 128 (λ i. chosen (bit_of i a) (bit_of i x) (bit_of i y))
 
   module _ (pc : ℕ) (c : Conf) (s : State) (st : Stands w pc c s) where
-    -- the lanes of a mask of a vector register
-    module _ (i : VectorInstr) (d : ℕ) (x : Map) (v : AllLanes) (new : ℕ → Expr) (has : slice_get w.routine.code pc ≡ Some (instr.Vector (vector_register d) i))
-        (is : act w.code w.routine c (instr.Vector (vector_register d) i) ≡ Go (set_vector c (vector_register d) x))
-        (where_on : (p : ℕ) → p < gang w → (if c.masks (mask_under i).number p then v p else c.vectors d p) ≡ over x (c.vectors d) p)
-        (row : (l : ℕ → ℕ) → Holds w c.scalars c.vectors c.masks l → IsCells (gang w) (elem w (vector_register d)) l new v) where
-      abbrev m : Register
-      m = mask_under i
+    -- the machine goes on with a vector whose lanes that are off are kept
+    abbrev Keeping : ℕ → Map → Type 0
+    Keeping d x = (t : State) → t.out ≡ s.out → Holds w c.scalars (put c.vectors d (over x (c.vectors d))) c.masks t.locals → Keeps w (all_of w c) t.memory t.size → Good (pc + 1) c (Fell t)
 
+    -- the lanes of a mask of a vector register
+    module _ (m : Register) (d : ℕ) (x : Map) (v : AllLanes) (new : ℕ → Expr)
+        (where_on : (p : ℕ) → p < gang w → (if c.masks m.number p then v p else c.vectors d p) ≡ over x (c.vectors d) p)
+        (row : (l : ℕ → ℕ) → Holds w c.scalars c.vectors c.masks l → IsCells (gang w) (elem w (vector_register d)) l new v) where
       abbrev sh : wasm.Shape
       sh = shape w (vector_register d)
 
@@ -163,26 +164,43 @@ module _ (w : Setting) (ready : IsSettled w) (fuel n k : ℕ) (call : ℕ → Li
           ∙ ap (cell t) (where_on (j * count sh + i) q)
 
       -- the others are kept
-      keeping : Good (pc + 1) c (then_to (run fuel call (each (parts w sh) (λ j. Set (w.local (Fresh j)) (new j))) s) selecting)
-      keeping =
+      lanes_kept : Keeping d x → Good (pc + 1) c (run fuel call (set_lanes w Kept (vector_register d) m new) s)
+      lanes_kept goes =
           subst (Good (pc + 1) c) (sym (ap (λ r. then_to r selecting) fresh.fell ∙ set.fell))
-          (falls_on w ready fuel n k pc c s (instr.Vector (vector_register d) i) st has (record c { pc = c.pc + 1; vectors = put c.vectors d (over x (c.vectors d)) }) (record s { locals = set.locals }) is refl refl refl refl
+          (goes (record s { locals = set.locals }) refl
           (holds_vector w c.scalars c.vectors c.masks fresh.locals set.locals d (over x (c.vectors d)) held lanes
           (λ p kept out. set.others p (λ i l e. out (i, e))))
           st.keeps)
 
-      pub lanes_fall : (form : Form) → (form ≡ Free → w.forms w.home.fn pc ≡ Free) → Good (pc + 1) c (run fuel call (set_lanes w form (vector_register d) (mask_under i) new) s)
-      lanes_fall Kept e = keeping
-      lanes_fall Useless e = keeping
-      lanes_fall Free e =
-          subst (Good (pc + 1) c) (sym (ap (λ r. then_to r (run fuel call (put_lanes w Free (vector_register d) (mask_under i)))) fresh.fell))
-          (frees_fall w ready fuel n k call pc c s st i d x v fresh.locals (e refl) has is where_on held (λ j q l b. fresh.lanes j q (enough w sh j q b) l b))
+      lanes_free : Frees w ready fuel n k call pc c s st d x m → Good (pc + 1) c (run fuel call (set_lanes w Free (vector_register d) m new) s)
+      lanes_free goes =
+          subst (Good (pc + 1) c) (sym (ap (λ r. then_to r (run fuel call (put_lanes w Free (vector_register d) m))) fresh.fell))
+          (all_fall w ready fuel n k call pc c s st m d x v fresh.locals goes where_on held (λ j q l b. fresh.lanes j q (enough w sh j q b) l b))
+
+    -- by what an instruction does
+    module _ (i : VectorInstr) (d : ℕ) (x : Map) (v : AllLanes) (new : ℕ → Expr) (has : slice_get w.routine.code pc ≡ Some (instr.Vector (vector_register d) i))
+        (is : act w.code w.routine c (instr.Vector (vector_register d) i) ≡ Go (set_vector c (vector_register d) x))
+        (where_on : (p : ℕ) → p < gang w → (if c.masks (mask_under i).number p then v p else c.vectors d p) ≡ over x (c.vectors d) p)
+        (row : (l : ℕ → ℕ) → Holds w c.scalars c.vectors c.masks l → IsCells (gang w) (elem w (vector_register d)) l new v) where
+      keeping : Good (pc + 1) c (run fuel call (set_lanes w Kept (vector_register d) (mask_under i) new) s)
+      keeping =
+          lanes_kept (mask_under i) d x v new where_on row
+          (λ t out holds keeps. falls_on w ready fuel n k pc c s (instr.Vector (vector_register d) i) st has (record c { pc = c.pc + 1; vectors = put c.vectors d (over x (c.vectors d)) }) t is refl refl refl out holds keeps)
+
+      pub lanes_fall : (form : Form) → IsWritten w pc form → Good (pc + 1) c (run fuel call (set_lanes w form (vector_register d) (mask_under i) new) s)
+      lanes_fall Kept written = keeping
+      lanes_fall Useless written = keeping
+      lanes_fall (KeptBy b) written = keeping
+      lanes_fall (FreeBy b) written = keeping
+      lanes_fall Free written =
+          lanes_free (mask_under i) d x v new where_on row
+          (λ old t out holds keeps. falls_free w ready fuel n k pc c s (vector_register d) i st has x old t (written (λ e. cc)) is out holds keeps)
 
     -- ---- the instructions that work on each lane by itself
 
     abbrev pub At : ℕ → VectorInstr → Type 0
     At d i =
-        slice_get w.routine.code pc ≡ Some (instr.Vector (vector_register d) i) → IsThinVector w (elem w (vector_register d)) i → (form : Form) → (form ≡ Free → w.forms w.home.fn pc ≡ Free)
+        slice_get w.routine.code pc ≡ Some (instr.Vector (vector_register d) i) → IsThinVector w (elem w (vector_register d)) i → (form : Form) → IsWritten w pc form
         → Good (pc + 1) c (run fuel call (vector_code w form (vector_register d) i) s)
 
     pub copies : (d : ℕ) (x m : Register) → At d (vector.Copy x m)
@@ -206,14 +224,65 @@ module _ (w : Setting) (ready : IsSettled w) (fuel n k : ℕ) (call : ℕ → Li
         (λ p q. chosen_over1 (c.masks m.number p) (unary_bits o t) (c.vectors x.number p) (c.vectors d p))
         (λ l held. unary_cells (gang w) l (vector_local w x) (c.vectors x.number) o t h.0 (vector_cells w c l held x t h.1) (vector_fits w c l held x t h.1))
 
-    pub binaries : (d : ℕ) (o : Plain) (x y m : Register) → At d (vector.Binary o x y m)
-    binaries d o x y m has h =
+    plains : (d : ℕ) (o : Plain) (x y m : Register) → slice_get w.routine.code pc ≡ Some (instr.Vector (vector_register d) (vector.Binary o x y m)) → IsThinVector w (elem w (vector_register d)) (vector.Binary o x y m)
+        → (form : Form) → IsWritten w pc form → Good (pc + 1) c (run fuel call (set_lanes w form (vector_register d) m (vector_of w (vector_register d) (vector.Binary o x y m))) s)
+    plains d o x y m has h =
         let t = elem w (vector_register d) in
         lanes_fall (vector.Binary o x y m) d (map2 (op_bits (plain_of o) t) (on (c.masks m.number) (c.vectors x.number)) (on (c.masks m.number) (c.vectors y.number)))
         (λ p. op_bits (plain_of o) t (c.vectors x.number p) (c.vectors y.number p)) (vector_of w (vector_register d) (vector.Binary o x y m)) has refl
         (λ p q. chosen_over2 (c.masks m.number p) (op_bits (plain_of o) t) (c.vectors x.number p) (c.vectors y.number p) (c.vectors d p))
         (λ l held. plain_cells w l (vector_local w x) (vector_local w y) (c.vectors x.number) (c.vectors y.number) o t h.0 (vector_cells w c l held x t h.1) (vector_cells w c l held y t h.2)
         (λ p q. (vector_fits w c l held x t h.1 p q, vector_fits w c l held y t h.2 p q)))
+
+    -- an operator by a known number
+    module _ (d : ℕ) (x y m : Register) (b : ℕ) where
+      abbrev lanes_type : Elem
+      lanes_type = elem w (vector_register d)
+
+      abbrev by_number : Plain → AllLanes
+      by_number o p = op_bits (plain_of o) lanes_type (c.vectors x.number p) b
+
+      abbrev known : Plain → Map
+      known o = map2 (op_bits (plain_of o) lanes_type) (on (c.masks m.number) (c.vectors x.number)) (on (c.masks m.number) (λ p. b))
+
+      abbrev IsShifted : Plain → (ℕ → Expr) → Type 0
+      IsShifted o new = (l : ℕ → ℕ) → Holds w c.scalars c.vectors c.masks l → IsCells (gang w) lanes_type l new (by_number o)
+
+      module _ (o : Plain) (has : slice_get w.routine.code pc ≡ Some (instr.Vector (vector_register d) (vector.Binary o x y m))) (new : ℕ → Expr) (row : IsShifted o new) where
+        known_on : (p : ℕ) → p < gang w → (if c.masks m.number p then by_number o p else c.vectors d p) ≡ over (known o) (c.vectors d) p
+        known_on p q = chosen_over2 (c.masks m.number p) (op_bits (plain_of o) lanes_type) (c.vectors x.number p) b (c.vectors d p)
+
+        shifts_kept : w.forms w.home.fn pc ≡ KeptBy b → Good (pc + 1) c (run fuel call (set_lanes w Kept (vector_register d) m new) s)
+        shifts_kept form =
+            lanes_kept m d (known o) (by_number o) new known_on row
+            (λ t out holds keeps. falls_known w ready fuel n k pc c s (vector_register d) o x y m b st has t form out holds keeps)
+
+        shifts_free : w.forms w.home.fn pc ≡ FreeBy b → Good (pc + 1) c (run fuel call (set_lanes w Free (vector_register d) m new) s)
+        shifts_free form =
+            lanes_free m d (known o) (by_number o) new known_on row
+            (λ old t out holds keeps. falls_known_free w ready fuel n k pc c s (vector_register d) o x y m b st has old t form out holds keeps)
+
+      -- a shift is one of all lanes
+      knowns : (o : Plain) (form : Form) → IsThinVector w lanes_type (vector.Binary o x y m)
+          → ((new : ℕ → Expr) → IsShifted o new → Good (pc + 1) c (run fuel call (set_lanes w form (vector_register d) m new) s))
+          → Good (pc + 1) c (run fuel call (set_lanes w Kept (vector_register d) m (vector_of w (vector_register d) (vector.Binary o x y m))) s)
+          → Good (pc + 1) c (run fuel call (known_code w form b (vector_register d) o x y m) s)
+      knowns plain.Shl form h shift other =
+          shift (shift_row plain.Shl lanes_type (vector_local w x) b)
+          (λ l held. shl_cells (gang w) lanes_type l (vector_local w x) (c.vectors x.number) b h.0 (vector_cells w c l held x lanes_type h.1) (vector_fits w c l held x lanes_type h.1))
+      knowns plain.Shr form h shift other =
+          shift (shift_row plain.Shr lanes_type (vector_local w x) b)
+          (λ l held. shr_cells (gang w) lanes_type l (vector_local w x) (c.vectors x.number) b h.0 (vector_cells w c l held x lanes_type h.1) (vector_fits w c l held x lanes_type h.1))
+      knowns o form h shift other = other
+
+    pub binaries : (d : ℕ) (o : Plain) (x y m : Register) → At d (vector.Binary o x y m)
+    binaries d o x y m has h Kept written = plains d o x y m has h Kept written
+    binaries d o x y m has h Free written = plains d o x y m has h Free written
+    binaries d o x y m has h Useless written = plains d o x y m has h Useless written
+    binaries d o x y m has h (KeptBy b) written =
+        knowns d x y m b o Kept h (λ new row. shifts_kept d x y m b o has new row (written (λ e. cc))) (plains d o x y m has h Kept (λ other. absurd (other refl)))
+    binaries d o x y m has h (FreeBy b) written =
+        knowns d x y m b o Free h (λ new row. shifts_free d x y m b o has new row (written (λ e. cc))) (plains d o x y m has h Kept (λ other. absurd (other refl)))
 
     compare_lanes : (o : Compare) (u : Elem) (x y : Register) (l : ℕ → ℕ) → (held : Holds w c.scalars c.vectors c.masks l) → IsVector w x u → IsVector w y u
         → IsCells (gang w) Truth l (narrowed (shape_of u) (present w (shape_of u) (compare_row o u (vector_local w x) (vector_local w y)))) (λ p. compare_bits o u (c.vectors x.number p) (c.vectors y.number p))

@@ -4,7 +4,7 @@ use Rattle.std.specs.Prelude.{nat_eq, nat_lt, if◌then◌else◌, int_lt}
 use Rattle.std.proofs.lemmas.Bool.{cases_lt, lt-ltb, le-ltb}
 use Rattle.std.proofs.lemmas.Nat.{and_mask, pow_pos}
 use Rattle.std.proofs.Math.Nat.{mod-lt, div-le_self}
-use Rattle.isp_base.specs.Values.{width, greatest, number, op_bits, outcome_to, compare_bits, compare_to}
+use Rattle.isp_base.specs.Values.{width, greatest, number, number_to, wrap_to, op_bits, outcome_to, compare_bits, compare_to}
 use Rattle.isp_base.specs.Words.{turned}
 use Rattle.isp_base.specs.declared.operators.Compare.{Compare}
 use Rattle.isp_base.specs.declared.operators.Compare.TheVariants as compare
@@ -342,6 +342,65 @@ shr_value t l a b x y num e f h p =
     ∙ ap (λ u. u % 2 ^ width t) is
     ∙ ap (λ k. right_shifted (bits (size_of t)) (right_of t) v (2 ^ k) % 2 ^ width t) (amount_low t l b y num f)
     ∙ right_is t l a x (2 ^ bit_and y (width t - 1)) num e h ∙ word_shr t x y h p
+
+-- ---- a shift by a known amount, in as many bits as a type has
+
+known_amount : (t : Elem) (b : ℕ) → IsInteger t → b % width t % 2 ^ 32 % width t ≡ bit_and (b % 2 ^ width t) (width t - 1)
+known_amount Truth b num = absurd num
+known_amount I8 b num = (let e : b % 8 % 2 ^ 32 % 8 ≡ b % 2 ^ 8 % 8 = omega arith in e) ∙ sym (and_mask (b % 2 ^ 8) 3)
+known_amount U8 b num = (let e : b % 8 % 2 ^ 32 % 8 ≡ b % 2 ^ 8 % 8 = omega arith in e) ∙ sym (and_mask (b % 2 ^ 8) 3)
+known_amount I16 b num = (let e : b % 16 % 2 ^ 32 % 16 ≡ b % 2 ^ 16 % 16 = omega arith in e) ∙ sym (and_mask (b % 2 ^ 16) 4)
+known_amount U16 b num = (let e : b % 16 % 2 ^ 32 % 16 ≡ b % 2 ^ 16 % 16 = omega arith in e) ∙ sym (and_mask (b % 2 ^ 16) 4)
+known_amount I32 b num = (let e : b % 32 % 2 ^ 32 % 32 ≡ b % 2 ^ 32 % 32 = omega arith in e) ∙ sym (and_mask (b % 2 ^ 32) 5)
+known_amount U32 b num = (let e : b % 32 % 2 ^ 32 % 32 ≡ b % 2 ^ 32 % 32 = omega arith in e) ∙ sym (and_mask (b % 2 ^ 32) 5)
+known_amount I64 b num = (let e : b % 64 % 2 ^ 32 % 64 ≡ b % 2 ^ 64 % 64 = omega arith in e) ∙ sym (and_mask (b % 2 ^ 64) 6)
+known_amount U64 b num = (let e : b % 64 % 2 ^ 32 % 64 ≡ b % 2 ^ 64 % 64 = omega arith in e) ∙ sym (and_mask (b % 2 ^ 64) 6)
+
+-- an operator takes the low bits of its right operand
+low_operand : (o : Plain) (t : Elem) (x b : ℕ) → op_bits (plain_of o) t x (b % 2 ^ width t) ≡ op_bits (plain_of o) t x b
+low_operand o t x b =
+    ap (λ y. wrap_to (width t) (outcome_to (width t) (plain_of o) (number t x) (number_to (width t) (greatest t) y))) (mod-eq_of_lt (mod-lt b (pow_pos (width t))))
+
+pub shl_known : (t : Elem) (x b : ℕ) → IsInteger t → x < 2 ^ width t → shifted (width t) Shl x (b % width t % 2 ^ 32) ≡ op_bits (plain_of plain.Shl) t x b
+shl_known t x b num h =
+    let y = b % 2 ^ width t in
+    ap (λ k. (x * 2 ^ k) % 2 ^ width t) (known_amount t b num) ∙ sym (low_of t (x * 2 ^ bit_and y (width t - 1)))
+    ∙ word_shl t x y h (mod-lt b (pow_pos (width t))) ∙ low_operand plain.Shl t x b
+
+lane_shifted : (t : Elem) (x y : ℕ) → IsInteger t → shifted (width t) (right_of t) x y ≡ right_shifted (width t) (right_of t) x (2 ^ (y % width t))
+lane_shifted Truth x y num = absurd num
+lane_shifted I8 x y num = refl
+lane_shifted U8 x y num = refl
+lane_shifted I16 x y num = refl
+lane_shifted U16 x y num = refl
+lane_shifted I32 x y num = refl
+lane_shifted U32 x y num = refl
+lane_shifted I64 x y num = refl
+lane_shifted U64 x y num = refl
+
+lane_right : (t : Elem) (x d : ℕ) → IsInteger t → x < 2 ^ width t → right_shifted (width t) (right_of t) x d % 2 ^ width t ≡ right t x d
+lane_right Truth x d num h = absurd num
+lane_right I8 x d num h = wide_right 8 x d h
+lane_right U8 x d num h = plain_right 8 x d h
+lane_right I16 x d num h = wide_right 16 x d h
+lane_right U16 x d num h = plain_right 16 x d h
+lane_right I32 x d num h = wide_right 32 x d h
+lane_right U32 x d num h = plain_right 32 x d h
+lane_right I64 x d num h = wide_right 64 x d h
+lane_right U64 x d num h = plain_right 64 x d h
+
+pub shr_known : (t : Elem) (x b : ℕ) → IsInteger t → x < 2 ^ width t → shifted (width t) (right_of t) x (b % width t % 2 ^ 32) ≡ op_bits (plain_of plain.Shr) t x b
+shr_known t x b num h =
+    let y = b % 2 ^ width t in
+    let d = 2 ^ bit_and y (width t - 1) in
+    lane_shifted t x (b % width t % 2 ^ 32) num ∙ ap (λ k. right_shifted (width t) (right_of t) x (2 ^ k)) (known_amount t b num)
+    ∙ sym (mod-eq_of_lt (right_below (width t) (right_of t) x d h)) ∙ lane_right t x d num h
+    ∙ word_shr t x y h (mod-lt b (pow_pos (width t))) ∙ low_operand plain.Shr t x b
+
+pub shifted_below : (w : ℕ) (o : wasm.Shift) (x y : ℕ) → x < 2 ^ w → shifted w o x y < 2 ^ w
+shifted_below w Shl x y h = mod-lt (x * 2 ^ (y % w)) (pow_pos w)
+shifted_below w ShrU x y h = right_below w ShrU x (2 ^ (y % w)) h
+shifted_below w ShrS x y h = right_below w ShrS x (2 ^ (y % w)) h
 
 pub select_less : (t : Elem) (l : ℕ → ℕ) (a b c d : Expr) (x y u v : ℕ) → value l a ≡ x → value l b ≡ y → x < 2 ^ width t → y < 2 ^ width t → value l c ≡ u → value l d ≡ v
     → chosen (value l (below t a b)) (value l c) (value l d) ≡ cond (nat_lt (turned (width t) (greatest t) x) (turned (width t) (greatest t) y)) u v

@@ -11,10 +11,10 @@ use Rattle.isp_code.specs.declared.instr.Plain.{Plain}
 use Rattle.isp_code.specs.declared.instr.Plain.TheVariants as plain
 use Rattle.isp_wasm_meaning.specs.Lists.{evens}
 use Rattle.isp_wasm_meaning.specs.Syntax as wasm
-use Rattle.isp_wasm_meaning.specs.Syntax.{Shape, I8x16, I16x8, I32x4, I64x2, Add, Sub, Mul, And, Or, Xor, Eq, LtU, LtS, Splat, Extract, ExtendLow, ExtendHigh, Of, BitsOf, Lanes, CompareLanes, Bits, Replace, Shuffle, Expr, Const32, Const128, One, Two, Bitselect}
+use Rattle.isp_wasm_meaning.specs.Syntax.{Shape, I8x16, I16x8, I32x4, I64x2, Add, Sub, Mul, And, Or, Xor, Shl, Eq, LtU, LtS, Splat, Extract, ExtendLow, ExtendHigh, Of, BitsOf, Lanes, CompareLanes, ShiftLanes, Bits, Replace, Shuffle, Expr, Const32, Const128, One, Two, Bitselect}
 use Rattle.isp_wasm_meaning.specs.Meaning.{count, of_lanes}
 use Rattle.isp_wasm.specs.Places.{Setting, gang, parts, shape_of}
-use Rattle.isp_wasm.specs.Words.{plain_expr, less_of}
+use Rattle.isp_wasm.specs.Words.{plain_expr, less_of, right_of}
 
 -- ---- one lane
 
@@ -108,6 +108,11 @@ unary_row unary.Negate t x j = Two (Lanes (shape_of t) Sub) (Const128 0) (x j)
 unary_row unary.Invert t x j = Two (Bits Xor) (x j) ones
 unary_row unary.Absolute t x j = Bitselect (Two (Lanes (shape_of t) Sub) (Const128 0) (x j)) (x j) (below_row t x (λ j. Const128 0) j)
 unary_row unary.Not t x j = Two (Bits Xor) (x j) ones
+
+-- a shift of each lane by one amount
+abbrev pub shift_row : Plain → Elem → (ℕ → Expr) → ℕ → ℕ → Expr
+shift_row plain.Shl t x b j = Two (ShiftLanes (shape_of t) Shl) (x j) (Const32 (b % width t))
+shift_row o t x b j = Two (ShiftLanes (shape_of t) (right_of t)) (x j) (Const32 (b % width t))
 
 -- lanes of a type as those of another: without the sign that came in, where the type has none
 abbrev pub without_sign : Elem → Elem → (ℕ → Expr) → ℕ → Expr

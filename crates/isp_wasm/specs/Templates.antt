@@ -23,6 +23,7 @@ use Rattle.isp_code.specs.declared.instr.MaskInstr.{MaskInstr}
 use Rattle.isp_code.specs.declared.instr.MaskInstr.TheVariants as mask
 use Rattle.isp_code.specs.declared.instr.MaskOp.{MaskOp}
 use Rattle.isp_code.specs.declared.instr.MaskOp.TheVariants as mask_op
+use Rattle.isp_code.specs.declared.instr.Plain.{Plain}
 use Rattle.isp_code.specs.declared.instr.Plain.TheVariants as plain
 use Rattle.isp_code.specs.declared.instr.Reduction.{Reduction}
 use Rattle.isp_code.specs.declared.instr.Reduction.TheVariants as reduction
@@ -37,7 +38,7 @@ use Rattle.isp_code.specs.declared.register.Class.TheVariants as class
 use Rattle.isp_code.specs.declared.register.Register.{Register}
 use Rattle.isp_forms.specs.Writes.{mask_under, is_pure}
 use Rattle.isp_forms.specs.declared.form.Form.{Form}
-use Rattle.isp_forms.specs.declared.form.Form.TheVariants.{Kept, Free, Useless}
+use Rattle.isp_forms.specs.declared.form.Form.TheVariants.{Kept, Free, Useless, KeptBy, FreeBy}
 use Rattle.isp_wasm_meaning.specs.Meaning.{of_lanes, flags, count}
 use Rattle.isp_wasm_meaning.specs.Ladder.{dispatched}
 use Rattle.isp_wasm_meaning.specs.Syntax as wasm
@@ -46,7 +47,7 @@ use Rattle.isp_wasm_meaning.specs.Syntax.{Code, Skip, Unreachable, Then, Set, Lo
 use Rattle.isp_wasm.specs.Places.{Setting, gang, text, Counter, Scalar, Vector, Mask, Base, Count, Fresh, Spare, Depth, Top, bytes_of, elem, shape, shape_of, parts, size_of}
 use Rattle.isp_wasm.specs.Stack.{local_bytes, bytes_in}
 use Rattle.isp_wasm.specs.Words.{constant, below, whole_expr, plain_expr, unary_expr, compare_expr, convert_expr}
-use Rattle.isp_wasm.specs.Rows.{as_cell, lane_at, widened, narrowed, ones, compare_row, unary_row, by_lane, present, convert_row, plain_row}
+use Rattle.isp_wasm.specs.Rows.{as_cell, lane_at, widened, narrowed, ones, compare_row, unary_row, by_lane, present, convert_row, plain_row, shift_row}
 
 -- one part after the other
 abbrev pub each : ℕ → (ℕ → Code) → Code
@@ -343,9 +344,17 @@ module _ (w : Setting) where
       by_lane w (elem w d) (λ p. Select (Two (wasm.Compare wasm.I32 Eq) (modulo (gang w) (scalar_local i)) (Const32 p)) (scalar_local y) (lane_or_zero x k p))
   vector_of d i = λ j. Const128 0
 
+  -- an operator by a number: a shift is one of all lanes, another is written as it is without
+  abbrev pub known_code : Form → ℕ → Register → Plain → Register → Register → Register → Code
+  known_code form b d plain.Shl x y k = set_lanes form d k (shift_row plain.Shl (elem w d) (vector_local x) b)
+  known_code form b d plain.Shr x y k = set_lanes form d k (shift_row plain.Shr (elem w d) (vector_local x) b)
+  known_code form b d o x y k = set_lanes Kept d k (plain_row w o (elem w d) (vector_local x) (vector_local y))
+
   abbrev pub vector_code : Form → Register → VectorInstr → Code
   vector_code form d (vector.Gather a i k q) = lane_loads d a (own_index i) k q
   vector_code form d (vector.LoadRun a i k q) = load_run form d a i k q
+  vector_code (KeptBy b) d (vector.Binary o x y k) = known_code Kept b d o x y k
+  vector_code (FreeBy b) d (vector.Binary o x y k) = known_code Free b d o x y k
   vector_code form d i = set_lanes form d (mask_under i) (vector_of d i)
 
   -- where nobody reads what it writes, and it never traps, nothing is done

@@ -4,7 +4,7 @@ use Rattle.std.specs.Prelude.{codes}
 use Rattle.isp_wasm_meaning.specs.Lists.{evens}
 use Rattle.isp_wasm_meaning.specs.Syntax.{I8x16, I16x8, I32x4, I64x2, I32, I64, Add, Sub, Mul, And, Or, Xor, Shl, ShrU, ShrS, Eq, Ne, LtU, LtS, DivU, RemU}
 use Rattle.isp_wasm_meaning.specs.Syntax.{Eqz, Ctz, Wrap, ExtendU, ExtendS, Extend8S, Extend16S, Splat, Extract, ExtendLow, ExtendHigh, Bitmask}
-use Rattle.isp_wasm_meaning.specs.Syntax.{Of, BitsOf, ShiftOf, Compare, Lanes, CompareLanes, Bits, Replace, Shuffle}
+use Rattle.isp_wasm_meaning.specs.Syntax.{Of, BitsOf, ShiftOf, Compare, Lanes, CompareLanes, ShiftLanes, Bits, Replace, Shuffle}
 use Rattle.isp_wasm_meaning.specs.Syntax.{Const32, Const64, Const128, Local, One, Two, Select, Bitselect}
 use Rattle.isp_wasm_meaning.specs.Syntax.{Skip, Then, Set, Load, Store, Divide, If, Block, Loop, Br, BrTable, Return, Unreachable, Call, Write, Fail}
 use Rattle.isp_wasm_meaning.specs.Syntax.{SignedText, UnsignedText, TruthText, ByteText, Print, GetGlobal, SetGlobal, Clear}
@@ -322,6 +322,18 @@ lt_s_i8x16 : code_bytes (Set 4 (Two (CompareLanes I8x16 LtS) (Local 4) (Local 5)
 unfolding groups u32 signed_groups i32 i64 low_bytes v128
 lt_s_i8x16 = refl
 
+shl_i8x16 : code_bytes (Set 4 (Two (ShiftLanes I8x16 Shl) (Local 4) (Local 0))) ≡ 32 ∷ 4 ∷ 32 ∷ 0 ∷ 253 ∷ 107 ∷ 33 ∷ 4 ∷ []
+unfolding groups u32 signed_groups i32 i64 low_bytes v128
+shl_i8x16 = refl
+
+shr_u_i8x16 : code_bytes (Set 4 (Two (ShiftLanes I8x16 ShrU) (Local 4) (Local 0))) ≡ 32 ∷ 4 ∷ 32 ∷ 0 ∷ 253 ∷ 109 ∷ 33 ∷ 4 ∷ []
+unfolding groups u32 signed_groups i32 i64 low_bytes v128
+shr_u_i8x16 = refl
+
+shr_s_i8x16 : code_bytes (Set 4 (Two (ShiftLanes I8x16 ShrS) (Local 4) (Local 0))) ≡ 32 ∷ 4 ∷ 32 ∷ 0 ∷ 253 ∷ 108 ∷ 33 ∷ 4 ∷ []
+unfolding groups u32 signed_groups i32 i64 low_bytes v128
+shr_s_i8x16 = refl
+
 splat_i8x16 : code_bytes (Set 4 (One (Splat I8x16) (Local 0))) ≡ 32 ∷ 0 ∷ 253 ∷ 15 ∷ 33 ∷ 4 ∷ []
 unfolding groups u32 signed_groups i32 i64 low_bytes v128
 splat_i8x16 = refl
@@ -373,6 +385,18 @@ lt_u_i16x8 = refl
 lt_s_i16x8 : code_bytes (Set 4 (Two (CompareLanes I16x8 LtS) (Local 4) (Local 5))) ≡ 32 ∷ 4 ∷ 32 ∷ 5 ∷ 253 ∷ 47 ∷ 33 ∷ 4 ∷ []
 unfolding groups u32 signed_groups i32 i64 low_bytes v128
 lt_s_i16x8 = refl
+
+shl_i16x8 : code_bytes (Set 4 (Two (ShiftLanes I16x8 Shl) (Local 4) (Local 0))) ≡ 32 ∷ 4 ∷ 32 ∷ 0 ∷ 253 ∷ 139 ∷ 1 ∷ 33 ∷ 4 ∷ []
+unfolding groups u32 signed_groups i32 i64 low_bytes v128
+shl_i16x8 = refl
+
+shr_u_i16x8 : code_bytes (Set 4 (Two (ShiftLanes I16x8 ShrU) (Local 4) (Local 0))) ≡ 32 ∷ 4 ∷ 32 ∷ 0 ∷ 253 ∷ 141 ∷ 1 ∷ 33 ∷ 4 ∷ []
+unfolding groups u32 signed_groups i32 i64 low_bytes v128
+shr_u_i16x8 = refl
+
+shr_s_i16x8 : code_bytes (Set 4 (Two (ShiftLanes I16x8 ShrS) (Local 4) (Local 0))) ≡ 32 ∷ 4 ∷ 32 ∷ 0 ∷ 253 ∷ 140 ∷ 1 ∷ 33 ∷ 4 ∷ []
+unfolding groups u32 signed_groups i32 i64 low_bytes v128
+shr_s_i16x8 = refl
 
 splat_i16x8 : code_bytes (Set 4 (One (Splat I16x8) (Local 0))) ≡ 32 ∷ 0 ∷ 253 ∷ 16 ∷ 33 ∷ 4 ∷ []
 unfolding groups u32 signed_groups i32 i64 low_bytes v128
@@ -438,6 +462,18 @@ lt_s_i32x4 : code_bytes (Set 4 (Two (CompareLanes I32x4 LtS) (Local 4) (Local 5)
 unfolding groups u32 signed_groups i32 i64 low_bytes v128
 lt_s_i32x4 = refl
 
+shl_i32x4 : code_bytes (Set 4 (Two (ShiftLanes I32x4 Shl) (Local 4) (Local 0))) ≡ 32 ∷ 4 ∷ 32 ∷ 0 ∷ 253 ∷ 171 ∷ 1 ∷ 33 ∷ 4 ∷ []
+unfolding groups u32 signed_groups i32 i64 low_bytes v128
+shl_i32x4 = refl
+
+shr_u_i32x4 : code_bytes (Set 4 (Two (ShiftLanes I32x4 ShrU) (Local 4) (Local 0))) ≡ 32 ∷ 4 ∷ 32 ∷ 0 ∷ 253 ∷ 173 ∷ 1 ∷ 33 ∷ 4 ∷ []
+unfolding groups u32 signed_groups i32 i64 low_bytes v128
+shr_u_i32x4 = refl
+
+shr_s_i32x4 : code_bytes (Set 4 (Two (ShiftLanes I32x4 ShrS) (Local 4) (Local 0))) ≡ 32 ∷ 4 ∷ 32 ∷ 0 ∷ 253 ∷ 172 ∷ 1 ∷ 33 ∷ 4 ∷ []
+unfolding groups u32 signed_groups i32 i64 low_bytes v128
+shr_s_i32x4 = refl
+
 splat_i32x4 : code_bytes (Set 4 (One (Splat I32x4) (Local 0))) ≡ 32 ∷ 0 ∷ 253 ∷ 17 ∷ 33 ∷ 4 ∷ []
 unfolding groups u32 signed_groups i32 i64 low_bytes v128
 splat_i32x4 = refl
@@ -497,6 +533,18 @@ ne_i64x2 = refl
 lt_s_i64x2 : code_bytes (Set 4 (Two (CompareLanes I64x2 LtS) (Local 4) (Local 5))) ≡ 32 ∷ 4 ∷ 32 ∷ 5 ∷ 253 ∷ 216 ∷ 1 ∷ 33 ∷ 4 ∷ []
 unfolding groups u32 signed_groups i32 i64 low_bytes v128
 lt_s_i64x2 = refl
+
+shl_i64x2 : code_bytes (Set 4 (Two (ShiftLanes I64x2 Shl) (Local 4) (Local 0))) ≡ 32 ∷ 4 ∷ 32 ∷ 0 ∷ 253 ∷ 203 ∷ 1 ∷ 33 ∷ 4 ∷ []
+unfolding groups u32 signed_groups i32 i64 low_bytes v128
+shl_i64x2 = refl
+
+shr_u_i64x2 : code_bytes (Set 4 (Two (ShiftLanes I64x2 ShrU) (Local 4) (Local 0))) ≡ 32 ∷ 4 ∷ 32 ∷ 0 ∷ 253 ∷ 205 ∷ 1 ∷ 33 ∷ 4 ∷ []
+unfolding groups u32 signed_groups i32 i64 low_bytes v128
+shr_u_i64x2 = refl
+
+shr_s_i64x2 : code_bytes (Set 4 (Two (ShiftLanes I64x2 ShrS) (Local 4) (Local 0))) ≡ 32 ∷ 4 ∷ 32 ∷ 0 ∷ 253 ∷ 204 ∷ 1 ∷ 33 ∷ 4 ∷ []
+unfolding groups u32 signed_groups i32 i64 low_bytes v128
+shr_s_i64x2 = refl
 
 splat_i64x2 : code_bytes (Set 4 (One (Splat I64x2) (Local 2))) ≡ 32 ∷ 2 ∷ 253 ∷ 18 ∷ 33 ∷ 4 ∷ []
 unfolding groups u32 signed_groups i32 i64 low_bytes v128

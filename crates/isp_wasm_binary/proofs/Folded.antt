@@ -5,7 +5,7 @@ use Rattle.std.specs.List.{flat_map}
 use Rattle.std.proofs.lemmas.Grind.{flat_map-append}
 use Rattle.std.proofs.Math.Nat.{mod-lt, mod-mod}
 use Rattle.std.proofs.lemmas.Nat.{pow_pos}
-use Rattle.isp_wasm_meaning.specs.Syntax.{Binary, Of, BitsOf, ShiftOf, Compare, Lanes, CompareLanes, Bits, Replace, Shuffle, Expr, Const32, Const64, Const128, Local, One, Two, Select, Bitselect}
+use Rattle.isp_wasm_meaning.specs.Syntax.{Binary, Of, BitsOf, ShiftOf, Compare, Lanes, CompareLanes, ShiftLanes, Bits, Replace, Shuffle, Expr, Const32, Const64, Const128, Local, One, Two, Select, Bitselect}
 use Rattle.isp_wasm_meaning.specs.Syntax.{Code, Skip, Then, Set, Load, Store, Divide, If, Block, Loop, Br, BrTable, Return, Unreachable, Call, Write, Fail, Print, GetGlobal, SetGlobal, Clear}
 use Rattle.isp_wasm_binary.specs.Numbers.{u32, signed_groups, i32, i64, low_bytes, v128}
 use Rattle.isp_wasm_binary.specs.Operators.{binary_bytes}
@@ -35,6 +35,7 @@ sixteen_bytes (ShiftOf t o) = refl
 sixteen_bytes (Compare t o) = refl
 sixteen_bytes (Lanes s o) = refl
 sixteen_bytes (CompareLanes s o) = refl
+sixteen_bytes (ShiftLanes s o) = refl
 sixteen_bytes (Bits o) = refl
 sixteen_bytes (Replace s k) = refl
 
@@ -120,6 +121,7 @@ sixteen_is (ShiftOf t o) = tt
 sixteen_is (Compare t o) = tt
 sixteen_is (Lanes s o) = tt
 sixteen_is (CompareLanes s o) = tt
+sixteen_is (ShiftLanes s o) = tt
 sixteen_is (Bits o) = tt
 sixteen_is (Replace s k) = tt
 

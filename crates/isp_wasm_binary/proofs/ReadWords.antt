@@ -5,7 +5,7 @@ use Rattle.std.specs.List.{flat_map}
 use Rattle.isp_wasm_meaning.specs.Lists.{listed}
 use Rattle.isp_wasm_meaning.specs.Syntax.{Shape, I8x16, I16x8, I32x4, I64x2, Size, I32, I64, Whole, Add, Sub, Mul, Bitwise, And, Or, Xor, Shift, Shl, ShrU, ShrS, Test, Eq, Ne, LtU, LtS, Division, DivU, RemU}
 use Rattle.isp_wasm_meaning.specs.Syntax.{Unary, Eqz, Ctz, Wrap, ExtendU, ExtendS, Extend8S, Extend16S, Splat, Extract, ExtendLow, ExtendHigh, Bitmask}
-use Rattle.isp_wasm_meaning.specs.Syntax.{Binary, Of, BitsOf, ShiftOf, Compare, Lanes, CompareLanes, Bits, Replace, Shuffle}
+use Rattle.isp_wasm_meaning.specs.Syntax.{Binary, Of, BitsOf, ShiftOf, Compare, Lanes, CompareLanes, ShiftLanes, Bits, Replace, Shuffle}
 use Rattle.isp_wasm_binary.specs.Numbers.{groups, u32}
 use Rattle.isp_wasm_binary.specs.Instructions.{Access, Bytes1, Bytes2, Bytes4, Bytes8, Bytes16, NoAccess, Word, Const32_word, Const64_word, Const128_word, Get_word, Set_word, Unary_word, Binary_word, Division_word, Select_word, Bitselect_word, Load_word, Store_word}
 use Rattle.isp_wasm_binary.specs.Instructions.{Block_word, Loop_word, If_word, Else_word, End_word, Br_word, BrTable_word, Return_word, Call_word, Unreachable_word, GetGlobal_word, SetGlobal_word, Fill_word, word_bytes}
@@ -47,7 +47,8 @@ simd_words =
     ∷ shapes (λ s. Unary_word (Splat s)) (shapes (λ s. Unary_word (ExtendLow s)) (shapes (λ s. Unary_word (ExtendHigh s)) (shapes (λ s. Unary_word (Bitmask s))
     (shapes (λ s. Binary_word (Lanes s Add)) (shapes (λ s. Binary_word (Lanes s Sub)) (shapes (λ s. Binary_word (Lanes s Mul))
     (shapes (λ s. Binary_word (CompareLanes s Eq)) (shapes (λ s. Binary_word (CompareLanes s Ne)) (shapes (λ s. Binary_word (CompareLanes s LtU)) (shapes (λ s. Binary_word (CompareLanes s LtS))
-    (Binary_word (Bits And) ∷ Binary_word (Bits Or) ∷ Binary_word (Bits Xor) ∷ [])))))))))))
+    (shapes (λ s. Binary_word (ShiftLanes s Shl)) (shapes (λ s. Binary_word (ShiftLanes s ShrU)) (shapes (λ s. Binary_word (ShiftLanes s ShrS))
+    (Binary_word (Bits And) ∷ Binary_word (Bits Or) ∷ Binary_word (Bits Xor) ∷ []))))))))))))))
 
 -- ---- the instruction that bytes begin with, and what is after it
 
@@ -314,6 +315,21 @@ compare_lanes_read I64x2 Ne r = refl
 compare_lanes_read I64x2 LtU r = refl
 compare_lanes_read I64x2 LtS r = refl
 
+shift_lanes_read : (t : Shape) (o : Shift) (r : List ℕ) → Reads (Binary_word (ShiftLanes t o)) r
+unfolding groups u32 read_word
+shift_lanes_read I8x16 Shl r = refl
+shift_lanes_read I8x16 ShrU r = refl
+shift_lanes_read I8x16 ShrS r = refl
+shift_lanes_read I16x8 Shl r = refl
+shift_lanes_read I16x8 ShrU r = refl
+shift_lanes_read I16x8 ShrS r = refl
+shift_lanes_read I32x4 Shl r = refl
+shift_lanes_read I32x4 ShrU r = refl
+shift_lanes_read I32x4 ShrS r = refl
+shift_lanes_read I64x2 Shl r = refl
+shift_lanes_read I64x2 ShrU r = refl
+shift_lanes_read I64x2 ShrS r = refl
+
 division_read : (t : Size) (o : Division) (r : List ℕ) → Reads (Division_word t o) r
 unfolding groups u32 read_word
 division_read I32 DivU r = refl
@@ -345,6 +361,7 @@ binary_read (ShiftOf t o) h r = shift_of_read t o r
 binary_read (Compare t o) h r = compare_read t o r
 binary_read (Lanes s o) h r = lanes_read s o r
 binary_read (CompareLanes s o) h r = compare_lanes_read s o r
+binary_read (ShiftLanes s o) h r = shift_lanes_read s o r
 binary_read (Bits o) h r = bits_read o r
 binary_read (Replace s k) h r = replace_read s k r
 binary_read (Shuffle cs) (f, e) r = subst (λ c. Reads (Binary_word (Shuffle c)) r) (sym e) (shuffle_read f r)

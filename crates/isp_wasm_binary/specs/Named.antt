@@ -80,6 +80,7 @@ binary (binaries.ShiftOf t o) = wasm.ShiftOf (size t) (shift o)
 binary (binaries.Compare t o) = wasm.Compare (size t) (test o)
 binary (binaries.Lanes s o) = wasm.Lanes (shape s) (whole o)
 binary (binaries.CompareLanes s o) = wasm.CompareLanes (shape s) (test o)
+binary (binaries.ShiftLanes s o) = wasm.ShiftLanes (shape s) (shift o)
 binary (binaries.Bits o) = wasm.Bits (bitwise o)
 binary (binaries.Replace s k) = wasm.Replace (shape s) k
 binary (binaries.Evens s) = wasm.Shuffle (evens (shape s))

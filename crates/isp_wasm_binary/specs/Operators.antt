@@ -3,7 +3,7 @@ use Rattle.std.specs.Prelude.{ℕ, ◌+◌, List, [], ◌∷◌, ◌++◌, slice
 use Rattle.isp_wasm_meaning.specs.Lists.{listed}
 use Rattle.isp_wasm_meaning.specs.Syntax.{Shape, I8x16, I16x8, I32x4, I64x2, Size, I32, I64, Whole, Add, Sub, Mul, Bitwise, And, Or, Xor, Shift, Shl, ShrU, ShrS, Test, Eq, Ne, LtU, LtS, Division, DivU, RemU}
 use Rattle.isp_wasm_meaning.specs.Syntax.{Unary, Eqz, Ctz, Wrap, ExtendU, ExtendS, Extend8S, Extend16S, Splat, Extract, ExtendLow, ExtendHigh, Bitmask}
-use Rattle.isp_wasm_meaning.specs.Syntax.{Binary, Of, BitsOf, ShiftOf, Compare, Lanes, CompareLanes, Bits, Replace, Shuffle}
+use Rattle.isp_wasm_meaning.specs.Syntax.{Binary, Of, BitsOf, ShiftOf, Compare, Lanes, CompareLanes, ShiftLanes, Bits, Replace, Shuffle}
 use Rattle.isp_wasm_binary.specs.Numbers.{u32}
 
 -- 5.4.8 an instruction on v128: the byte 0xFD, and a number
@@ -100,7 +100,7 @@ bitmask_bytes I16x8 = simd 132
 bitmask_bytes I32x4 = simd 164
 bitmask_bytes I64x2 = simd 196
 
--- add, sub, mul; eq, ne, lt_u, lt_s; v128.and, or, xor
+-- add, sub, mul; eq, ne, lt_u, lt_s; shl, shr_s, shr_u; v128.and, or, xor
 abbrev pub lanes_bytes : Shape → Whole → List ℕ
 lanes_bytes I8x16 Add = simd 110
 lanes_bytes I8x16 Sub = simd 113
@@ -133,6 +133,20 @@ compare_bytes I64x2 Ne = simd 215
 compare_bytes I64x2 LtS = simd 216
 compare_bytes I64x2 LtU = no_such 3
 
+abbrev pub shift_lanes_bytes : Shape → Shift → List ℕ
+shift_lanes_bytes I8x16 Shl = simd 107
+shift_lanes_bytes I8x16 ShrS = simd 108
+shift_lanes_bytes I8x16 ShrU = simd 109
+shift_lanes_bytes I16x8 Shl = simd 139
+shift_lanes_bytes I16x8 ShrS = simd 140
+shift_lanes_bytes I16x8 ShrU = simd 141
+shift_lanes_bytes I32x4 Shl = simd 171
+shift_lanes_bytes I32x4 ShrS = simd 172
+shift_lanes_bytes I32x4 ShrU = simd 173
+shift_lanes_bytes I64x2 Shl = simd 203
+shift_lanes_bytes I64x2 ShrS = simd 204
+shift_lanes_bytes I64x2 ShrU = simd 205
+
 abbrev pub bits_bytes : Bitwise → List ℕ
 bits_bytes And = simd 78
 bits_bytes Or = simd 80
@@ -161,6 +175,7 @@ binary_bytes (ShiftOf t o) = shift_bytes t o
 binary_bytes (Compare t o) = test_bytes t o
 binary_bytes (Lanes s o) = lanes_bytes s o
 binary_bytes (CompareLanes s o) = compare_bytes s o
+binary_bytes (ShiftLanes s o) = shift_lanes_bytes s o
 binary_bytes (Bits o) = bits_bytes o
 binary_bytes (Replace s k) = replace_bytes s ++ k ∷ []
 binary_bytes (Shuffle cs) = simd 13 ++ listed 16 (slice_index cs)

@@ -94,6 +94,8 @@ pub enum Binary {
     Compare(Size, Test),
     Lanes(Shape, Whole),
     CompareLanes(Shape, Test),
+    /// Of each lane, by one number of 32 bits.
+    ShiftLanes(Shape, Shift),
     /// On all bits of a v128.
     Bits(Bitwise),
     /// `replace_lane`, with the lane.
@@ -290,6 +292,25 @@ pub(crate) fn compare_lanes_opcode(shape: Shape, op: Test) -> u32
         (Shape::I64x2, Test::Ne) => 215,
         (Shape::I64x2, Test::LtS) => 216,
         (Shape::I64x2, Test::LtU) => 2003,
+    }
+}
+
+pub(crate) fn shift_lanes_opcode(shape: Shape, op: Shift) -> u32
+    ensures { operators.simd result ≡ operators.shift_lanes_bytes (named.shape shape) (named.shift op) }
+{
+    match (shape, op) {
+        (Shape::I8x16, Shift::Shl) => 107,
+        (Shape::I8x16, Shift::ShrS) => 108,
+        (Shape::I8x16, Shift::ShrU) => 109,
+        (Shape::I16x8, Shift::Shl) => 139,
+        (Shape::I16x8, Shift::ShrS) => 140,
+        (Shape::I16x8, Shift::ShrU) => 141,
+        (Shape::I32x4, Shift::Shl) => 171,
+        (Shape::I32x4, Shift::ShrS) => 172,
+        (Shape::I32x4, Shift::ShrU) => 173,
+        (Shape::I64x2, Shift::Shl) => 203,
+        (Shape::I64x2, Shift::ShrS) => 204,
+        (Shape::I64x2, Shift::ShrU) => 205,
     }
 }
 

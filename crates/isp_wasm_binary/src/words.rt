@@ -60,6 +60,7 @@ impl Bytes {
             Binary::CompareLanes(shape, op) => self.simd(operators::compare_lanes_opcode(
                 shape, op,
             )),
+            Binary::ShiftLanes(shape, op) => self.simd(operators::shift_lanes_opcode(shape, op)),
             Binary::Bits(op) => self.simd(operators::bits_opcode(op)),
             Binary::Replace(shape, lane) => self.of_lane(operators::replace_opcode(shape), lane),
             Binary::Evens(shape) => self.evens(shape),

@@ -2,7 +2,7 @@
 use Rattle.std.proofs.Common.{◌≡◌, List, [], ◌∷◌, map, Option, Some, None, Bool, true, false, refl}
 use Rattle.isp_wasm_meaning.specs.Lists.{evens}
 use Rattle.isp_wasm_meaning.specs.Module.{ValueType, I32 as W, I64 as L, V128 as V}
-use Rattle.isp_wasm_meaning.specs.Syntax.{Code, Add, And, Bitmask, Bits, BitsOf, Bitselect, Block, Br, BrTable, ByteText, Call, Clear, Compare, CompareLanes, Const32, Ctz, DivU, Divide, Eq, Eqz, Extend16S, Extend8S, ExtendHigh, ExtendLow, ExtendS, ExtendU, Extract, Fail, GetGlobal, I16x8, I32, I32x4, I64, I64x2, I8x16, If, Lanes, Load, Local, Loop, LtS, LtU, Mul, Ne, Of, One, Or, Print, RemU, Replace, Return, Select, Set, SetGlobal, ShiftOf, Shl, ShrS, ShrU, Shuffle, SignedText, Skip, Splat, Store, Sub, Then, TruthText, Two, Unreachable, UnsignedText, Wrap, Write, Xor}
+use Rattle.isp_wasm_meaning.specs.Syntax.{Code, Add, And, Bitmask, Bits, BitsOf, Bitselect, Block, Br, BrTable, ByteText, Call, Clear, Compare, CompareLanes, Const32, Ctz, DivU, Divide, Eq, Eqz, Extend16S, Extend8S, ExtendHigh, ExtendLow, ExtendS, ExtendU, Extract, Fail, GetGlobal, I16x8, I32, I32x4, I64, I64x2, I8x16, If, Lanes, Load, Local, Loop, LtS, LtU, Mul, Ne, Of, One, Or, Print, RemU, Replace, Return, Select, Set, SetGlobal, ShiftLanes, ShiftOf, Shl, ShrS, ShrU, Shuffle, SignedText, Skip, Splat, Store, Sub, Then, TruthText, Two, Unreachable, UnsignedText, Wrap, Write, Xor}
 use Rattle.isp_wasm_meaning.specs.Valid.{is_valid_function}
 
 -- a function of this code that takes and gives values of these types, in a module with two others
@@ -146,6 +146,15 @@ lt_u_i8x16 = refl
 lt_s_i8x16 : map (takes (Set 2 (Two (CompareLanes I8x16 LtS) (Local 0) (Local 1))) None) ((W ∷ W ∷ W ∷ []) ∷ (W ∷ W ∷ L ∷ []) ∷ (W ∷ W ∷ V ∷ []) ∷ (W ∷ L ∷ W ∷ []) ∷ (W ∷ L ∷ L ∷ []) ∷ (W ∷ L ∷ V ∷ []) ∷ (W ∷ V ∷ W ∷ []) ∷ (W ∷ V ∷ L ∷ []) ∷ (W ∷ V ∷ V ∷ []) ∷ (L ∷ W ∷ W ∷ []) ∷ (L ∷ W ∷ L ∷ []) ∷ (L ∷ W ∷ V ∷ []) ∷ (L ∷ L ∷ W ∷ []) ∷ (L ∷ L ∷ L ∷ []) ∷ (L ∷ L ∷ V ∷ []) ∷ (L ∷ V ∷ W ∷ []) ∷ (L ∷ V ∷ L ∷ []) ∷ (L ∷ V ∷ V ∷ []) ∷ (V ∷ W ∷ W ∷ []) ∷ (V ∷ W ∷ L ∷ []) ∷ (V ∷ W ∷ V ∷ []) ∷ (V ∷ L ∷ W ∷ []) ∷ (V ∷ L ∷ L ∷ []) ∷ (V ∷ L ∷ V ∷ []) ∷ (V ∷ V ∷ W ∷ []) ∷ (V ∷ V ∷ L ∷ []) ∷ (V ∷ V ∷ V ∷ []) ∷ []) ≡ (false ∷ false ∷ false ∷ false ∷ false ∷ false ∷ false ∷ false ∷ false ∷ false ∷ false ∷ false ∷ false ∷ false ∷ false ∷ false ∷ false ∷ false ∷ false ∷ false ∷ false ∷ false ∷ false ∷ false ∷ false ∷ false ∷ true ∷ [])
 lt_s_i8x16 = refl
 
+shl_i8x16 : map (takes (Set 2 (Two (ShiftLanes I8x16 Shl) (Local 0) (Local 1))) None) ((W ∷ W ∷ W ∷ []) ∷ (W ∷ W ∷ L ∷ []) ∷ (W ∷ W ∷ V ∷ []) ∷ (W ∷ L ∷ W ∷ []) ∷ (W ∷ L ∷ L ∷ []) ∷ (W ∷ L ∷ V ∷ []) ∷ (W ∷ V ∷ W ∷ []) ∷ (W ∷ V ∷ L ∷ []) ∷ (W ∷ V ∷ V ∷ []) ∷ (L ∷ W ∷ W ∷ []) ∷ (L ∷ W ∷ L ∷ []) ∷ (L ∷ W ∷ V ∷ []) ∷ (L ∷ L ∷ W ∷ []) ∷ (L ∷ L ∷ L ∷ []) ∷ (L ∷ L ∷ V ∷ []) ∷ (L ∷ V ∷ W ∷ []) ∷ (L ∷ V ∷ L ∷ []) ∷ (L ∷ V ∷ V ∷ []) ∷ (V ∷ W ∷ W ∷ []) ∷ (V ∷ W ∷ L ∷ []) ∷ (V ∷ W ∷ V ∷ []) ∷ (V ∷ L ∷ W ∷ []) ∷ (V ∷ L ∷ L ∷ []) ∷ (V ∷ L ∷ V ∷ []) ∷ (V ∷ V ∷ W ∷ []) ∷ (V ∷ V ∷ L ∷ []) ∷ (V ∷ V ∷ V ∷ []) ∷ []) ≡ (false ∷ false ∷ false ∷ false ∷ false ∷ false ∷ false ∷ false ∷ false ∷ false ∷ false ∷ false ∷ false ∷ false ∷ false ∷ false ∷ false ∷ false ∷ false ∷ false ∷ true ∷ false ∷ false ∷ false ∷ false ∷ false ∷ false ∷ [])
+shl_i8x16 = refl
+
+shr_u_i8x16 : map (takes (Set 2 (Two (ShiftLanes I8x16 ShrU) (Local 0) (Local 1))) None) ((W ∷ W ∷ W ∷ []) ∷ (W ∷ W ∷ L ∷ []) ∷ (W ∷ W ∷ V ∷ []) ∷ (W ∷ L ∷ W ∷ []) ∷ (W ∷ L ∷ L ∷ []) ∷ (W ∷ L ∷ V ∷ []) ∷ (W ∷ V ∷ W ∷ []) ∷ (W ∷ V ∷ L ∷ []) ∷ (W ∷ V ∷ V ∷ []) ∷ (L ∷ W ∷ W ∷ []) ∷ (L ∷ W ∷ L ∷ []) ∷ (L ∷ W ∷ V ∷ []) ∷ (L ∷ L ∷ W ∷ []) ∷ (L ∷ L ∷ L ∷ []) ∷ (L ∷ L ∷ V ∷ []) ∷ (L ∷ V ∷ W ∷ []) ∷ (L ∷ V ∷ L ∷ []) ∷ (L ∷ V ∷ V ∷ []) ∷ (V ∷ W ∷ W ∷ []) ∷ (V ∷ W ∷ L ∷ []) ∷ (V ∷ W ∷ V ∷ []) ∷ (V ∷ L ∷ W ∷ []) ∷ (V ∷ L ∷ L ∷ []) ∷ (V ∷ L ∷ V ∷ []) ∷ (V ∷ V ∷ W ∷ []) ∷ (V ∷ V ∷ L ∷ []) ∷ (V ∷ V ∷ V ∷ []) ∷ []) ≡ (false ∷ false ∷ false ∷ false ∷ false ∷ false ∷ false ∷ false ∷ false ∷ false ∷ false ∷ false ∷ false ∷ false ∷ false ∷ false ∷ false ∷ false ∷ false ∷ false ∷ true ∷ false ∷ false ∷ false ∷ false ∷ false ∷ false ∷ [])
+shr_u_i8x16 = refl
+
+shr_s_i8x16 : map (takes (Set 2 (Two (ShiftLanes I8x16 ShrS) (Local 0) (Local 1))) None) ((W ∷ W ∷ W ∷ []) ∷ (W ∷ W ∷ L ∷ []) ∷ (W ∷ W ∷ V ∷ []) ∷ (W ∷ L ∷ W ∷ []) ∷ (W ∷ L ∷ L ∷ []) ∷ (W ∷ L ∷ V ∷ []) ∷ (W ∷ V ∷ W ∷ []) ∷ (W ∷ V ∷ L ∷ []) ∷ (W ∷ V ∷ V ∷ []) ∷ (L ∷ W ∷ W ∷ []) ∷ (L ∷ W ∷ L ∷ []) ∷ (L ∷ W ∷ V ∷ []) ∷ (L ∷ L ∷ W ∷ []) ∷ (L ∷ L ∷ L ∷ []) ∷ (L ∷ L ∷ V ∷ []) ∷ (L ∷ V ∷ W ∷ []) ∷ (L ∷ V ∷ L ∷ []) ∷ (L ∷ V ∷ V ∷ []) ∷ (V ∷ W ∷ W ∷ []) ∷ (V ∷ W ∷ L ∷ []) ∷ (V ∷ W ∷ V ∷ []) ∷ (V ∷ L ∷ W ∷ []) ∷ (V ∷ L ∷ L ∷ []) ∷ (V ∷ L ∷ V ∷ []) ∷ (V ∷ V ∷ W ∷ []) ∷ (V ∷ V ∷ L ∷ []) ∷ (V ∷ V ∷ V ∷ []) ∷ []) ≡ (false ∷ false ∷ false ∷ false ∷ false ∷ false ∷ false ∷ false ∷ false ∷ false ∷ false ∷ false ∷ false ∷ false ∷ false ∷ false ∷ false ∷ false ∷ false ∷ false ∷ true ∷ false ∷ false ∷ false ∷ false ∷ false ∷ false ∷ [])
+shr_s_i8x16 = refl
+
 splat_i8x16 : map (takes (Set 1 (One (Splat I8x16) (Local 0))) None) ((W ∷ W ∷ []) ∷ (W ∷ L ∷ []) ∷ (W ∷ V ∷ []) ∷ (L ∷ W ∷ []) ∷ (L ∷ L ∷ []) ∷ (L ∷ V ∷ []) ∷ (V ∷ W ∷ []) ∷ (V ∷ L ∷ []) ∷ (V ∷ V ∷ []) ∷ []) ≡ (false ∷ false ∷ true ∷ false ∷ false ∷ false ∷ false ∷ false ∷ false ∷ [])
 splat_i8x16 = refl
 
@@ -181,6 +190,15 @@ lt_u_i16x8 = refl
 
 lt_s_i16x8 : map (takes (Set 2 (Two (CompareLanes I16x8 LtS) (Local 0) (Local 1))) None) ((W ∷ W ∷ W ∷ []) ∷ (W ∷ W ∷ L ∷ []) ∷ (W ∷ W ∷ V ∷ []) ∷ (W ∷ L ∷ W ∷ []) ∷ (W ∷ L ∷ L ∷ []) ∷ (W ∷ L ∷ V ∷ []) ∷ (W ∷ V ∷ W ∷ []) ∷ (W ∷ V ∷ L ∷ []) ∷ (W ∷ V ∷ V ∷ []) ∷ (L ∷ W ∷ W ∷ []) ∷ (L ∷ W ∷ L ∷ []) ∷ (L ∷ W ∷ V ∷ []) ∷ (L ∷ L ∷ W ∷ []) ∷ (L ∷ L ∷ L ∷ []) ∷ (L ∷ L ∷ V ∷ []) ∷ (L ∷ V ∷ W ∷ []) ∷ (L ∷ V ∷ L ∷ []) ∷ (L ∷ V ∷ V ∷ []) ∷ (V ∷ W ∷ W ∷ []) ∷ (V ∷ W ∷ L ∷ []) ∷ (V ∷ W ∷ V ∷ []) ∷ (V ∷ L ∷ W ∷ []) ∷ (V ∷ L ∷ L ∷ []) ∷ (V ∷ L ∷ V ∷ []) ∷ (V ∷ V ∷ W ∷ []) ∷ (V ∷ V ∷ L ∷ []) ∷ (V ∷ V ∷ V ∷ []) ∷ []) ≡ (false ∷ false ∷ false ∷ false ∷ false ∷ false ∷ false ∷ false ∷ false ∷ false ∷ false ∷ false ∷ false ∷ false ∷ false ∷ false ∷ false ∷ false ∷ false ∷ false ∷ false ∷ false ∷ false ∷ false ∷ false ∷ false ∷ true ∷ [])
 lt_s_i16x8 = refl
+
+shl_i16x8 : map (takes (Set 2 (Two (ShiftLanes I16x8 Shl) (Local 0) (Local 1))) None) ((W ∷ W ∷ W ∷ []) ∷ (W ∷ W ∷ L ∷ []) ∷ (W ∷ W ∷ V ∷ []) ∷ (W ∷ L ∷ W ∷ []) ∷ (W ∷ L ∷ L ∷ []) ∷ (W ∷ L ∷ V ∷ []) ∷ (W ∷ V ∷ W ∷ []) ∷ (W ∷ V ∷ L ∷ []) ∷ (W ∷ V ∷ V ∷ []) ∷ (L ∷ W ∷ W ∷ []) ∷ (L ∷ W ∷ L ∷ []) ∷ (L ∷ W ∷ V ∷ []) ∷ (L ∷ L ∷ W ∷ []) ∷ (L ∷ L ∷ L ∷ []) ∷ (L ∷ L ∷ V ∷ []) ∷ (L ∷ V ∷ W ∷ []) ∷ (L ∷ V ∷ L ∷ []) ∷ (L ∷ V ∷ V ∷ []) ∷ (V ∷ W ∷ W ∷ []) ∷ (V ∷ W ∷ L ∷ []) ∷ (V ∷ W ∷ V ∷ []) ∷ (V ∷ L ∷ W ∷ []) ∷ (V ∷ L ∷ L ∷ []) ∷ (V ∷ L ∷ V ∷ []) ∷ (V ∷ V ∷ W ∷ []) ∷ (V ∷ V ∷ L ∷ []) ∷ (V ∷ V ∷ V ∷ []) ∷ []) ≡ (false ∷ false ∷ false ∷ false ∷ false ∷ false ∷ false ∷ false ∷ false ∷ false ∷ false ∷ false ∷ false ∷ false ∷ false ∷ false ∷ false ∷ false ∷ false ∷ false ∷ true ∷ false ∷ false ∷ false ∷ false ∷ false ∷ false ∷ [])
+shl_i16x8 = refl
+
+shr_u_i16x8 : map (takes (Set 2 (Two (ShiftLanes I16x8 ShrU) (Local 0) (Local 1))) None) ((W ∷ W ∷ W ∷ []) ∷ (W ∷ W ∷ L ∷ []) ∷ (W ∷ W ∷ V ∷ []) ∷ (W ∷ L ∷ W ∷ []) ∷ (W ∷ L ∷ L ∷ []) ∷ (W ∷ L ∷ V ∷ []) ∷ (W ∷ V ∷ W ∷ []) ∷ (W ∷ V ∷ L ∷ []) ∷ (W ∷ V ∷ V ∷ []) ∷ (L ∷ W ∷ W ∷ []) ∷ (L ∷ W ∷ L ∷ []) ∷ (L ∷ W ∷ V ∷ []) ∷ (L ∷ L ∷ W ∷ []) ∷ (L ∷ L ∷ L ∷ []) ∷ (L ∷ L ∷ V ∷ []) ∷ (L ∷ V ∷ W ∷ []) ∷ (L ∷ V ∷ L ∷ []) ∷ (L ∷ V ∷ V ∷ []) ∷ (V ∷ W ∷ W ∷ []) ∷ (V ∷ W ∷ L ∷ []) ∷ (V ∷ W ∷ V ∷ []) ∷ (V ∷ L ∷ W ∷ []) ∷ (V ∷ L ∷ L ∷ []) ∷ (V ∷ L ∷ V ∷ []) ∷ (V ∷ V ∷ W ∷ []) ∷ (V ∷ V ∷ L ∷ []) ∷ (V ∷ V ∷ V ∷ []) ∷ []) ≡ (false ∷ false ∷ false ∷ false ∷ false ∷ false ∷ false ∷ false ∷ false ∷ false ∷ false ∷ false ∷ false ∷ false ∷ false ∷ false ∷ false ∷ false ∷ false ∷ false ∷ true ∷ false ∷ false ∷ false ∷ false ∷ false ∷ false ∷ [])
+shr_u_i16x8 = refl
+
+shr_s_i16x8 : map (takes (Set 2 (Two (ShiftLanes I16x8 ShrS) (Local 0) (Local 1))) None) ((W ∷ W ∷ W ∷ []) ∷ (W ∷ W ∷ L ∷ []) ∷ (W ∷ W ∷ V ∷ []) ∷ (W ∷ L ∷ W ∷ []) ∷ (W ∷ L ∷ L ∷ []) ∷ (W ∷ L ∷ V ∷ []) ∷ (W ∷ V ∷ W ∷ []) ∷ (W ∷ V ∷ L ∷ []) ∷ (W ∷ V ∷ V ∷ []) ∷ (L ∷ W ∷ W ∷ []) ∷ (L ∷ W ∷ L ∷ []) ∷ (L ∷ W ∷ V ∷ []) ∷ (L ∷ L ∷ W ∷ []) ∷ (L ∷ L ∷ L ∷ []) ∷ (L ∷ L ∷ V ∷ []) ∷ (L ∷ V ∷ W ∷ []) ∷ (L ∷ V ∷ L ∷ []) ∷ (L ∷ V ∷ V ∷ []) ∷ (V ∷ W ∷ W ∷ []) ∷ (V ∷ W ∷ L ∷ []) ∷ (V ∷ W ∷ V ∷ []) ∷ (V ∷ L ∷ W ∷ []) ∷ (V ∷ L ∷ L ∷ []) ∷ (V ∷ L ∷ V ∷ []) ∷ (V ∷ V ∷ W ∷ []) ∷ (V ∷ V ∷ L ∷ []) ∷ (V ∷ V ∷ V ∷ []) ∷ []) ≡ (false ∷ false ∷ false ∷ false ∷ false ∷ false ∷ false ∷ false ∷ false ∷ false ∷ false ∷ false ∷ false ∷ false ∷ false ∷ false ∷ false ∷ false ∷ false ∷ false ∷ true ∷ false ∷ false ∷ false ∷ false ∷ false ∷ false ∷ [])
+shr_s_i16x8 = refl
 
 splat_i16x8 : map (takes (Set 1 (One (Splat I16x8) (Local 0))) None) ((W ∷ W ∷ []) ∷ (W ∷ L ∷ []) ∷ (W ∷ V ∷ []) ∷ (L ∷ W ∷ []) ∷ (L ∷ L ∷ []) ∷ (L ∷ V ∷ []) ∷ (V ∷ W ∷ []) ∷ (V ∷ L ∷ []) ∷ (V ∷ V ∷ []) ∷ []) ≡ (false ∷ false ∷ true ∷ false ∷ false ∷ false ∷ false ∷ false ∷ false ∷ [])
 splat_i16x8 = refl
@@ -227,6 +245,15 @@ lt_u_i32x4 = refl
 lt_s_i32x4 : map (takes (Set 2 (Two (CompareLanes I32x4 LtS) (Local 0) (Local 1))) None) ((W ∷ W ∷ W ∷ []) ∷ (W ∷ W ∷ L ∷ []) ∷ (W ∷ W ∷ V ∷ []) ∷ (W ∷ L ∷ W ∷ []) ∷ (W ∷ L ∷ L ∷ []) ∷ (W ∷ L ∷ V ∷ []) ∷ (W ∷ V ∷ W ∷ []) ∷ (W ∷ V ∷ L ∷ []) ∷ (W ∷ V ∷ V ∷ []) ∷ (L ∷ W ∷ W ∷ []) ∷ (L ∷ W ∷ L ∷ []) ∷ (L ∷ W ∷ V ∷ []) ∷ (L ∷ L ∷ W ∷ []) ∷ (L ∷ L ∷ L ∷ []) ∷ (L ∷ L ∷ V ∷ []) ∷ (L ∷ V ∷ W ∷ []) ∷ (L ∷ V ∷ L ∷ []) ∷ (L ∷ V ∷ V ∷ []) ∷ (V ∷ W ∷ W ∷ []) ∷ (V ∷ W ∷ L ∷ []) ∷ (V ∷ W ∷ V ∷ []) ∷ (V ∷ L ∷ W ∷ []) ∷ (V ∷ L ∷ L ∷ []) ∷ (V ∷ L ∷ V ∷ []) ∷ (V ∷ V ∷ W ∷ []) ∷ (V ∷ V ∷ L ∷ []) ∷ (V ∷ V ∷ V ∷ []) ∷ []) ≡ (false ∷ false ∷ false ∷ false ∷ false ∷ false ∷ false ∷ false ∷ false ∷ false ∷ false ∷ false ∷ false ∷ false ∷ false ∷ false ∷ false ∷ false ∷ false ∷ false ∷ false ∷ false ∷ false ∷ false ∷ false ∷ false ∷ true ∷ [])
 lt_s_i32x4 = refl
 
+shl_i32x4 : map (takes (Set 2 (Two (ShiftLanes I32x4 Shl) (Local 0) (Local 1))) None) ((W ∷ W ∷ W ∷ []) ∷ (W ∷ W ∷ L ∷ []) ∷ (W ∷ W ∷ V ∷ []) ∷ (W ∷ L ∷ W ∷ []) ∷ (W ∷ L ∷ L ∷ []) ∷ (W ∷ L ∷ V ∷ []) ∷ (W ∷ V ∷ W ∷ []) ∷ (W ∷ V ∷ L ∷ []) ∷ (W ∷ V ∷ V ∷ []) ∷ (L ∷ W ∷ W ∷ []) ∷ (L ∷ W ∷ L ∷ []) ∷ (L ∷ W ∷ V ∷ []) ∷ (L ∷ L ∷ W ∷ []) ∷ (L ∷ L ∷ L ∷ []) ∷ (L ∷ L ∷ V ∷ []) ∷ (L ∷ V ∷ W ∷ []) ∷ (L ∷ V ∷ L ∷ []) ∷ (L ∷ V ∷ V ∷ []) ∷ (V ∷ W ∷ W ∷ []) ∷ (V ∷ W ∷ L ∷ []) ∷ (V ∷ W ∷ V ∷ []) ∷ (V ∷ L ∷ W ∷ []) ∷ (V ∷ L ∷ L ∷ []) ∷ (V ∷ L ∷ V ∷ []) ∷ (V ∷ V ∷ W ∷ []) ∷ (V ∷ V ∷ L ∷ []) ∷ (V ∷ V ∷ V ∷ []) ∷ []) ≡ (false ∷ false ∷ false ∷ false ∷ false ∷ false ∷ false ∷ false ∷ false ∷ false ∷ false ∷ false ∷ false ∷ false ∷ false ∷ false ∷ false ∷ false ∷ false ∷ false ∷ true ∷ false ∷ false ∷ false ∷ false ∷ false ∷ false ∷ [])
+shl_i32x4 = refl
+
+shr_u_i32x4 : map (takes (Set 2 (Two (ShiftLanes I32x4 ShrU) (Local 0) (Local 1))) None) ((W ∷ W ∷ W ∷ []) ∷ (W ∷ W ∷ L ∷ []) ∷ (W ∷ W ∷ V ∷ []) ∷ (W ∷ L ∷ W ∷ []) ∷ (W ∷ L ∷ L ∷ []) ∷ (W ∷ L ∷ V ∷ []) ∷ (W ∷ V ∷ W ∷ []) ∷ (W ∷ V ∷ L ∷ []) ∷ (W ∷ V ∷ V ∷ []) ∷ (L ∷ W ∷ W ∷ []) ∷ (L ∷ W ∷ L ∷ []) ∷ (L ∷ W ∷ V ∷ []) ∷ (L ∷ L ∷ W ∷ []) ∷ (L ∷ L ∷ L ∷ []) ∷ (L ∷ L ∷ V ∷ []) ∷ (L ∷ V ∷ W ∷ []) ∷ (L ∷ V ∷ L ∷ []) ∷ (L ∷ V ∷ V ∷ []) ∷ (V ∷ W ∷ W ∷ []) ∷ (V ∷ W ∷ L ∷ []) ∷ (V ∷ W ∷ V ∷ []) ∷ (V ∷ L ∷ W ∷ []) ∷ (V ∷ L ∷ L ∷ []) ∷ (V ∷ L ∷ V ∷ []) ∷ (V ∷ V ∷ W ∷ []) ∷ (V ∷ V ∷ L ∷ []) ∷ (V ∷ V ∷ V ∷ []) ∷ []) ≡ (false ∷ false ∷ false ∷ false ∷ false ∷ false ∷ false ∷ false ∷ false ∷ false ∷ false ∷ false ∷ false ∷ false ∷ false ∷ false ∷ false ∷ false ∷ false ∷ false ∷ true ∷ false ∷ false ∷ false ∷ false ∷ false ∷ false ∷ [])
+shr_u_i32x4 = refl
+
+shr_s_i32x4 : map (takes (Set 2 (Two (ShiftLanes I32x4 ShrS) (Local 0) (Local 1))) None) ((W ∷ W ∷ W ∷ []) ∷ (W ∷ W ∷ L ∷ []) ∷ (W ∷ W ∷ V ∷ []) ∷ (W ∷ L ∷ W ∷ []) ∷ (W ∷ L ∷ L ∷ []) ∷ (W ∷ L ∷ V ∷ []) ∷ (W ∷ V ∷ W ∷ []) ∷ (W ∷ V ∷ L ∷ []) ∷ (W ∷ V ∷ V ∷ []) ∷ (L ∷ W ∷ W ∷ []) ∷ (L ∷ W ∷ L ∷ []) ∷ (L ∷ W ∷ V ∷ []) ∷ (L ∷ L ∷ W ∷ []) ∷ (L ∷ L ∷ L ∷ []) ∷ (L ∷ L ∷ V ∷ []) ∷ (L ∷ V ∷ W ∷ []) ∷ (L ∷ V ∷ L ∷ []) ∷ (L ∷ V ∷ V ∷ []) ∷ (V ∷ W ∷ W ∷ []) ∷ (V ∷ W ∷ L ∷ []) ∷ (V ∷ W ∷ V ∷ []) ∷ (V ∷ L ∷ W ∷ []) ∷ (V ∷ L ∷ L ∷ []) ∷ (V ∷ L ∷ V ∷ []) ∷ (V ∷ V ∷ W ∷ []) ∷ (V ∷ V ∷ L ∷ []) ∷ (V ∷ V ∷ V ∷ []) ∷ []) ≡ (false ∷ false ∷ false ∷ false ∷ false ∷ false ∷ false ∷ false ∷ false ∷ false ∷ false ∷ false ∷ false ∷ false ∷ false ∷ false ∷ false ∷ false ∷ false ∷ false ∷ true ∷ false ∷ false ∷ false ∷ false ∷ false ∷ false ∷ [])
+shr_s_i32x4 = refl
+
 splat_i32x4 : map (takes (Set 1 (One (Splat I32x4) (Local 0))) None) ((W ∷ W ∷ []) ∷ (W ∷ L ∷ []) ∷ (W ∷ V ∷ []) ∷ (L ∷ W ∷ []) ∷ (L ∷ L ∷ []) ∷ (L ∷ V ∷ []) ∷ (V ∷ W ∷ []) ∷ (V ∷ L ∷ []) ∷ (V ∷ V ∷ []) ∷ []) ≡ (false ∷ false ∷ true ∷ false ∷ false ∷ false ∷ false ∷ false ∷ false ∷ [])
 splat_i32x4 = refl
 
@@ -268,6 +295,15 @@ ne_i64x2 = refl
 
 lt_s_i64x2 : map (takes (Set 2 (Two (CompareLanes I64x2 LtS) (Local 0) (Local 1))) None) ((W ∷ W ∷ W ∷ []) ∷ (W ∷ W ∷ L ∷ []) ∷ (W ∷ W ∷ V ∷ []) ∷ (W ∷ L ∷ W ∷ []) ∷ (W ∷ L ∷ L ∷ []) ∷ (W ∷ L ∷ V ∷ []) ∷ (W ∷ V ∷ W ∷ []) ∷ (W ∷ V ∷ L ∷ []) ∷ (W ∷ V ∷ V ∷ []) ∷ (L ∷ W ∷ W ∷ []) ∷ (L ∷ W ∷ L ∷ []) ∷ (L ∷ W ∷ V ∷ []) ∷ (L ∷ L ∷ W ∷ []) ∷ (L ∷ L ∷ L ∷ []) ∷ (L ∷ L ∷ V ∷ []) ∷ (L ∷ V ∷ W ∷ []) ∷ (L ∷ V ∷ L ∷ []) ∷ (L ∷ V ∷ V ∷ []) ∷ (V ∷ W ∷ W ∷ []) ∷ (V ∷ W ∷ L ∷ []) ∷ (V ∷ W ∷ V ∷ []) ∷ (V ∷ L ∷ W ∷ []) ∷ (V ∷ L ∷ L ∷ []) ∷ (V ∷ L ∷ V ∷ []) ∷ (V ∷ V ∷ W ∷ []) ∷ (V ∷ V ∷ L ∷ []) ∷ (V ∷ V ∷ V ∷ []) ∷ []) ≡ (false ∷ false ∷ false ∷ false ∷ false ∷ false ∷ false ∷ false ∷ false ∷ false ∷ false ∷ false ∷ false ∷ false ∷ false ∷ false ∷ false ∷ false ∷ false ∷ false ∷ false ∷ false ∷ false ∷ false ∷ false ∷ false ∷ true ∷ [])
 lt_s_i64x2 = refl
+
+shl_i64x2 : map (takes (Set 2 (Two (ShiftLanes I64x2 Shl) (Local 0) (Local 1))) None) ((W ∷ W ∷ W ∷ []) ∷ (W ∷ W ∷ L ∷ []) ∷ (W ∷ W ∷ V ∷ []) ∷ (W ∷ L ∷ W ∷ []) ∷ (W ∷ L ∷ L ∷ []) ∷ (W ∷ L ∷ V ∷ []) ∷ (W ∷ V ∷ W ∷ []) ∷ (W ∷ V ∷ L ∷ []) ∷ (W ∷ V ∷ V ∷ []) ∷ (L ∷ W ∷ W ∷ []) ∷ (L ∷ W ∷ L ∷ []) ∷ (L ∷ W ∷ V ∷ []) ∷ (L ∷ L ∷ W ∷ []) ∷ (L ∷ L ∷ L ∷ []) ∷ (L ∷ L ∷ V ∷ []) ∷ (L ∷ V ∷ W ∷ []) ∷ (L ∷ V ∷ L ∷ []) ∷ (L ∷ V ∷ V ∷ []) ∷ (V ∷ W ∷ W ∷ []) ∷ (V ∷ W ∷ L ∷ []) ∷ (V ∷ W ∷ V ∷ []) ∷ (V ∷ L ∷ W ∷ []) ∷ (V ∷ L ∷ L ∷ []) ∷ (V ∷ L ∷ V ∷ []) ∷ (V ∷ V ∷ W ∷ []) ∷ (V ∷ V ∷ L ∷ []) ∷ (V ∷ V ∷ V ∷ []) ∷ []) ≡ (false ∷ false ∷ false ∷ false ∷ false ∷ false ∷ false ∷ false ∷ false ∷ false ∷ false ∷ false ∷ false ∷ false ∷ false ∷ false ∷ false ∷ false ∷ false ∷ false ∷ true ∷ false ∷ false ∷ false ∷ false ∷ false ∷ false ∷ [])
+shl_i64x2 = refl
+
+shr_u_i64x2 : map (takes (Set 2 (Two (ShiftLanes I64x2 ShrU) (Local 0) (Local 1))) None) ((W ∷ W ∷ W ∷ []) ∷ (W ∷ W ∷ L ∷ []) ∷ (W ∷ W ∷ V ∷ []) ∷ (W ∷ L ∷ W ∷ []) ∷ (W ∷ L ∷ L ∷ []) ∷ (W ∷ L ∷ V ∷ []) ∷ (W ∷ V ∷ W ∷ []) ∷ (W ∷ V ∷ L ∷ []) ∷ (W ∷ V ∷ V ∷ []) ∷ (L ∷ W ∷ W ∷ []) ∷ (L ∷ W ∷ L ∷ []) ∷ (L ∷ W ∷ V ∷ []) ∷ (L ∷ L ∷ W ∷ []) ∷ (L ∷ L ∷ L ∷ []) ∷ (L ∷ L ∷ V ∷ []) ∷ (L ∷ V ∷ W ∷ []) ∷ (L ∷ V ∷ L ∷ []) ∷ (L ∷ V ∷ V ∷ []) ∷ (V ∷ W ∷ W ∷ []) ∷ (V ∷ W ∷ L ∷ []) ∷ (V ∷ W ∷ V ∷ []) ∷ (V ∷ L ∷ W ∷ []) ∷ (V ∷ L ∷ L ∷ []) ∷ (V ∷ L ∷ V ∷ []) ∷ (V ∷ V ∷ W ∷ []) ∷ (V ∷ V ∷ L ∷ []) ∷ (V ∷ V ∷ V ∷ []) ∷ []) ≡ (false ∷ false ∷ false ∷ false ∷ false ∷ false ∷ false ∷ false ∷ false ∷ false ∷ false ∷ false ∷ false ∷ false ∷ false ∷ false ∷ false ∷ false ∷ false ∷ false ∷ true ∷ false ∷ false ∷ false ∷ false ∷ false ∷ false ∷ [])
+shr_u_i64x2 = refl
+
+shr_s_i64x2 : map (takes (Set 2 (Two (ShiftLanes I64x2 ShrS) (Local 0) (Local 1))) None) ((W ∷ W ∷ W ∷ []) ∷ (W ∷ W ∷ L ∷ []) ∷ (W ∷ W ∷ V ∷ []) ∷ (W ∷ L ∷ W ∷ []) ∷ (W ∷ L ∷ L ∷ []) ∷ (W ∷ L ∷ V ∷ []) ∷ (W ∷ V ∷ W ∷ []) ∷ (W ∷ V ∷ L ∷ []) ∷ (W ∷ V ∷ V ∷ []) ∷ (L ∷ W ∷ W ∷ []) ∷ (L ∷ W ∷ L ∷ []) ∷ (L ∷ W ∷ V ∷ []) ∷ (L ∷ L ∷ W ∷ []) ∷ (L ∷ L ∷ L ∷ []) ∷ (L ∷ L ∷ V ∷ []) ∷ (L ∷ V ∷ W ∷ []) ∷ (L ∷ V ∷ L ∷ []) ∷ (L ∷ V ∷ V ∷ []) ∷ (V ∷ W ∷ W ∷ []) ∷ (V ∷ W ∷ L ∷ []) ∷ (V ∷ W ∷ V ∷ []) ∷ (V ∷ L ∷ W ∷ []) ∷ (V ∷ L ∷ L ∷ []) ∷ (V ∷ L ∷ V ∷ []) ∷ (V ∷ V ∷ W ∷ []) ∷ (V ∷ V ∷ L ∷ []) ∷ (V ∷ V ∷ V ∷ []) ∷ []) ≡ (false ∷ false ∷ false ∷ false ∷ false ∷ false ∷ false ∷ false ∷ false ∷ false ∷ false ∷ false ∷ false ∷ false ∷ false ∷ false ∷ false ∷ false ∷ false ∷ false ∷ true ∷ false ∷ false ∷ false ∷ false ∷ false ∷ false ∷ [])
+shr_s_i64x2 = refl
 
 splat_i64x2 : map (takes (Set 1 (One (Splat I64x2) (Local 0))) None) ((W ∷ W ∷ []) ∷ (W ∷ L ∷ []) ∷ (W ∷ V ∷ []) ∷ (L ∷ W ∷ []) ∷ (L ∷ L ∷ []) ∷ (L ∷ V ∷ []) ∷ (V ∷ W ∷ []) ∷ (V ∷ L ∷ []) ∷ (V ∷ V ∷ []) ∷ []) ≡ (false ∷ false ∷ false ∷ false ∷ false ∷ true ∷ false ∷ false ∷ false ∷ [])
 splat_i64x2 = refl

@@ -6,7 +6,7 @@ use Rattle.std.specs.Fmt.{signed_decimal}
 use Rattle.isp_wasm_meaning.specs.Digits.{digit, packed}
 use Rattle.isp_wasm_meaning.specs.Syntax.{Shape, I8x16, I16x8, I32x4, I64x2, Size, I32, I64, Whole, Add, Sub, Mul, Bitwise, And, Or, Xor, Shift, Shl, ShrU, ShrS, Test, Eq, Ne, LtU, LtS, Division, DivU, RemU}
 use Rattle.isp_wasm_meaning.specs.Syntax.{Unary, Eqz, Ctz, Wrap, ExtendU, ExtendS, Extend8S, Extend16S, Splat, Extract, ExtendLow, ExtendHigh, Bitmask}
-use Rattle.isp_wasm_meaning.specs.Syntax.{Binary, Of, BitsOf, ShiftOf, Compare, Lanes, CompareLanes, Bits, Replace, Shuffle, Expr, Const32, Const64, Const128, Local, One, Two, Select, Bitselect}
+use Rattle.isp_wasm_meaning.specs.Syntax.{Binary, Of, BitsOf, ShiftOf, Compare, Lanes, CompareLanes, ShiftLanes, Bits, Replace, Shuffle, Expr, Const32, Const64, Const128, Local, One, Two, Select, Bitselect}
 use Rattle.isp_wasm_meaning.specs.Syntax.{Printed, SignedText, UnsignedText, TruthText, ByteText}
 use Rattle.isp_wasm_meaning.specs.Syntax.{Code, Skip, Unreachable, Then, Set, Load, Store, Divide, If, Block, Loop, Br, BrTable, Return, Call, Write, Fail, Print, GetGlobal, SetGlobal, Clear}
 
@@ -126,7 +126,7 @@ unary (ExtendLow s) x = of_lanes s (λ k. signed (wide (halved s)) (wide s) (lan
 unary (ExtendHigh s) x = of_lanes s (λ k. signed (wide (halved s)) (wide s) (lane (halved s) (k + count s) x))
 unary (Bitmask s) x = packed 2 (count s) (λ k. flag (nat_le (2 ^ (wide s - 1)) (lane s k x)))
 
--- 4.4.1 binop, relop; 4.4.3 vbinop, vrelop, vvbinop, replace_lane, shuffle
+-- 4.4.1 binop, relop; 4.4.3 vbinop, vrelop, vishiftop, vvbinop, replace_lane, shuffle
 abbrev pub binary : Binary → ℕ → ℕ → ℕ
 binary (Of t o) x y = whole (bits t) o x y
 binary (BitsOf t o) x y = bitwise o x y
@@ -134,6 +134,7 @@ binary (ShiftOf t o) x y = shifted (bits t) o x y
 binary (Compare t o) x y = flag (tested (bits t) o x y)
 binary (Lanes s o) x y = of_lanes s (λ k. whole (wide s) o (lane s k x) (lane s k y))
 binary (CompareLanes s o) x y = of_lanes s (λ k. flags (wide s) (tested (wide s) o (lane s k x) (lane s k y)))
+binary (ShiftLanes s o) x y = of_lanes s (λ k. shifted (wide s) o (lane s k x) y)
 binary (Bits o) x y = bitwise o x y
 binary (Replace s k) v x = of_lanes s (λ j. if nat_eq j k then x % 2 ^ wide s else lane s j v)
 binary (Shuffle cs) x y = of_lanes I8x16 (λ i. byte_of_two (slice_index cs i) x y)

@@ -70,6 +70,8 @@ pub data Binary : Type 0 where
   Compare : Size → Test → Binary
   Lanes : Shape → Whole → Binary
   CompareLanes : Shape → Test → Binary
+  -- of each lane, by one number of 32 bits
+  ShiftLanes : Shape → Shift → Binary
   -- v128.and, v128.or, v128.xor
   Bits : Bitwise → Binary
   -- replace_lane, of a vector and a number

@@ -3,7 +3,7 @@ use Rattle.std.specs.Prelude.{ℕ, suc, ◌^◌, List, [], ◌∷◌, ◌++◌, 
 use Rattle.std.specs.List.{list_all}
 use Rattle.isp_wasm_meaning.specs.Syntax as wasm
 use Rattle.isp_wasm_meaning.specs.Syntax.{Size, Unary, Eqz, Ctz, Wrap, ExtendU, ExtendS, Extend8S, Extend16S, Splat, Extract, ExtendLow, ExtendHigh, Bitmask}
-use Rattle.isp_wasm_meaning.specs.Syntax.{Binary, Of, BitsOf, ShiftOf, Compare, Lanes, CompareLanes, Bits, Replace, Shuffle, Shape, I8x16, I64x2, Mul, LtU}
+use Rattle.isp_wasm_meaning.specs.Syntax.{Binary, Of, BitsOf, ShiftOf, Compare, Lanes, CompareLanes, ShiftLanes, Bits, Replace, Shuffle, Shape, I8x16, I64x2, Mul, LtU}
 use Rattle.isp_wasm_meaning.specs.Syntax.{Expr, Const32, Const64, Const128, Local, One, Two, Select, Bitselect}
 use Rattle.isp_wasm_meaning.specs.Syntax.{Printed, TruthText, ByteText, Code, Skip, Unreachable, Then, Set, Load, Store, Divide, If, Block, Loop, Br, BrTable, Return, Call, Write, Fail, Print, GetGlobal, SetGlobal, Clear}
 use Rattle.isp_wasm_meaning.specs.Meaning.{count}
@@ -65,6 +65,7 @@ first_taken (Compare t o) = sized t
 first_taken o = V128
 
 abbrev pub second_taken : Binary → ValueType
+second_taken (ShiftLanes s o) = I32
 second_taken (Replace s k) = unpacked s
 second_taken o = first_taken o
 

@@ -5,7 +5,7 @@ use Rattle.std.specs.List.{list_all}
 use Rattle.std.proofs.lemmas.Bool.Decides.{nat_tests}
 use Rattle.isp_wasm_meaning.specs.Lists.{listed}
 use Rattle.isp_wasm_meaning.specs.Syntax as wasm
-use Rattle.isp_wasm_meaning.specs.Syntax.{Binary, Of, BitsOf, ShiftOf, Compare, Lanes, CompareLanes, Bits, Replace, Shuffle, Expr, Const32, Const64, Const128, Local, One, Two, Select, Bitselect}
+use Rattle.isp_wasm_meaning.specs.Syntax.{Binary, Of, BitsOf, ShiftOf, Compare, Lanes, CompareLanes, ShiftLanes, Bits, Replace, Shuffle, Expr, Const32, Const64, Const128, Local, One, Two, Select, Bitselect}
 use Rattle.isp_wasm_meaning.specs.Syntax.{SignedText, UnsignedText, TruthText, ByteText, Code, Skip, Unreachable, Then, Set, Load, Store, Divide, If, Block, Loop, Br, BrTable, Return, Call, Write, Fail, Print, GetGlobal, SetGlobal, Clear}
 use Rattle.isp_wasm_meaning.specs.Module.{ValueType, I32, I64, V128}
 use Rattle.isp_wasm_meaning.specs.Valid.{same_type, is_type, taken, given, is_unary, first_taken, second_taken, given_by, is_binary, has_type}
@@ -48,6 +48,7 @@ sixteen_is (ShiftOf t o) e = refl
 sixteen_is (Compare t o) e = refl
 sixteen_is (Lanes s o) e = refl
 sixteen_is (CompareLanes s o) e = refl
+sixteen_is (ShiftLanes s o) e = refl
 sixteen_is (Bits o) e = refl
 sixteen_is (Replace s k) e = refl
 

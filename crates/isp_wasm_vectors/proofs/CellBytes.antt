@@ -5,7 +5,7 @@ use Rattle.isp_base.specs.declared.types.Elem.TheVariants.{Bool as Truth, I8, U8
 use Rattle.isp_code.specs.declared.instr.VectorInstr.{VectorInstr}
 use Rattle.isp_code.specs.declared.register.Register.{Register}
 use Rattle.isp_wasm_meaning.specs.Meaning.{count}
-use Rattle.isp_wasm_meaning.specs.Syntax.{Expr, Replace, Set, Two}
+use Rattle.isp_wasm_meaning.specs.Syntax.{Expr, Replace}
 use Rattle.isp_wasm.specs.Places.{Setting, Vector, elem, shape}
 use Rattle.isp_wasm.specs.Rows.{as_cell}
 use Rattle.isp_wasm.specs.Templates.{set_lane, vector_local}
@@ -15,7 +15,7 @@ use Rattle.isp_wasm_vectors.specs.declared.quotients.Target.{Target}
 use Rattle.isp_wasm_vectors.specs.declared.quotients.Target.TheVariants as target
 use Rattle.isp_wasm_vectors.specs.reader.Quotients.{put, put_head, put_tail}
 use Rattle.isp_wasm_vectors.specs.reader.Tails.{cell_head, cell_tail, lane_head, lane_tail}
-use Rattle.isp_wasm_vectors.specs.reader.Vectors.{cell_of, lane_of, laned_to, placed_tail}
+use Rattle.isp_wasm_vectors.specs.reader.Vectors.{lane_of, laned_to, placed_tail}
 
 around : (o h x t p s : List ℕ) → (o ++ ((h ++ (x ++ t)) ++ p)) ++ s ≡ (o ++ h) ++ (x ++ (t ++ (p ++ s)))
 around o h x t p s = simp append_assoc

@@ -7,7 +7,6 @@ use Rattle.isp_code.specs.declared.instr.Scan.TheVariants as scan
 use Rattle.isp_wasm_meaning.specs.Syntax.{Add, Of, Expr, Two}
 use Rattle.isp_wasm.specs.Places.{Setting, size_of}
 use Rattle.isp_wasm.specs.Words.{cut, plain_expr}
-use Rattle.isp_wasm_binary.specs.Operators.{binary_bytes}
 use Rattle.isp_wasm_binary.specs.Instructions.{expr_bytes}
 use Rattle.isp_wasm_write.specs.reader.Tails.{cut_tail}
 use Rattle.isp_wasm_vectors.specs.declared.folds.Fold.{Fold}

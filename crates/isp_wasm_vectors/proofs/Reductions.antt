@@ -9,7 +9,6 @@ use Rattle.isp_wasm_meaning.specs.Syntax.{I32, And, Or, BitsOf, Expr, Const32, T
 use Rattle.isp_wasm.specs.Places.{Setting, elem, gang}
 use Rattle.isp_wasm.specs.Words.{plain_expr}
 use Rattle.isp_wasm.specs.Templates.{folded, lane_or, reduce_expr, scan_expr}
-use Rattle.isp_wasm_vectors.specs.declared.folds.Fold.{Fold}
 use Rattle.isp_wasm_vectors.specs.declared.folds.Item.TheVariants.{Lane}
 use Rattle.isp_wasm_vectors.specs.reader.Across.{fold_expr, of_bools, plain_of, scan_fold, taken_expr, unit_expr}
 

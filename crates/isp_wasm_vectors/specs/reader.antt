@@ -6,3 +6,4 @@ pub mod Vectors
 pub mod Loops
 pub mod Quotients
 pub mod Runs
+pub mod Shifts

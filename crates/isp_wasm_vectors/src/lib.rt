@@ -13,6 +13,7 @@ mod picks;
 mod quotients;
 mod rows;
 mod runs;
+mod shifts;
 mod vectors;
 
 pub use across::across_line;

@@ -19,7 +19,8 @@ use crate::rows::{
     Row, as_bytes, is_lane_by_lane, plain_row, unary_row, widened_mask, widened_vector,
 };
 use crate::runs::{Run, load_run};
-use isp_code::{Register, VectorInstr};
+use crate::shifts::{Shifted, shifted_lanes};
+use isp_code::{Plain, Register, VectorInstr};
 use isp_forms::Form;
 use isp_wasm_binary::{Bytes, Unary};
 use isp_wasm_write::{Kernel, Place, Refusal};
@@ -243,7 +244,9 @@ pub(crate) fn put_lanes(
     let parts = parts(kernel, shape(kernel, result_to));
     match form {
         Form::Free => all_put(kernel, out, result_to, parts),
-        Form::Kept | Form::Useless => all_set(kernel, out, result_to, mask, parts),
+        Form::Kept | Form::Useless | Form::KeptBy(_) | Form::FreeBy(_) => {
+            all_set(kernel, out, result_to, mask, parts)
+        }
     }
 }
 
@@ -274,6 +277,53 @@ pub fn select_lanes(
 {
     let parts = parts(kernel, shape(kernel, result_to));
     all_set(kernel, out, result_to, mask, parts)
+}
+
+// Appends what an operator makes whose right operand is a number in each lane.
+fn known_code(
+    kernel: &Kernel,
+    out: &mut Bytes,
+    form: Form,
+    amount: u64,
+    result_to: Register,
+    instr: &VectorInstr,
+) -> Result<(), Refusal>
+    requires two { IsTrue (vectors.is_binary instr.now) }
+    ensures { OnOk result (out.new ≡ out.old ++ code_bytes (vectors.known (setting kernel.now) form amount result_to instr.now)) }
+{
+    let elem = kernel.elem(result_to);
+    match *instr {
+        VectorInstr::Binary { op, left, mask, .. } => match op {
+            Plain::Shl => {
+                let shift = Shifted::by(true, elem, left, amount, mask);
+                shifted_lanes(kernel, out, form, result_to, shift)
+            }
+            Plain::Shr => {
+                let shift = Shifted::by(false, elem, left, amount, mask);
+                shifted_lanes(kernel, out, form, result_to, shift)
+            }
+            _ => set_lanes(kernel, out, Form::Kept, result_to, instr),
+        },
+        _ => unreachable!(),
+    }
+}
+
+// Appends what an operator makes, in a form.
+fn binary_code(
+    kernel: &Kernel,
+    out: &mut Bytes,
+    form: Form,
+    result_to: Register,
+    instr: &VectorInstr,
+) -> Result<(), Refusal>
+    requires two { IsTrue (vectors.is_binary instr.now) }
+    ensures { OnOk result (out.new ≡ out.old ++ code_bytes (templates.vector_code (setting kernel.now) form result_to instr.now)) }
+{
+    match form {
+        Form::KeptBy(amount) => known_code(kernel, out, Form::Kept, amount, result_to, instr),
+        Form::FreeBy(amount) => known_code(kernel, out, Form::Free, amount, result_to, instr),
+        Form::Kept | Form::Free | Form::Useless => set_lanes(kernel, out, form, result_to, instr),
+    }
 }
 
 // Appends what an instruction does that writes lanes of a vector register.
@@ -315,6 +365,7 @@ fn vector_code(
             };
             load_run(kernel, out, form, result_to, &run)
         }
+        VectorInstr::Binary { .. } => binary_code(kernel, out, form, result_to, instr),
         _ => set_lanes(kernel, out, form, result_to, instr),
     }
 }
@@ -340,7 +391,9 @@ pub fn vector_line(
     ensures { OnOk result (out.new ≡ out.old ++ code_bytes (templates.vector_line (setting kernel.now) form result_to instr.now)) }
 {
     match form {
-        Form::Kept | Form::Free => vector_code(kernel, out, form, result_to, instr),
+        Form::Kept | Form::Free | Form::KeptBy(_) | Form::FreeBy(_) => {
+            vector_code(kernel, out, form, result_to, instr)
+        }
         Form::Useless if is_pure(instr) => Ok(()),
         Form::Useless => vector_code(kernel, out, Form::Kept, result_to, instr),
     }

@@ -28,4 +28,4 @@ pub use operand::{Operand, constant};
 pub use refusal::Refusal;
 pub use rows::{Part, below_part, compare_part, half, unary_part, widened_part};
 pub use scalars::{all_ones, below, compare, convert, cut, plain, unary};
-pub use types::{bytes_of, shape_of, size_of, width_of};
+pub use types::{bytes_of, right_of, shape_of, size_of, width_of};

@@ -78,7 +78,7 @@ pub(crate) fn less_of(elem: Elem) -> Test
 }
 
 /// A shift to the right, of signed or of unsigned numbers.
-pub(crate) fn right_of(elem: Elem) -> Shift
+pub fn right_of(elem: Elem) -> Shift
     ensures { named.shift result ≡ words.right_of elem }
 {
     match elem {

@@ -1,17 +1,21 @@
--- The forms that tables tell, as lists. No part of a promise.
-use Rattle.std.specs.Prelude.{ℕ, suc, ◌+◌, List, [], ◌∷◌}
+-- That forms in a list are allowed, of the instructions of a function, and of functions. No part of a promise.
+use Rattle.std.specs.Prelude.{◌≡◌, ◌<◌, ℕ, ◌+◌, List, [], Some, slice_get, slice_index_or}
 use Rattle.isp_code.specs.Listing.{Routine}
 use Rattle.isp_code.specs.declared.instr.Instr.{Instr}
+use Rattle.isp_forms.specs.Tables.{form_or_kept}
 use Rattle.isp_forms.specs.declared.form.Form.{Form}
 use Rattle.isp_lanes_read.specs.Rows.{Rows, row_at}
-use Rattle.isp_lanes_forms.specs.Allowed.{form_by}
+use Rattle.isp_lanes_forms.specs.Allowed.{IsAllowed}
 
--- of these instructions of function f, from number pc on
-abbrev pub line_forms : Rows → ℕ → ℕ → List Instr → List Form
-line_forms rows f pc [] = []
-line_forms rows f pc (i ∷ is) = form_by (row_at rows f pc) (row_at rows f (pc + 1)) i ∷ line_forms rows f (suc pc) is
+-- those of the first n instructions of function f
+abbrev pub FirstAllowed : Rows → ℕ → ℕ → List Instr → List Form → Type 0
+FirstAllowed rows f n is forms =
+    (k : ℕ) (i : Instr) → k < n → slice_get is k ≡ Some i → IsAllowed (row_at rows f k) (row_at rows f (k + 1)) i (form_or_kept forms k)
 
--- of these functions, from number f on
-abbrev pub function_forms : Rows → ℕ → List Routine → List (List Form)
-function_forms rows f [] = []
-function_forms rows f (h ∷ hs) = line_forms rows f 0 h.code ∷ function_forms rows (suc f) hs
+-- those of all its instructions
+abbrev pub LinesAllowed : Rows → ℕ → List Instr → List Form → Type 0
+LinesAllowed rows f is forms = (k : ℕ) (i : Instr) → slice_get is k ≡ Some i → IsAllowed (row_at rows f k) (row_at rows f (k + 1)) i (form_or_kept forms k)
+
+-- those of the first n functions
+abbrev pub FunctionsAllowed : Rows → ℕ → List Routine → List (List Form) → Type 0
+FunctionsAllowed rows n hs lists = (f : ℕ) (h : Routine) → f < n → slice_get hs f ≡ Some h → LinesAllowed rows f h.code (slice_index_or lists f [])

@@ -3,7 +3,7 @@ use Rattle.std.specs.Prelude.{ℕ, List, []}
 use Rattle.isp_code.specs.declared.register.Class.TheVariants as class
 use Rattle.isp_code.specs.declared.register.Register.{Register}
 use Rattle.isp_wasm_meaning.specs.Syntax.{Sub, Eqz, Expr, Const32, Local, One, Select, Code, Skip, Then, Set, Divide, If}
-use Rattle.isp_wasm.specs.Places.{Setting, Scalar, elem, gang, size_of}
+use Rattle.isp_wasm.specs.Places.{Setting, Scalar, elem, size_of}
 use Rattle.isp_wasm.specs.Words.{constant, whole_expr}
 use Rattle.isp_wasm.specs.Rows.{lane_at}
 use Rattle.isp_wasm.specs.Templates as templates

@@ -1,5 +1,5 @@
 -- What an instruction makes of a part, and of a lane, of the vector that it writes.
-use Rattle.std.specs.Prelude.{ℕ, List, ◌+◌, ◌*◌, ◌-◌, ◌++◌, Bool, true, false}
+use Rattle.std.specs.Prelude.{ℕ, List, ◌+◌, ◌*◌, ◌++◌, Bool, true, false}
 use Rattle.isp_code.specs.declared.instr.Exchange.{Exchange}
 use Rattle.isp_code.specs.declared.instr.Exchange.TheVariants as exchange
 use Rattle.isp_code.specs.declared.instr.VectorInstr.{VectorInstr}
@@ -8,11 +8,11 @@ use Rattle.isp_code.specs.declared.register.Register.{Register}
 use Rattle.isp_forms.specs.Writes.{mask_under}
 use Rattle.isp_forms.specs.declared.form.Form.{Form}
 use Rattle.isp_wasm_meaning.specs.Syntax as wasm
-use Rattle.isp_wasm_meaning.specs.Syntax.{Replace, Splat, Eq, Expr, Const32, Local, One, Two, Select, Bitselect, Code, Set}
+use Rattle.isp_wasm_meaning.specs.Syntax.{Replace, Splat, Eq, Expr, Const32, Local, One, Two, Select, Bitselect, Code, Set, Skip}
 use Rattle.isp_wasm.specs.Places.{Setting, Fresh, Vector, gang, elem, shape, size_of}
 use Rattle.isp_wasm.specs.Words.{plain_expr}
 use Rattle.isp_wasm.specs.Rows.{lane_at, built, as_cell, by_lane, convert_row, widened}
-use Rattle.isp_wasm.specs.Templates.{scalar_local, vector_local, mask_local, set_lanes, vector_of}
+use Rattle.isp_wasm.specs.Templates.{scalar_local, vector_local, mask_local, set_lanes, vector_of, known_code}
 use Rattle.isp_wasm.specs.Templates.{lane_or_zero, modulo, picked, of_both, scan_expr, exchange_expr}
 use Rattle.isp_wasm_binary.specs.Operators.{binary_bytes}
 use Rattle.isp_wasm_binary.specs.Instructions.{expr_bytes}
@@ -108,6 +108,11 @@ module _ (w : Setting) where
   -- or it is set to it in all lanes
   abbrev pub put_part : Register → ℕ → Code
   put_part d j = Set (w.local (Vector d.number j)) (Local (w.local (Fresh j)))
+
+  -- an operator whose right operand is a number in each lane
+  abbrev pub known : Form → ℕ → Register → VectorInstr → Code
+  known form b d (vector.Binary o x y k) = known_code w form b d o x y k
+  known form b d i = Skip
 
   abbrev pub lanes_set : Form → Register → VectorInstr → Code
   lanes_set form d is = set_lanes w form d (mask_under is) (vector_of w d is)

@@ -1,17 +1,17 @@
-use Rattle.std.proofs.Common.{◌++◌, map, sym, ap, ◌∙◌, append-nil}
-use Rattle.std.proofs.lemmas.List.{drop_all}
-use Rattle.isp_code.specs.Listing.{routine_of}
-use Rattle.isp_forms.specs.Tables.{lists_of}
+use Rattle.std.proofs.Common.{List, map, subst}
+use Rattle.isp_code.specs.declared.instr.Instr.{Instr}
 use Rattle.isp_lanes_read.specs.Rows.{rows_of}
-use Rattle.isp_lanes_forms.specs.reader.Lists.{function_forms}
-use Rattle.isp_lanes_forms.proofs.Lists.{lists_allowed}
+use Rattle.isp_lanes_forms.specs.reader.Lists.{LinesAllowed}
+use Rattle.isp_lanes_forms.proofs.Lists.{function_pushed, all_allowed}
 use Rattle.isp_lanes_forms.proofs.told.forms_of.Goals as goal
+
+pub loop-number-preserved : goal.loop-number-preserved
+loop-number-preserved c =
+    function_pushed (rows_of c.args.tables.now) c.loop-number.number c.functions-routines.result.now c.args.code.now.routines c.loop-number.functions.items c.push.new.self.items _ _ c.functions-routines.ensures.same
+    c.in_ok-push.ensures.items c.loop-number.invariant c.loop-number-test.true c.index-routines-number.is
+    (subst (λ (is : List Instr). LinesAllowed (rows_of c.args.tables.now) c.loop-number.number is c.in_ok-line_forms.field-0.items) c.deref.ensures.value c.in_ok-line_forms.ensures)
 
 pub returns : goal.returns
 returns c =
-    let rows = rows_of c.args.tables.now in
-    let made = lists_of (record { functions = c.loop-number.functions }) in
-    lists_allowed rows c.args.code.now made
-    (sym (append-nil made)
-    ∙ ap (λ hs. made ++ function_forms rows c.loop-number.number (map routine_of hs)) (sym (drop_all c.loop-number.number c.functions-routines.result.now c.loop-number-test.false))
-    ∙ c.loop-number.invariant)
+    all_allowed (rows_of c.args.tables.now) c.args.code.now c.loop-number.number c.functions-routines.result.now (map (λ v. v.items) c.loop-number.functions.items) c.functions-routines.ensures.same c.loop-number-test.false
+    c.loop-number.invariant.1

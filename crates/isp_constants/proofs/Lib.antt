@@ -1,0 +1,5 @@
+mod Lists
+mod Passed
+mod Moves
+mod Settled
+mod Holding
