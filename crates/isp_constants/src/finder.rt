@@ -3,7 +3,7 @@ use crate::elems::scalar_elem;
 use crate::fact::{Constants, Fact, Known, tells};
 use crate::written::{lines_keep, writes};
 use isp_base::wrap;
-use isp_code::{Code, Function, Instr, MaskInstr, Register, ScalarInstr, VectorInstr};
+use isp_code::{Code, Function, Instr, MaskInstr, Plain, Register, ScalarInstr, VectorInstr};
 use std::alloc::{AllocError, Global};
 
 // How many instructions are looked at: isp's functions begin with fewer that make constants, and each is followed through its function.
@@ -116,6 +116,34 @@ fn end_of(instrs: &[Instr], head: usize, known: Known) -> usize {
     }
 }
 
+// Whether an instruction is a shift by a vector.
+fn shifts_by(instr: &Instr, vector: u32) -> bool {
+    match instr {
+        Instr::Vector {
+            instr: VectorInstr::Binary {
+                op: Plain::Shl | Plain::Shr,
+                right,
+                ..
+            },
+            ..
+        } => right.number == vector,
+        _ => false,
+    }
+}
+
+// Whether some shift asks for what is known: a vector that none asks for need not stay as it is.
+fn is_asked(fact: Fact, instrs: &[Instr]) -> bool {
+    let Known::Vector { register, .. } = fact.known else {
+        return true;
+    };
+    for (pc, instr) in instrs.iter().enumerate() {
+        if fact.is_in(pc) && shifts_by(instr, register) {
+            return true;
+        }
+    }
+    false
+}
+
 // The facts of a function.
 fn facts_of(alloc: Global, function: &Function) -> Result<Vec<Fact>, AllocError> {
     let instrs = function.code.as_slice();
@@ -125,7 +153,7 @@ fn facts_of(alloc: Global, function: &Function) -> Result<Vec<Fact>, AllocError>
         if let Some(known) = made(function, &facts, line, instr) {
             let last = last_of(instrs, line, end_of(instrs, head, known), known);
             let fact = Fact { known, line, last };
-            if lines_keep(fact, instrs) {
+            if is_asked(fact, instrs) && lines_keep(fact, instrs) {
                 facts.push(fact)?;
             }
         }
